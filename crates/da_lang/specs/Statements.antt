@@ -18,10 +18,14 @@ abbrev pub eval : RExpr → ℕ → Val
 eval (Const v) me = val_of v
 eval Me me = val.Proc me
 
--- a statement that a run does not take
+abbrev pub is_label : ItemKind → Bool
+is_label (Output e) = false
+is_label Label = true
+is_label Pass = false
+
+-- a statement that a run does not take: of these, a label
 abbrev pub is_yield : ItemKind → Bool
-is_yield Label = true
-is_yield _ = false
+is_yield kind = is_label kind
 
 -- the actions of one turn, which takes a statement
 abbrev pub turn : ItemKind → ℕ → List Action

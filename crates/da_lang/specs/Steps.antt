@@ -3,11 +3,10 @@ use Rattle.std.specs.Prelude.{ℕ, Bool, true, false, if◌then◌else◌, List,
 use Rattle.da_lang.specs.declared.event.Action.{Action}
 use Rattle.da_lang.specs.declared.event.Action.TheVariants.{Took, End, Fault}
 use Rattle.da_lang.specs.declared.program.Item.{Item}
-use Rattle.da_lang.specs.declared.program.ItemKind.TheVariants.{Label}
 use Rattle.da_lang.specs.declared.program.Phase.{Phase}
 use Rattle.da_lang.specs.declared.program.Phase.TheVariants.{New, Waiting, Ended, Faulted}
 use Rattle.da_lang.specs.declared.program.Program.{Program}
-use Rattle.da_lang.specs.Statements.{Halt, AtYield, UsedUp, Faults, Ran, is_yield, run_to_yield}
+use Rattle.da_lang.specs.Statements.{Halt, AtYield, UsedUp, Faults, Ran, is_label, run_to_yield}
 use Rattle.da_lang.specs.World.{World, run_of}
 
 -- a move from the opening or from a label, or one that takes an alternative of an `await`
@@ -41,7 +40,7 @@ moved me k ran = record {
 -- the label of a waiting process is taken off, which is the first turn
 abbrev pub past_label : ℕ → List Item → Option Stepped
 past_label me [] = None
-past_label me (i ∷ is) = if is_yield i.kind then Some (moved me 0 (run_to_yield 1 me is)) else None
+past_label me (i ∷ is) = if is_label i.kind then Some (moved me 0 (run_to_yield 1 me is)) else None
 
 -- a move of a process whose class has these statements
 abbrev pub go : List Item → ℕ → List Item → Phase → Option Stepped

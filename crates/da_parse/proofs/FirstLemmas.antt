@@ -2,6 +2,7 @@
 use Rattle.std.proofs.Common.{◌≡◌, false, refl, true, true≢false, sym, ◌∙◌, ap, subst, ℕ, zero, suc, ◌+◌, ◌<◌, ◌≤◌, List, [], ◌∷◌, ◌++◌, get_or, length, length-append, arith, append-nil, append_assoc, length-take-le, take}
 use Rattle.std.proofs.lemmas.List.{take_more}
 use Rattle.da_lang.specs.declared.program.Item.{Item}
+use Rattle.da_lang.specs.declared.program.Program.{Program}
 use Rattle.std.specs.Prelude.{codes, decimal}
 use Rattle.std.specs.List.{flat_map, AllByRecursion}
 use Rattle.std.proofs.lemmas.Grind.{flat_map-append}
@@ -10,7 +11,7 @@ use Rattle.std.proofs.lemmas.Str.Parse.{digit_from_value}
 use Rattle.std.proofs.lemmas.Slice.Eq.{bytes_eq-Decides}
 use Rattle.std.specs.Str.{bytes_eq}
 use Rattle.std.specs.Str.Parse.{AllDigits}
-use Rattle.da_parse.specs.First.{IsFirst, IsInt, after_int, before_int, ending, heading, item_at, items_from, output_line, output_lines}
+use Rattle.da_parse.specs.First.{IsFirst, IsInt, after_int, before_int, ending, first_program, heading, item_at, items_from, output_line, output_lines}
 use Rattle.da_parse.specs.Paren.{BeforeParen, FromParen}
 
 -- the same prefix stands before the same rest
@@ -197,3 +198,21 @@ not_ending rest other is = true≢false (sym ((bytes_eq-Decides _ _).1 (is ∙ e
 
 pub is_ending : (rest : List ℕ) → bytes_eq rest (codes "def main():\n    a = new(P)\n") ≡ true → rest ≡ ending
 is_ending rest same = (bytes_eq-Decides _ _).0 same ∙ sym ending_is
+
+lines_one : (ms ns : List ℕ) → AllByRecursion IsInt ms → AllByRecursion IsInt ns → output_lines ms ++ ending ≡ output_lines ns ++ ending → ms ≡ ns
+lines_one [] [] i j same = refl
+lines_one [] (n ∷ ns) i j same = absurd (line_not_ending n (output_lines ns ++ ending) (sym (append_assoc (output_line n) (output_lines ns) ending) ∙ sym same))
+lines_one (m ∷ ms) [] i j same = absurd (line_not_ending m (output_lines ms ++ ending) (sym (append_assoc (output_line m) (output_lines ms) ending) ∙ same))
+lines_one (m ∷ ms) (n ∷ ns) i j same =
+    let (first, others) = line_same m n (output_lines ms ++ ending) (output_lines ns ++ ending) i.0 j.0
+        (sym (append_assoc (output_line m) (output_lines ms) ending) ∙ same ∙ append_assoc (output_line n) (output_lines ns) ending) in
+    let rest = lines_one ms ns i.1 j.1 others in
+    cc
+
+-- a text is of the first form in one way
+pub one_first : (text ms ns : List ℕ) → IsFirst text ms → IsFirst text ns → ms ≡ ns
+one_first text ms ns first other = lines_one ms ns first.ints other.ints (rest_same heading _ _ (sym first.spelled ∙ other.spelled))
+
+pub only_program : (text : List ℕ) (program : Program) → (numbers : List ℕ) × IsFirst text numbers × (program ≡ first_program numbers)
+    → (numbers : List ℕ) → IsFirst text numbers → program ≡ first_program numbers
+only_program text program found numbers first = found.2 ∙ ap first_program (one_first text found.0 numbers found.1 first)

@@ -34,9 +34,11 @@ impl From<NoMemory> for FirstFault {
 /// a `main` that makes one process of it. An INT has no leading zero and is at most 9,223,372,036,854,775,807.
 pub fn parse_first(alloc: Global, text: &[u8]) -> Result<Program, FirstFault>
     ensures ok { IfOk result (λ program. (numbers : List ℕ) × IsFirst text.now numbers × (program ≡ first_program numbers)) }
+    ensures only { IfOk result (λ program. (numbers : List ℕ) → IsFirst text.now numbers → program ≡ first_program numbers) }
     ensures not_yet { IsErrOf result FirstFault.NotYet → (numbers : List ℕ) → IsFirst text.now numbers → ⊥ }
 {
-    match read_numbers(alloc, text)? {
+    let found = read_numbers(alloc, text)?;
+    match found {
         Some(numbers) => Ok(program_of(alloc, numbers.as_slice())?),
         None => Err(FirstFault::NotYet),
     }

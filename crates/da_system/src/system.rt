@@ -76,6 +76,7 @@ impl<'p> System<'p> {
     pub fn step(&mut self, e: &Event, out: &mut List<Action>) -> Result<(), StepFault>
         requires { IsReady self.old }
         ensures ready { OnOk result (IsReady self.new) }
+        ensures still_ready { IsErrOf result StepFault.Forbidden → IsReady self.new }
         ensures program { program_of self.new ≡ program_of self.old }
         ensures steps { OnOk result (Steps (program_of self.old) (state_of self.old) e.now (state_of self.new) out.old out.new) }
         ensures forbidden { IsErrOf result StepFault.Forbidden → sys_step (program_of self.old) (state_of self.old) e.now ≡ None }
@@ -107,6 +108,7 @@ impl System<'_> {
     fn make_move(&mut self, p: u32, out: &mut List<Action>) -> Result<(), StepFault>
         requires { IsReady self.old }
         ensures ready { OnOk result (IsReady self.new) }
+        ensures still_ready { IsErrOf result StepFault.Forbidden → IsReady self.new }
         ensures program { program_of self.new ≡ program_of self.old }
         ensures steps { OnOk result (Steps (program_of self.old) (state_of self.old) (Event.Move p) (state_of self.new) out.old out.new) }
         ensures forbidden { IsErrOf result StepFault.Forbidden → sys_step (program_of self.old) (state_of self.old) (Event.Move p) ≡ None }

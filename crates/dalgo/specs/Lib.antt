@@ -1,4 +1,4 @@
-pub mod Ending
+pub mod ExitCode
 pub mod Lines
 pub mod Memory
 pub mod Outside

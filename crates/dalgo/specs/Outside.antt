@@ -27,9 +27,14 @@ ReadsTold (Some bytes) at n buf = ReadsFrom bytes at n buf
 abbrev pub Appends : Option (List ℕ) → Option (List ℕ) → List ℕ → Type 0
 Appends old new bytes = new ≡ option_map (λ told. told ++ bytes) old
 
--- the bytes that are told, or one more than the limit where there are more
+-- the text is the told one, where one is told
+abbrev pub Fits : Option (List ℕ) → List ℕ → Type 0
+Fits None text = ⊤
+Fits (Some told) text = text ≡ told
+
+-- the bytes that are told, or one more than the limit where there are more; never more than that
 abbrev pub IsWhole : Option (List ℕ) → ℕ → List ℕ → Type 0
-IsWhole None limit text = ⊤
+IsWhole None limit text = length text ≤ limit + 1
 IsWhole (Some bytes) limit text = text ≡ take (limit + 1) bytes
 
 -- the text is the front of what is told

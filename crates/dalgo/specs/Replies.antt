@@ -11,8 +11,8 @@ use Rattle.dalgo.specs.declared.status.RefusedKind.TheVariants.{Size, NotYet}
 use Rattle.dalgo.specs.declared.status.Status.{Status}
 use Rattle.dalgo.specs.declared.status.Status.TheVariants.{Done, Refused, Forbidden, BadSchedule, ReadFault, WriteFault, Memory, Words}
 use Rattle.dalgo.specs.Lines.{action_text, badline_text, refused_text}
-use Rattle.dalgo.specs.Outside.{Appends, Rose}
-use Rattle.dalgo.specs.Schedule.{schedule}
+use Rattle.dalgo.specs.Outside.{Appends, Fits, Rose}
+use Rattle.dalgo.specs.Schedule.{schedule_events}
 
 -- the bytes that the text of a program may have, and those of a schedule
 abbrev pub program_limit : ℕ
@@ -42,11 +42,11 @@ pub record IsRefused (text : List ℕ) : Type 0 where
 -- the text is a schedule of these events
 pub record IsSchedule (text : List ℕ) (events : List Event) : Type 0 where
   pub size : length text ≤ schedule_limit
-  pub is : schedule text ≡ Ok events
+  pub is : schedule_events text ≡ Ok events
 
 -- the text is no schedule: its first bad line, or 0 where it is too long
 abbrev pub IsBadSchedule : List ℕ → ℕ → Type 0
-IsBadSchedule text line = ((schedule_limit < length text) × (line ≡ 0)) ⊎ ((length text ≤ schedule_limit) × (schedule text ≡ Err line))
+IsBadSchedule text line = ((schedule_limit < length text) × (line ≡ 0)) ⊎ ((length text ≤ schedule_limit) × (schedule_events text ≡ Err line))
 
 -- the status of a run: that of the event at which it stops, or that of its end
 abbrev pub status_of : List Action → Status
@@ -69,20 +69,44 @@ pub record Replies (program_text schedule_text : List ℕ) (status : Status) (be
   pub reply : ReplayReply program_text schedule_text status bytes
   pub written : Appends before after bytes
 
+-- the same of the text of a schedule that fits what is told of one
+pub record RepliesTo (program_text : List ℕ) (told_schedule : Option (List ℕ)) (status : Status) (before after : Option (List ℕ)) : Type 0 where
+  pub schedule_text : List ℕ
+  pub schedule_fits : Fits told_schedule schedule_text
+  pub replies : Replies program_text schedule_text status before after
+
+-- the same of two texts that fit what is told of them
+pub record RepliesTold (told_program told_schedule : Option (List ℕ)) (status : Status) (before after : Option (List ℕ)) : Type 0 where
+  pub program_text : List ℕ
+  pub program_fits : Fits told_program program_text
+  pub to : RepliesTo program_text told_schedule status before after
+
+-- the program was run to the end of the schedule or to its first forbidden event, and all of that was written; or memory was refused
+abbrev pub RunsWhole : Program → List Event → Status → Option (List ℕ) → Option (List ℕ) → Type 0
+RunsWhole program events status before after =
+    (status ≡ Memory) ⊎ ((status ≡ status_of (src_run program events)) × Appends before after (action_text (src_run program events)))
+
 -- a status that tells of an answer, and not of a fault or of want of memory
 abbrev pub IsAnswer : Status → Type 0
+IsAnswer Done = Unit {0}
+IsAnswer (Refused kind line) = Unit {0}
+IsAnswer Words = Unit {0}
+IsAnswer (Forbidden event) = Unit {0}
+IsAnswer (BadSchedule line) = Unit {0}
 IsAnswer ReadFault = ⊥
 IsAnswer WriteFault = ⊥
 IsAnswer Memory = ⊥
-IsAnswer _ = Unit {0}
 
 -- a status with which `replay` answers two texts
 abbrev pub IsReplayStatus : Status → Type 0
+IsReplayStatus Done = Unit {0}
+IsReplayStatus (Refused kind line) = Unit {0}
 IsReplayStatus Words = ⊥
+IsReplayStatus (Forbidden event) = Unit {0}
+IsReplayStatus (BadSchedule line) = Unit {0}
 IsReplayStatus ReadFault = ⊥
 IsReplayStatus WriteFault = ⊥
 IsReplayStatus Memory = ⊥
-IsReplayStatus _ = Unit {0}
 
 -- the words ask to replay these names
 abbrev pub IsReplay : List (List ℕ) → List ℕ → List ℕ → Type 0

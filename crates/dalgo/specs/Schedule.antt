@@ -25,8 +25,8 @@ read_events number [] = Ok []
 read_events number (line ∷ lines) = if bytes_eq line (codes "move 1") then with_move (read_events (number + 1) lines) else Err number
 
 -- the events of a text, or the number of its first bad line
-abbrev pub schedule : List ℕ → Result (List Event) ℕ
-schedule text = read_events 1 (text_lines text)
+abbrev pub schedule_events : List ℕ → Result (List Event) ℕ
+schedule_events text = read_events 1 (text_lines text)
 
 -- what a reader answers, where it does not want memory
 abbrev pub IsRead : Result (List Event) ℕ → Result (List Event) SchedFault → Type 0

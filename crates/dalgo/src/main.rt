@@ -5,6 +5,8 @@ mod lines;
 mod memory;
 mod outside;
 mod real;
+#[cfg(test)]
+mod rows;
 mod run;
 mod schedule;
 mod status;
@@ -12,6 +14,7 @@ mod top;
 mod transfer;
 
 use real::{RealFiles, RealSink};
+use status::Status;
 use std::env;
 use std::process::ExitCode;
 use top::dalgo;
@@ -20,22 +23,17 @@ use top::dalgo;
 const NO_WORDS: u8 = 20;
 
 fn main(rt: HostRuntime) -> ExitCode {
-    match words_of(&rt) {
-        None => ExitCode::from(NO_WORDS),
-        Some(words) => {
-            let mut files = RealFiles::new(&rt);
-            let mut out = RealSink::new(&rt);
-            let status = dalgo(rt.alloc(), words.as_slice(), &mut files, &mut out);
-            ExitCode::from(status.code())
+    let Ok(args) = env::args(&rt) else {
+        return ExitCode::from(NO_WORDS);
+    };
+    let mut words = Vec::new(rt.alloc());
+    for word in args.skip(1) {
+        if words.push(word).is_err() {
+            return ExitCode::from(Status::Memory.code());
         }
     }
-}
-
-// The words after the program's name.
-fn words_of(rt: &HostRuntime) -> Option<Vec<String>> {
-    let mut words = Vec::new(rt.alloc());
-    for word in env::args(rt).ok()?.skip(1) {
-        words.push(word).ok()?;
-    }
-    Some(words)
+    let mut files = RealFiles::new(&rt);
+    let mut out = RealSink::new(&rt);
+    let status = dalgo(rt.alloc(), words.as_slice(), &mut files, &mut out);
+    ExitCode::from(status.code())
 }

@@ -2,7 +2,7 @@
 ghost use Rattle.dalgo.specs.Memory.{bytes_named};
 ghost use Rattle.dalgo.specs.Outside.{ReadsFrom};
 ghost use Rattle.std.specs.Option.{option_copied};
-ghost use Rattle.std.specs.Prelude.{◌≡◌, ◌≤◌, [], Some, length};
+ghost use Rattle.std.specs.Prelude.{◌≡◌, ◌≤◌, [], Some, length, OnErr, OnOk};
 
 use crate::outside::{Files, Sink, Trouble};
 use da_values::{Buf, List, NoMemory};
@@ -35,8 +35,13 @@ pub struct MemSink {
 }
 
 impl MemFiles {
+    ghost use Rattle.dalgo.specs.Memory.{IsFileAdded, files_of, fault_count};
+
     /// No files.
-    pub fn new(alloc: Global, script: List<u64>) -> MemFiles {
+    pub fn new(alloc: Global, script: List<u64>) -> MemFiles
+        ensures none { files_of result ≡ [] }
+        ensures count { fault_count result ≡ 0 }
+    {
         MemFiles {
             files: List::new(alloc),
             script,
@@ -46,7 +51,11 @@ impl MemFiles {
     }
 
     /// Adds a file. An earlier one of the same name stays the one that is read.
-    pub fn add(&mut self, name: Buf, bytes: Buf) -> Result<(), NoMemory> {
+    pub fn add(&mut self, name: Buf, bytes: Buf) -> Result<(), NoMemory>
+        ensures ok { OnOk result (IsFileAdded (files_of self.old) (files_of self.new) name bytes) }
+        ensures err { OnErr result (files_of self.new ≡ files_of self.old) }
+        ensures count { fault_count self.new ≡ fault_count self.old }
+    {
         self.files.push(MemFile { name, bytes })
     }
 }
@@ -95,11 +104,12 @@ fn copy_from(bytes: &[u8], at: usize, buf: &mut [u8]) -> usize
 }
 
 impl MemSink {
-    ghost use Rattle.dalgo.specs.Memory.{bytes_of};
+    ghost use Rattle.dalgo.specs.Memory.{bytes_of, write_count};
 
     /// A sink that has taken nothing.
     pub fn new(alloc: Global, most: usize, script: List<u64>) -> MemSink
-        ensures { bytes_of result ≡ [] }
+        ensures none { bytes_of result ≡ [] }
+        ensures count { write_count result ≡ 0 }
     {
         MemSink {
             taken: List::new(alloc),

@@ -1,5 +1,5 @@
 //! Schedules.
-ghost use Rattle.dalgo.specs.Schedule.{IsRead, read_events, schedule, text_lines, with_move};
+ghost use Rattle.dalgo.specs.Schedule.{IsRead, read_events, schedule_events, text_lines, with_move};
 ghost use Rattle.std.specs.Prelude.{ℕ, ◌≡◌, ◌+◌, ◌<◌, ◌^◌, Err, IfNone, IfSome, length};
 
 use da_lang::Event;
@@ -32,7 +32,7 @@ impl From<NoMemory> for SchedFault {
 /// The events of a schedule. Each line is `move 1`, and the last may lack its end.
 pub fn read_schedule(alloc: Global, text: &[u8]) -> Result<List<Event>, SchedFault>
     requires { length text.now < 2 ^ 63 }
-    ensures { IsRead (schedule text.now) result }
+    ensures { IsRead (schedule_events text.now) result }
 {
     let mut events = List::new(alloc);
     let mut rest = text;

@@ -31,7 +31,7 @@ pub enum Status {
 }
 
 impl Status {
-    ghost use Rattle.dalgo.specs.Ending.{code_of};
+    ghost use Rattle.dalgo.specs.ExitCode.{code_of};
     ghost use Rattle.std.specs.Prelude.{◌≡◌};
 
     /// The exit status of the process.

@@ -1,8 +1,10 @@
 //! The top call: all that the program does.
+ghost use Rattle.da_lang.specs.declared.event.Event.{Event};
+ghost use Rattle.da_lang.specs.declared.program.Program.{Program};
 ghost use Rattle.da_system.specs.State.{IsNumbered};
 ghost use Rattle.dalgo.specs.Lines.{action_text, badline_text, refused_text};
 ghost use Rattle.dalgo.specs.Outside.{Appends, Rose};
-ghost use Rattle.dalgo.specs.Replies.{Answers, IsAnswer, IsRefused, IsReplay, IsReplayStatus, ReadCause, Replies, Ran};
+ghost use Rattle.dalgo.specs.Replies.{Accepts, Answers, IsAnswer, IsRefused, IsReplay, IsReplayStatus, IsSchedule, Ran, ReadCause, Replies, RepliesTo, RepliesTold, RunsWhole};
 ghost use Rattle.dalgo.specs.Top.{status_after as status_after_lem};
 ghost use Rattle.std.specs.Prelude.{ℕ, ◌≡◌, ◌+◌, ◌≤◌, List, Some, codes, length, map, take, IfNone, IfOk, IfSome, IsErrOf};
 ghost use Rattle.std.specs.String.{string_bytes};
@@ -56,6 +58,16 @@ pub fn dalgo<F: Files, K: Sink>(
     ensures replies { (p q t s : List ℕ) → IsReplay (map string_bytes words.now) p q → F.told files.old p ≡ Some t → F.told files.old q ≡ Some s
         → IsAnswer result → Replies t s result (K.taken out.old) (K.taken out.new) }
 
+    // Where a text is not told, the answer is that to some text in its place.
+    ensures replies_told { (p q : List ℕ) → IsReplay (map string_bytes words.now) p q → IsAnswer result
+        → RepliesTold (F.told files.old p) (F.told files.old q) result (K.taken out.old) (K.taken out.new) }
+
+    // An accepted program runs, unless a read or write failed or memory was refused.
+    ensures complete { (p q t s : List ℕ) (program : Program) (events : List Event) → IsReplay (map string_bytes words.now) p q
+        → F.told files.old p ≡ Some t → F.told files.old q ≡ Some s → Accepts t program → IsSchedule s events
+        → (Rose (F.faults files.old p) (F.faults files.new p) → ⊥) → (Rose (F.faults files.old q) (F.faults files.new q) → ⊥)
+        → (Rose (K.faults out.old) (K.faults out.new) → ⊥) → RunsWhole program events result (K.taken out.old) (K.taken out.new) }
+
     // Other words are answered so.
     ensures words { ((p q : List ℕ) → IsReplay (map string_bytes words.now) p q → ⊥) → IsAnswer result
         → (result ≡ Status.Words) × Appends (K.taken out.old) (K.taken out.new) (codes "words\n") }
@@ -67,6 +79,7 @@ pub fn dalgo<F: Files, K: Sink>(
     ensures unread { result ≡ Status.ReadFault → K.taken out.new ≡ K.taken out.old }
     ensures write { result ≡ Status.WriteFault → Rose (K.faults out.old) (K.faults out.new) }
     ensures told { (x : List ℕ) → F.told files.new x ≡ F.told files.old x }
+    ensures counts { (x : List ℕ) → F.faults files.old x ≤ F.faults files.new x }
 {
     match names_of(words) {
         Some(names) => status_after(replay(alloc, names.program, names.schedule, files, out)),
@@ -119,12 +132,13 @@ fn replay<F: Files, K: Sink>(
     files: &mut F,
     out: &mut K,
 ) -> Result<Status, Ending>
-    ensures replies { (t s : List ℕ) → F.told files.old program.now ≡ Some t → F.told files.old schedule.now ≡ Some s → IfOk result (λ status. Replies t s status (K.taken out.old) (K.taken out.new)) }
+    ensures replies { IfOk result (λ status. RepliesTold (F.told files.old program.now) (F.told files.old schedule.now) status (K.taken out.old) (K.taken out.new)) }
     ensures read { IsErrOf result Ending.Read → ReadCause (F.told files.old program.now) (F.faults files.old) (F.faults files.new) program.now schedule.now }
     ensures status { IfOk result IsReplayStatus }
     ensures write { IsErrOf result Ending.Write → Rose (K.faults out.old) (K.faults out.new) }
     ensures unread { IsErrOf result Ending.Read → K.taken out.new ≡ K.taken out.old }
     ensures told { (x : List ℕ) → F.told files.new x ≡ F.told files.old x }
+    ensures later { (x : List ℕ) → F.faults files.old x ≤ F.faults files.new x }
 {
     match read_all(alloc, files, program, PROGRAM_LIMIT) {
         Ok(text) => answer_program(alloc, text.as_slice(), schedule, files, out),
@@ -141,7 +155,7 @@ fn answer_program<F: Files, K: Sink>(
     files: &mut F,
     out: &mut K,
 ) -> Result<Status, Ending>
-    ensures replies { (t s : List ℕ) → text.now ≡ take (PROGRAM_LIMIT + 1) t → F.told files.old name.now ≡ Some s → IfOk result (λ status. Replies t s status (K.taken out.old) (K.taken out.new)) }
+    ensures replies { (t : List ℕ) → text.now ≡ take (PROGRAM_LIMIT + 1) t → IfOk result (λ status. RepliesTo t (F.told files.old name.now) status (K.taken out.old) (K.taken out.new)) }
     ensures refused { (t : List ℕ) → text.now ≡ take (PROGRAM_LIMIT + 1) t → IsErrOf result Ending.Read → IsRefused t → ⊥ }
     ensures read { IsErrOf result Ending.Read → Rose (F.faults files.old name.now) (F.faults files.new name.now) }
     ensures status { IfOk result IsReplayStatus }
@@ -201,9 +215,10 @@ fn answer_events<K: Sink>(
     ensures read { IsErrOf result Ending.Read → ⊥ }
 {
     let actions = run_events(alloc, program, events)?;
+    let done = actions.as_slice();
     let mut text = List::new(alloc);
-    write_actions(actions.as_slice(), &mut text)?;
-    say(out, text.as_slice(), status_of(actions.as_slice()))
+    write_actions(done, &mut text)?;
+    say(out, text.as_slice(), status_of(done))
 }
 
 // Refuses the program.
