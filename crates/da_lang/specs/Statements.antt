@@ -1,5 +1,5 @@
 -- Expressions, turns, and a run to a yield point.
-use Rattle.std.specs.Prelude.{◌≡◌, ℕ, zero, suc, ◌+◌, ◌-◌, Bool, true, false, if◌then◌else◌, List, [], ◌∷◌, ◌++◌, refl}
+use Rattle.std.specs.Prelude.{ℕ, zero, suc, ◌-◌, Bool, true, false, if◌then◌else◌, List, [], ◌∷◌, ◌++◌}
 use Rattle.da_values.specs.declared.val.Val.{Val}
 use Rattle.da_values.specs.declared.val.Val.TheVariants as val
 use Rattle.da_values.specs.Value.{val_of, value_of}

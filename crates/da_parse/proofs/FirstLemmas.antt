@@ -1,10 +1,10 @@
 -- Reading a text of the first form, line by line.
-use Rattle.std.proofs.Common.{◌≡◌, false, refl, true, true≢false, sym, ◌∙◌, ap, subst, ℕ, zero, suc, ◌+◌, ◌<◌, ◌≤◌, List, [], ◌∷◌, ◌++◌, get_or, length, length-append, arith, append-nil, append_assoc, length-take-le, take}
+use Rattle.std.proofs.Common.{◌≡◌, false, refl, true, true≢false, sym, ◌∙◌, ap, subst, ℕ, suc, ◌+◌, ◌<◌, ◌≤◌, List, [], ◌∷◌, ◌++◌, get_or, length, length-append, arith, append-nil, append_assoc, length-take-le, take}
 use Rattle.std.proofs.lemmas.List.{take_more}
 use Rattle.da_lang.specs.declared.program.Item.{Item}
 use Rattle.da_lang.specs.declared.program.Program.{Program}
 use Rattle.std.specs.Prelude.{codes, decimal}
-use Rattle.std.specs.List.{flat_map, AllByRecursion}
+use Rattle.std.specs.List.{AllByRecursion}
 use Rattle.std.proofs.lemmas.Grind.{flat_map-append}
 use Rattle.std.proofs.lemmas.Fmt.{decimal_injective, decimal_is_IsNumeral}
 use Rattle.std.proofs.lemmas.Str.Parse.{digit_from_value}
@@ -205,7 +205,7 @@ lines_one [] (n ∷ ns) i j same = absurd (line_not_ending n (output_lines ns ++
 lines_one (m ∷ ms) [] i j same = absurd (line_not_ending m (output_lines ms ++ ending) (sym (append_assoc (output_line m) (output_lines ms) ending) ∙ same))
 lines_one (m ∷ ms) (n ∷ ns) i j same =
     let (first, others) = line_same m n (output_lines ms ++ ending) (output_lines ns ++ ending) i.0 j.0
-        (sym (append_assoc (output_line m) (output_lines ms) ending) ∙ same ∙ append_assoc (output_line n) (output_lines ns) ending) in
+    (sym (append_assoc (output_line m) (output_lines ms) ending) ∙ same ∙ append_assoc (output_line n) (output_lines ns) ending) in
     let rest = lines_one ms ns i.1 j.1 others in
     cc
 

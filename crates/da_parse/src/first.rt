@@ -8,6 +8,9 @@ use da_values::{List, NoMemory, Value, copy_bytes};
 use std::alloc::Global;
 use thiserror::Error;
 
+/// The lines that a class of the first form may print.
+const MOST_OUTPUTS: usize = 16_384;
+
 /// Why no program was read.
 #[derive(Clone, Copy, Debug, PartialEq, Eq, Error)]
 pub enum FirstFault {
@@ -61,7 +64,7 @@ fn read_numbers(alloc: Global, text: &[u8]) -> Result<Option<List<u64>>, NoMemor
         return Ok(None);
     }
     let count = numbers.len();
-    if count == 0 || count > 16_384 {
+    if count == 0 || count > MOST_OUTPUTS {
         return Ok(None);
     }
     Ok(Some(numbers))

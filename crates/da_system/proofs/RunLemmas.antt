@@ -1,5 +1,5 @@
 -- A run through statements, turn by turn.
-use Rattle.std.proofs.Common.{◌≡◌, refl, sym, ◌∙◌, ap, subst, ℕ, zero, suc, ◌+◌, ◌-◌, ◌<◌, ◌≤◌, Bool, true, false, List, [], ◌∷◌, ◌++◌, length, drop, get_or, arith, add-one, append-nil, append_assoc, drop-cons}
+use Rattle.std.proofs.Common.{◌≡◌, refl, sym, ◌∙◌, ap, ℕ, zero, suc, ◌+◌, ◌-◌, ◌<◌, ◌≤◌, true, false, List, [], ◌∷◌, ◌++◌, length, drop, get_or, arith, add-one, append-nil, append_assoc, drop-cons}
 use Rattle.std.proofs.lemmas.List.{drop_all}
 use Rattle.da_lang.specs.declared.event.Action.{Action}
 use Rattle.da_lang.specs.declared.event.Action.TheVariants.{End, Fault, Out}
@@ -12,8 +12,7 @@ use Rattle.da_values.specs.declared.value.Value.{Value}
 use Rattle.da_values.specs.Layer.{value_of_same}
 use Rattle.da_values.specs.Value.{val_of}
 use Rattle.da_lang.specs.Statements.{AtYield, UsedUp, Faults, Ran, after_turn, eval, is_yield, max_turns, run, run_to_yield, stopped, turn}
-use Rattle.da_lang.specs.Steps.{closing, phase_after}
-use Rattle.da_lang.specs.World.{World}
+use Rattle.da_lang.specs.Steps.{closing}
 use Rattle.da_system.specs.declared.machine.Start.{Start}
 use Rattle.da_system.specs.declared.process.Process.{Process}
 use Rattle.da_system.specs.declared.process.Process.TheVariants.{Waiting, Ended, Faulted}

@@ -1,10 +1,10 @@
 -- The first line of a schedule.
-use Rattle.std.proofs.Common.{◌≡◌, refl, sym, ◌∙◌, ap, ℕ, ◌+◌, ◌<◌, ◌⊎◌, inl, inr, Bool, true, false, List, [], ◌∷◌, ◌++◌, length, take, arith, eqb-true, true≢false}
+use Rattle.std.proofs.Common.{◌≡◌, refl, sym, ◌∙◌, ap, ℕ, ◌<◌, ◌⊎◌, inl, inr, Bool, true, false, List, [], ◌∷◌, ◌++◌, length, take, arith, eqb-true, true≢false}
 use Rattle.std.specs.Prelude.{Option, Some, None, Result, Ok, Err, IfNone, MatchOption, codes, ◌==◌}
 use Rattle.std.specs.Str.{bytes_eq}
 use Rattle.std.proofs.lemmas.Slice.Eq.{bytes_eq-Decides}
 use Rattle.da_lang.specs.declared.event.Event.{Event}
-use Rattle.dalgo.specs.Schedule.{read_events, text_lines, with_byte}
+use Rattle.dalgo.specs.Schedule.{read_events, text_lines}
 
 abbrev move_line : List ℕ
 move_line = codes "move 1"

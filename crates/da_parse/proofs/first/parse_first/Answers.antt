@@ -1,5 +1,4 @@
-use Rattle.std.proofs.Common.{◌≡◌, ◌∙◌, ap, subst, ℕ, List}
-use Rattle.std.specs.Prelude.{MatchOption, Some}
+use Rattle.std.proofs.Common.{◌∙◌, ap}
 use Rattle.da_parse.specs.First.{IsFirst, first_program}
 use Rattle.da_parse.proofs.FirstLemmas.{only_program}
 use Rattle.da_parse.proofs.first.parse_first.Goals as goal

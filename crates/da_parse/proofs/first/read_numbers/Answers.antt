@@ -2,7 +2,7 @@ use Rattle.std.proofs.Common.{◌∙◌, ap, arith, sym}
 use Rattle.std.specs.Str.{bytes_eq}
 use Rattle.da_parse.proofs.FirstLemmas.{not_begun, begun, line_shorter, came_on, not_first, not_ending, is_ending, is_first}
 use Rattle.da_parse.proofs.first.read_numbers.Goals as goal
-use Rattle.da_parse.proofs.first.read_numbers.Goals.{then-count-eq0-via-then-count-eq0, then-count-eq0-via-else-count-eq0+then-count-gt16384}
+use Rattle.da_parse.proofs.first.read_numbers.Goals.{then-count-eq0-via-then-count-eq0, then-count-eq0-via-else-count-eq0+then-count-gt-MOST_OUTPUTS}
 
 pub returns-in_default : goal.returns-in_default
 returns-in_default c = not_begun _ c.in_default.ensures
@@ -25,8 +25,8 @@ returns-then-count-eq0 c =
     not_first _ c.lines.rest.now _ c.lines.invariant c.in_default-read_output.ensures (λ _ some few.
     elim c.then-count-eq0.branch [
       | then-count-eq0-via-then-count-eq0 w ↦ omega (arith, some, c.len-count.ensures, w.if-count-eq0.true)
-      | then-count-eq0-via-else-count-eq0+then-count-gt16384 w ↦ omega (arith, few, c.len-count.ensures, w.if-count-gt16384.true)
+      | then-count-eq0-via-else-count-eq0+then-count-gt-MOST_OUTPUTS w ↦ omega (arith, few, c.len-count.ensures, w.if-count-gt-MOST_OUTPUTS.true)
     ])
 
 pub returns : goal.returns
-returns c = is_first _ c.lines.rest.now _ c.lines.invariant (is_ending c.lines.rest.now (ap (bytes_eq c.lines.rest.now) (sym c.as_slice.ensures) ∙ sym c.if-not-is_end.ensures)) (omega (arith, c.len-count.ensures, c.if-count-eq0.false)) (omega (arith, c.len-count.ensures, c.if-count-gt16384.false))
+returns c = is_first _ c.lines.rest.now _ c.lines.invariant (is_ending c.lines.rest.now (ap (bytes_eq c.lines.rest.now) (sym c.as_slice.ensures) ∙ sym c.if-not-is_end.ensures)) (omega (arith, c.len-count.ensures, c.if-count-eq0.false)) (omega (arith, c.len-count.ensures, c.if-count-gt-MOST_OUTPUTS.false))

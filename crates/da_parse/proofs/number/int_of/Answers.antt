@@ -1,5 +1,5 @@
 use Rattle.std.proofs.Common.{◌≡◌, ap, arith, sym, true≢false, ◌∙◌}
-use Rattle.std.specs.Prelude.{Ok, decimal}
+use Rattle.std.specs.Prelude.{decimal}
 use Rattle.std.proofs.lemmas.Slice.Eq.{bytes_eq-Decides}
 use Rattle.da_parse.proofs.NumberLemmas.{decimal_utf8, decimal_parses}
 use Rattle.da_parse.proofs.number.int_of.Goals as goal

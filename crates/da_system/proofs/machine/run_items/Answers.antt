@@ -1,4 +1,4 @@
-use Rattle.std.proofs.Common.{sym, ◌∙◌}
+use Rattle.std.proofs.Common.{sym}
 use Rattle.da_system.proofs.RunLemmas.{yields_here, faults_here, came_on, ends_here}
 use Rattle.da_system.proofs.machine.run_items.Goals as goal
 

@@ -1,9 +1,9 @@
-use Rattle.std.proofs.Common.{refl, ◌≡◌, ◌≤◌, subst, ap, ◌∙◌, sym, length}
+use Rattle.std.proofs.Common.{refl, ◌≤◌, subst, ap, ◌∙◌, sym, length}
 use Rattle.std.specs.Prelude.{Err}
 use Rattle.da_parse.specs.First.{IsFirst}
 use Rattle.dalgo.specs.declared.status.RefusedKind.TheVariants.{Size, NotYet}
 use Rattle.dalgo.specs.Replies.{program_limit}
-use Rattle.dalgo.proofs.ReplyLemmas.{take_within, take_beyond, accepts_within, first_numbered, replies_refused, replies_answers, not_refused}
+use Rattle.dalgo.proofs.ReplyLemmas.{take_within, take_beyond, accepts_within, replies_refused, replies_answers, not_refused}
 use Rattle.dalgo.proofs.top.answer_program.Goals as goal
 
 pub returns-then-text-gt-PROGRAM_LIMIT-clause-replies : goal.returns-then-text-gt-PROGRAM_LIMIT-clause-replies

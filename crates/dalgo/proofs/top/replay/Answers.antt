@@ -1,4 +1,4 @@
-use Rattle.std.proofs.Common.{◌≡◌, inr, ◌∙◌, subst, List, ℕ}
+use Rattle.std.proofs.Common.{inr, ◌∙◌, subst, List, ℕ}
 use Rattle.std.specs.Prelude.{IfOk, Option}
 use Rattle.dalgo.specs.Replies.{RepliesTo}
 use Rattle.dalgo.proofs.ReplyLemmas.{may_read, replies_told, rose_later}
