@@ -1,8 +1,10 @@
 pub mod Layer
 pub mod Marks
 pub mod Order
+pub mod Piece
 pub mod Str
 pub mod Text
+pub mod Tokens
 pub mod Value
 pub mod Weights
 pub mod Words

@@ -17,7 +17,7 @@ pub use boxed::Boxed;
 pub use copy::{copy_bytes, copy_value};
 pub use list::{Buf, List, NoMemory};
 pub use str::{Str, StrFault};
-pub use token::{LexKind, Mark, Token, TokenKind};
+pub use token::{LexKind, Mark, Piece, Token, TokenKind};
 pub use val::Val;
 pub use value::{Row, SetVal, Value};
 pub use write::write_value;
