@@ -1,3 +1,4 @@
+pub mod Entries
 pub mod Layer
 pub mod Marks
 pub mod Order

@@ -66,10 +66,10 @@ level s =
     if nat_lt (top s.levels) s.spaces
     then Ok (empty kind.Indent s.at s.line ∷ [], record s { is_fresh = false; levels = s.spaces ∷ s.levels })
     else
-      let kept = popped s.spaces s.levels in
-      if top kept == s.spaces
-      then Ok (replicate (length s.levels - length kept) (empty kind.Dedent s.at s.line), record s { is_fresh = false; levels = kept })
-      else Err (record { kind = fault.BadIndent; line = s.line })
+    let kept = popped s.spaces s.levels in
+    if top kept == s.spaces
+    then Ok (replicate (length s.levels - length kept) (empty kind.Dedent s.at s.line), record s { is_fresh = false; levels = kept })
+    else Err (record { kind = fault.BadIndent; line = s.line })
 
 abbrev pub levelled : Scan → Levelled
 levelled s = if s.is_fresh then level s else Ok ([], s)

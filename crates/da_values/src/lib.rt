@@ -7,6 +7,8 @@
 mod boxed;
 mod copy;
 mod list;
+mod marks;
+mod number;
 mod str;
 mod token;
 mod val;
@@ -16,6 +18,8 @@ mod write;
 pub use boxed::Boxed;
 pub use copy::{copy_bytes, copy_value};
 pub use list::{Buf, List, NoMemory};
+pub use marks::{front_symbol, mark_of, word_mark};
+pub use number::{NUMBER_MAX, read_number};
 pub use str::{Str, StrFault};
 pub use token::{LexKind, Mark, Piece, Token, TokenKind};
 pub use val::Val;
