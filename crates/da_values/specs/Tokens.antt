@@ -115,16 +115,20 @@ abbrev pub prepend : List Token → Scanned → Scanned
 prepend ts (Ok us) = Ok (ts ++ us)
 prepend ts (Err e) = Err e
 
--- what comes after a piece of n bytes
-abbrev pub after : ℕ → Levelled → (Scan → Scanned) → Scanned
-after n (Ok (ts, s)) go = prepend ts (go (record s { at = s.at + n }))
-after n (Err e) go = Err e
+-- a piece of n bytes is passed
+abbrev pub passed : ℕ → Levelled → Levelled
+passed n (Ok (ts, s)) = Ok (ts, record s { at = s.at + n })
+passed n (Err e) = Err e
 
--- Of a piece that was taken, `left` more bytes come first.
+abbrev pub after : Levelled → (Scan → Scanned) → Scanned
+after (Ok (ts, s)) go = prepend ts (go s)
+after (Err e) go = Err e
+
+-- Of a piece that was passed, `left` more bytes come first.
 unfoldable pub scan : ℕ → Scan → List ℕ → Scanned
 scan left s [] = finish s
 scan (suc left) s (b ∷ z) = scan left s z
-scan zero s (b ∷ z) = after (size (piece b z)) (step s b (piece b z)) (λ next. scan (size (piece b z) - 1) next z)
+scan zero s (b ∷ z) = after (passed (size (piece b z)) (step s b (piece b z))) (λ next. scan (size (piece b z) - 1) next z)
 
 abbrev pub tokens : List ℕ → Scanned
 tokens text = scan 0 start text
