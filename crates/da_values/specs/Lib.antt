@@ -5,6 +5,7 @@ pub mod Order
 pub mod Piece
 pub mod Str
 pub mod Text
+pub mod TokenFacts
 pub mod Tokens
 pub mod Value
 pub mod Weights

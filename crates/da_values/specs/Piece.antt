@@ -86,6 +86,11 @@ piece b z =
     else if is_plain b then symbol (front_symbol (b ∷ z))
     else piece_is.Fault fault.BadByte
 
+-- the piece at the front of a text; of no use where the text is empty
+abbrev pub front : List ℕ → Piece
+front [] = piece_is.Fault fault.BadToken
+front (b ∷ z) = piece b z
+
 -- how many bytes a piece has
 abbrev pub size : Piece → ℕ
 size piece_is.Space = 1

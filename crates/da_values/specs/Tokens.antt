@@ -130,5 +130,6 @@ scan left s [] = finish s
 scan (suc left) s (b ∷ z) = scan left s z
 scan zero s (b ∷ z) = after (passed (size (piece b z)) (step s b (piece b z))) (λ next. scan (size (piece b z) - 1) next z)
 
+-- the tokens of a text
 abbrev pub tokens : List ℕ → Scanned
 tokens text = scan 0 start text
