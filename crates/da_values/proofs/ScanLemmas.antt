@@ -31,7 +31,7 @@ after-same : (l : Levelled) (f g : Scan → Scanned) → ((s : Scan) → f s ≡
 after-same (Ok (ts, s)) f g same = ap (prepend ts) (same s)
 after-same (Err e) f g same = refl
 
-drop-tail : (n b : ℕ) (z : List ℕ) → 1 ≤ n → drop n (b ∷ z) ≡ drop (n - 1) z
+pub drop-tail : (n b : ℕ) (z : List ℕ) → 1 ≤ n → drop n (b ∷ z) ≡ drop (n - 1) z
 drop-tail zero b z some = absurd (omega arith)
 drop-tail (suc n) b z some = let e : suc n - 1 ≡ n = omega arith in rw e refl
 

@@ -8,6 +8,7 @@ use Rattle.da_values.specs.declared.token.Token.{Token}
 use Rattle.da_values.specs.declared.token.TokenKind.{TokenKind}
 use Rattle.da_values.specs.declared.token.TokenKind.TheVariants as kind
 use Rattle.da_values.specs.Piece.{size}
+use Rattle.da_values.proofs.PieceKinds.{ends, IsRead}
 use Rattle.da_values.specs.TokenFacts.{Rises, has_bytes}
 use Rattle.da_values.specs.Tokens.{Fault, Scan, Levelled, empty, top, popped, level, levelled, bracketed, with_token, line_end, step}
 
@@ -108,11 +109,6 @@ bracketed-kept b s =
         (record { at = refl; line = refl; spaces = refl; brackets = omega arith; past = refl; last_line = refl })
         (record { at = refl; line = refl; spaces = refl; brackets = omega arith; past = refl; last_line = refl }))
 
--- how many lines a piece ends
-abbrev pub ends : Piece → ℕ
-ends piece_is.LineEnd = 1
-ends _ = 0
-
 -- what a step changes, and its tokens
 pub record Stepped (s : Scan) (p : Piece) (ts : List Token) (next : Scan) : Type 0 where
   pub at : next.at ≡ s.at
@@ -147,13 +143,8 @@ with_token-stepped s k n b (Ok (ts, m)) bytes levels =
     }
 with_token-stepped s k n b (Err e) bytes levels = tt
 
-line_end-tokens : (s : Scan) (P : List Token → Type 0) → P [] → P (empty kind.Newline s.past s.line ∷ []) → P (line_end s)
+pub line_end-tokens : (s : Scan) (P : List Token → Type 0) → P [] → P (empty kind.Newline s.past s.line ∷ []) → P (line_end s)
 line_end-tokens s P none one = elim (s.is_fresh || not (s.brackets == 0)) as (λ b. P (if b then [] else empty kind.Newline s.past s.line ∷ [])) [ true ↦ none | false ↦ one ]
-
--- a token's kind has bytes
-abbrev pub IsRead : Piece → Type 0
-IsRead (piece_is.Token k n) = has_bytes k ≡ true
-IsRead _ = Unit {0}
 
 pub step-stepped : (s : Scan) (b : ℕ) (p : Piece) → IsRead p → Gets (Stepped s p) (step s b p)
 unfolding step
