@@ -32,8 +32,8 @@ quote_end-within : (n : ℕ) (z : List ℕ) → IsWithin (quote_end n z) (n + 1 
 quote_end-within n [] = record { some = omega arith; within = omega arith }
 quote_end-within n (c ∷ z) =
     chosen (c == 39) _ _ _
-      (λ yes. record { some = omega arith; within = omega arith })
-      (λ no. chosen (ends_line (c ∷ z)) _ _ _ (λ e. record { some = omega arith; within = omega arith }) (λ e. record { some = omega arith; within = omega arith }))
+    (λ yes. record { some = omega arith; within = omega arith })
+    (λ no. chosen (ends_line (c ∷ z)) _ _ _ (λ e. record { some = omega arith; within = omega arith }) (λ e. record { some = omega arith; within = omega arith }))
 
 quoted-within : (b : ℕ) (z : List ℕ) → IsWithin (quoted z) (length (b ∷ z))
 unfolding quoted
@@ -46,7 +46,7 @@ number-within : (digits : List ℕ) (len : ℕ) → 1 ≤ length digits → leng
 unfolding number
 number-within digits len some within =
     chosen (leads_with_zero digits || nat_lt number_max (digits_value 10 digits)) _ _ _
-      (λ e. record { some = omega arith; within = omega arith }) (λ e. record { some = some; within = within })
+    (λ e. record { some = omega arith; within = omega arith }) (λ e. record { some = some; within = within })
 
 taken-some : (test : ℕ → Bool) (b : ℕ) (z : List ℕ) → test b ≡ true → 1 ≤ length (take_while test (b ∷ z))
 taken-some test b z passes = rw length-prefix_len (prefix-some test b z passes)
@@ -76,7 +76,7 @@ at_front-within text [] all = tt
 at_front-within text (entry ∷ table) all =
     let both : (nat_le 1 (length entry.0) ≡ true) × (list_all (λ (e : Entry). nat_le 1 (length e.0)) table ≡ true) = and_both _ _ all in
     found (starts_with ◌==◌ text entry.0) refl
-      (λ starts. (grind (arith, nat_tests, both.0), starts-within text entry.0 starts)) (at_front-within text table both.1)
+    (λ starts. (grind (arith, nat_tests, both.0), starts-within text entry.0 starts)) (at_front-within text table both.1)
   where
     found : (b : Bool) → starts_with ◌==◌ text entry.0 ≡ b → (b ≡ true → (1 ≤ length entry.0) × (length entry.0 ≤ length text))
         → IfSome (at_front table text) (λ e. (1 ≤ length e.0) × (length e.0 ≤ length text))

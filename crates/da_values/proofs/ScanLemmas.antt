@@ -1,15 +1,10 @@
 -- A scan, a piece at a time.
 use Rattle.std.proofs.Common.{◌≡◌, ℕ, zero, suc, ◌+◌, ◌-◌, ◌≤◌, ◌<◌, List, [], ◌∷◌, ◌++◌, length, drop, Result, Ok, Err, refl, sym, ap, ◌∙◌, append_assoc, arith, length-drop}
 use Rattle.std.proofs.lemmas.List.{drop-drop}
-use Rattle.std.specs.Prelude.{slice_index}
 use Rattle.da_values.specs.declared.token.Token.{Token}
 use Rattle.da_values.specs.Piece.{front, size}
-use Rattle.da_values.specs.Tokens.{Fault, Scan, Scanned, Levelled, step, passed, after, prepend, scan, finish}
+use Rattle.da_values.specs.Tokens.{Fault, Scan, Scanned, Levelled, step_at, after, prepend, scan, finish}
 use Rattle.da_values.proofs.PieceLemmas.{piece-within}
-
--- the step at the front of a text
-abbrev pub step_at : Scan → List ℕ → Levelled
-step_at s text = passed (size (front text)) (step s (slice_index text 0) (front text))
 
 -- the bytes that are left of a piece are passed
 pub scan_skips : (n : ℕ) (s : Scan) (z : List ℕ) → n ≤ length z → scan n s z ≡ scan 0 s (drop n z)
@@ -55,8 +50,8 @@ pub go_on : (before ts new : List Token) (s next : Scan) (text : List ℕ) (whol
     → prepend before (scan 0 s text) ≡ whole → prepend new (scan 0 next (drop (size (front text)) text)) ≡ whole
 go_on before ts new s next text whole some stepped grown so_far =
     rw grown (prepend-append before ts (scan 0 next (drop (size (front text)) text))
-      ∙ ap (λ l. prepend before (after l (λ n. scan 0 n (drop (size (front text)) text)))) (sym stepped)
-      ∙ ap (prepend before) (sym (scan_step s text some)) ∙ so_far)
+    ∙ ap (λ l. prepend before (after l (λ n. scan 0 n (drop (size (front text)) text)))) (sym stepped)
+    ∙ ap (prepend before) (sym (scan_step s text some)) ∙ so_far)
 
 -- a fault at a step
 pub stopped : (before : List Token) (s : Scan) (text : List ℕ) (e : Fault) (whole : Scanned) → 0 < length text → step_at s text ≡ Err e

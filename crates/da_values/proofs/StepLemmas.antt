@@ -64,29 +64,44 @@ level-levels s p =
     let kept = popped s.spaces s.levels in
     let count = length s.levels - length kept in
     chosen (Levels s p) (nat_lt (top s.levels) s.spaces) _ _
-      (record {
-        at = refl; line = refl; spaces = refl; brackets = refl; past = refl; last_line = refl;
-        rises = (omega arith, omega arith);
-        on_line = All-cons (λ (t : Token). t.line ≡ s.line) indent [] refl (All-nil (λ (t : Token). t.line ≡ s.line));
-        stand = All-cons (StandsAt s.at p) indent [] refl (All-nil (StandsAt s.at p));
-      })
-      (chosen (Levels s p) (top kept == s.spaces) _ _
-        (record {
-          at = refl; line = refl; spaces = refl; brackets = refl; past = refl; last_line = refl;
-          rises = Rises-replicate count s.at s.at dedent refl (omega arith) (omega arith);
-          on_line = All-replicate (λ (t : Token). t.line ≡ s.line) count dedent refl;
-          stand = All-replicate (StandsAt s.at p) count dedent refl;
-        })
-        tt)
+    (record {
+      at = refl;
+      line = refl;
+      spaces = refl;
+      brackets = refl;
+      past = refl;
+      last_line = refl;
+      rises = (omega arith, omega arith);
+      on_line = All-cons (λ (t : Token). t.line ≡ s.line) indent [] refl (All-nil (λ (t : Token). t.line ≡ s.line));
+      stand = All-cons (StandsAt s.at p) indent [] refl (All-nil (StandsAt s.at p));
+    })
+    (chosen (Levels s p) (top kept == s.spaces) _ _
+    (record {
+      at = refl;
+      line = refl;
+      spaces = refl;
+      brackets = refl;
+      past = refl;
+      last_line = refl;
+      rises = Rises-replicate count s.at s.at dedent refl (omega arith) (omega arith);
+      on_line = All-replicate (λ (t : Token). t.line ≡ s.line) count dedent refl;
+      stand = All-replicate (StandsAt s.at p) count dedent refl;
+    })
+    tt)
 
 levelled-levels : (s : Scan) (p : Piece) → Gets (Levels s p) (levelled s)
 levelled-levels s p = chosen (Levels s p) s.is_fresh _ _ (level-levels s p)
-  (record {
-    at = refl; line = refl; spaces = refl; brackets = refl; past = refl; last_line = refl;
-    rises = omega arith;
-    on_line = All-nil (λ (t : Token). t.line ≡ s.line);
-    stand = All-nil (StandsAt s.at p);
-  })
+    (record {
+      at = refl;
+      line = refl;
+      spaces = refl;
+      brackets = refl;
+      past = refl;
+      last_line = refl;
+      rises = omega arith;
+      on_line = All-nil (λ (t : Token). t.line ≡ s.line);
+      stand = All-nil (StandsAt s.at p);
+    })
 
 record Bracketed (s next : Scan) : Type 0 where
   at : next.at ≡ s.at
@@ -104,10 +119,10 @@ bracketed-kept : (b : ℕ) (s : Scan) → Bracketed s (bracketed b s)
 unfolding bracketed
 bracketed-kept b s =
     chosen_scan (Bracketed s) (b == 40 || b == 91 || b == 123) _ _
-      (record { at = refl; line = refl; spaces = refl; brackets = omega arith; past = refl; last_line = refl })
-      (chosen_scan (Bracketed s) (b == 41 || b == 93 || b == 125) _ _
-        (record { at = refl; line = refl; spaces = refl; brackets = omega arith; past = refl; last_line = refl })
-        (record { at = refl; line = refl; spaces = refl; brackets = omega arith; past = refl; last_line = refl }))
+    (record { at = refl; line = refl; spaces = refl; brackets = omega arith; past = refl; last_line = refl })
+    (chosen_scan (Bracketed s) (b == 41 || b == 93 || b == 125) _ _
+    (record { at = refl; line = refl; spaces = refl; brackets = omega arith; past = refl; last_line = refl })
+    (record { at = refl; line = refl; spaces = refl; brackets = omega arith; past = refl; last_line = refl }))
 
 -- what a step changes, and its tokens
 pub record Stepped (s : Scan) (p : Piece) (ts : List Token) (next : Scan) : Type 0 where
@@ -135,11 +150,11 @@ with_token-stepped s k n b (Ok (ts, m)) bytes levels =
       past = λ e. omega (arith, counted.past, levels.at);
       last_line = inr (counted.last_line ∙ levels.line);
       rises = λ e. Rises-append s.past s.at (bracketed b behind).past ts (token ∷ []) (Rises-lower s.at s.past s.at ts e levels.rises)
-        (omega (arith, levels.at), omega (arith, counted.past));
+          (omega (arith, levels.at), omega (arith, counted.past));
       on_line = All-append (λ (t : Token). t.line ≡ s.line) ts (token ∷ []) levels.on_line
-        (All-cons (λ (t : Token). t.line ≡ s.line) token [] levels.line (All-nil (λ (t : Token). t.line ≡ s.line)));
+          (All-cons (λ (t : Token). t.line ≡ s.line) token [] levels.line (All-nil (λ (t : Token). t.line ≡ s.line)));
       stand = All-append (StandsAt s.at (piece_is.Token k n)) ts (token ∷ []) levels.stand
-        (All-cons (StandsAt s.at (piece_is.Token k n)) token [] (rw bytes (levels.at, refl)) (All-nil (StandsAt s.at (piece_is.Token k n))));
+          (All-cons (StandsAt s.at (piece_is.Token k n)) token [] (rw bytes (levels.at, refl)) (All-nil (StandsAt s.at (piece_is.Token k n))));
     }
 with_token-stepped s k n b (Err e) bytes levels = tt
 
@@ -149,22 +164,41 @@ line_end-tokens s P none one = elim (s.is_fresh || not (s.brackets == 0)) as (λ
 pub step-stepped : (s : Scan) (b : ℕ) (p : Piece) → IsRead p → Gets (Stepped s p) (step s b p)
 unfolding step
 step-stepped s b piece_is.Space bytes = record {
-  at = refl; line = omega arith; spaces = omega arith; brackets = omega arith; past = λ e. omega arith; last_line = inl refl;
-  rises = λ e. omega arith; on_line = All-nil (λ (t : Token). t.line ≡ s.line); stand = All-nil (StandsAt s.at piece_is.Space);
+  at = refl;
+  line = omega arith;
+  spaces = omega arith;
+  brackets = omega arith;
+  past = λ e. omega arith;
+  last_line = inl refl;
+  rises = λ e. omega arith;
+  on_line = All-nil (λ (t : Token). t.line ≡ s.line);
+  stand = All-nil (StandsAt s.at piece_is.Space);
 }
 step-stepped s b piece_is.LineEnd bytes =
     let newline = empty kind.Newline s.past s.line in
     record {
-      at = refl; line = refl; spaces = omega arith; brackets = omega arith; past = λ e. omega arith; last_line = inl refl;
+      at = refl;
+      line = refl;
+      spaces = omega arith;
+      brackets = omega arith;
+      past = λ e. omega arith;
+      last_line = inl refl;
       rises = λ e. line_end-tokens s (λ (ts : List Token). Rises s.past ts s.past) (omega arith) (omega arith, omega arith);
       on_line = line_end-tokens s (All (λ (t : Token). t.line ≡ s.line)) (All-nil (λ (t : Token). t.line ≡ s.line))
-        (All-cons (λ (t : Token). t.line ≡ s.line) newline [] refl (All-nil (λ (t : Token). t.line ≡ s.line)));
+          (All-cons (λ (t : Token). t.line ≡ s.line) newline [] refl (All-nil (λ (t : Token). t.line ≡ s.line)));
       stand = line_end-tokens s (All (StandsAt s.at piece_is.LineEnd)) (All-nil (StandsAt s.at piece_is.LineEnd))
-        (All-cons (StandsAt s.at piece_is.LineEnd) newline [] refl (All-nil (StandsAt s.at piece_is.LineEnd)));
+          (All-cons (StandsAt s.at piece_is.LineEnd) newline [] refl (All-nil (StandsAt s.at piece_is.LineEnd)));
     }
 step-stepped s b (piece_is.Passed n) bytes = record {
-  at = refl; line = omega arith; spaces = omega arith; brackets = omega arith; past = λ e. omega arith; last_line = inl refl;
-  rises = λ e. omega arith; on_line = All-nil (λ (t : Token). t.line ≡ s.line); stand = All-nil (StandsAt s.at (piece_is.Passed n));
+  at = refl;
+  line = omega arith;
+  spaces = omega arith;
+  brackets = omega arith;
+  past = λ e. omega arith;
+  last_line = inl refl;
+  rises = λ e. omega arith;
+  on_line = All-nil (λ (t : Token). t.line ≡ s.line);
+  stand = All-nil (StandsAt s.at (piece_is.Passed n));
 }
 step-stepped s b (piece_is.Token k n) bytes = with_token-stepped s k n b (levelled s) bytes (levelled-levels s (piece_is.Token k n))
 step-stepped s b (piece_is.Fault f) bytes = tt

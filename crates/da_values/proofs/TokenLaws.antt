@@ -49,22 +49,22 @@ finish-holds text s ts inside e =
     let count = length s.levels - 1 in
     let found : Holds text s.past (line_end s ++ replicate count dedent) = record {
       rises = Rises-append s.past s.past (length text) (line_end s) (replicate count dedent)
-        (line_end-tokens s (λ (us : List Token). Rises s.past us s.past) (omega arith) (omega arith, omega arith))
-        (Rises-replicate count s.past (length text) dedent refl inside.past (omega (arith, inside.total)));
+          (line_end-tokens s (λ (us : List Token). Rises s.past us s.past) (omega arith) (omega arith, omega arith))
+          (Rises-replicate count s.past (length text) dedent refl inside.past (omega (arith, inside.total)));
       on_line = All-append (IsOnLine text) (line_end s) (replicate count dedent)
-        (line_end-tokens s (All (IsOnLine text)) (All-nil (IsOnLine text))
+          (line_end-tokens s (All (IsOnLine text)) (All-nil (IsOnLine text))
           (All-cons (IsOnLine text) newline [] (inside.line, omega (arith, inside.lines)) (All-nil (IsOnLine text))))
-        (All-replicate (IsOnLine text) count dedent (inside.last_line, omega (arith, inside.last, inside.lines)));
+          (All-replicate (IsOnLine text) count dedent (inside.last_line, omega (arith, inside.last, inside.lines)));
       stand = All-append (StandsIn text) (line_end s) (replicate count dedent)
-        (line_end-tokens s (All (StandsIn text)) (All-nil (StandsIn text)) (All-cons (StandsIn text) newline [] refl (All-nil (StandsIn text))))
-        (All-replicate (StandsIn text) count dedent refl);
+          (line_end-tokens s (All (StandsIn text)) (All-nil (StandsIn text)) (All-cons (StandsIn text) newline [] refl (All-nil (StandsIn text))))
+          (All-replicate (StandsIn text) count dedent refl);
     } in
     subst (λ (us : List Token). Holds text s.past us) (chosen (s.brackets == 0) _ _ _ e) found
 
 stands-in : (text z : List ℕ) (b at : ℕ) → b ∷ z ≡ drop at text → (t : Token) → StandsAt at (piece b z) t → StandsIn text t
 stands-in text z b at rest t =
     elim (has_bytes t.kind) as (λ h. MatchBool h ((t.first ≡ at) × (piece b z ≡ piece_is.Token t.kind t.length)) (t.length ≡ 0)
-      → MatchBool h (front (drop t.first text) ≡ piece_is.Token t.kind t.length) (t.length ≡ 0))
+    → MatchBool h (front (drop t.first text) ≡ piece_is.Token t.kind t.length) (t.length ≡ 0))
     [ true ↦ λ p. ap (λ n. front (drop n text)) p.0 ∙ ap front (sym rest) ∙ p.1 | false ↦ λ e. e ]
 
 -- a step that is followed by such tokens
@@ -73,7 +73,7 @@ step-holds : (text z : List ℕ) (b : ℕ) (s next : Scan) (ts us : List Token) 
 step-holds text z b s next ts us inside stepped more = record {
   rises = Rises-append s.past next.past (length text) ts us (stepped.rises inside.past) more.rises;
   on_line = All-append (IsOnLine text) ts us
-    (λ k d h. on-line text s.line (slice_index_or ts k d) (stepped.on_line k d h) inside.line (omega (arith, inside.lines))) more.on_line;
+      (λ k d h. on-line text s.line (slice_index_or ts k d) (stepped.on_line k d h) inside.line (omega (arith, inside.lines))) more.on_line;
   stand = All-append (StandsIn text) ts us (λ k d h. stands-in text z b s.at inside.rest (slice_index_or ts k d) (stepped.stand k d h)) more.stand;
 }
 
@@ -110,16 +110,16 @@ scan-holds zero s [] text ts inside e = finish-holds text s ts inside e
 scan-holds (suc left) s [] text ts inside e = absurd (omega (arith, inside.short))
 scan-holds (suc left) s (b ∷ z) text ts inside e =
     scan-holds left s z text ts
-      (record {
-        rest = inside.rest;
-        total = omega (arith, inside.total);
-        short = omega (arith, inside.short);
-        past = inside.past;
-        line = inside.line;
-        lines = omega (arith, inside.lines, sum_by-cons (λ (c : ℕ). cond (c == 10) 1 0) b z);
-        last_line = inside.last_line;
-        last = inside.last;
-      }) e
+    (record {
+      rest = inside.rest;
+      total = omega (arith, inside.total);
+      short = omega (arith, inside.short);
+      past = inside.past;
+      line = inside.line;
+      lines = omega (arith, inside.lines, sum_by-cons (λ (c : ℕ). cond (c == 10) 1 0) b z);
+      last_line = inside.last_line;
+      last = inside.last;
+    }) e
 scan-holds zero s (b ∷ z) text ts inside e =
     let n = size (piece b z) in
     let (us, vs, next, stepped, found, is) = after-ok (step s b (piece b z)) n (λ (next : Scan). scan (n - 1) next z) ts e in

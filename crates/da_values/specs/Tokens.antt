@@ -1,5 +1,5 @@
 -- The tokens of a text, or its first fault.
-use Rattle.std.specs.Prelude.{ℕ, zero, suc, ◌+◌, ◌-◌, Bool, true, false, not, ◌||◌, ◌==◌, nat_lt, if◌then◌else◌, List, [], ◌∷◌, ◌++◌, length, replicate, Result, Ok, Err}
+use Rattle.std.specs.Prelude.{ℕ, zero, suc, ◌+◌, ◌-◌, Bool, true, false, not, ◌||◌, ◌==◌, nat_lt, if◌then◌else◌, List, [], ◌∷◌, ◌++◌, length, replicate, slice_index, Result, Ok, Err}
 use Rattle.da_values.specs.declared.token.LexKind.{LexKind}
 use Rattle.da_values.specs.declared.token.LexKind.TheVariants as fault
 use Rattle.da_values.specs.declared.token.Piece.{Piece}
@@ -7,7 +7,7 @@ use Rattle.da_values.specs.declared.token.Piece.TheVariants as piece_is
 use Rattle.da_values.specs.declared.token.Token.{Token}
 use Rattle.da_values.specs.declared.token.TokenKind.{TokenKind}
 use Rattle.da_values.specs.declared.token.TokenKind.TheVariants as kind
-use Rattle.da_values.specs.Piece.{piece, size}
+use Rattle.da_values.specs.Piece.{piece, front, size}
 
 -- why a text has no tokens, and on which line
 pub record Fault : Type 0 where
@@ -120,6 +120,10 @@ abbrev pub passed : ℕ → Levelled → Levelled
 passed n (Ok (ts, s)) = Ok (ts, record s { at = s.at + n })
 passed n (Err e) = Err e
 
+-- the step at the front of a text
+abbrev pub step_at : Scan → List ℕ → Levelled
+step_at s text = passed (size (front text)) (step s (slice_index text 0) (front text))
+
 abbrev pub after : Levelled → (Scan → Scanned) → Scanned
 after (Ok (ts, s)) go = prepend ts (go s)
 after (Err e) go = Err e
@@ -128,7 +132,7 @@ after (Err e) go = Err e
 unfoldable pub scan : ℕ → Scan → List ℕ → Scanned
 scan left s [] = finish s
 scan (suc left) s (b ∷ z) = scan left s z
-scan zero s (b ∷ z) = after (passed (size (piece b z)) (step s b (piece b z))) (λ next. scan (size (piece b z) - 1) next z)
+scan zero s (b ∷ z) = after (step_at s (b ∷ z)) (λ next. scan (size (piece b z) - 1) next z)
 
 -- the tokens of a text
 abbrev pub tokens : List ℕ → Scanned
