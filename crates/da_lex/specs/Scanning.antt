@@ -31,9 +31,10 @@ abbrev pub Steps : {A : Type 0} → Levelled → Result A LexFault → Scanner �
 Steps levelled (Ok a) old new = (ts : List Token) × (levelled ≡ Ok (ts, scan_of new)) × (new.tokens ≡ old.tokens ++ ts)
 Steps levelled (Err e) old new = e ≢ Memory → levelled ≡ Err (fault_of e)
 
-abbrev pub Ends : Scanned → Result (Unit {0}) LexFault → Scanner → Scanner → Type 0
-Ends scanned (Ok u) old new = (ts : List Token) × (scanned ≡ Ok ts) × (new.tokens ≡ old.tokens ++ ts)
-Ends scanned (Err e) old new = e ≢ Memory → scanned ≡ Err (fault_of e)
+-- what the end of a text answered is this
+abbrev pub Ends : Scanned → List Token → Result (List Token) LexFault → Type 0
+Ends scanned before (Ok all) = (ts : List Token) × (scanned ≡ Ok ts) × (all ≡ before ++ ts)
+Ends scanned before (Err e) = e ≢ Memory → scanned ≡ Err (fault_of e)
 
 -- the counts are at most what was read, and what is left fits
 pub record Fits (s : Scan) (left : ℕ) : Type 0 where

@@ -5,7 +5,6 @@ ghost use Rattle.da_values.specs.Words as words;
 ghost use Rattle.std.specs.Char.{is_ascii_digit};
 ghost use Rattle.std.specs.List.{prefix_len};
 ghost use Rattle.std.specs.Prelude.{◌≡◌, ◌<◌, ◌==◌, length, slice_index, take, take_while};
-ghost use Rattle.std.specs.Str.Parse.{AllDigits};
 
 use da_values::{LexKind, Piece, TokenKind, front_symbol, read_number, word_mark};
 
@@ -89,7 +88,6 @@ fn quoted(text: &[u8]) -> Piece
 
 #[tactic(auto, unfolding(da_values::specs::Piece::number))]
 fn number(digits: &[u8]) -> Piece
-    requires { AllDigits 10 digits.now }
     ensures { result ≡ spec.number digits.now }
 {
     if let [b'0', _, ..] = digits {

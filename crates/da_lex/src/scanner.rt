@@ -198,10 +198,10 @@ impl Scanner {
         Ok(length)
     }
 
-    /// The end of the text, where the last line ends, and the open levels.
+    /// The tokens, at the end of the text, where the last line ends, and the open levels.
     #[tactic(auto, unfolding(da_values::specs::Tokens::finish))]
-    pub fn finish(&mut self) -> Result<(), LexFault>
-        ensures { Ends (spec.finish (scan_of self.old)) result self.old self.new }
+    pub fn finish(mut self) -> Result<List<Token>, LexFault>
+        ensures { Ends (spec.finish (scan_of self)) self.tokens result }
     {
         if self.brackets != 0 {
             return Err(LexFault::Refused {
@@ -212,7 +212,8 @@ impl Scanner {
         self.newline()?;
         let dedent = empty(TokenKind::Dedent, self.at, self.last_line);
         let count = self.levels.len().saturating_sub(1);
-        repeat(&mut self.tokens, dedent, count)?;
-        Ok(())
+        let Scanner { mut tokens, .. } = self;
+        repeat(&mut tokens, dedent, count)?;
+        Ok(tokens)
     }
 }

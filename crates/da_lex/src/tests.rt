@@ -348,6 +348,27 @@ fn has_fault(alloc: Global, text: &[u8], kind: LexKind, line: u32) -> bool
     }
 }
 
+fn has_slices(alloc: Global, text: &[u8], slices: &[&[u8]]) -> bool
+    requires { length text.now ≤ 1048576 }
+{
+    match lex(alloc, text) {
+        Ok(tokens) => {
+            tokens.list.len() == slices.len()
+                && tokens.list.as_slice().iter().zip(slices).all(|(token, slice)| {
+                    token.first as usize + token.length as usize <= tokens.text.len()
+                        && tokens.slice(token) == *slice
+                })
+        }
+        Err(_) => false,
+    }
+}
+
+#[test]
+fn tokens_are_slices(rt: HostRuntime) {
+    let slices: [&[u8]; 8] = [b"x", b"==", b"'a b'", b"", b"", b"yes", b"", b""];
+    assert!(rt; has_slices(rt.alloc(), b"x =='a b'\n yes", &slices));
+}
+
 #[test]
 fn texts_have_their_tokens(rt: HostRuntime) {
     for (at, (text, rows)) in TEXTS.iter().enumerate() {

@@ -1,9 +1,10 @@
 //! The tokens of a text.
 
 ghost use Rattle.da_lex.specs.Scanning.{IsFaultOf};
+ghost use Rattle.da_values.specs.Marks.{slice_of};
 ghost use Rattle.da_values.specs.TokenFacts.{Rises, IsOnLine, StandsIn};
 ghost use Rattle.da_values.specs.Tokens as spec;
-ghost use Rattle.std.specs.Prelude.{◌≡◌, ◌≤◌, All, IfErr, IfOk, Ok, length};
+ghost use Rattle.std.specs.Prelude.{◌≡◌, ◌≤◌, ◌+◌, All, IfErr, IfOk, Ok, length};
 
 use crate::fault::LexFault;
 use crate::scanner::Scanner;
@@ -17,6 +18,18 @@ pub struct Tokens<'a> {
     pub text: &'a [u8],
     /// Its tokens.
     pub list: List<Token>,
+}
+
+impl<'a> Tokens<'a> {
+    /// The bytes of a token of this text.
+    pub fn slice(&self, token: &Token) -> &'a [u8]
+        requires { token.now.first + token.now.length ≤ length self.now.text.now }
+        ensures { result.now ≡ slice_of self.now.text.now token.now }
+    {
+        let (_, rest) = self.text.split_at(token.first as usize);
+        let (bytes, _) = rest.split_at(token.length as usize);
+        bytes
+    }
 }
 
 /// The tokens of a text, of at most 1,048,576 bytes.
@@ -40,7 +53,6 @@ pub fn lex<'a>(alloc: Global, text: &'a [u8]) -> Result<Tokens<'a>, LexFault>
         let (_, after) = rest.split_at(length);
         rest = after;
     }
-    scanner.finish()?;
-    let Scanner { tokens, .. } = scanner;
-    Ok(Tokens { text, list: tokens })
+    let list = scanner.finish()?;
+    Ok(Tokens { text, list })
 }

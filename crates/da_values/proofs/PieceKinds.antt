@@ -1,16 +1,15 @@
 -- What kinds of tokens pieces are, and where a line ends.
-use Rattle.std.proofs.Common.{◌≡◌, ℕ, ◌+◌, ◌≤◌, Bool, true, false, cond, ◌||◌, List, [], ◌∷◌, length, drop, refl, arith}
+use Rattle.std.proofs.Common.{◌≡◌, ℕ, ◌+◌, ◌≤◌, Bool, true, false, not, cond, ◌||◌, List, [], ◌∷◌, length, drop, refl, arith}
 use Rattle.std.proofs.lemmas.List.Sums.{sum_by-cons}
 use Rattle.std.specs.Char.{is_ascii_digit}
 use Rattle.std.specs.List.{prefix_len}
-use Rattle.std.specs.Prelude.{Option, Some, None, is_some, codes, nat_lt, ◌==◌, if◌then◌else◌, slice_index, take_while, count_by}
+use Rattle.std.specs.Prelude.{Option, Some, None, is_some, codes, ◌==◌, if◌then◌else◌, slice_index, take_while, count_by}
 use Rattle.std.specs.Str.{bytes_eq}
-use Rattle.std.specs.Str.Parse.{digits_value}
 use Rattle.da_values.specs.declared.token.LexKind.TheVariants as fault
 use Rattle.da_values.specs.declared.token.Piece.{Piece}
 use Rattle.da_values.specs.declared.token.Piece.TheVariants as piece_is
 use Rattle.da_values.specs.declared.token.TokenKind.{TokenKind}
-use Rattle.da_values.specs.Piece.{is_plain, is_dropped, ends_line, in_comment, in_quotes, begins_name, in_name, quote_end, quoted, leads_with_zero, number_max, number, name_kind, named, symbol, piece}
+use Rattle.da_values.specs.Piece.{is_plain, is_dropped, ends_line, in_comment, in_quotes, begins_name, in_name, quote_end, quoted, leads_with_zero, number_of, number, name_kind, named, symbol, piece}
 use Rattle.da_values.specs.TokenFacts.{has_bytes}
 use Rattle.da_values.specs.Words.{Entry, words, spelled, front_symbol}
 
@@ -36,7 +35,7 @@ quoted-read z =
 
 number-read : (digits : List ℕ) → IsRead (number digits)
 unfolding number
-number-read digits = chosen IsRead (leads_with_zero digits || nat_lt number_max (digits_value 10 digits)) _ _ tt refl
+number-read digits = chosen IsRead (leads_with_zero digits || not (is_some (number_of digits))) _ _ tt refl
 
 chosen_kind : (b : Bool) (k l : TokenKind) → has_bytes k ≡ true → has_bytes l ≡ true → has_bytes (if b then k else l) ≡ true
 chosen_kind true k l first second = first
@@ -71,7 +70,7 @@ quoted-ends z =
 
 number-ends : (digits : List ℕ) → EndsAt false (number digits)
 unfolding number
-number-ends digits = chosen (EndsAt false) (leads_with_zero digits || nat_lt number_max (digits_value 10 digits)) _ _ (omega arith) (omega arith)
+number-ends digits = chosen (EndsAt false) (leads_with_zero digits || not (is_some (number_of digits))) _ _ (omega arith) (omega arith)
 
 symbol-ends : (found : Option Entry) → EndsAt false (symbol found)
 symbol-ends (Some entry) = omega arith

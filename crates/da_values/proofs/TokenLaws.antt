@@ -130,3 +130,14 @@ scan-holds zero s (b ∷ z) text ts inside e =
 pub tokens-hold : (text : List ℕ) (ts : List Token) → tokens text ≡ Ok ts → Holds text 0 ts
 tokens-hold text ts e = scan-holds 0 start text text ts
     (record { rest = refl; total = omega arith; short = omega arith; past = omega arith; line = omega arith; lines = omega arith; last_line = omega arith; last = omega arith }) e
+
+Rises-le : (from end : ℕ) (ts : List Token) → Rises from ts end → from ≤ end
+Rises-le from end [] rises = rises
+Rises-le from end (t ∷ ts) rises = omega (arith, rises.0, Rises-le (t.first + t.length) end ts rises.1)
+
+-- tokens that rise up to an end are within it
+pub rise-within : (from end : ℕ) (ts : List Token) → Rises from ts end → All (λ t. t.first + t.length ≤ end) ts
+rise-within from end [] rises = All-nil (λ (t : Token). t.first + t.length ≤ end)
+rise-within from end (t ∷ ts) rises =
+    All-cons (λ (t : Token). t.first + t.length ≤ end) t ts (Rises-le (t.first + t.length) end ts rises.1)
+      (rise-within (t.first + t.length) end ts rises.1)

@@ -1,7 +1,7 @@
 -- What stands at the front of a text: always the longest piece.
 use Rattle.std.specs.Prelude.{ℕ, ◌+◌, Bool, true, not, ◌&&◌, ◌||◌, ◌==◌, nat_le, nat_lt, if◌then◌else◌, List, [], ◌∷◌, length, take_while, drop, slice_index, Option, Some, None, is_some, codes}
 use Rattle.std.specs.Char.{is_ascii_digit, is_ascii_alphabetic, is_ascii_alphanumeric}
-use Rattle.std.specs.List.{prefix_len}
+use Rattle.std.specs.List.{prefix_len, list_all}
 use Rattle.std.specs.Str.{bytes_eq}
 use Rattle.std.specs.Str.Parse.{digits_value}
 use Rattle.da_values.specs.declared.token.LexKind.{LexKind}
@@ -57,9 +57,14 @@ number_max = 9223372036854775807
 abbrev pub leads_with_zero : List ℕ → Bool
 leads_with_zero digits = slice_index digits 0 == 48 && nat_lt 1 (length digits)
 
+-- the integer that bytes write, if they are digits and it is not too large
+unfoldable pub number_of : List ℕ → Option ℕ
+number_of digits =
+    if list_all is_ascii_digit digits && nat_le (digits_value 10 digits) number_max then Some (digits_value 10 digits) else None
+
 unfoldable pub number : List ℕ → Piece
 number digits =
-    if leads_with_zero digits || nat_lt number_max (digits_value 10 digits) then piece_is.Fault fault.BadToken
+    if leads_with_zero digits || not (is_some (number_of digits)) then piece_is.Fault fault.BadToken
     else piece_is.Token kind.Number (length digits)
 
 unfoldable pub name_kind : List ℕ → TokenKind

@@ -1,18 +1,21 @@
 //! Numbers of programs.
-ghost use Rattle.da_values.specs.Piece.{number_max};
-ghost use Rattle.std.specs.Prelude.{◌≡◌, ◌≤◌, Some, None, nat_le, if◌then◌else◌};
-ghost use Rattle.std.specs.Str.Parse.{AllDigits, digits_value};
+ghost use Rattle.da_values.specs.Piece as spec;
+ghost use Rattle.std.specs.Prelude.{◌≡◌};
 
 /// The greatest integer that a program can write.
 pub const NUMBER_MAX: u64 = 9223372036854775807;
 
-/// The number that decimal digits write, or `None` exactly where it is greater than `NUMBER_MAX`.
+/// The number that bytes write, or `None` exactly where one is no decimal digit or the number is greater than
+/// `NUMBER_MAX`.
+#[tactic(auto, unfolding(crate::specs::Piece::number_of))]
 pub fn read_number(mut digits: &[u8]) -> Option<u64>
-    requires { AllDigits 10 digits.now }
-    ensures { result ≡ (if nat_le (digits_value 10 digits.entry.now) number_max then Some (digits_value 10 digits.entry.now) else None) }
+    ensures { result ≡ spec.number_of digits.entry.now }
 {
     let mut number = 0u64;
     while let [digit, rest @ ..] = digits {
+        if !digit.is_ascii_digit() {
+            return None;
+        }
         let more = u128::from(number) * 10 + u128::from(*digit - b'0');
         if more > u128::from(NUMBER_MAX) {
             return None;
@@ -21,4 +24,17 @@ pub fn read_number(mut digits: &[u8]) -> Option<u64>
         digits = rest;
     }
     Some(number)
+}
+
+#[cfg(test)]
+mod tests {
+    use super::*;
+
+    #[test]
+    fn digits_write_numbers(rt: HostRuntime) {
+        assert_eq!(rt; read_number(b"0"), Some(0));
+        assert_eq!(rt; read_number(b"9223372036854775807"), Some(NUMBER_MAX));
+        assert_eq!(rt; read_number(b"9223372036854775808"), None);
+        assert_eq!(rt; read_number(b"1a"), None);
+    }
 }

@@ -33,14 +33,14 @@ returns-in_err-length c =
       pieces = tt;
     })
 
-pub returns-in_err-finish : goal.returns-in_err-finish
-returns-in_err-finish c =
-    let p = err_from_is_err_and c.from_residual-in_err-finish.result c.from_residual-in_err-finish.ensures.1 in
+pub returns-in_err-list : goal.returns-in_err-list
+returns-in_err-list c =
+    let p = err_from_is_err_and c.from_residual-in_err-list.result c.from_residual-in_err-list.ensures.1 in
     rw (p.1, p.2) (record {
       ok = tt;
       text = tt;
       refused = fault-found _ _ (λ known.
-          ended c.loop-rest.scanner.tokens _ c.loop-rest.rest.now _ (omega arith) c.loop-rest.invariant.scanned ∙ ap (prepend c.loop-rest.scanner.tokens) (c.in_err-finish.ensures known));
+          ended c.loop-rest.scanner.tokens _ c.loop-rest.rest.now _ (omega arith) c.loop-rest.invariant.scanned ∙ ap (prepend c.loop-rest.scanner.tokens) (c.in_err-list.ensures known));
       order = tt;
       lines = tt;
       pieces = tt;
@@ -48,8 +48,8 @@ returns-in_err-finish c =
 
 pub returns : goal.returns
 returns c =
-    let (ts, is, made) = c.in_ok-finish.ensures in
-    let found : tokens c.args.text.now ≡ Ok c.finish.new.self.tokens =
+    let (ts, is, made) = c.in_ok-list.ensures in
+    let found : tokens c.args.text.now ≡ Ok c.in_ok-list.list =
     rw made (ended c.loop-rest.scanner.tokens _ c.loop-rest.rest.now _ (omega arith) c.loop-rest.invariant.scanned ∙ ap (prepend c.loop-rest.scanner.tokens) is) in
-    let holds = tokens-hold c.args.text.now c.finish.new.self.tokens found in
+    let holds = tokens-hold c.args.text.now c.in_ok-list.list found in
     record { ok = found; text = refl; order = holds.rises; lines = holds.on_line; pieces = holds.stand; refused = tt }
