@@ -1,5 +1,5 @@
 -- A scan's counts stay small.
-use Rattle.std.proofs.Common.{◌≡◌, ℕ, ◌+◌, ◌-◌, ◌≤◌, ◌<◌, List, [], ◌∷◌, length, Result, Ok, Err, refl, sym, ap, arith}
+use Rattle.std.proofs.Common.{◌≡◌, ℕ, ◌+◌, ◌-◌, ◌≤◌, ◌<◌, List, [], ◌∷◌, length, Ok, Err, sym, ap, arith}
 use Rattle.da_values.specs.declared.token.Piece.{Piece}
 use Rattle.da_values.specs.declared.token.Piece.TheVariants as piece_is
 use Rattle.da_values.specs.declared.token.Token.{Token}

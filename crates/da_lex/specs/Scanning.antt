@@ -1,5 +1,5 @@
 -- What the steps of the scan do, by the definition.
-use Rattle.std.specs.Prelude.{◌≡◌, ◌≢◌, ℕ, ◌+◌, ◌≤◌, List, [], ◌∷◌, ◌++◌, reverse, Result, Ok, Err}
+use Rattle.std.specs.Prelude.{◌≡◌, ◌≢◌, ℕ, ◌+◌, ◌≤◌, List, ◌++◌, reverse, Result, Ok, Err}
 use Rattle.da_values.specs.declared.token.LexKind.TheVariants as kind
 use Rattle.da_values.specs.declared.token.Token.{Token}
 use Rattle.da_values.specs.Tokens.{Fault, Levelled, Scan, Scanned}

@@ -4,7 +4,7 @@ ghost use Rattle.da_values.specs.Piece as spec;
 ghost use Rattle.da_values.specs.Words as words;
 ghost use Rattle.std.specs.Char.{is_ascii_digit};
 ghost use Rattle.std.specs.List.{prefix_len};
-ghost use Rattle.std.specs.Prelude.{◌≡◌, ◌<◌, ◌==◌, length, slice_index, take, take_while};
+ghost use Rattle.std.specs.Prelude.{◌≡◌, ◌==◌, slice_index, take_while};
 
 use da_values::{LexKind, Piece, TokenKind, front_symbol, read_number, word_mark};
 
@@ -40,13 +40,15 @@ fn comment_length(text: &[u8]) -> usize
     text.iter().take_while(|byte| **byte != b'\n').count()
 }
 
+// How many digits stand at the front.
 #[tactic(auto, using(crate::proofs::Facts::prefixes))]
-fn digits_at(text: &[u8]) -> usize
+fn number_length(text: &[u8]) -> usize
     ensures { result ≡ prefix_len is_ascii_digit text.now }
 {
     text.iter().take_while(|byte| byte.is_ascii_digit()).count()
 }
 
+// How many bytes at the front a name may have.
 #[tactic(auto, using(crate::proofs::Facts::prefixes))]
 fn name_length(text: &[u8]) -> usize
     ensures { result ≡ prefix_len spec.in_name text.now }
@@ -54,6 +56,7 @@ fn name_length(text: &[u8]) -> usize
     text.iter().take_while(|byte| is_in_name(**byte)).count()
 }
 
+// How many bytes at the front a text literal may hold.
 #[tactic(auto, using(crate::proofs::Facts::prefixes))]
 fn quoted_length(text: &[u8]) -> usize
     ensures { result ≡ prefix_len spec.in_quotes text.now }
@@ -61,6 +64,7 @@ fn quoted_length(text: &[u8]) -> usize
     text.iter().take_while(|byte| is_in_quotes(**byte)).count()
 }
 
+// Whether no more of the line is left, a dropped carriage return apart.
 fn ends_line(text: &[u8]) -> bool
     ensures { result ≡ spec.ends_line text.now }
 {
@@ -86,6 +90,7 @@ fn quoted(text: &[u8]) -> Piece
     }
 }
 
+// The number that these digits are, if it has no leading zero and is not too large.
 #[tactic(auto, unfolding(da_values::specs::Piece::number))]
 fn number(digits: &[u8]) -> Piece
     ensures { result ≡ spec.number digits.now }
@@ -125,7 +130,7 @@ fn symbol(text: &[u8]) -> Piece
 fn number_at(text: &[u8]) -> Piece
     ensures { result ≡ spec.number (take_while is_ascii_digit text.now) }
 {
-    let (digits, _) = text.split_at(digits_at(text));
+    let (digits, _) = text.split_at(number_length(text));
     number(digits)
 }
 

@@ -3,7 +3,7 @@
 ghost use Rattle.da_lex.specs.Scanning.{scan_of, Steps, Ends, Fits};
 ghost use Rattle.da_values.specs.Piece.{front, size};
 ghost use Rattle.da_values.specs.Tokens as spec;
-ghost use Rattle.std.specs.Prelude.{◌≡◌, ◌+◌, ◌-◌, ◌<◌, ◌≤◌, ◌++◌, [], IfOk, OnOk, length, slice_index};
+ghost use Rattle.std.specs.Prelude.{◌≡◌, ◌+◌, ◌<◌, ◌≤◌, ◌++◌, [], IfOk, OnOk, length};
 
 use crate::fault::LexFault;
 use crate::levels::{close, repeat, top};
@@ -33,6 +33,7 @@ pub struct Scanner {
     pub tokens: List<Token>,
 }
 
+// A token without bytes.
 fn empty(kind: TokenKind, first: u32, line: u32) -> Token
     ensures { result ≡ spec.empty kind first line }
 {
@@ -93,6 +94,7 @@ impl Scanner {
         Ok(())
     }
 
+    // The level of the line, if it is still to come.
     fn level_if_fresh(&mut self) -> Result<(), LexFault>
         ensures steps { Steps (spec.levelled (scan_of self.old)) result self.old self.new }
         ensures at { self.new.at ≡ self.old.at }

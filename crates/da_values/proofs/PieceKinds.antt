@@ -1,5 +1,5 @@
 -- What kinds of tokens pieces are, and where a line ends.
-use Rattle.std.proofs.Common.{◌≡◌, ℕ, ◌+◌, ◌≤◌, Bool, true, false, not, cond, ◌||◌, List, [], ◌∷◌, length, drop, refl, arith}
+use Rattle.std.proofs.Common.{◌≡◌, ℕ, ◌+◌, ◌≤◌, Bool, true, false, not, cond, ◌||◌, List, ◌∷◌, drop, refl, arith}
 use Rattle.std.proofs.lemmas.List.Sums.{sum_by-cons}
 use Rattle.std.specs.Char.{is_ascii_digit}
 use Rattle.std.specs.List.{prefix_len}
@@ -9,7 +9,7 @@ use Rattle.da_values.specs.declared.token.LexKind.TheVariants as fault
 use Rattle.da_values.specs.declared.token.Piece.{Piece}
 use Rattle.da_values.specs.declared.token.Piece.TheVariants as piece_is
 use Rattle.da_values.specs.declared.token.TokenKind.{TokenKind}
-use Rattle.da_values.specs.Piece.{is_plain, is_dropped, ends_line, in_comment, in_quotes, begins_name, in_name, quote_end, quoted, leads_with_zero, number_of, number, name_kind, named, symbol, piece}
+use Rattle.da_values.specs.Piece.{is_plain, is_dropped, ends_line, in_comment, in_quotes, begins_name, in_name, quoted, leads_with_zero, number_of, number, name_kind, named, symbol, piece}
 use Rattle.da_values.specs.TokenFacts.{has_bytes}
 use Rattle.da_values.specs.Words.{Entry, words, spelled, front_symbol}
 

@@ -1,15 +1,14 @@
 -- How many bytes the piece at the front of a text has.
-use Rattle.std.proofs.Common.{◌≡◌, ℕ, ◌+◌, ◌-◌, ◌≤◌, Bool, true, false, not, cond, ◌&&◌, List, [], ◌∷◌, length, drop, take, refl, sym, ap, ◌∙◌, arith, length-drop, length-take, length-append, ◌++◌, ◌||◌}
+use Rattle.std.proofs.Common.{◌≡◌, ℕ, ◌+◌, ◌≤◌, Bool, true, false, not, cond, ◌&&◌, List, [], ◌∷◌, length, drop, refl, ap, arith, length-drop, length-append, ◌++◌, ◌||◌}
 use Rattle.std.proofs.lemmas.Bool.Decides.{nat_tests, Decides-eqb}
 use Rattle.std.proofs.lemmas.List.Folds.{length-prefix_len}
 use Rattle.std.proofs.lemmas.List.Sums.{prefix_len-le-length}
 use Rattle.std.specs.Char.{is_ascii_digit}
 use Rattle.std.proofs.lemmas.Slice.Eq.{starts_is}
 use Rattle.std.specs.List.{prefix_len, starts_with, list_all}
-use Rattle.std.specs.Prelude.{Option, Some, None, is_some, IfSome, find, nat_le, ◌==◌, if◌then◌else◌, slice_index, take_while}
+use Rattle.std.specs.Prelude.{Option, Some, None, is_some, IfSome, nat_le, ◌==◌, if◌then◌else◌, take_while}
 use Rattle.da_values.specs.declared.token.Piece.{Piece}
-use Rattle.da_values.specs.declared.token.Piece.TheVariants as piece_is
-use Rattle.da_values.specs.Piece.{is_plain, is_dropped, ends_line, in_comment, in_quotes, begins_name, in_name, quote_end, quoted, leads_with_zero, number_of, number, named, symbol, piece, size}
+use Rattle.da_values.specs.Piece.{is_plain, is_dropped, ends_line, in_comment, in_quotes, begins_name, in_name, quote_end, quoted, leads_with_zero, number_of, number, symbol, piece, size}
 use Rattle.da_values.specs.Words.{Entry, symbols, at_front, front_symbol}
 
 -- a piece has a byte, and no more than there are

@@ -1,5 +1,5 @@
 -- What a step of a scan changes, and where its tokens stand.
-use Rattle.std.proofs.Common.{◌≡◌, ℕ, zero, suc, ◌+◌, ◌-◌, ◌≤◌, ◌<◌, ◌⊎◌, inl, inr, Bool, true, false, not, ◌||◌, List, [], ◌∷◌, ◌++◌, length, replicate, Result, Ok, Err, refl, sym, ap, ◌∙◌, subst, arith}
+use Rattle.std.proofs.Common.{◌≡◌, ℕ, zero, suc, ◌+◌, ◌-◌, ◌≤◌, ◌⊎◌, inl, inr, Bool, true, false, not, ◌||◌, List, [], ◌∷◌, ◌++◌, length, replicate, Ok, Err, refl, ◌∙◌, subst, arith}
 use Rattle.std.proofs.lemmas.List.Elements.{All-append, All-cons, All-nil}
 use Rattle.std.specs.Prelude.{All, MatchBool, if◌then◌else◌, nat_lt, ◌==◌}
 use Rattle.da_values.specs.declared.token.Piece.{Piece}
@@ -10,7 +10,7 @@ use Rattle.da_values.specs.declared.token.TokenKind.TheVariants as kind
 use Rattle.da_values.specs.Piece.{size}
 use Rattle.da_values.proofs.PieceKinds.{ends, IsRead}
 use Rattle.da_values.specs.TokenFacts.{Rises, has_bytes}
-use Rattle.da_values.specs.Tokens.{Fault, Scan, Levelled, empty, top, popped, level, levelled, bracketed, with_token, line_end, step}
+use Rattle.da_values.specs.Tokens.{Scan, Levelled, empty, top, popped, level, levelled, bracketed, with_token, line_end, step}
 
 -- a fact of what was found, where there was no fault
 abbrev pub Gets : (List Token → Scan → Type 0) → Levelled → Type 0

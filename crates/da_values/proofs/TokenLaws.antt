@@ -1,20 +1,19 @@
 -- The tokens of a text rise, each on a line of the text, and each is the piece that stands there.
-use Rattle.std.proofs.Common.{◌≡◌, ℕ, zero, suc, ◌+◌, ◌-◌, ◌≤◌, ◌<◌, ◌⊎◌, inl, inr, Bool, true, false, cond, List, [], ◌∷◌, ◌++◌, length, drop, replicate, Result, Ok, Err, refl, sym, ap, ◌∙◌, subst, arith, length-drop}
+use Rattle.std.proofs.Common.{◌≡◌, ℕ, zero, suc, ◌+◌, ◌-◌, ◌≤◌, inl, inr, Bool, true, false, cond, List, [], ◌∷◌, ◌++◌, length, drop, replicate, Ok, Err, refl, sym, ap, ◌∙◌, subst, arith}
 use Rattle.std.proofs.lemmas.List.{drop-drop}
 use Rattle.std.proofs.lemmas.List.Elements.{All-append, All-cons, All-nil}
 use Rattle.std.proofs.lemmas.List.Sums.{sum_by-cons}
-use Rattle.std.specs.Prelude.{All, if◌then◌else◌, MatchBool, slice_index, slice_index_or, count_by, ◌==◌}
-use Rattle.da_values.specs.declared.token.Piece.{Piece}
+use Rattle.std.specs.Prelude.{All, if◌then◌else◌, MatchBool, slice_index_or, count_by, ◌==◌}
 use Rattle.da_values.specs.declared.token.Piece.TheVariants as piece_is
 use Rattle.da_values.specs.declared.token.Token.{Token}
 use Rattle.da_values.specs.declared.token.TokenKind.TheVariants as kind
 use Rattle.da_values.specs.Piece.{piece, front, size}
 use Rattle.da_values.specs.TokenFacts.{Rises, has_bytes, StandsIn, line_count, IsOnLine}
 use Rattle.da_values.specs.Tokens.{Fault, Scan, Scanned, Levelled, empty, line_end, step, passed, after, prepend, scan, finish, start, tokens}
-use Rattle.da_values.proofs.PieceKinds.{ends, line-ends, piece-read}
+use Rattle.da_values.proofs.PieceKinds.{line-ends, piece-read}
 use Rattle.da_values.proofs.PieceLemmas.{piece-within}
 use Rattle.da_values.proofs.ScanLemmas.{drop-tail}
-use Rattle.da_values.proofs.StepLemmas.{Gets, gets_at, Rises-append, Rises-lower, Rises-replicate, All-replicate, StandsAt, Stepped, step-stepped, line_end-tokens}
+use Rattle.da_values.proofs.StepLemmas.{gets_at, Rises-append, Rises-replicate, All-replicate, StandsAt, Stepped, step-stepped, line_end-tokens}
 
 -- what the tokens from `from` on are
 pub record Holds (text : List ℕ) (from : ℕ) (ts : List Token) : Type 0 where
@@ -140,4 +139,4 @@ pub rise-within : (from end : ℕ) (ts : List Token) → Rises from ts end → A
 rise-within from end [] rises = All-nil (λ (t : Token). t.first + t.length ≤ end)
 rise-within from end (t ∷ ts) rises =
     All-cons (λ (t : Token). t.first + t.length ≤ end) t ts (Rises-le (t.first + t.length) end ts rises.1)
-      (rise-within (t.first + t.length) end ts rises.1)
+    (rise-within (t.first + t.length) end ts rises.1)

@@ -4,7 +4,6 @@ use Rattle.std.specs.Char.{is_ascii_digit, is_ascii_alphabetic, is_ascii_alphanu
 use Rattle.std.specs.List.{prefix_len, list_all}
 use Rattle.std.specs.Str.{bytes_eq}
 use Rattle.std.specs.Str.Parse.{digits_value}
-use Rattle.da_values.specs.declared.token.LexKind.{LexKind}
 use Rattle.da_values.specs.declared.token.LexKind.TheVariants as fault
 use Rattle.da_values.specs.declared.token.Piece.{Piece}
 use Rattle.da_values.specs.declared.token.Piece.TheVariants as piece_is

@@ -1,6 +1,6 @@
-use Rattle.std.proofs.Common.{◌≡◌, ◌≤◌, ◌<◌, ◌+◌, ◌-◌, length, drop, Ok, refl, sym, ap, ◌∙◌, rules, arith, length-drop}
+use Rattle.std.proofs.Common.{◌≡◌, Ok, refl, ap, ◌∙◌, arith, length-drop}
 use Rattle.std.proofs.lemmas.Result.{err_from_is_err_and}
-use Rattle.da_values.specs.Tokens.{prepend, scan, finish, tokens}
+use Rattle.da_values.specs.Tokens.{prepend, tokens}
 use Rattle.da_values.proofs.ScanLemmas.{go_on, stopped, ended, front-within, front-some}
 use Rattle.da_values.proofs.TokenLaws.{tokens-hold}
 use Rattle.da_lex.proofs.AnswerLemmas.{fault-found}
