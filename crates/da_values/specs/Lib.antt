@@ -1,7 +1,13 @@
+pub mod Entries
 pub mod Layer
+pub mod Marks
 pub mod Order
+pub mod Piece
 pub mod Str
 pub mod Text
+pub mod TokenFacts
+pub mod Tokens
 pub mod Value
 pub mod Weights
+pub mod Words
 pub mod formers
