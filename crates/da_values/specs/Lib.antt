@@ -1,7 +1,9 @@
 pub mod Layer
 pub mod Order
+pub mod Sets
 pub mod Str
 pub mod Text
 pub mod Value
+pub mod Views
 pub mod Weights
 pub mod formers

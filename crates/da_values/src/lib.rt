@@ -5,6 +5,7 @@
 #![tactic(auto)]
 
 mod boxed;
+mod cmp;
 mod copy;
 mod list;
 mod str;
@@ -13,6 +14,7 @@ mod value;
 mod write;
 
 pub use boxed::Boxed;
+pub use cmp::{cmp_rows, cmp_values};
 pub use copy::{copy_bytes, copy_value};
 pub use list::{Buf, List, NoMemory};
 pub use str::{Str, StrFault};
