@@ -1,5 +1,6 @@
 pub mod Layer
 pub mod Order
+pub mod Places
 pub mod Sets
 pub mod Str
 pub mod Text

@@ -37,7 +37,7 @@ pub struct Row {
 #[cycle(value)]
 #[derive(Debug, Drop)]
 pub struct SetVal {
-    elements: List<Value>,
+    pub(crate) elements: List<Value>,
 }
 
 impl Model for Row {
