@@ -1,6 +1,10 @@
 pub mod Layer
+pub mod Lengths
+pub mod Narrow
+pub mod Nesting
 pub mod Order
 pub mod Places
+pub mod Proper
 pub mod Sets
 pub mod Str
 pub mod Text
