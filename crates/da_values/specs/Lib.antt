@@ -5,6 +5,7 @@ pub mod Nesting
 pub mod Order
 pub mod Places
 pub mod Proper
+pub mod Reading
 pub mod Sets
 pub mod Str
 pub mod Text
