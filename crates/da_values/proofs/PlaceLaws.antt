@@ -1,5 +1,5 @@
 -- What a binary search finds in an ascending list.
-use Rattle.std.specs.Prelude.{◌≡◌, ℕ, zero, suc, ◌+◌, ◌<◌, ◌≤◌, Bool, true, false, List, [], ◌∷◌, ◌++◌, map, length, take, drop, insert, remove, slice_index_or, Result, Ok, Err, is_ok, MatchResult, refl}
+use Rattle.std.specs.Prelude.{◌≡◌, ℕ, zero, suc, ◌+◌, ◌-◌, ◌<◌, ◌≤◌, Bool, true, false, List, [], ◌∷◌, ◌++◌, map, length, take, drop, insert, remove, slice_index_or, Result, Ok, Err, is_ok, MatchResult, refl}
 use Rattle.std.specs.Cmp.{IsTotalOrder}
 use Rattle.std.specs.List.{AllWithin, HoldsAt, take-map, drop-map}
 use Rattle.std.specs.List.Sorted.{IsSortedBy, IsNonDecreasingBy, IsBinarySearchResult, IsSearchInRange}
@@ -7,13 +7,14 @@ use Rattle.std.specs.Ordering.{ordering_reverse, ordering_index, is_lt}
 use Rattle.std.specs.declared.cmp.Ordering.{Ordering}
 use Rattle.std.specs.declared.cmp.Ordering.TheVariants.{Less, Equal, Greater}
 use Rattle.std.proofs.Common.{sym, ap, ◌∙◌, subst, inl, inr, arith}
+use Rattle.std.proofs.lemmas.Bool.{cases_lt}
 use Rattle.std.proofs.lemmas.Cmp.{tied_itself, tied_back}
-use Rattle.std.proofs.lemmas.List.{map-append}
+use Rattle.std.proofs.lemmas.List.{map-append, get_or_read}
 use Rattle.std.proofs.lemmas.List.Sorted.{searchable_from_sorted}
 use Rattle.da_values.specs.Places.{IsAt, IsBetween}
 use Rattle.da_values.specs.Sets.{Has, Below, Ascends, placed, dropped, set_has, set_insert, set_remove}
 use Rattle.da_values.proofs.Members.{Has-at}
-use Rattle.da_values.proofs.SetLaws.{below_each, backwards, remove_absent, test_from_has, test_from_absent}
+use Rattle.da_values.proofs.SetLaws.{below_each, Below-from_each, backwards, remove_absent, test_from_has, test_from_absent}
 
 module _ {A : Type 0} (c : A → A → Ordering) (order : IsTotalOrder c) (same : (x y : A) → c x y ≡ Equal → x ≡ y) where
   forwards : (x y : A) → c x y ≡ Less → c y x ≡ Greater
@@ -73,13 +74,50 @@ module _ {A : Type 0} (c : A → A → Ordering) (order : IsTotalOrder c) (same 
         between_later (key e) (map key es) x i (forwards (key e) x (below 0 e (omega arith) (omega arith)))
         (between_from_sides es x i (omega (arith, inside)) (λ k d low high. below (suc k) d (omega arith) (omega (arith, high))) (λ k d low high. above (suc k) d (omega (arith, low)) (omega (arith, high))))
 
-    rises : (es : List X) → Ascends c (map key es) → IsSortedBy (λ e f. is_lt (c (key e) (key f))) es
-    rises [] up k d low inside = absurd (omega (arith, inside))
-    rises (e ∷ []) up k d low inside = absurd (omega (arith, inside))
-    rises (e ∷ f ∷ es) up zero d low inside = ap is_lt (forwards (key e) (key f) up.0.0)
-    rises (e ∷ f ∷ es) up (suc k) d low inside =
+    -- each is less than the next
+    pub adjacent_less : (es : List X) (k : ℕ) (d : X) → Ascends c (map key es) → k + 1 < length es → c (key (slice_index_or es k d)) (key (slice_index_or es (k + 1) d)) ≡ Less
+    adjacent_less [] k d up inside = absurd (omega (arith, inside))
+    adjacent_less (e ∷ []) k d up inside = absurd (omega (arith, inside))
+    adjacent_less (e ∷ f ∷ es) zero d up inside = up.0.0
+    adjacent_less (e ∷ f ∷ es) (suc k) d up inside =
         let next : suc (k + 1) ≡ suc k + 1 = omega arith in
-        subst (λ j. is_lt (c (key (slice_index_or (e ∷ f ∷ es) j d)) (key (slice_index_or (f ∷ es) k d))) ≡ false) next (rises (f ∷ es) up.1 k d (omega arith) (omega (arith, inside)))
+        subst (λ j. c (key (slice_index_or (f ∷ es) k d)) (key (slice_index_or (e ∷ f ∷ es) j d)) ≡ Less) next (adjacent_less (f ∷ es) k d up.1 (omega (arith, inside)))
+
+    pub Ascends-from_adjacent : (es : List X) → ((k : ℕ) (d : X) → k + 1 < length es → c (key (slice_index_or es k d)) (key (slice_index_or es (k + 1) d)) ≡ Less) → Ascends c (map key es)
+    Ascends-from_adjacent [] adjacent = tt
+    Ascends-from_adjacent (e ∷ []) adjacent = (tt, tt)
+    Ascends-from_adjacent (e ∷ f ∷ es) adjacent =
+        let less : c (key e) (key f) ≡ Less = adjacent 0 e (omega arith) in
+        let later = Ascends-from_adjacent (f ∷ es) (λ k d inside.
+        let next : suc (k + 1) ≡ suc k + 1 = omega arith in
+        subst (λ j. c (key (slice_index_or (f ∷ es) k d)) (key (slice_index_or (e ∷ f ∷ es) j d)) ≡ Less) (sym next) (adjacent (suc k) d (omega (arith, inside)))) in
+        ((less, Below-from_each c (key e) (map key es) (λ z h. order.trans (key e) (key f) z less (below_each c (key f) (map key es) z later.0 h))), later)
+
+    -- one more of them
+    pub adjacent_more : (es : List X) (at : ℕ) (x y : X) → 0 < at → at < length es → x ≡ slice_index_or es (at - 1) x → y ≡ slice_index_or es at y → c (key x) (key y) ≡ Less
+        → ((k : ℕ) (d : X) → k + 1 < at → c (key (slice_index_or es k d)) (key (slice_index_or es (k + 1) d)) ≡ Less)
+        → (k : ℕ) (d : X) → k + 1 < at + 1 → c (key (slice_index_or es k d)) (key (slice_index_or es (k + 1) d)) ≡ Less
+    adjacent_more es at x y some inside here next less before k d below =
+        elim (cases_lt (k + 1) at) [
+          | inl h ↦ before k d h
+          | inr h ↦
+              (let last : at - 1 ≡ k = omega (arith, h, below, some) in
+              let end : at ≡ k + 1 = omega (arith, h, below, some) in
+              ap (λ v. c (key v) (key (slice_index_or es (k + 1) d))) (ap (λ j. slice_index_or es j d) (sym last) ∙ sym (get_or_read es (at - 1) x (omega (arith, inside, some)) here d))
+              ∙ ap (λ v. c (key x) (key v)) (ap (λ j. slice_index_or es j d) (sym end) ∙ sym (get_or_read es at y inside next d))
+              ∙ less)
+        ]
+
+    pub not_ascending : (es : List X) (at : ℕ) (x y : X) → 0 < at → at < length es → x ≡ slice_index_or es (at - 1) x → y ≡ slice_index_or es at y → (c (key x) (key y) ≡ Less → ⊥) → Ascends c (map key es) → ⊥
+    not_ascending es at x y some inside here next not_less up =
+        let end : at - 1 + 1 ≡ at = omega (arith, some) in
+        not_less
+        (ap (λ v. c (key v) (key y)) here
+        ∙ ap (λ v. c (key (slice_index_or es (at - 1) x)) (key v)) (get_or_read es at y inside next x ∙ ap (λ j. slice_index_or es j x) (sym end))
+        ∙ adjacent_less es (at - 1) x up (omega (arith, inside, some)))
+
+    rises : (es : List X) → Ascends c (map key es) → IsSortedBy (λ e f. is_lt (c (key e) (key f))) es
+    rises es up k d low inside = ap is_lt (forwards (key (slice_index_or es k d)) (key (slice_index_or es (k + 1) d)) (adjacent_less es k d up inside))
 
     pub searched : (es : List X) (x : A) (r : Result ℕ ℕ) → Ascends c (map key es) → IsSearchInRange r (length es) → IsBinarySearchResult (λ e. c (key e) x) es r → MatchResult r (IsAt c (map key es) x) (IsBetween c (map key es) x)
     searched es x (Ok i) up inside found = at_from_tie es x i up inside found
