@@ -1,16 +1,15 @@
 -- Whether a value is narrow, its length and its nesting, one layer at a time.
-use Rattle.std.specs.Prelude.{◌≡◌, ◌&&◌, ℕ, ℤ, zero, suc, ◌+◌, ◌-◌, ◌^◌, ◌<◌, ◌≤◌, min, max, Bool, true, false, List, [], ◌∷◌, ◌++◌, map, length, sum, take, slice_index_or, refl}
+use Rattle.std.specs.Prelude.{◌≡◌, ◌&&◌, ℕ, ◌+◌, Bool, true, List, [], ◌∷◌, map, length, sum, refl}
 use Rattle.std.specs.List.{list_all}
-use Rattle.std.proofs.Common.{◌∙◌, ap, sym, arith}
+use Rattle.std.proofs.Common.{◌∙◌, ap}
 use Rattle.da_values.specs.declared.val.Val.{Val}
-use Rattle.da_values.specs.declared.val.Val.TheVariants as val
 use Rattle.da_values.specs.declared.value.Value.{Value}
 use Rattle.da_values.specs.declared.value.Value.TheVariants.{Int, Bool as Truth, Text, Proc, Tuple, Set}
 use Rattle.da_values.specs.Layer.{fold-val_of}
 use Rattle.da_values.specs.Lengths.{length_step, encoded_len}
 use Rattle.da_values.specs.Narrow.{is_i64, narrow_step, is_narrow}
 use Rattle.da_values.specs.Nesting.{deepest, nesting_step, nesting}
-use Rattle.da_values.specs.Value.{val_of, vals}
+use Rattle.da_values.specs.Value.{val_of}
 
 all-map : {A : Type 0} (p : A → Bool) (xs : List A) → list_all (λ b. b) (map p xs) ≡ list_all p xs
 all-map p [] = refl

@@ -1,5 +1,5 @@
 -- What holds of a value where it holds of its parts holds of every value.
-use Rattle.std.specs.Prelude.{◌≡◌, ℕ, ℤ, Bool, List, [], ◌∷◌, map}
+use Rattle.std.specs.Prelude.{ℕ, ℤ, Bool, List, [], ◌∷◌, map}
 use Rattle.std.specs.List.{AllByRecursion}
 use Rattle.std.proofs.Common.{subst, sym}
 use Rattle.da_values.specs.declared.val.Val.{Val, out-Val, roll-Val}

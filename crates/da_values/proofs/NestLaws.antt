@@ -1,6 +1,6 @@
 -- Tuples and sets: what stands between their brackets.
-use Rattle.std.specs.Prelude.{◌≡◌, ◌⊎◌, ℕ, zero, suc, ◌+◌, ◌-◌, ◌<◌, ◌≤◌, Bool, true, false, List, [], ◌∷◌, ◌++◌, codes, length, map, refl}
-use Rattle.std.proofs.Common.{◌∙◌, ap, sym, subst, inl, inr, arith, append_assoc, append-nil}
+use Rattle.std.specs.Prelude.{◌≡◌, ◌⊎◌, ℕ, zero, suc, ◌+◌, ◌-◌, ◌≤◌, true, List, [], ◌∷◌, ◌++◌, codes, length, map, refl}
+use Rattle.std.proofs.Common.{◌∙◌, ap, sym, subst, inl, inr, arith, append_assoc}
 use Rattle.std.proofs.lemmas.Bool.{false≢true}
 use Rattle.da_values.specs.declared.val.Val.{Val}
 use Rattle.da_values.specs.declared.val.Val.TheVariants as val
@@ -8,8 +8,8 @@ use Rattle.da_values.specs.declared.value.Value.{Value}
 use Rattle.da_values.specs.declared.value.Value.TheVariants.{Tuple, Set}
 use Rattle.da_values.specs.Nesting.{deepest, nesting}
 use Rattle.da_values.specs.Order.{val_cmp}
-use Rattle.da_values.specs.Proper.{IsValue, AreValues, none, tuple, set}
-use Rattle.da_values.specs.Reading.{is_stop, Stops, Spells, SpellsEach, Ends}
+use Rattle.da_values.specs.Proper.{AreValues, none, tuple, set}
+use Rattle.da_values.specs.Reading.{is_stop, Spells, SpellsEach, Ends}
 use Rattle.da_values.specs.Sets.{Ascends}
 use Rattle.da_values.specs.Text.{value_text, separated, closing}
 use Rattle.da_values.specs.Value.{vals}

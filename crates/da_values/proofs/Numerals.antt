@@ -1,6 +1,5 @@
 -- The decimal texts of numbers of up to 128 bits.
-use Rattle.std.specs.Prelude.{◌≡◌, ◌≢◌, ◌==◌, ◌||◌, ℕ, ℤ, pos, negsuc, zero, suc, ◌+◌, ◌-◌, ◌^◌, ◌<◌, ◌≤◌, Bool, true, false, FitsSigned, List, [], ◌∷◌, ◌++◌, codes, decimal, length, Result, Ok, Option, Some, slice_index_or, refl}
-use Rattle.std.specs.Char.{digit_value}
+use Rattle.std.specs.Prelude.{◌≡◌, ◌≢◌, ◌||◌, ℕ, ℤ, pos, negsuc, zero, suc, ◌^◌, ◌<◌, ◌≤◌, false, FitsSigned, List, [], ◌∷◌, decimal, Result, Ok, refl}
 use Rattle.std.specs.Fmt.{signed_decimal}
 use Rattle.std.specs.Int.{w128}
 use Rattle.std.specs.List.{list_any}

@@ -1,9 +1,9 @@
 -- What a binary search finds in an ascending list.
-use Rattle.std.specs.Prelude.{◌≡◌, ℕ, zero, suc, ◌+◌, ◌-◌, ◌<◌, ◌≤◌, Bool, true, false, List, [], ◌∷◌, ◌++◌, map, length, take, drop, insert, remove, slice_index_or, Result, Ok, Err, is_ok, MatchResult, refl}
+use Rattle.std.specs.Prelude.{◌≡◌, ℕ, zero, suc, ◌+◌, ◌-◌, ◌<◌, ◌≤◌, List, [], ◌∷◌, ◌++◌, map, length, take, drop, insert, remove, slice_index_or, Result, Ok, Err, is_ok, MatchResult, refl}
 use Rattle.std.specs.Cmp.{IsTotalOrder}
 use Rattle.std.specs.List.{AllWithin, HoldsAt, take-map, drop-map}
-use Rattle.std.specs.List.Sorted.{IsSortedBy, IsNonDecreasingBy, IsBinarySearchResult, IsSearchInRange}
-use Rattle.std.specs.Ordering.{ordering_reverse, ordering_index, is_lt}
+use Rattle.std.specs.List.Sorted.{IsSortedBy, IsBinarySearchResult, IsSearchInRange}
+use Rattle.std.specs.Ordering.{ordering_reverse, is_lt}
 use Rattle.std.specs.declared.cmp.Ordering.{Ordering}
 use Rattle.std.specs.declared.cmp.Ordering.TheVariants.{Less, Equal, Greater}
 use Rattle.std.proofs.Common.{sym, ap, ◌∙◌, subst, inl, inr, arith}
@@ -13,7 +13,6 @@ use Rattle.std.proofs.lemmas.List.{map-append, get_or_read}
 use Rattle.std.proofs.lemmas.List.Sorted.{searchable_from_sorted}
 use Rattle.da_values.specs.Places.{IsAt, IsBetween}
 use Rattle.da_values.specs.Sets.{Has, Below, Ascends, placed, dropped, set_has, set_insert, set_remove}
-use Rattle.da_values.proofs.Members.{Has-at}
 use Rattle.da_values.proofs.SetLaws.{below_each, Below-from_each, backwards, remove_absent, test_from_has, test_from_absent}
 
 module _ {A : Type 0} (c : A → A → Ordering) (order : IsTotalOrder c) (same : (x y : A) → c x y ≡ Equal → x ≡ y) where

@@ -1,8 +1,7 @@
 -- What may stand at the front of a value's text, and where it ends.
-use Rattle.std.specs.Prelude.{◌≡◌, ◌≢◌, ◌⊎◌, ◌==◌, ◌||◌, ℕ, ℤ, pos, negsuc, zero, suc, ◌+◌, ◌-◌, ◌^◌, ◌<◌, ◌≤◌, max, Bool, true, false, IsTrue, FitsSigned, List, [], ◌∷◌, ◌++◌, codes, decimal, length, map, slice_index_or, refl}
-use Rattle.std.specs.Fmt.{signed_decimal}
+use Rattle.std.specs.Prelude.{◌≡◌, ◌≢◌, ◌⊎◌, ◌||◌, ℕ, suc, ◌^◌, ◌<◌, ◌≤◌, Bool, true, false, FitsSigned, List, [], ◌∷◌, ◌++◌, codes, decimal, map, refl}
 use Rattle.std.specs.Int.{w128}
-use Rattle.std.specs.List.{list_any, All, flat_map}
+use Rattle.std.specs.List.{list_any, All}
 use Rattle.std.proofs.Common.{◌∙◌, ap, sym, subst, inl, inr, arith, append_assoc, append-nil}
 use Rattle.std.proofs.lemmas.Bool.{false≢true}
 use Rattle.std.proofs.lemmas.Bool.Decides.{nat_tests}
@@ -14,18 +13,17 @@ use Rattle.da_values.specs.declared.val.Val.TheOpen.{Val-F}
 use Rattle.da_values.specs.declared.value.Value.{Value}
 use Rattle.da_values.specs.declared.value.Value.TheVariants.{Int, Bool as Truth, Text, Proc, Tuple, Set}
 use Rattle.da_values.specs.Layer.{layer, out-val_of}
-use Rattle.da_values.specs.Nesting.{deepest, nesting}
 use Rattle.da_values.specs.Order.{val_cmp}
-use Rattle.da_values.specs.Proper.{IsValue, integer, truth, text, process, tuple, set, AreValues, none, more}
-use Rattle.da_values.specs.Reading.{IsTextOf, is_stop, Stops, Spells, SpellsEach, Ends, truth_text, IsWordOf}
+use Rattle.da_values.specs.Proper.{IsValue, integer, truth, text, process, tuple, set, AreValues}
+use Rattle.da_values.specs.Reading.{IsTextOf, is_stop, Stops, Spells, IsWordOf}
 use Rattle.da_values.specs.Sets.{Ascends}
 use Rattle.da_values.specs.Str.{IsTextByte}
 use Rattle.da_values.specs.Text.{value_text, separated, closing}
-use Rattle.da_values.specs.Value.{val_of, vals}
+use Rattle.da_values.specs.Value.{val_of}
 use Rattle.da_values.specs.Views.{value_of}
 use Rattle.da_values.proofs.FoldsAt.{nesting_of}
-use Rattle.da_values.proofs.Numerals.{first-decimal, first-signed_decimal, no_stop-decimal, no_stop-signed_decimal}
-use Rattle.da_values.proofs.TextLemmas.{text_at, value_text_of}
+use Rattle.da_values.proofs.Numerals.{first-signed_decimal, no_stop-decimal, no_stop-signed_decimal}
+use Rattle.da_values.proofs.TextLemmas.{value_text_of}
 use Rattle.da_values.proofs.ViewLaws.{val_of-value_of}
 use Rattle.da_values.proofs.WordLaws.{first_same}
 

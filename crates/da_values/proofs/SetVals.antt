@@ -1,5 +1,5 @@
 -- A kept set after an insert or a remove at the place that was found.
-use Rattle.std.specs.Prelude.{◌≡◌, ℕ, List, insert, remove, Bool, Result, is_ok, MatchResult}
+use Rattle.std.specs.Prelude.{◌≡◌, ℕ, List, insert, remove, Result, is_ok, MatchResult}
 use Rattle.std.proofs.Common.{sym, ap, ◌∙◌, subst}
 use Rattle.da_values.specs.declared.val.Val.{Val}
 use Rattle.da_values.specs.declared.value.Value.{Value}

@@ -1,16 +1,14 @@
 -- The words of value text: each is the text of one value at most.
-use Rattle.std.specs.Prelude.{◌≡◌, ◌≢◌, ◌||◌, ℕ, ℤ, zero, suc, ◌+◌, ◌^◌, ◌<◌, ◌≤◌, Bool, true, false, FitsSigned, List, [], ◌∷◌, ◌++◌, codes, decimal, Option, Some, refl}
+use Rattle.std.specs.Prelude.{◌≡◌, ℕ, ℤ, ◌^◌, ◌<◌, ◌≤◌, Bool, true, false, FitsSigned, List, ◌∷◌, ◌++◌, codes, decimal, refl}
 use Rattle.std.specs.Cmp.Lexicographic.{pointwise}
 use Rattle.std.specs.Fmt.{signed_decimal}
 use Rattle.std.specs.Int.{w128}
-use Rattle.std.specs.List.{list_any, All}
-use Rattle.std.proofs.Common.{◌∙◌, ap, sym, subst, arith, eqb}
-use Rattle.std.proofs.lemmas.Bool.{false≢true}
+use Rattle.std.proofs.Common.{◌∙◌, ap, sym, arith, eqb}
 use Rattle.std.proofs.lemmas.Bool.Decides.{Decides-eqb}
 use Rattle.std.proofs.lemmas.Slice.Eq.{slice_eq-Decides}
 use Rattle.da_values.specs.declared.value.Value.{Value}
 use Rattle.da_values.specs.declared.value.Value.TheVariants.{Int, Bool as Truth, Text, Proc, Tuple, Set}
-use Rattle.da_values.specs.Reading.{is_stop, Stops, truth_text, IsWordOf}
+use Rattle.da_values.specs.Reading.{truth_text, IsWordOf}
 use Rattle.da_values.proofs.Numerals.{decimal_injective_wide, first-signed_decimal, signed_decimal_injective_wide}
 
 -- what `==` found

@@ -1,5 +1,5 @@
 -- How many bytes a value takes in a packet: one for its kind, and then its content.
-use Rattle.std.specs.Prelude.{ℕ, ◌+◌, List, length, sum}
+use Rattle.std.specs.Prelude.{ℕ, ◌+◌, length, sum}
 use Rattle.da_values.specs.declared.val.Val.{Val}
 use Rattle.da_values.specs.declared.val.Val.TheOpen.{Val-F, Int, Bool, Text, Proc, Tuple, Set}
 use Rattle.da_values.specs.declared.val.Val.TheFolds.{fold-Val}

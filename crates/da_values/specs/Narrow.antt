@@ -1,8 +1,8 @@
 -- Values all of whose integers lie in an i64.
-use Rattle.std.specs.Prelude.{ℕ, ℤ, pos, negsuc, ◌^◌, Bool, true, nat_lt, List}
+use Rattle.std.specs.Prelude.{ℤ, pos, negsuc, ◌^◌, Bool, true, nat_lt}
 use Rattle.std.specs.List.{list_all}
 use Rattle.da_values.specs.declared.val.Val.{Val}
-use Rattle.da_values.specs.declared.val.Val.TheOpen.{Val-F, Int, Bool as Truth, Text, Proc, Tuple, Set}
+use Rattle.da_values.specs.declared.val.Val.TheOpen.{Val-F, Int, Tuple, Set}
 use Rattle.da_values.specs.declared.val.Val.TheFolds.{fold-Val}
 
 -- from -2^63 to 2^63 - 1; `negsuc n` is -(n + 1)

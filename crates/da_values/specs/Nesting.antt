@@ -1,7 +1,7 @@
 -- How many tuples and sets stand in one another in a value.
 use Rattle.std.specs.Prelude.{ℕ, ◌+◌, List, [], ◌∷◌, max}
 use Rattle.da_values.specs.declared.val.Val.{Val}
-use Rattle.da_values.specs.declared.val.Val.TheOpen.{Val-F, Int, Bool, Text, Proc, Tuple, Set}
+use Rattle.da_values.specs.declared.val.Val.TheOpen.{Val-F, Tuple, Set}
 use Rattle.da_values.specs.declared.val.Val.TheFolds.{fold-Val}
 
 abbrev pub deepest : List ℕ → ℕ

@@ -1,10 +1,10 @@
 -- Value text, read from the front of some bytes.
-use Rattle.std.specs.Prelude.{◌≡◌, ◌==◌, ◌||◌, ℕ, ℤ, ◌+◌, ◌^◌, ◌<◌, ◌≤◌, Bool, true, false, IsTrue, FitsSigned, List, [], ◌∷◌, ◌++◌, codes, decimal, length, map}
+use Rattle.std.specs.Prelude.{◌≡◌, ◌==◌, ◌||◌, ℕ, ◌^◌, ◌<◌, ◌≤◌, Bool, true, false, IsTrue, FitsSigned, List, [], ◌∷◌, ◌++◌, codes, decimal, length, map}
 use Rattle.std.specs.Int.{w128}
 use Rattle.std.specs.Fmt.{signed_decimal}
 use Rattle.da_values.specs.declared.val.Val.{Val}
 use Rattle.da_values.specs.declared.value.Value.{Value}
-use Rattle.da_values.specs.declared.value.Value.TheVariants.{Int, Bool as Truth, Text, Proc, Tuple, Set}
+use Rattle.da_values.specs.declared.value.Value.TheVariants.{Int, Bool as Truth, Proc}
 use Rattle.da_values.specs.Nesting.{deepest, nesting}
 use Rattle.da_values.specs.Proper.{IsValue, AreValues}
 use Rattle.da_values.specs.Text.{value_text, separated}

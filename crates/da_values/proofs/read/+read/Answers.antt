@@ -1,5 +1,5 @@
-use Rattle.std.specs.Prelude.{◌≡◌, [], ◌++◌, ◌∷◌, codes, map, Option, Some, None}
-use Rattle.std.proofs.Common.{◌∙◌, ap, sym, subst, refl}
+use Rattle.std.specs.Prelude.{◌≡◌, ◌++◌, codes, map, Option, Some, None}
+use Rattle.std.proofs.Common.{◌∙◌, ap, sym, subst}
 use Rattle.std.proofs.lemmas.Result.{err_from_is_err_and}
 use Rattle.da_values.specs.declared.read.ValueFault.TheVariants.{Memory}
 use Rattle.da_values.specs.declared.val.Val.TheVariants as val
@@ -10,7 +10,7 @@ use Rattle.da_values.specs.Sets.{Ascends}
 use Rattle.da_values.specs.Text.{value_text, closing}
 use Rattle.da_values.specs.Value.{val_of, vals}
 use Rattle.da_values.proofs.ItemLaws.{ReadSoFar, nothing_read, failed, read_more, all_read, only_these, vals-push}
-use Rattle.da_values.proofs.NestLaws.{Inside, not_at_0, tuple_inside, tuple_ends, tuple_each, empty_tuple, empty_tuple_only, tuple_found, tuple_only, unclosed_tuple, set_inside, set_ends, set_each, empty_set, empty_set_only, set_found, set_only, unclosed_set, unsorted_set, length-texts}
+use Rattle.da_values.proofs.NestLaws.{not_at_0, tuple_inside, tuple_ends, tuple_each, empty_tuple, empty_tuple_only, tuple_found, tuple_only, unclosed_tuple, set_inside, set_ends, set_each, empty_set, empty_set_only, set_found, set_only, unclosed_set, unsorted_set, length-texts}
 use Rattle.da_values.proofs.ReadLaws.{text_there, tuple_there, set_there, word_spelled, word_only}
 use Rattle.da_values.proofs.read.+read.Goals as goal
 

@@ -2,8 +2,7 @@ use Rattle.std.specs.Prelude.{◌≡◌, true, false}
 use Rattle.std.specs.Ordering.{is_lt}
 use Rattle.std.specs.declared.cmp.Ordering.{Ordering}
 use Rattle.std.specs.declared.cmp.Ordering.TheVariants.{Less, Equal, Greater}
-use Rattle.std.proofs.Common.{◌∙◌, ap, sym, arith, refl}
-use Rattle.std.proofs.lemmas.List.{get_or_read}
+use Rattle.std.proofs.Common.{◌∙◌, sym, arith, refl}
 use Rattle.da_values.specs.Order.{val_cmp}
 use Rattle.da_values.specs.Value.{val_of}
 use Rattle.da_values.proofs.OrderLaws.{val_order, same_from_val_cmp}

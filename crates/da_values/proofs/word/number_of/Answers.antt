@@ -1,4 +1,4 @@
-use Rattle.std.specs.Prelude.{◌≡◌, ◌≢◌, ℤ, Bool, true, false, List, ℕ, Option, Some, None, Ok, refl}
+use Rattle.std.specs.Prelude.{◌≡◌, ℤ, Bool, List, ℕ, Some, Ok}
 use Rattle.std.specs.Bool.{then_some}
 use Rattle.std.specs.Cmp.Lexicographic.{pointwise}
 use Rattle.std.specs.Fmt.{signed_decimal}

@@ -1,7 +1,6 @@
-use Rattle.std.specs.Prelude.{◌≡◌, ℕ, ℤ, pos, ◌<◌, ◌^◌, Bool, true, FitsSigned, Option, Some, None, Result, Ok, unsigned_abs}
+use Rattle.std.specs.Prelude.{◌≡◌, ℕ, ℤ, pos, ◌<◌, FitsSigned, Option, Some, None, unsigned_abs}
 use Rattle.std.specs.Bool.{then_some}
 use Rattle.std.specs.Int.{FitsUnsigned, w16, w128}
-use Rattle.std.specs.Result.{OkIff}
 use Rattle.std.proofs.Common.{◌∙◌, ap, sym, subst, arith, ltb, to_z, of_z}
 use Rattle.std.proofs.lemmas.Bool.Decides.{nat_tests}
 use Rattle.std.proofs.lemmas.Int.{ints, to_z-of_z}

@@ -1,4 +1,4 @@
-use Rattle.std.specs.Prelude.{◌≡◌, ℕ, Bool, true, false, codes, ◌++◌, decimal, Option, Some, None, refl}
+use Rattle.std.specs.Prelude.{◌≡◌, ℕ, true, false, codes, Option, Some, None}
 use Rattle.std.proofs.Common.{◌∙◌, ap, sym}
 use Rattle.da_values.specs.declared.value.Value.TheVariants.{Bool as Truth, Proc}
 use Rattle.da_values.proofs.WordLaws.{same_bytes, one_word, only_process}
