@@ -1,0 +1,3 @@
+pub mod Statements
+pub mod Steps
+pub mod World
