@@ -19,8 +19,7 @@ use Rattle.da_values.specs.Reading.{IsTextOf, is_stop, Stops, Spells, IsWordOf}
 use Rattle.da_values.specs.Sets.{Ascends}
 use Rattle.da_values.specs.Str.{IsTextByte}
 use Rattle.da_values.specs.Text.{value_text, separated, closing}
-use Rattle.da_values.specs.Value.{val_of}
-use Rattle.da_values.specs.Views.{value_of}
+use Rattle.da_values.specs.Value.{val_of, value_of}
 use Rattle.da_values.proofs.FoldsAt.{nesting_of}
 use Rattle.da_values.proofs.Numerals.{first-signed_decimal, no_stop-decimal, no_stop-signed_decimal}
 use Rattle.da_values.proofs.TextLemmas.{value_text_of}

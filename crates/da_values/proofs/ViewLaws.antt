@@ -6,32 +6,20 @@ use Rattle.da_values.specs.declared.val.Val.TheVariants as val
 use Rattle.da_values.specs.declared.val.Val.TheVariants.{outs-Tuple, outs-Set, outs-Int, outs-Bool, outs-Text, outs-Proc, rolls-Tuple, rolls-Set, rolls-Int, rolls-Bool, rolls-Text, rolls-Proc}
 use Rattle.da_values.specs.declared.val.Val.TheOpen.{Val-F, Int, Bool as Truth, Text, Proc, Tuple, Set}
 use Rattle.da_values.specs.declared.value.Value.{Value}
-use Rattle.da_values.specs.declared.value.Value.TheVariants as kept
-use Rattle.da_values.specs.Layer.{layer, out-val_of}
-use Rattle.da_values.specs.Value.{val_of, vals}
-use Rattle.da_values.specs.Views.{kept_layer, value_of, int_in, truth_in, text_in, proc_in, parts_in, elements_in, int_of, truth_of, text_of, proc_of, parts_of, elements_of}
+use Rattle.da_values.specs.Layer.{layer, out-val_of, value_of-val_of}
+use Rattle.da_values.specs.Value.{kept_as, val_of, value_of, vals}
+use Rattle.da_values.specs.Views.{int_in, truth_in, text_in, proc_in, parts_in, elements_in, int_of, truth_of, text_of, proc_of, parts_of, elements_of}
 
-kept_layer-layer : (v : Value) → kept_layer (layer v) ≡ v
-kept_layer-layer (kept.Int number) = refl
-kept_layer-layer (kept.Bool truth) = refl
-kept_layer-layer (kept.Text text) = refl
-kept_layer-layer (kept.Proc process) = refl
-kept_layer-layer (kept.Tuple parts) = refl
-kept_layer-layer (kept.Set elements) = refl
-
-pub value_of-val_of : (v : Value) → value_of (val_of v) ≡ v
-value_of-val_of v = ap kept_layer (out-val_of v) ∙ kept_layer-layer v
-
-val_of-kept_layer : (inner : Val-F Val) → val_of (kept_layer inner) ≡ roll-Val inner
-val_of-kept_layer (Int number) = sym (rolls-Int number)
-val_of-kept_layer (Truth truth) = sym (rolls-Bool truth)
-val_of-kept_layer (Text bytes) = sym (rolls-Text bytes)
-val_of-kept_layer (Proc process) = sym (rolls-Proc process)
-val_of-kept_layer (Tuple parts) = sym (rolls-Tuple parts)
-val_of-kept_layer (Set elements) = sym (rolls-Set elements)
+val_of-kept_as : (inner : Val-F Val) → val_of (kept_as inner) ≡ roll-Val inner
+val_of-kept_as (Int number) = sym (rolls-Int number)
+val_of-kept_as (Truth truth) = sym (rolls-Bool truth)
+val_of-kept_as (Text bytes) = sym (rolls-Text bytes)
+val_of-kept_as (Proc process) = sym (rolls-Proc process)
+val_of-kept_as (Tuple parts) = sym (rolls-Tuple parts)
+val_of-kept_as (Set elements) = sym (rolls-Set elements)
 
 pub val_of-value_of : (x : Val) → val_of (value_of x) ≡ x
-val_of-value_of x = val_of-kept_layer (out-Val x) ∙ roll-out-Val x
+val_of-value_of x = val_of-kept_as (out-Val x) ∙ roll-out-Val x
 
 -- two kept values that are one value are one
 pub val_of_injective : (v w : Value) → val_of v ≡ val_of w → v ≡ w

@@ -2,20 +2,6 @@
 use Rattle.std.specs.Prelude.{ℕ, ℤ, pos, Bool, false, List, []}
 use Rattle.da_values.specs.declared.val.Val.{Val, out-Val}
 use Rattle.da_values.specs.declared.val.Val.TheOpen.{Val-F, Int, Bool as Truth, Text, Proc, Tuple, Set}
-use Rattle.da_values.specs.declared.value.Value.{Value}
-use Rattle.da_values.specs.declared.value.Value.TheVariants as kept
-
-abbrev pub kept_layer : Val-F Val → Value
-kept_layer (Int number) = kept.Int number
-kept_layer (Truth truth) = kept.Bool truth
-kept_layer (Text bytes) = kept.Text bytes
-kept_layer (Proc process) = kept.Proc process
-kept_layer (Tuple parts) = kept.Tuple parts
-kept_layer (Set elements) = kept.Set elements
-
--- the kept value that a value is, the other way of `val_of`
-abbrev pub value_of : Val → Value
-value_of x = kept_layer (out-Val x)
 
 abbrev pub int_in : {A : Type 0} → Val-F A → ℤ
 int_in (Int number) = number
