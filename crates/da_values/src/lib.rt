@@ -14,6 +14,8 @@ mod read;
 mod set;
 mod steps;
 mod str;
+#[cfg(test)]
+mod tests;
 mod val;
 mod value;
 mod word;
