@@ -129,8 +129,8 @@ module _ (depth : ℕ) (bytes : List ℕ) where
       (empty ∙ sym nothing.0, rest_same 41 41 rest t (nothing.1 ∙ ap (λ ps. closing (map value_text ps) ++ t) nothing.0))
 
   pub tuple_each : ((r : List ℕ) → bytes ≡ codes ")" ++ r → ⊥) → (parts : List Val) (t : List ℕ) → Spells depth (val.Tuple parts) (40 ∷ bytes) t → SpellsEach (depth - 1) parts bytes (closing (map value_text parts) ++ t)
-  tuple_each open_ parts t spelled =
-      each_without depth parts bytes (closing (map value_text parts) ++ t) (λ e empty. open_ t (e ∙ ap (λ ps. closing (map value_text ps) ++ t) empty)) (tuple_inside depth parts bytes t spelled)
+  tuple_each unended parts t spelled =
+      each_without depth parts bytes (closing (map value_text parts) ++ t) (λ e empty. unended t (e ∙ ap (λ ps. closing (map value_text ps) ++ t) empty)) (tuple_inside depth parts bytes t spelled)
 
   pub tuple_found : (items row : List Val) (left rest : List ℕ) → (depth ≡ 0 → ⊥) → row ≡ items → SpellsEach (depth - 1) items bytes left → left ≡ closing (map value_text items) ++ rest → Spells depth (val.Tuple row) (40 ∷ bytes) rest
   tuple_found items row left rest some same each closed =
@@ -138,13 +138,13 @@ module _ (depth : ℕ) (bytes : List ℕ) where
       (tuple_spelled depth items bytes rest (each_inside depth items bytes (closing (map value_text items) ++ rest) some (subst (SpellsEach (depth - 1) items bytes) closed each)))
 
   pub tuple_only : (items row : List Val) (left rest : List ℕ) → ((r : List ℕ) → bytes ≡ codes ")" ++ r → ⊥) → row ≡ items → OnlyValues (depth - 1) items bytes left → left ≡ closing (map value_text items) ++ rest → (parts : List Val) (t : List ℕ) → Spells depth (val.Tuple parts) (40 ∷ bytes) t → (row ≡ parts) × (rest ≡ t)
-  tuple_only items row left rest open_ same only closed parts t spelled =
-      let found = only parts (closing (map value_text parts) ++ t) (tuple_each open_ parts t spelled) (tuple_ends (map value_text parts) t) in
+  tuple_only items row left rest unended same only closed parts t spelled =
+      let found = only parts (closing (map value_text parts) ++ t) (tuple_each unended parts t spelled) (tuple_ends (map value_text parts) t) in
       (same ∙ found.0, closing_same (map value_text parts) rest t (ap (λ ps. closing (map value_text ps) ++ rest) (sym found.0) ∙ sym closed ∙ found.1))
 
   pub unclosed_tuple : (items : List Val) (left : List ℕ) → ((r : List ℕ) → bytes ≡ codes ")" ++ r → ⊥) → OnlyValues (depth - 1) items bytes left → ((r : List ℕ) → left ≡ closing (map value_text items) ++ r → ⊥) → (parts : List Val) (t : List ℕ) → Spells depth (val.Tuple parts) (40 ∷ bytes) t → ⊥
-  unclosed_tuple items left open_ only unclosed parts t spelled =
-      let found = only parts (closing (map value_text parts) ++ t) (tuple_each open_ parts t spelled) (tuple_ends (map value_text parts) t) in
+  unclosed_tuple items left unended only unclosed parts t spelled =
+      let found = only parts (closing (map value_text parts) ++ t) (tuple_each unended parts t spelled) (tuple_ends (map value_text parts) t) in
       unclosed t (found.1 ∙ ap (λ ps. closing (map value_text ps) ++ t) (sym found.0))
 
   -- sets
@@ -159,16 +159,16 @@ module _ (depth : ℕ) (bytes : List ℕ) where
       (empty ∙ sym nothing.0, rest_same 125 125 rest t nothing.1)
 
   pub set_each : ((r : List ℕ) → bytes ≡ codes "}" ++ r → ⊥) → (elements : List Val) (t : List ℕ) → Spells depth (val.Set elements) (123 ∷ bytes) t → SpellsEach (depth - 1) elements bytes (codes "}" ++ t)
-  set_each open_ elements t spelled = each_without depth elements bytes (codes "}" ++ t) (λ e empty. open_ t e) (set_inside depth elements bytes t spelled).0
+  set_each unended elements t spelled = each_without depth elements bytes (codes "}" ++ t) (λ e empty. unended t e) (set_inside depth elements bytes t spelled).0
 
   pub set_found : (items new : List Val) (left rest : List ℕ) → (depth ≡ 0 → ⊥) → new ≡ items → SpellsEach (depth - 1) items bytes left → left ≡ codes "}" ++ rest → Ascends val_cmp items → Spells depth (val.Set new) (123 ∷ bytes) rest
   set_found items new left rest some same each closed up =
       subst (λ es. Spells depth (val.Set es) (123 ∷ bytes) rest) (sym same)
       (set_spelled depth items bytes rest (each_inside depth items bytes (codes "}" ++ rest) some (subst (SpellsEach (depth - 1) items bytes) closed each)) up)
 
-  module _ (items : List Val) (left : List ℕ) (open_ : (r : List ℕ) → bytes ≡ codes "}" ++ r → ⊥) (only : OnlyValues (depth - 1) items bytes left) where
+  module _ (items : List Val) (left : List ℕ) (unended : (r : List ℕ) → bytes ≡ codes "}" ++ r → ⊥) (only : OnlyValues (depth - 1) items bytes left) where
     these : (elements : List Val) (t : List ℕ) → Spells depth (val.Set elements) (123 ∷ bytes) t → (items ≡ elements) × (left ≡ codes "}" ++ t)
-    these elements t spelled = only elements (codes "}" ++ t) (set_each open_ elements t spelled) (set_ends t)
+    these elements t spelled = only elements (codes "}" ++ t) (set_each unended elements t spelled) (set_ends t)
 
     pub set_only : (new : List Val) (rest : List ℕ) → new ≡ items → left ≡ codes "}" ++ rest → (elements : List Val) (t : List ℕ) → Spells depth (val.Set elements) (123 ∷ bytes) t → (new ≡ elements) × (rest ≡ t)
     set_only new rest same closed elements t spelled =

@@ -8,7 +8,7 @@ use Rattle.std.proofs.lemmas.Bool.Decides.{nat_tests}
 use Rattle.da_values.specs.declared.val.Val.{Val, out-Val}
 use Rattle.da_values.specs.declared.val.Val.TheVariants as val
 use Rattle.da_values.specs.declared.val.Val.TheVariants.{outs-Tuple, outs-Set, outs-Int, outs-Bool, outs-Text, outs-Proc}
-use Rattle.da_values.specs.declared.val.Val.TheOpen as open_
+use Rattle.da_values.specs.declared.val.Val.TheOpen as layers
 use Rattle.da_values.specs.declared.val.Val.TheOpen.{Val-F}
 use Rattle.da_values.specs.declared.value.Value.{Value}
 use Rattle.da_values.specs.declared.value.Value.TheVariants.{Int, Bool as Truth, Text, Proc, Tuple, Set}
@@ -28,12 +28,12 @@ use Rattle.da_values.proofs.WordLaws.{first_same}
 
 -- what each kind of value must be
 abbrev pub IsProper : Val-F Val → Type 0
-IsProper (open_.Int number) = FitsSigned w128 number
-IsProper (open_.Bool b) = Unit {0}
-IsProper (open_.Text bytes) = All IsTextByte bytes
-IsProper (open_.Proc p) = (0 < p) × (p < 2 ^ 16)
-IsProper (open_.Tuple parts) = AreValues parts
-IsProper (open_.Set elements) = AreValues elements × Ascends val_cmp elements
+IsProper (layers.Int number) = FitsSigned w128 number
+IsProper (layers.Bool b) = Unit {0}
+IsProper (layers.Text bytes) = All IsTextByte bytes
+IsProper (layers.Proc p) = (0 < p) × (p < 2 ^ 16)
+IsProper (layers.Tuple parts) = AreValues parts
+IsProper (layers.Set elements) = AreValues elements × Ascends val_cmp elements
 
 pub proper_of : (x : Val) → IsValue x → IsProper (out-Val x)
 proper_of _ (integer number fits) = subst IsProper (sym (outs-Int number)) fits

@@ -7,7 +7,7 @@ ghost use Rattle.da_values.specs.Value.{val_of, vals};
 ghost use Rattle.da_values.specs.declared.val.Val.TheVariants as val;
 ghost use Rattle.da_values.specs.declared.val.Val.{Val};
 ghost use Rattle.std.specs.List.{All};
-ghost use Rattle.std.specs.Prelude.{◌≡◌, ◌≢◌, ℕ, List, ◌++◌, codes, length, IfOk, IfSome, IsErrOf, MatchBool, MatchOption, MatchResult};
+ghost use Rattle.std.specs.Prelude.{◌≡◌, ◌≢◌, ℕ, List, ◌++◌, codes, length, IfOk, IfSome, IsErr, IsErrOf, MatchBool, MatchOption, MatchResult};
 
 use crate::cmp::cmp_values;
 use crate::list::{List, NoMemory};
@@ -42,6 +42,7 @@ impl From<NoMemory> for ValueFault {
 pub fn read_value(alloc: Global, text: &[u8]) -> Result<Value, ValueFault>
     ensures read { IfOk result (λ v. IsTextOf text.now (val_of v)) }
     ensures unread { IsErrOf result ValueFault.Unread → (x : Val) → IsTextOf text.now x → ⊥ }
+    ensures refused { ((x : Val) → IsTextOf text.now x → ⊥) → IsErr result }
     ensures only { (x : Val) → IsTextOf text.now x
         → MatchResult result (λ v. val_of v ≡ x) (λ fault. fault ≡ ValueFault.Memory) }
 {
