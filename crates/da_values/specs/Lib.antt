@@ -1,7 +1,9 @@
 pub mod Layer
+pub mod Marks
 pub mod Order
 pub mod Str
 pub mod Text
 pub mod Value
 pub mod Weights
+pub mod Words
 pub mod formers
