@@ -1,0 +1,6 @@
+//! The parser: from the tokens of a text to its tree.
+#![tactic(auto)]
+
+mod cursor;
+mod literals;
+mod marks;
