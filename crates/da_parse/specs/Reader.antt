@@ -4,7 +4,9 @@ use Rattle.std.specs.Prelude.{◌≡◌, ◌≢◌, ℕ, Bool, true, false, List
 use denote.Enum.Bare.{sameb}
 use Rattle.da_values.specs.contracts.token.Mark.{the_type}
 use Rattle.da_values.specs.declared.token.Mark.{Mark}
+use Rattle.da_values.specs.declared.token.Mark.TheVariants as m
 use Rattle.da_values.specs.Marks.{Tok}
+use Rattle.da_lang.specs.Literals.{number_of, text_of}
 use Rattle.da_parse.specs.declared.cursor.Stop.{Stop}
 use Rattle.da_parse.specs.declared.cursor.Stop.TheVariants.{Memory, Syntax, Deep}
 
@@ -91,6 +93,19 @@ expect k = λ i. if sees k i then Ok (tt, rest i) else refuse i
 -- the bytes of a token with this mark
 unfoldable pub word : Mark → Reader (List ℕ)
 word k = λ i. if sees k i then Ok (text i, rest i) else refuse i
+
+-- passes the next token where it stands for something, and gives that
+abbrev pub stands_for : {A : Type 0} → Option A → Reader A
+stands_for (Some a) = λ i. Ok (a, rest i)
+stands_for None = refuse
+
+-- an integer
+unfoldable pub number : Reader ℕ
+number = λ i. if sees m.Number i then stands_for (number_of (text i)) i else refuse i
+
+-- a text literal
+unfoldable pub quoted : Reader (List ℕ)
+quoted = λ i. if sees m.Quoted i then stands_for (text_of (text i)) i else refuse i
 
 -- what a function that reads ensures: the reader's outcome, unless memory is refused
 abbrev pub Reads : {A : Type 0} → Outcome A → Result A Stop → List Tok → Type 0

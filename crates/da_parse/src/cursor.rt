@@ -4,8 +4,9 @@ ghost use Rattle.da_values.specs.Marks.{slice_of, toks};
 ghost use Rattle.da_parse.specs.Reader as reader;
 ghost use Rattle.da_parse.specs.Reader.{Reads};
 
+use crate::literals::{number_of, unquoted};
 use crate::marks::mark_of;
-use da_values::{Buf, Mark, NoMemory, Token, copy_bytes};
+use da_values::{Buf, Mark, NoMemory, Str, StrFault, Token, copy_bytes};
 use std::alloc::Global;
 use std::marker::Model;
 
@@ -104,6 +105,16 @@ impl<'a> Cursor<'a> {
         }
     }
 
+    /// The bytes of the next token, or none at the end.
+    pub fn bytes(&self) -> &'a [u8]
+        ensures { result.now ≡ reader.text self.now }
+    {
+        match self.left {
+            [] => &[],
+            [token, ..] => slice_of(self.text, token),
+        }
+    }
+
     /// Whether the next token has this mark.
     #[tactic(auto, unfolding(crate::specs::Reader::sees))]
     pub fn sees(&self, mark: Mark) -> bool
@@ -150,6 +161,41 @@ impl<'a> Cursor<'a> {
             return Err(self.refuse());
         }
         Ok(copy_bytes(alloc, self.take())?)
+    }
+
+    /// Passes an integer, and gives it.
+    #[tactic(auto, unfolding(crate::specs::Reader::number))]
+    pub fn number(&mut self) -> Result<u64, Stop>
+        ensures { Reads (reader.number self.old) result self.new }
+    {
+        if !self.sees(Mark::Number) {
+            return Err(self.refuse());
+        }
+        match number_of(self.bytes()) {
+            None => Err(self.refuse()),
+            Some(number) => {
+                self.take();
+                Ok(number)
+            }
+        }
+    }
+
+    /// Passes a text literal, and gives its text.
+    #[tactic(auto, unfolding(crate::specs::Reader::quoted, da_lang::specs::Literals::text_of), using(crate::proofs::Texts::are_text, crate::proofs::Texts::no_text))]
+    pub fn quoted(&mut self, alloc: Global) -> Result<Str, Stop>
+        ensures { Reads (reader.quoted self.old) result self.new }
+    {
+        if !self.sees(Mark::Quoted) {
+            return Err(self.refuse());
+        }
+        match Str::from_bytes(alloc, unquoted(self.bytes())) {
+            Err(StrFault::Memory) => Err(Stop::Memory),
+            Err(StrFault::BadText) => Err(self.refuse()),
+            Ok(text) => {
+                self.take();
+                Ok(text)
+            }
+        }
     }
 }
 
