@@ -1,1 +1,4 @@
 pub mod Literals
+pub mod Spelling
+pub mod TypeGrammar
+pub mod ExprGrammar
