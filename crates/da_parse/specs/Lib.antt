@@ -1,2 +1,5 @@
 pub mod Reader
 pub mod View
+pub mod Lists
+pub mod Place
+pub mod Exprs

@@ -74,6 +74,10 @@ refuse = λ i. Err (refusal i)
 abbrev pub peek : Reader (Option Mark)
 peek = λ i. Ok (mark i, i)
 
+-- whether the next token has this mark
+abbrev pub next_is : Mark → Reader Bool
+next_is k = λ i. Ok (sees k i, i)
+
 -- the line of the next token
 abbrev pub here : Reader ℕ
 here = λ i. Ok (line i, i)

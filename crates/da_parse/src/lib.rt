@@ -4,3 +4,4 @@
 mod cursor;
 mod literals;
 mod marks;
+mod place;
