@@ -3,3 +3,4 @@ pub mod View
 pub mod Lists
 pub mod Place
 pub mod Exprs
+pub mod Nests
