@@ -102,21 +102,31 @@ module _ (p : Place) where
     opening p.may_open m.OpenParen
     expect m.CloseParen
 
-  unfoldable pub one_argument : Reader Expr
-  one_argument = do
+  -- `(EXPR,`
+  unfoldable pub first_argument : Reader Expr
+  first_argument = do
     opening p.may_open m.OpenParen
+    x ← p.expr level.Disj
+    expect m.Comma
+    pure x
+
+  -- `EXPR)`
+  unfoldable pub last_argument : Reader Expr
+  last_argument = do
     x ← p.expr level.Disj
     expect m.CloseParen
     pure x
 
-  unfoldable pub two_arguments : Reader (Expr × Expr)
-  two_arguments = do
+  unfoldable pub one_argument : Reader Expr
+  one_argument = do
     opening p.may_open m.OpenParen
-    x ← p.expr level.Disj
-    expect m.Comma
-    y ← p.expr level.Disj
-    expect m.CloseParen
-    pure (x, y)
+    last_argument
+
+  unfoldable pub two_arguments : (Expr → Expr → Expr) → Reader Expr
+  two_arguments make = do
+    x ← first_argument
+    y ← last_argument
+    pure (make x y)
 
   -- behind `(`
   abbrev pub grouped_by : Option Bool → Reader Expr
@@ -151,22 +161,26 @@ module _ (p : Place) where
         goes_on ← eat m.Comma
         if goes_on then (do xs ← separated m.Comma (p.expr level.Disj) (x ∷ []); expect m.CloseBrace; pure (ex.SetOf xs)) else (do expect m.CloseBrace; pure (ex.SetOf (x ∷ [])))))
 
+  abbrev pub word : Mark → Reader Expr
+  word m.True = take_token >> pure (ex.Truth true)
+  word m.False = take_token >> pure (ex.Truth false)
+  word m.SelfWord = take_token >> pure ex.Me
+  word m.LogicalTime = take_token >> (no_argument >> pure ex.Clock)
+  word m.Range = take_token >> two_arguments ex.Range
+  word m.Count = take_token >> (one_argument >>= λ x. pure (ex.Count x))
+  word m.Sum = take_token >> (one_argument >>= λ x. pure (ex.Sum x))
+  word m.Min = take_token >> two_arguments ex.Min
+  word m.Max = take_token >> two_arguments ex.Max
+  word _ = refuse
+
   abbrev pub atom_by : Option Mark → Reader Expr
   atom_by (Some m.Number) = number >>= λ n. pure (ex.Int (pos n))
   atom_by (Some m.Quoted) = quoted >>= λ b. pure (ex.Text b)
-  atom_by (Some m.True) = take_token >> pure (ex.Truth true)
-  atom_by (Some m.False) = take_token >> pure (ex.Truth false)
-  atom_by (Some m.SelfWord) = take_token >> pure ex.Me
   atom_by (Some m.Name) = take_token >>= λ b. pure (ex.Name b)
-  atom_by (Some m.LogicalTime) = take_token >> (no_argument >> pure ex.Clock)
-  atom_by (Some m.Range) = take_token >> (two_arguments >>= λ xy. pure (ex.Range xy.0 xy.1))
-  atom_by (Some m.Count) = take_token >> (one_argument >>= λ x. pure (ex.Count x))
-  atom_by (Some m.Sum) = take_token >> (one_argument >>= λ x. pure (ex.Sum x))
-  atom_by (Some m.Min) = take_token >> (two_arguments >>= λ xy. pure (ex.Min xy.0 xy.1))
-  atom_by (Some m.Max) = take_token >> (two_arguments >>= λ xy. pure (ex.Max xy.0 xy.1))
   atom_by (Some m.OpenParen) = opens p.may_open >> grouped
   atom_by (Some m.OpenBrace) = opens p.may_open >> braced
-  atom_by _ = refuse
+  atom_by (Some k) = word k
+  atom_by None = refuse
 
   unfoldable pub atom : Reader Expr
   atom = peek >>= atom_by

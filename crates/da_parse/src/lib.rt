@@ -1,7 +1,9 @@
 //! The parser: from the tokens of a text to its tree.
 #![tactic(auto)]
 
+mod atoms;
 mod cursor;
 mod literals;
 mod marks;
 mod place;
+mod queries;
