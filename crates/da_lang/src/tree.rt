@@ -1,6 +1,7 @@
 //! Syntax trees: a program as the grammar has it, with the lines of its parts.
 //!
-//! A tree keeps no parentheses that only group, and no comments. Lines are counted from 1.
+//! A tree keeps no parentheses that only group, and no comments. Lines are counted from 1. An expression within another
+//! type stands in a `Boxed` or a `List`, which contracts see as the expression itself and as the list of them.
 
 use crate::ty::{ChannelKind, Name, Ty};
 use da_values::{Boxed, List, Str};
@@ -93,30 +94,30 @@ pub enum Stmt {
     /// `NAME = EXPR`
     Assign {
         name: Name,
-        value: Expr,
+        value: Boxed<Expr>,
         line: u32,
     },
     /// `NAME.add(EXPR)`
     Add {
         name: Name,
-        value: Expr,
+        value: Boxed<Expr>,
         line: u32,
     },
     /// `NAME.del(EXPR)`
     Del {
         name: Name,
-        value: Expr,
+        value: Boxed<Expr>,
         line: u32,
     },
     /// `send EXPR to EXPR`
     Send {
-        message: Expr,
-        to: Expr,
+        message: Boxed<Expr>,
+        to: Boxed<Expr>,
         line: u32,
     },
     /// `output(EXPR)`
     Output {
-        value: Expr,
+        value: Boxed<Expr>,
         line: u32,
     },
     /// `pass`
@@ -142,20 +143,20 @@ pub enum Stmt {
     },
     /// `while EXPR:`
     While {
-        cond: Expr,
+        cond: Boxed<Expr>,
         body: List<Stmt>,
         line: u32,
     },
     /// `for NAME in EXPR:`
     For {
         name: Name,
-        over: Expr,
+        over: Boxed<Expr>,
         body: List<Stmt>,
         line: u32,
     },
     /// `await EXPR` with no block
     AwaitOne {
-        cond: Expr,
+        cond: Boxed<Expr>,
         line: u32,
     },
     /// `await EXPR:`, each `or EXPR:`, and `timeout:`
@@ -171,7 +172,7 @@ pub enum Stmt {
 #[derive(Debug, PartialEq, Eq, Drop)]
 pub struct Branch {
     /// The condition.
-    pub cond: Expr,
+    pub cond: Boxed<Expr>,
     /// The statements of the block, of which there is at least one.
     pub body: List<Stmt>,
     /// The line of the header.
@@ -251,7 +252,7 @@ pub struct ChainTree {
     /// The sign before it.
     pub op: ArithOp,
     /// The operand.
-    pub operand: Expr,
+    pub operand: Boxed<Expr>,
 }
 
 /// A generator of a query.
@@ -293,7 +294,7 @@ pub enum PatternTree {
     /// `self`
     Me,
     /// `=EXPR`
-    Equal(Expr),
+    Equal(Boxed<Expr>),
     /// A tuple, of at least one part
     Tuple(List<PatternTree>),
 }

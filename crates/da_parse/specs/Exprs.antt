@@ -67,24 +67,31 @@ source_by (Some m.Sent) = take_token >> pure source_tree.Sent
 source_by (Some m.Name) = take_token >>= λ b. pure (source_tree.Name b)
 source_by _ = refuse
 
+-- `in` and what a generator goes through
 unfoldable pub source : Reader SourceTree
-source = peek >>= source_by
+source = do
+  expect m.In
+  k ← peek
+  source_by k
+
+abbrev pub made : PatternTree → Option PeerTree → SourceTree → GenTree
+made message other from = roll-GenTree (record { message = message; peer = other; source = from })
 
 module _ (p : Place) where
-  unfoldable pub peer : Reader (Option PeerTree)
-  peer = do
-    from ← eat m.From
-    if from then (p.pattern >>= λ x. pure (Some (peer_tree.From x))) else (do
-      to ← eat m.To
-      if to then (p.pattern >>= λ x. pure (Some (peer_tree.To x))) else pure None)
+  -- behind the word that begins the pattern of the other process
+  unfoldable pub generator_with : PatternTree → (PatternTree → PeerTree) → Reader GenTree
+  generator_with message other = do
+    x ← p.pattern
+    from ← source
+    pure (made message (Some (other x)) from)
 
   unfoldable pub generator : Reader GenTree
   generator = do
     message ← p.pattern
-    other ← peer
-    expect m.In
-    from ← source
-    pure (roll-GenTree (record { message = message; peer = other; source = from }))
+    is_from ← eat m.From
+    if is_from then generator_with message peer_tree.From else (do
+      is_to ← eat m.To
+      if is_to then generator_with message peer_tree.To else (source >>= λ from. pure (made message None from)))
 
   unfoldable pub generators : Reader (List GenTree)
   generators = separated m.Comma generator []

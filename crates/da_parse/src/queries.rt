@@ -22,11 +22,12 @@ pub fn quantifier(mark: Option<Mark>) -> Option<bool>
     }
 }
 
-/// `received`, `sent`, or a name.
+/// `in`, and `received`, `sent`, or a name.
 #[tactic(auto, unfolding(crate::specs::Exprs::source))]
 fn source(alloc: Global, tokens: &mut Cursor<'_>) -> Result<SourceTree, Stop>
     ensures { Reads (spec.source tokens.old) result tokens.new }
 {
+    tokens.expect(Mark::In)?;
     match tokens.mark() {
         Some(Mark::Received) => {
             tokens.take();
@@ -42,22 +43,6 @@ fn source(alloc: Global, tokens: &mut Cursor<'_>) -> Result<SourceTree, Stop>
 }
 
 impl<F: Fn(Global, &mut Cursor<'_>, usize, Level) -> Result<Expr, Stop>, P: Fn(Global, &mut Cursor<'_>, usize) -> Result<PatternTree, Stop>> Rules<F, P> {
-    /// `from PATTERN`, `to PATTERN`, or nothing.
-    #[tactic(auto, unfolding(crate::specs::Exprs::peer))]
-    fn peer(&self, tokens: &mut Cursor<'_>) -> Result<Option<PeerTree>, Stop>
-        requires nests { Nests self.now.depth (F.pre self.now.expr) (F.post self.now.expr) (P.pre self.now.pattern) (P.post self.now.pattern) }
-        requires room { self.now.depth < 32 }
-        ensures { Reads (spec.peer (at_depth self.now.depth) tokens.old) result tokens.new }
-    {
-        if tokens.eat(Mark::From) {
-            return Ok(Some(PeerTree::From(self.inner_pattern(tokens)?)));
-        }
-        if tokens.eat(Mark::To) {
-            return Ok(Some(PeerTree::To(self.inner_pattern(tokens)?)));
-        }
-        Ok(None)
-    }
-
     /// A generator.
     #[tactic(auto, unfolding(crate::specs::Exprs::generator))]
     fn generator(&self, tokens: &mut Cursor<'_>) -> Result<GenTree, Stop>
@@ -66,12 +51,48 @@ impl<F: Fn(Global, &mut Cursor<'_>, usize, Level) -> Result<Expr, Stop>, P: Fn(G
         ensures { Reads (spec.generator (at_depth self.now.depth) tokens.old) result tokens.new }
     {
         let message = self.inner_pattern(tokens)?;
-        let peer = self.peer(tokens)?;
-        tokens.expect(Mark::In)?;
+        if tokens.eat(Mark::From) {
+            return self.generator_from(tokens, message);
+        }
+        if tokens.eat(Mark::To) {
+            return self.generator_to(tokens, message);
+        }
         let source = source(self.alloc, tokens)?;
         Ok(GenTree {
             message,
-            peer,
+            peer: None,
+            source,
+        })
+    }
+
+    /// What stands behind `PATTERN from`.
+    #[tactic(auto, unfolding(crate::specs::Exprs::generator_with))]
+    fn generator_from(&self, tokens: &mut Cursor<'_>, message: PatternTree) -> Result<GenTree, Stop>
+        requires nests { Nests self.now.depth (F.pre self.now.expr) (F.post self.now.expr) (P.pre self.now.pattern) (P.post self.now.pattern) }
+        requires room { self.now.depth < 32 }
+        ensures { Reads (spec.generator_with (at_depth self.now.depth) message PeerTree.From tokens.old) result tokens.new }
+    {
+        let peer = self.inner_pattern(tokens)?;
+        let source = source(self.alloc, tokens)?;
+        Ok(GenTree {
+            message,
+            peer: Some(PeerTree::From(peer)),
+            source,
+        })
+    }
+
+    /// What stands behind `PATTERN to`.
+    #[tactic(auto, unfolding(crate::specs::Exprs::generator_with))]
+    fn generator_to(&self, tokens: &mut Cursor<'_>, message: PatternTree) -> Result<GenTree, Stop>
+        requires nests { Nests self.now.depth (F.pre self.now.expr) (F.post self.now.expr) (P.pre self.now.pattern) (P.post self.now.pattern) }
+        requires room { self.now.depth < 32 }
+        ensures { Reads (spec.generator_with (at_depth self.now.depth) message PeerTree.To tokens.old) result tokens.new }
+    {
+        let peer = self.inner_pattern(tokens)?;
+        let source = source(self.alloc, tokens)?;
+        Ok(GenTree {
+            message,
+            peer: Some(PeerTree::To(peer)),
             source,
         })
     }
