@@ -66,6 +66,9 @@ module _ (sign : Option Mark → Option ArithOp) (operand : Reader Expr) where
   others_end n at found i h = let e : n - at ≡ 0 = omega arith in ap (λ c. others_from sign operand c found i) e
 
 pub ruleset separated_loop = (separated_start, separated_turn, separated_end)
+
 pub ruleset begun_loop = (begun_start, begun_turn, begun_end)
+
 pub ruleset ended_loop = (ended_start, ended_turn, ended_end)
+
 pub ruleset others_loop = (others_start, others_turn, others_end)

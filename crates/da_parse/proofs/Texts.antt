@@ -19,5 +19,6 @@ are_text bytes all = list_all-from_AllPass is_text_byte bytes (λ k d h. text_by
 
 pub no_text : (bytes : List ℕ) → (All IsTextByte bytes → ⊥) → list_all is_text_byte bytes ≡ false
 no_text bytes none = elim (cases_Bool (list_all is_text_byte bytes)) [
-      inl all ↦ absurd (none (λ k d h. byte_of_text _ (AllPass-from_list_all is_text_byte bytes all k d h)))
-    | inr other ↦ other ]
+  | inl all ↦ absurd (none (λ k d h. byte_of_text _ (AllPass-from_list_all is_text_byte bytes all k d h)))
+  | inr other ↦ other
+]

@@ -13,7 +13,10 @@ use da_lang::{Expr, PatternTree};
 use da_values::{Boxed, List, Mark, copy_bytes};
 use std::alloc::Global;
 
-impl<F: Fn(Global, &mut Cursor<'_>, usize, Level) -> Result<Expr, Stop>, P: Fn(Global, &mut Cursor<'_>, usize) -> Result<PatternTree, Stop>> Rules<F, P> {
+impl<
+    F: Fn(Global, &mut Cursor<'_>, usize, Level) -> Result<Expr, Stop>,
+    P: Fn(Global, &mut Cursor<'_>, usize) -> Result<PatternTree, Stop>,
+> Rules<F, P> {
     /// `()`, which opens one thing and closes it.
     #[tactic(auto, unfolding(crate::specs::Exprs::no_argument))]
     fn no_argument(&self, tokens: &mut Cursor<'_>) -> Result<(), Stop>
@@ -76,7 +79,11 @@ impl<F: Fn(Global, &mut Cursor<'_>, usize, Level) -> Result<Expr, Stop>, P: Fn(G
 
     /// Expressions behind those found, up to `)`.
     #[tactic(auto, unfolding(crate::specs::Lists::closed))]
-    pub fn closed_exprs(&self, tokens: &mut Cursor<'_>, found: List<Expr>) -> Result<List<Expr>, Stop>
+    pub fn closed_exprs(
+        &self,
+        tokens: &mut Cursor<'_>,
+        found: List<Expr>,
+    ) -> Result<List<Expr>, Stop>
         requires nests { Nests self.now.depth (F.pre self.now.expr) (F.post self.now.expr) (P.pre self.now.pattern) (P.post self.now.pattern) }
         requires room { self.now.depth < 32 }
         ensures { Reads (closed Mark.CloseParen ((at_depth self.now.depth).expr Level.Disj) found tokens.old) result tokens.new }

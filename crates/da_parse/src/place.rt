@@ -60,7 +60,10 @@ pub fn opening(tokens: &mut Cursor<'_>, mark: Mark, depth: usize) -> Result<(), 
     opens(tokens, depth)
 }
 
-impl<F: Fn(Global, &mut Cursor<'_>, usize, Level) -> Result<Expr, Stop>, P: Fn(Global, &mut Cursor<'_>, usize) -> Result<PatternTree, Stop>> Rules<F, P> {
+impl<
+    F: Fn(Global, &mut Cursor<'_>, usize, Level) -> Result<Expr, Stop>,
+    P: Fn(Global, &mut Cursor<'_>, usize) -> Result<PatternTree, Stop>,
+> Rules<F, P> {
     /// An expression of this level, one deeper.
     pub fn inner(&self, tokens: &mut Cursor<'_>, level: Level) -> Result<Expr, Stop>
         requires nests { Nests self.now.depth (F.pre self.now.expr) (F.post self.now.expr) (P.pre self.now.pattern) (P.post self.now.pattern) }

@@ -42,7 +42,10 @@ fn source(alloc: Global, tokens: &mut Cursor<'_>) -> Result<SourceTree, Stop>
     }
 }
 
-impl<F: Fn(Global, &mut Cursor<'_>, usize, Level) -> Result<Expr, Stop>, P: Fn(Global, &mut Cursor<'_>, usize) -> Result<PatternTree, Stop>> Rules<F, P> {
+impl<
+    F: Fn(Global, &mut Cursor<'_>, usize, Level) -> Result<Expr, Stop>,
+    P: Fn(Global, &mut Cursor<'_>, usize) -> Result<PatternTree, Stop>,
+> Rules<F, P> {
     /// A generator.
     #[tactic(auto, unfolding(crate::specs::Exprs::generator))]
     fn generator(&self, tokens: &mut Cursor<'_>) -> Result<GenTree, Stop>
