@@ -77,6 +77,15 @@ source = do
 abbrev pub made : PatternTree → Option PeerTree → SourceTree → GenTree
 made message other from = roll-GenTree (record { message = message; peer = other; source = from })
 
+-- `_`, a negative integer, a truth value or `self`, in a pattern
+abbrev pub constant : Mark → Reader PatternTree
+constant m.Wild = take_token >> pure pat.Wild
+constant m.Minus = take_token >> (number >>= λ n. pure (pat.Int (neg_ℤ (pos n))))
+constant m.True = take_token >> pure (pat.Truth true)
+constant m.False = take_token >> pure (pat.Truth false)
+constant m.SelfWord = take_token >> pure pat.Me
+constant _ = refuse
+
 module _ (p : Place) where
   -- behind the word that begins the pattern of the other process
   unfoldable pub generator_with : PatternTree → (PatternTree → PeerTree) → Reader GenTree
@@ -265,17 +274,13 @@ module _ (p : Place) where
     pure (pat.Tuple xs)
 
   abbrev pub pattern_by : Option Mark → Reader PatternTree
-  pattern_by (Some m.Wild) = take_token >> pure pat.Wild
   pattern_by (Some m.Name) = take_token >>= λ b. pure (pat.Name b)
   pattern_by (Some m.Number) = number >>= λ n. pure (pat.Int (pos n))
-  pattern_by (Some m.Minus) = take_token >> (number >>= λ n. pure (pat.Int (neg_ℤ (pos n))))
   pattern_by (Some m.Quoted) = quoted >>= λ b. pure (pat.Text b)
-  pattern_by (Some m.True) = take_token >> pure (pat.Truth true)
-  pattern_by (Some m.False) = take_token >> pure (pat.Truth false)
-  pattern_by (Some m.SelfWord) = take_token >> pure pat.Me
-  pattern_by (Some m.Assign) = take_token >> (unary >>= λ x. pure (pat.Equal x))
   pattern_by (Some m.OpenParen) = opens p.may_open >> tuple_pattern
-  pattern_by _ = refuse
+  pattern_by (Some m.Assign) = take_token >> (unary >>= λ x. pure (pat.Equal x))
+  pattern_by (Some k) = constant k
+  pattern_by None = refuse
 
   unfoldable pub pattern : Reader PatternTree
   pattern = peek >>= pattern_by

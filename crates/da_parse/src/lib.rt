@@ -5,5 +5,7 @@ mod atoms;
 mod cursor;
 mod literals;
 mod marks;
+mod operators;
+mod patterns;
 mod place;
 mod queries;
