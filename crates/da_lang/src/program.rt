@@ -1,8 +1,6 @@
 //! Resolved programs: what is left of a text once its names are found.
-use da_values::{Buf, List, Value};
-
-/// A name: its bytes.
-pub type Name = Buf;
+use crate::ty::Name;
+use da_values::{List, Value};
 
 /// A program: its classes in text order, and its processes in the order in which `main` makes them.
 #[derive(Debug, Drop)]

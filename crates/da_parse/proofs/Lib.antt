@@ -1,2 +1,6 @@
+pub mod Depth
 pub mod FirstLemmas
+pub mod Loops
 pub mod NumberLemmas
+pub mod Tables
+pub mod Texts
