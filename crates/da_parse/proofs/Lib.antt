@@ -2,5 +2,4 @@ pub mod Depth
 pub mod FirstLemmas
 pub mod Loops
 pub mod NumberLemmas
-pub mod Tables
 pub mod Texts

@@ -5,7 +5,6 @@ mod atoms;
 mod cursor;
 mod first;
 mod literals;
-mod marks;
 mod number;
 mod operators;
 mod patterns;
