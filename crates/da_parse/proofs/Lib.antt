@@ -2,3 +2,5 @@ pub mod Tables
 pub mod Texts
 pub mod Depth
 pub mod Loops
+pub mod Decls
+pub mod Lines

@@ -4,3 +4,9 @@ pub mod Lists
 pub mod Place
 pub mod Exprs
 pub mod Nests
+pub mod Types
+pub mod Stmts
+pub mod Holds
+pub mod Members
+pub mod Programs
+pub mod Parse

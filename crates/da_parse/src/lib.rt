@@ -5,7 +5,15 @@ mod atoms;
 mod cursor;
 mod literals;
 mod marks;
+mod members;
 mod operators;
+mod parse;
 mod patterns;
 mod place;
+mod programs;
 mod queries;
+mod simple;
+mod stmts;
+mod types;
+
+pub use parse::{ParseFault, parse_tokens};
