@@ -92,7 +92,13 @@ fn run(alloc: Global, tokens: &mut Cursor<'_>, depth: usize, line: u32) -> Resul
 
 /// What stands behind `def` and a name.
 #[tactic(auto, unfolding(crate::specs::Members::method))]
-fn method(alloc: Global, tokens: &mut Cursor<'_>, depth: usize, name: Name, line: u32) -> Result<Member, Stop>
+fn method(
+    alloc: Global,
+    tokens: &mut Cursor<'_>,
+    depth: usize,
+    name: Name,
+    line: u32,
+) -> Result<Member, Stop>
     ensures { Reads (spec.method depth name line tokens.old) result tokens.new }
 {
     opening(tokens, Mark::OpenParen, depth)?;
@@ -108,7 +114,12 @@ fn method(alloc: Global, tokens: &mut Cursor<'_>, depth: usize, name: Name, line
 
 /// What stands behind `def`.
 #[tactic(auto, unfolding(crate::specs::Members::definition))]
-fn definition(alloc: Global, tokens: &mut Cursor<'_>, depth: usize, line: u32) -> Result<Member, Stop>
+fn definition(
+    alloc: Global,
+    tokens: &mut Cursor<'_>,
+    depth: usize,
+    line: u32,
+) -> Result<Member, Stop>
     ensures { Reads (spec.definition depth line tokens.old) result tokens.new }
 {
     match tokens.mark() {

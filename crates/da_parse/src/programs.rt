@@ -206,7 +206,13 @@ fn kind(tokens: &mut Cursor<'_>) -> Result<ChannelKind, Stop>
 
 /// `main`, behind which no token is left, with what stands before it.
 #[tactic(auto, unfolding(crate::specs::Programs::program_end))]
-fn program_end(alloc: Global, tokens: &mut Cursor<'_>, kind: ChannelKind, messages: List<MessageDecl>, classes: List<ClassTree>) -> Result<Tree, Stop>
+fn program_end(
+    alloc: Global,
+    tokens: &mut Cursor<'_>,
+    kind: ChannelKind,
+    messages: List<MessageDecl>,
+    classes: List<ClassTree>,
+) -> Result<Tree, Stop>
     ensures { Reads (spec.program_end kind messages classes tokens.old) result tokens.new }
 {
     let main = main_body(alloc, tokens)?;

@@ -57,7 +57,13 @@ fn arguments(alloc: Global, tokens: &mut Cursor<'_>, depth: usize) -> Result<Lis
 
 /// What stands behind `NAME =`.
 #[tactic(auto, unfolding(crate::specs::Stmts::assigned))]
-fn assigned(alloc: Global, tokens: &mut Cursor<'_>, depth: usize, name: Name, line: u32) -> Result<Stmt, Stop>
+fn assigned(
+    alloc: Global,
+    tokens: &mut Cursor<'_>,
+    depth: usize,
+    name: Name,
+    line: u32,
+) -> Result<Stmt, Stop>
     requires { depth ≤ 32 }
     ensures { Reads (spec.assigned (at_depth depth) name line tokens.old) result tokens.new }
 {
@@ -68,7 +74,13 @@ fn assigned(alloc: Global, tokens: &mut Cursor<'_>, depth: usize, name: Name, li
 
 /// What stands behind `NAME.`
 #[tactic(auto, unfolding(crate::specs::Stmts::changed))]
-fn changed(alloc: Global, tokens: &mut Cursor<'_>, depth: usize, name: Name, line: u32) -> Result<Stmt, Stop>
+fn changed(
+    alloc: Global,
+    tokens: &mut Cursor<'_>,
+    depth: usize,
+    name: Name,
+    line: u32,
+) -> Result<Stmt, Stop>
     ensures { Reads (spec.changed (at_depth depth) name line tokens.old) result tokens.new }
 {
     if tokens.eat(Mark::Add) {
@@ -84,7 +96,13 @@ fn changed(alloc: Global, tokens: &mut Cursor<'_>, depth: usize, name: Name, lin
 
 /// What stands behind the name of a method.
 #[tactic(auto, unfolding(crate::specs::Stmts::called))]
-fn called(alloc: Global, tokens: &mut Cursor<'_>, depth: usize, name: Name, line: u32) -> Result<Stmt, Stop>
+fn called(
+    alloc: Global,
+    tokens: &mut Cursor<'_>,
+    depth: usize,
+    name: Name,
+    line: u32,
+) -> Result<Stmt, Stop>
     ensures { Reads (spec.called (at_depth depth) name line tokens.old) result tokens.new }
 {
     let args = arguments(alloc, tokens, depth)?;
@@ -94,7 +112,13 @@ fn called(alloc: Global, tokens: &mut Cursor<'_>, depth: usize, name: Name, line
 
 /// What stands behind a name.
 #[tactic(auto, unfolding(crate::specs::Stmts::named))]
-fn named(alloc: Global, tokens: &mut Cursor<'_>, depth: usize, name: Name, line: u32) -> Result<Stmt, Stop>
+fn named(
+    alloc: Global,
+    tokens: &mut Cursor<'_>,
+    depth: usize,
+    name: Name,
+    line: u32,
+) -> Result<Stmt, Stop>
     requires { depth ≤ 32 }
     ensures { Reads (spec.named (at_depth depth) name line tokens.old) result tokens.new }
 {
@@ -150,7 +174,13 @@ fn label(alloc: Global, tokens: &mut Cursor<'_>, line: u32) -> Result<Stmt, Stop
 }
 
 /// A statement without blocks.
-pub fn simple(alloc: Global, tokens: &mut Cursor<'_>, depth: usize, line: u32, mark: Option<Mark>) -> Result<Stmt, Stop>
+pub fn simple(
+    alloc: Global,
+    tokens: &mut Cursor<'_>,
+    depth: usize,
+    line: u32,
+    mark: Option<Mark>,
+) -> Result<Stmt, Stop>
     requires { depth ≤ 32 }
     ensures { Reads (spec.simple_by (at_depth depth) line mark tokens.old) result tokens.new }
 {

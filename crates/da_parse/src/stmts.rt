@@ -60,7 +60,12 @@ impl<B: Fn(Global, &mut Cursor<'_>, usize) -> Result<List<Stmt>, Stop>> Layer<B>
 
     /// Further branches, each begun by a token of this mark, behind those found.
     #[tactic(auto, using(crate::proofs::Loops::begun_loop))]
-    fn branches(&self, tokens: &mut Cursor<'_>, mark: Mark, mut found: List<Branch>) -> Result<List<Branch>, Stop>
+    fn branches(
+        &self,
+        tokens: &mut Cursor<'_>,
+        mark: Mark,
+        mut found: List<Branch>,
+    ) -> Result<List<Branch>, Stop>
         requires holds { HoldsBody self.now.depth (B.pre self.now.body) (B.post self.now.body) }
         requires within { self.now.depth ≤ 32 }
         ensures { Reads (begun mark (spec.branch (at_depth self.now.depth) (body_below self.now.depth)) found tokens.old) result tokens.new }
@@ -151,7 +156,12 @@ impl<B: Fn(Global, &mut Cursor<'_>, usize) -> Result<List<Stmt>, Stop>> Layer<B>
 
     /// What stands behind the condition of the first alternative of an `await`.
     #[tactic(auto, unfolding(crate::specs::Stmts::alternatives))]
-    fn alternatives(&self, tokens: &mut Cursor<'_>, cond: Boxed<Expr>, line: u32) -> Result<Stmt, Stop>
+    fn alternatives(
+        &self,
+        tokens: &mut Cursor<'_>,
+        cond: Boxed<Expr>,
+        line: u32,
+    ) -> Result<Stmt, Stop>
         requires holds { HoldsBody self.now.depth (B.pre self.now.body) (B.post self.now.body) }
         requires within { self.now.depth ≤ 32 }
         ensures { Reads (spec.alternatives (at_depth self.now.depth) (body_below self.now.depth) cond line tokens.old) result tokens.new }
