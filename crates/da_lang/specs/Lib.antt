@@ -1,6 +1,9 @@
+pub mod ExprGrammar
+pub mod Grammar
 pub mod Literals
 pub mod Spelling
-pub mod TypeGrammar
-pub mod ExprGrammar
+pub mod Statements
+pub mod Steps
 pub mod StmtGrammar
-pub mod Grammar
+pub mod TypeGrammar
+pub mod World

@@ -1,6 +1,7 @@
-pub mod Tables
-pub mod Texts
-pub mod Depth
-pub mod Loops
 pub mod Decls
+pub mod Depth
+pub mod FirstLemmas
 pub mod Lines
+pub mod Loops
+pub mod NumberLemmas
+pub mod Texts

@@ -5,8 +5,7 @@ ghost use Rattle.da_parse.specs.Reader as reader;
 ghost use Rattle.da_parse.specs.Reader.{Reads};
 
 use crate::literals::{number_of, unquoted};
-use crate::marks::mark_of;
-use da_values::{Buf, Mark, NoMemory, Str, StrFault, Token, copy_bytes};
+use da_values::{Buf, Mark, NoMemory, Str, StrFault, Token, copy_bytes, mark_of};
 use std::alloc::Global;
 use std::marker::Model;
 

@@ -1,11 +1,12 @@
-//! The parser: from the tokens of a text to its tree.
+//! The parser: from the tokens of a text to its tree; and the first form of program, straight from its bytes.
 #![tactic(auto)]
 
 mod atoms;
 mod cursor;
+mod first;
 mod literals;
-mod marks;
 mod members;
+mod number;
 mod operators;
 mod parse;
 mod patterns;
@@ -14,6 +15,9 @@ mod programs;
 mod queries;
 mod simple;
 mod stmts;
+#[cfg(test)]
+mod tests;
 mod types;
 
-pub use parse::{ParseFault, parse_tokens};
+pub use first::{FirstFault, parse_first};
+pub use parse::{ParseFault, parse};

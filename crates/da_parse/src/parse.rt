@@ -7,6 +7,7 @@ ghost use Rattle.da_parse.specs.Parse.{Answers};
 use crate::cursor::{Cursor, Stop};
 use crate::programs::program;
 use da_lang::Tree;
+use da_lex::Tokens;
 use da_values::Token;
 use std::alloc::Global;
 use thiserror::Error;
@@ -37,19 +38,21 @@ fn line_at(tokens: &[Token], left: usize) -> u32
     }
 }
 
-/// The tree that these tokens of the text spell. Where memory is refused there is no other answer.
+/// The tree that the tokens of a text spell. Otherwise the answer is the first token with which the tokens before it
+/// begin no program, or which opens one thing too many, by its line; the end of the text counts as a last token.
 #[tactic(auto, unfolding(crate::specs::Parse::parsed))]
-pub fn parse_tokens(alloc: Global, text: &[u8], tokens: &[Token]) -> Result<Tree, ParseFault>
-    ensures { Answers result (spec.parsed (toks text.now tokens.now)) }
+pub fn parse(alloc: Global, tokens: &Tokens<'_>) -> Result<Tree, ParseFault>
+    ensures { Answers result (spec.parsed (toks tokens.now.text.now tokens.now.list)) }
 {
-    match program(alloc, &mut Cursor::new(text, tokens)) {
+    let list = tokens.list.as_slice();
+    match program(alloc, &mut Cursor::new(tokens.text, list)) {
         Ok(tree) => Ok(tree),
         Err(Stop::Memory) => Err(ParseFault::Memory),
         Err(Stop::Syntax(left)) => Err(ParseFault::Syntax {
-            line: line_at(tokens, left),
+            line: line_at(list, left),
         }),
         Err(Stop::Deep(left)) => Err(ParseFault::Deep {
-            line: line_at(tokens, left),
+            line: line_at(list, left),
         }),
     }
 }

@@ -70,8 +70,8 @@ pub wrote_first : (before out mid new : List ℕ) (vs : List Value) (k : ℕ) (v
     → out ≡ before ++ texts_to k vs → mid ≡ out → new ≡ mid ++ value_text (val_of v) → new ≡ before ++ texts_to (k + 1) vs
 wrote_first before out mid new vs k v here inside first so_far same wrote =
     let text : texts_to (k + 1) vs ≡ value_text (val_of v) =
-        ap (λ n. texts_to (n + 1) vs) first ∙ separated_one vs v (omega arith) ∙ ap (λ n. value_text (val_of (slice_index_or vs n v))) (sym first)
-        ∙ ap (λ x. value_text (val_of x)) (sym here) in
+    ap (λ n. texts_to (n + 1) vs) first ∙ separated_one vs v (omega arith) ∙ ap (λ n. value_text (val_of (slice_index_or vs n v))) (sym first)
+    ∙ ap (λ x. value_text (val_of x)) (sym here) in
     let nothing : texts_to k vs ≡ [] = ap (λ n. texts_to n vs) first in
     wrote ∙ ap (λ x. x ++ value_text (val_of v)) (same ∙ so_far ∙ ap (λ x. before ++ x) nothing ∙ append-nil before) ∙ ap (λ x. before ++ x) (sym text)
 
@@ -80,7 +80,7 @@ pub wrote_next : (before out mid new : List ℕ) (vs : List Value) (k : ℕ) (v 
     → out ≡ before ++ texts_to k vs → mid ≡ out ++ codes ", " → new ≡ mid ++ value_text (val_of v) → new ≡ before ++ texts_to (k + 1) vs
 wrote_next before out mid new vs k v here inside later so_far comma wrote =
     let text : texts_to (k + 1) vs ≡ texts_to k vs ++ (codes ", " ++ value_text (val_of v)) =
-        separated_more vs k v later inside ∙ ap (λ x. texts_to k vs ++ (codes ", " ++ value_text (val_of x))) (sym here) in
+    separated_more vs k v later inside ∙ ap (λ x. texts_to k vs ++ (codes ", " ++ value_text (val_of x))) (sym here) in
     wrote ∙ ap (λ x. x ++ value_text (val_of v)) (comma ∙ ap (λ x. x ++ codes ", ") so_far)
     ∙ append_assoc (before ++ texts_to k vs) (codes ", ") (value_text (val_of v))
     ∙ append_assoc before (texts_to k vs) (codes ", " ++ value_text (val_of v))

@@ -1,6 +1,7 @@
 -- The tables of words and symbols: how many there are, and that each spelling finds its own entry.
 use Rattle.std.proofs.Common.{◌≡◌, refl, map, length}
 use Rattle.std.specs.Prelude.{Some}
+use Rattle.da_values.specs.declared.marks.TheConstants.{WORDS, SYMBOLS}
 use Rattle.da_values.specs.Words.{words, symbols, spelled, front_symbol}
 
 pub words_count : length words ≡ 54
@@ -23,3 +24,12 @@ symbols_differ = refl
 pub longest_first : map (λ entry. front_symbol entry.0) symbols ≡ map Some symbols
 unfolding symbols
 longest_first = refl
+
+-- the tables of the code are those of the definition
+pub same_words : map (λ (entry : _). (entry.0.now, entry.1)) WORDS ≡ words
+unfolding words
+same_words = refl
+
+pub same_symbols : map (λ (entry : _). (entry.0.now, entry.1)) SYMBOLS ≡ symbols
+unfolding symbols
+same_symbols = refl

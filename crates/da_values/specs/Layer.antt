@@ -1,13 +1,13 @@
 -- The outermost layer of a value, and what a definition by recursion over values gives at it.
 use Rattle.std.specs.Prelude.{◌≡◌, ℕ, zero, suc, ◌+◌, ◌<◌, List, [], ◌∷◌, slice_index_or, length}
-use Rattle.std.proofs.Common.{◌∙◌, ap, arith}
+use Rattle.std.proofs.Common.{◌∙◌, ap, sym, arith}
 use Rattle.da_values.specs.declared.val.Val.{Val, out-Val}
 use Rattle.da_values.specs.declared.val.Val.TheVariants.{outs-Tuple, outs-Set, outs-Int, outs-Bool, outs-Text, outs-Proc}
 use Rattle.da_values.specs.declared.val.Val.TheOpen.{Val-F, Int, Bool, Text, Proc, Tuple, Set}
 use Rattle.da_values.specs.declared.val.Val.TheFolds.{fold-Val, fold_out-Val, map-Val}
 use Rattle.da_values.specs.declared.value.Value.{Value}
 use Rattle.da_values.specs.declared.value.Value.TheVariants as kept
-use Rattle.da_values.specs.Value.{val_of, vals, weight, weight_step, weights}
+use Rattle.da_values.specs.Value.{kept_as, val_of, value_of, vals, weight, weight_step, weights}
 
 abbrev pub layer : Value → Val-F Val
 layer (kept.Int number) = Int number
@@ -24,6 +24,18 @@ out-val_of (kept.Text text) = outs-Text text
 out-val_of (kept.Proc process) = outs-Proc process
 out-val_of (kept.Tuple parts) = outs-Tuple parts
 out-val_of (kept.Set elements) = outs-Set elements
+
+pub value_of-val_of : (v : Value) → value_of (val_of v) ≡ v
+value_of-val_of (kept.Int number) = ap kept_as (outs-Int number)
+value_of-val_of (kept.Bool truth) = ap kept_as (outs-Bool truth)
+value_of-val_of (kept.Text text) = ap kept_as (outs-Text text)
+value_of-val_of (kept.Proc process) = ap kept_as (outs-Proc process)
+value_of-val_of (kept.Tuple parts) = ap kept_as (outs-Tuple parts)
+value_of-val_of (kept.Set elements) = ap kept_as (outs-Set elements)
+
+-- a kept value that is a value is the one that the value gives
+pub value_of_same : (v : Value) (x : Val) → val_of v ≡ x → value_of x ≡ v
+value_of_same v x same = ap value_of (sym same) ∙ value_of-val_of v
 
 -- a definition by recursion at a value is its step at the value's layer
 pub fold-val_of : (A : Type 0) (step : Val-F A → A) (v : Value) → fold-Val A step (val_of v) ≡ step (map-Val Val A (fold-Val A step) (layer v))

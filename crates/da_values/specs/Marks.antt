@@ -1,5 +1,5 @@
 -- What the grammar sees of the tokens of a text.
-use Rattle.std.specs.Prelude.{ℕ, List, map, take, drop, Option, Some, None}
+use Rattle.std.specs.Prelude.{ℕ, List, map, take, drop, Option, option_map, unwrap_or}
 use Rattle.da_values.specs.declared.token.Token.{Token}
 use Rattle.da_values.specs.declared.token.TokenKind.{TokenKind}
 use Rattle.da_values.specs.declared.token.TokenKind.TheVariants as kind
@@ -13,10 +13,9 @@ pub record Tok : Type 0 where
   pub text : List ℕ
   pub line : ℕ
 
--- the mark of an entry that was found
-abbrev pub mark_or : Mark → Option Entry → Mark
-mark_or other (Some entry) = entry.1
-mark_or other None = other
+-- the mark of an entry, if one was found
+abbrev pub mark_found : Option Entry → Option Mark
+mark_found = option_map (λ entry. entry.1)
 
 -- the mark of a token of this kind with this text (no word or symbol of a text is in neither table)
 abbrev pub mark_of : TokenKind → List ℕ → Mark
@@ -24,8 +23,8 @@ mark_of kind.Number text = m.Number
 mark_of kind.Quoted text = m.Quoted
 mark_of kind.Name text = m.Name
 mark_of kind.Wild text = m.Wild
-mark_of kind.Word text = mark_or m.Name (spelled words text)
-mark_of kind.Symbol text = mark_or m.Wild (spelled symbols text)
+mark_of kind.Word text = unwrap_or (mark_found (spelled words text)) m.Name
+mark_of kind.Symbol text = unwrap_or (mark_found (spelled symbols text)) m.Wild
 mark_of kind.Newline text = m.Newline
 mark_of kind.Indent text = m.Indent
 mark_of kind.Dedent text = m.Dedent

@@ -39,3 +39,7 @@ cmp_step x y = layer_cmp x (out-Val y)
 
 abbrev pub val_cmp : Val → Val → Ordering
 val_cmp = fold-Val (Val → Ordering) cmp_step
+
+-- rows: value by value, a proper prefix first
+abbrev pub row_cmp : List Val → List Val → Ordering
+row_cmp = slice_cmp val_cmp

@@ -1,6 +1,6 @@
 -- What contracts see of a value that code keeps, and how much it weighs.
 use Rattle.std.specs.Prelude.{ℕ, ◌+◌, List, [], ◌∷◌, map}
-use Rattle.da_values.specs.declared.val.Val.{Val}
+use Rattle.da_values.specs.declared.val.Val.{Val, out-Val}
 use Rattle.da_values.specs.declared.val.Val.TheVariants as val
 use Rattle.da_values.specs.declared.val.Val.TheOpen.{Val-F, Int, Bool, Text, Proc, Tuple, Set}
 use Rattle.da_values.specs.declared.val.Val.TheFolds.{fold-Val}
@@ -15,6 +15,18 @@ val_of (kept.Text text) = val.Text text
 val_of (kept.Proc process) = val.Proc process
 val_of (kept.Tuple parts) = val.Tuple parts
 val_of (kept.Set elements) = val.Set elements
+
+abbrev pub kept_as : Val-F Val → Value
+kept_as (Int number) = kept.Int number
+kept_as (Bool truth) = kept.Bool truth
+kept_as (Text text) = kept.Text text
+kept_as (Proc process) = kept.Proc process
+kept_as (Tuple parts) = kept.Tuple parts
+kept_as (Set elements) = kept.Set elements
+
+-- the kept value that is a value
+abbrev pub value_of : Val → Value
+value_of v = kept_as (out-Val v)
 
 abbrev pub vals : List Value → List Val
 vals values = map val_of values

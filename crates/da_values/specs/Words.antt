@@ -1,5 +1,5 @@
 -- The reserved words and the symbols, with their marks.
-use Rattle.std.specs.Prelude.{ℕ, Bool, List, [], ◌∷◌, Option, find, option_map, codes, ◌==◌}
+use Rattle.std.specs.Prelude.{ℕ, List, [], ◌∷◌, Option, find, codes, ◌==◌}
 use Rattle.std.specs.Str.{bytes_eq}
 use Rattle.std.specs.List.{starts_with}
 use Rattle.da_values.specs.declared.token.Mark.{Mark}
@@ -41,6 +41,10 @@ symbols =
 abbrev pub spelled : List Entry → List ℕ → Option Entry
 spelled table text = find (λ entry. bytes_eq entry.0 text) table
 
+-- the first entry that a text begins with
+abbrev pub at_front : List Entry → List ℕ → Option Entry
+at_front table text = find (λ entry. starts_with ◌==◌ text entry.0) table
+
 -- the entry of the longest symbol at the front of a text
 abbrev pub front_symbol : List ℕ → Option Entry
-front_symbol text = find (λ entry. starts_with ◌==◌ text entry.0) symbols
+front_symbol = at_front symbols

@@ -1,7 +1,7 @@
 //! Lists that contracts see as their elements.
 ghost use Rattle.std.specs.Cmp.Lexicographic.{pointwise, lists_equiv, lists_per};
 ghost use Rattle.std.specs.Option.{option_copied};
-ghost use Rattle.std.specs.Prelude.{◌≡◌, [], ◌∷◌, ◌++◌, ◌<◌, length, slice_get, slice_set, take, MatchOption, OnOk, OnErr, OnSome};
+ghost use Rattle.std.specs.Prelude.{◌≡◌, [], ◌∷◌, ◌++◌, ◌<◌, ◌≤◌, length, insert, remove, slice_get, slice_set, take, MatchOption, OnOk, OnErr, OnSome};
 
 use std::alloc::Global;
 use std::marker::Model;
@@ -64,6 +64,15 @@ impl<T> List<T> {
         self.items.as_slice()
     }
 
+    /// Takes the element at a place out, and moves those after it up.
+    pub fn remove(&mut self, at: usize) -> T
+        requires { at < length self.old }
+        ensures value { slice_get self.old at ≡ Some result }
+        ensures rest { self.new ≡ remove self.old at }
+    {
+        self.items.remove(at)
+    }
+
     /// Takes the last element out, or answers `None` exactly where the list is empty.
     pub fn pop(&mut self) -> Option<T>
         ensures { MatchOption result ((self.old ≡ []) × (self.new ≡ [])) (λ last. self.old ≡ self.new ++ last ∷ []) }
@@ -79,6 +88,19 @@ impl<T: Drop> List<T> {
         ensures err { OnErr result (self.new ≡ self.old) }
     {
         match self.items.push(item) {
+            Ok(()) => Ok(()),
+            Err(_) => Err(NoMemory),
+        }
+    }
+
+    /// Puts an element at a place, and moves those from there on down. Where memory is refused the element is dropped,
+    /// and the list is as it was.
+    pub fn insert(&mut self, at: usize, item: T) -> Result<(), NoMemory>
+        requires { at ≤ length self.old }
+        ensures ok { OnOk result (self.new ≡ insert self.old at item) }
+        ensures err { OnErr result (self.new ≡ self.old) }
+    {
+        match self.items.insert(at, item) {
             Ok(()) => Ok(()),
             Err(_) => Err(NoMemory),
         }

@@ -49,6 +49,21 @@ pub enum LexKind {
     Unclosed,
 }
 
+/// What stands at the front of a text. A length counts all bytes of it.
+#[derive(Clone, Copy, Debug, PartialEq, Eq)]
+pub enum Piece {
+    /// A space.
+    Space,
+    /// The end of a line.
+    LineEnd,
+    /// Bytes that belong to no token: a comment, or a carriage return before the end of a line.
+    Passed(usize),
+    /// A token that has bytes.
+    Token(TokenKind, usize),
+    /// None of these.
+    Fault(LexKind),
+}
+
 /// What the grammar sees of a token: its kind, each reserved word and each symbol apart.
 #[derive(Clone, Copy, Debug, PartialEq, Eq)]
 pub enum Mark {

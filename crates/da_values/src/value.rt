@@ -37,7 +37,7 @@ pub struct Row {
 #[cycle(value)]
 #[derive(Debug, Drop)]
 pub struct SetVal {
-    elements: List<Value>,
+    pub(crate) elements: List<Value>,
 }
 
 impl Model for Row {
@@ -66,8 +66,8 @@ impl Model for SetVal {
     ghost use Rattle.da_values.specs.Order.{val_cmp};
     ghost use Rattle.da_values.specs.contracts.val.Val as val;
     ghost use Rattle.da_values.specs.declared.val.Val.{Val};
+    ghost use Rattle.da_values.specs.Sets.{Ascends};
     ghost use Rattle.std.specs.Coded.{coded_list};
-    ghost use Rattle.std.specs.List.Sorted.{IsStrictlySortedBy};
     ghost use Rattle.std.specs.Prelude.{List};
 
     ghost Value = { List Val };
@@ -78,7 +78,7 @@ impl Model for SetVal {
 
     ghost view = { λ set. vals set.elements };
 
-    ghost invariant = { λ set. IsStrictlySortedBy val_cmp (vals set.elements) };
+    ghost invariant = { λ set. Ascends val_cmp (vals set.elements) };
 
     ghost size = { weights };
 
@@ -136,10 +136,10 @@ impl Row {
 
 impl SetVal {
     ghost use Rattle.da_values.specs.Order.{val_cmp};
-    ghost use Rattle.std.specs.List.Sorted.{IsStrictlySortedBy};
+    ghost use Rattle.da_values.specs.Sets.{Ascends};
 
     pub(crate) fn from_list(elements: List<Value>) -> SetVal
-        requires { IsStrictlySortedBy val_cmp (vals elements) }
+        requires { Ascends val_cmp (vals elements) }
         ensures { result ≡ vals elements }
     {
         SetVal { elements }
@@ -161,10 +161,17 @@ impl SetVal {
         self.elements.len()
     }
 
+    /// The element at a place, counted from 0 and ascending, or `None` exactly where there is none.
+    pub fn get(&self, at: usize) -> Option<&Value>
+        ensures { option_map val_of (option_copied result) ≡ slice_get self.now at }
+    {
+        self.elements.get(at)
+    }
+
     /// The elements, ascending.
     pub fn as_slice(&self) -> &[Value]
         ensures items { vals result.now ≡ self.now }
-        ensures ascends { IsStrictlySortedBy val_cmp self.now }
+        ensures ascends { Ascends val_cmp self.now }
     {
         self.elements.as_slice()
     }

@@ -21,6 +21,6 @@ put_value-returns-in_ok-put_values-in-Set-clause-ok t c = search (rules, append_
 pub put_values-loop-place-preserved : goal.put_values-loop-place-preserved
 put_values-loop-place-preserved t c =
     elim c.if-place-gt0.branch [
-      put_values-then-place-gt0+in_ok-append w ↦ wrote_next _ _ _ _ _ _ _ c.index-values-place.is c.loop-place-test.true w.if-place-gt0.true c.loop-place.invariant (w.out-is ∙ w.in_ok-append.ensures.ok) c.in_ok-put_value.ensures.ok
+      | put_values-then-place-gt0+in_ok-append w ↦ wrote_next _ _ _ _ _ _ _ c.index-values-place.is c.loop-place-test.true w.if-place-gt0.true c.loop-place.invariant (w.out-is ∙ w.in_ok-append.ensures.ok) c.in_ok-put_value.ensures.ok
       | put_values-else-place-gt0 w ↦ wrote_first _ _ _ _ _ _ _ c.index-values-place.is c.loop-place-test.true (omega (arith, w.if-place-gt0.false)) c.loop-place.invariant w.out-is c.in_ok-put_value.ensures.ok
     ]

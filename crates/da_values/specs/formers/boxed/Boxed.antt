@@ -55,9 +55,9 @@ module _ (Old New : RattleType) (change : Old.Denot → New.Denot) where
   pub the_places : Alike Old New change → Alike (contract.the_row Old) (contract.the_row New) changed
   the_places alike =
       view_places inside this view (λ X Y kept u. refl) (λ X u. refl) Old.Denot New.Denot change
-          (contract.the_row Old).coded (contract.the_row New).coded (invariant Old.Denot) (invariant New.Denot) (λ u p q. refl) (λ u p q. refl)
-          (λ u holds. tt) (λ u holds. tt) (over (fields.the_row Old)) (over (fields.the_row New))
-          (struct_places (fields.the_type Old) (fields.the_type New) ((λ b. with_value b (change b.value)), tt) _ (λ d. refl) refl (laid _ _ _ (in_box alike), tt))
+      (contract.the_row Old).coded (contract.the_row New).coded (invariant Old.Denot) (invariant New.Denot) (λ u p q. refl) (λ u p q. refl)
+      (λ u holds. tt) (λ u holds. tt) (over (fields.the_row Old)) (over (fields.the_row New))
+      (struct_places (fields.the_type Old) (fields.the_type New) ((λ b. with_value b (change b.value)), tt) _ (λ d. refl) refl (laid _ _ _ (in_box alike), tt))
 
   pub the_codes_placed : Recodes Old New change → Recodes (contract.the_row Old) (contract.the_row New) changed
   the_codes_placed recodes value = recodes value

@@ -46,9 +46,9 @@ module _ (Old New : RattleType) (change : Old.Denot → New.Denot) where
   the_places alike =
       let in_vec = vec.the_places global.the_row ghosts Old New change alike in
       view_places inside (list this) view (λ X Y kept u. refl) (λ X u. refl) Old.Denot New.Denot change
-          (contract.the_row Old).coded (contract.the_row New).coded (invariant Old.Denot) (invariant New.Denot) (λ u p q. refl) (λ u p q. refl)
-          (λ u holds. tt) (λ u holds. tt) (over (fields.the_row Old)) (over (fields.the_row New))
-          (struct_places (fields.the_type Old) (fields.the_type New) (vec.mapped change, tt) _ (λ d. refl) refl (laid _ _ _ in_vec, tt))
+      (contract.the_row Old).coded (contract.the_row New).coded (invariant Old.Denot) (invariant New.Denot) (λ u p q. refl) (λ u p q. refl)
+      (λ u holds. tt) (λ u holds. tt) (over (fields.the_row Old)) (over (fields.the_row New))
+      (struct_places (fields.the_type Old) (fields.the_type New) (vec.mapped change, tt) _ (λ d. refl) refl (laid _ _ _ in_vec, tt))
 
   pub the_codes_placed : Recodes Old New change → Recodes (contract.the_row Old) (contract.the_row New) changed
   the_codes_placed recodes values = sym (code_map Old.coded.code New.coded.code change (λ x. sym (recodes x)) values)

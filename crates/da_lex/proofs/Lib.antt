@@ -1,0 +1,4 @@
+pub mod AnswerLemmas
+pub mod Facts
+pub mod LevelLemmas
+pub mod ScanFits

@@ -1,0 +1,4 @@
+pub mod Place
+pub mod SourceRun
+pub mod State
+pub mod SystemStep

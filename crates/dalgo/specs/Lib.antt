@@ -1,0 +1,7 @@
+pub mod ExitCode
+pub mod Lines
+pub mod Memory
+pub mod Outside
+pub mod Replies
+pub mod Schedule
+pub mod Top

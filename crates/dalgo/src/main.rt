@@ -1,0 +1,39 @@
+//! Replays a schedule of a DistAlgo program, and writes what its processes do.
+#![tactic(auto)]
+
+mod lines;
+mod memory;
+mod outside;
+mod real;
+#[cfg(test)]
+mod rows;
+mod run;
+mod schedule;
+mod status;
+mod top;
+mod transfer;
+
+use real::{RealFiles, RealSink};
+use status::Status;
+use std::env;
+use std::process::ExitCode;
+use top::dalgo;
+
+/// The status where the system does not give the words.
+const NO_WORDS: u8 = 20;
+
+fn main(rt: HostRuntime) -> ExitCode {
+    let Ok(args) = env::args(&rt) else {
+        return ExitCode::from(NO_WORDS);
+    };
+    let mut words = Vec::new(rt.alloc());
+    for word in args.skip(1) {
+        if words.push(word).is_err() {
+            return ExitCode::from(Status::Memory.code());
+        }
+    }
+    let mut files = RealFiles::new(&rt);
+    let mut out = RealSink::new(&rt);
+    let status = dalgo(rt.alloc(), words.as_slice(), &mut files, &mut out);
+    ExitCode::from(status.code())
+}

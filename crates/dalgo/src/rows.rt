@@ -1,0 +1,265 @@
+//! Worked rows: what the program answers to texts in memory.
+use crate::memory::{MemFiles, MemSink};
+use crate::outside::Sink;
+use crate::status::{RefusedKind, Status};
+use crate::top::dalgo;
+use da_values::{Buf, List, NoMemory, copy_bytes};
+use std::alloc::Global;
+use std::test::Fail;
+
+const HEADING: &[u8] = b"class P extends process:\n    def run():\n";
+
+const ENDING: &[u8] = b"def main():\n    a = new(P)\n";
+
+const ONE: &[u8] =
+    b"class P extends process:\n    def run():\n        output(7)\ndef main():\n    a = new(P)\n";
+
+const THREE: &[u8] =
+    b"class P extends process:\n    def run():\n        output(7)\n        output(7)\n        output(7)\ndef main():\n    a = new(P)\n";
+
+const RAN: &[u8] = b"took 1 0\nout 1 7\nend 1\n";
+
+const NOT_YET: Status = Status::Refused {
+    kind: RefusedKind::NotYet,
+    line: 0,
+};
+
+// Some copies of the bytes.
+fn repeated(alloc: Global, bytes: &[u8], count: u32) -> Result<Buf, NoMemory> {
+    let mut text = List::new(alloc);
+    for _ in 0..count {
+        text.append(bytes)?;
+    }
+    Ok(text)
+}
+
+// A program with so many lines that print 0.
+fn long_program(alloc: Global, count: u32) -> Result<Buf, NoMemory> {
+    let mut text = List::new(alloc);
+    text.append(HEADING)?;
+    text.append(repeated(alloc, b"        output(0)\n", count)?.as_slice())?;
+    text.append(ENDING)?;
+    Ok(text)
+}
+
+// The words of a call.
+fn words_of(alloc: Global, words: &[&str]) -> Result<Vec<String>, Fail> {
+    let mut list = Vec::new(alloc);
+    for word in words {
+        list.push(String::from_str(alloc, word)?)?;
+    }
+    Ok(list)
+}
+
+// Files `p` and `s` of these bytes.
+fn files_of(
+    alloc: Global,
+    program: &[u8],
+    schedule: &[u8],
+    script: List<u64>,
+) -> Result<MemFiles, NoMemory> {
+    let mut files = MemFiles::new(alloc, script);
+    files.add(copy_bytes(alloc, b"p")?, copy_bytes(alloc, program)?)?;
+    files.add(copy_bytes(alloc, b"s")?, copy_bytes(alloc, schedule)?)?;
+    Ok(files)
+}
+
+// A list of one call, or of none.
+fn script_of(alloc: Global, call: Option<u64>) -> Result<List<u64>, NoMemory> {
+    let mut script = List::new(alloc);
+    if let Some(call) = call {
+        script.push(call)?;
+    }
+    Ok(script)
+}
+
+// Programs, schedules, and what comes of them.
+#[test]
+fn rows(rt: HostRuntime) -> Result<(), Fail> {
+    let rows: [(&[u8], &[u8], Status, &[u8]); 16] = [
+        (ONE, b"move 1\n", Status::Done, RAN),
+        (ONE, b"move 1", Status::Done, RAN),
+        (ONE, b"", Status::Done, b""),
+        (
+            ONE,
+            b"move 1\nmove 1\n",
+            Status::Forbidden { event: 2 },
+            b"took 1 0\nout 1 7\nend 1\nstop 2\n",
+        ),
+        (
+            THREE,
+            b"move 1\n",
+            Status::Done,
+            b"took 1 0\nout 1 7\nout 1 7\nout 1 7\nend 1\n",
+        ),
+        (b"", b"", NOT_YET, b"refused notyet 0\n"),
+        (
+            ONE,
+            b"move 1\nmove 01\n",
+            Status::BadSchedule { line: 2 },
+            b"badline 2\n",
+        ),
+        (
+            ONE,
+            b"move 1\nmove 1\nmove 1 ",
+            Status::BadSchedule { line: 3 },
+            b"badline 3\n",
+        ),
+        (ONE, b"\n", Status::BadSchedule { line: 1 }, b"badline 1\n"),
+        (
+            ONE,
+            b"move 1\n\nmove 1\n",
+            Status::BadSchedule { line: 2 },
+            b"badline 2\n",
+        ),
+        (
+            ONE,
+            b"move 2\n",
+            Status::BadSchedule { line: 1 },
+            b"badline 1\n",
+        ),
+        (
+            b"class P extends process:\n    def run():\n        output(9223372036854775807)\n        output(0)\ndef main():\n    a = new(P)\n",
+            b"move 1\n",
+            Status::Done,
+            b"took 1 0\nout 1 9223372036854775807\nout 1 0\nend 1\n",
+        ),
+        (
+            b"class P extends process:\n    def run():\n        output(9223372036854775808)\ndef main():\n    a = new(P)\n",
+            b"move 1\n",
+            NOT_YET,
+            b"refused notyet 0\n",
+        ),
+        (
+            b"class P extends process:\n    def run():\n        output(007)\ndef main():\n    a = new(P)\n",
+            b"move 1\n",
+            NOT_YET,
+            b"refused notyet 0\n",
+        ),
+        (
+            b"class P extends process:\n    def run():\ndef main():\n    a = new(P)\n",
+            b"move 1\n",
+            NOT_YET,
+            b"refused notyet 0\n",
+        ),
+        (
+            b"class P extends process:\n    def run():\n        output(7)\ndef main():\n    a = new(P)",
+            b"move 1\n",
+            NOT_YET,
+            b"refused notyet 0\n",
+        ),
+    ];
+    let words = words_of(rt.alloc(), &["replay", "p", "s"])?;
+    for (program, schedule, status, text) in rows {
+        let mut files = files_of(rt.alloc(), program, schedule, List::new(rt.alloc()))?;
+        let mut out = MemSink::new(rt.alloc(), 16, List::new(rt.alloc()));
+        assert_eq!(rt;
+            dalgo(rt.alloc(), words.as_slice(), &mut files, &mut out),
+            status
+        );
+        assert!(rt; out.bytes() == text);
+    }
+    Ok(())
+}
+
+// Words that the program does not know, names that are not there, and a refused program whose schedule is not read.
+#[test]
+fn words(rt: HostRuntime) -> Result<(), Fail> {
+    let rows: [(&[&str], &[u8], Status, &[u8]); 7] = [
+        (&["replay", "x"], ONE, Status::Words, b"words\n"),
+        (&[], ONE, Status::Words, b"words\n"),
+        (&["Replay", "p", "s"], ONE, Status::Words, b"words\n"),
+        (&["replay", "p", "s", "s"], ONE, Status::Words, b"words\n"),
+        (&["replay", "x", "s"], ONE, Status::ReadFault, b""),
+        (&["replay", "p", "x"], ONE, Status::ReadFault, b""),
+        (&["replay", "p", "x"], b"", NOT_YET, b"refused notyet 0\n"),
+    ];
+    for (list, program, status, text) in rows {
+        let words = words_of(rt.alloc(), list)?;
+        let mut files = files_of(rt.alloc(), program, b"move 1\n", List::new(rt.alloc()))?;
+        let mut out = MemSink::new(rt.alloc(), 16, List::new(rt.alloc()));
+        assert_eq!(rt;
+            dalgo(rt.alloc(), words.as_slice(), &mut files, &mut out),
+            status
+        );
+        assert!(rt; out.bytes() == text);
+    }
+    Ok(())
+}
+
+// Both limits on size, at the limit and one past it; and the greatest number of lines that print.
+#[test]
+fn limits(rt: HostRuntime) -> Result<(), Fail> {
+    let words = words_of(rt.alloc(), &["replay", "p", "s"])?;
+    let size = Status::Refused {
+        kind: RefusedKind::Size,
+        line: 0,
+    };
+    let bad = Status::BadSchedule { line: 0 };
+    let at_limit = repeated(rt.alloc(), b"x", 1_048_576)?;
+    let past_limit = repeated(rt.alloc(), b"x", 1_048_577)?;
+    let most = long_program(rt.alloc(), 16_384)?;
+    let too_many = long_program(rt.alloc(), 16_385)?;
+    // So many moves are one byte less than the limit.
+    let mut schedule = repeated(rt.alloc(), b"move 1\n", 2_396_745)?;
+    schedule.append(b"x")?;
+    let mut long_schedule = repeated(rt.alloc(), b"move 1\n", 2_396_745)?;
+    long_schedule.append(b"xx")?;
+    let rows: [(&[u8], &[u8], Status, usize); 6] = [
+        (at_limit.as_slice(), b"", NOT_YET, 17),
+        (past_limit.as_slice(), b"", size, 15),
+        (
+            most.as_slice(),
+            b"move 1\n",
+            Status::Done,
+            9 + 16_384 * 8 + 6,
+        ),
+        (too_many.as_slice(), b"move 1\n", NOT_YET, 17),
+        (
+            ONE,
+            schedule.as_slice(),
+            Status::BadSchedule { line: 2_396_746 },
+            16,
+        ),
+        (ONE, long_schedule.as_slice(), bad, 10),
+    ];
+    for (program, schedule, status, length) in rows {
+        let mut files = files_of(rt.alloc(), program, schedule, List::new(rt.alloc()))?;
+        let mut out = MemSink::new(rt.alloc(), 4096, List::new(rt.alloc()));
+        assert_eq!(rt;
+            dalgo(rt.alloc(), words.as_slice(), &mut files, &mut out),
+            status
+        );
+        assert_eq!(rt; out.bytes().len(), length);
+    }
+    Ok(())
+}
+
+// Sources and sinks that fail at one call.
+#[test]
+fn faults(rt: HostRuntime) -> Result<(), Fail> {
+    let words = words_of(rt.alloc(), &["replay", "p", "s"])?;
+    let rows: [(Option<u64>, Option<u64>, Status, &[u8]); 8] = [
+        (None, None, Status::Done, RAN),
+        (None, Some(1), Status::WriteFault, b""),
+        (None, Some(3), Status::WriteFault, b"took 1 0"),
+        (None, Some(7), Status::Done, RAN),
+        (Some(1), None, Status::ReadFault, b""),
+        (Some(2), None, Status::ReadFault, b""),
+        (Some(3), None, Status::ReadFault, b""),
+        (Some(5), None, Status::Done, RAN),
+    ];
+    for (read, write, status, text) in rows {
+        let script = script_of(rt.alloc(), read)?;
+        let mut files = files_of(rt.alloc(), ONE, b"move 1\n", script)?;
+        let mut out = MemSink::new(rt.alloc(), 4, script_of(rt.alloc(), write)?);
+        assert_eq!(rt;
+            dalgo(rt.alloc(), words.as_slice(), &mut files, &mut out),
+            status
+        );
+        assert!(rt; out.bytes() == text);
+    }
+    let mut closed = MemSink::new(rt.alloc(), 0, List::new(rt.alloc()));
+    assert!(rt; closed.write(b"x").is_err());
+    Ok(())
+}
