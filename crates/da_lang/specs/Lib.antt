@@ -1,7 +1,9 @@
 pub mod ExprGrammar
+pub mod Grammar
 pub mod Literals
 pub mod Spelling
 pub mod Statements
 pub mod Steps
+pub mod StmtGrammar
 pub mod TypeGrammar
 pub mod World

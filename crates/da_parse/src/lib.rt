@@ -5,10 +5,19 @@ mod atoms;
 mod cursor;
 mod first;
 mod literals;
+mod members;
 mod number;
 mod operators;
+mod parse;
 mod patterns;
 mod place;
+mod programs;
 mod queries;
+mod simple;
+mod stmts;
+#[cfg(test)]
+mod tests;
+mod types;
 
 pub use first::{FirstFault, parse_first};
+pub use parse::{ParseFault, parse};
