@@ -4,8 +4,8 @@ use Rattle.da_values.specs.Marks.{Tok}
 use Rattle.da_lang.specs.declared.tree.Tree.{Tree}
 use Rattle.da_parse.specs.declared.cursor.Stop.{Stop}
 use Rattle.da_parse.specs.declared.cursor.Stop.TheVariants as stop
-use Rattle.da_parse.specs.declared.parse.ParseFault.{ParseFault}
-use Rattle.da_parse.specs.declared.parse.ParseFault.TheVariants as fault
+use Rattle.da_parse.specs.declared.whole.ParseFault.{ParseFault}
+use Rattle.da_parse.specs.declared.whole.ParseFault.TheVariants as fault
 use Rattle.da_parse.specs.Reader.{Outcome}
 use Rattle.da_parse.specs.Programs.{program}
 

@@ -8,7 +8,6 @@ mod literals;
 mod members;
 mod number;
 mod operators;
-mod parse;
 mod patterns;
 mod place;
 mod programs;
@@ -18,6 +17,7 @@ mod stmts;
 #[cfg(test)]
 mod tests;
 mod types;
+mod whole;
 
 pub use first::{FirstFault, parse_first};
-pub use parse::{ParseFault, parse};
+pub use whole::{ParseFault, parse};

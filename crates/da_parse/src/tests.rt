@@ -48,7 +48,11 @@ const PAIRS: [(&[u8], &[u8], bool); 22] = [
     (b"x = - -7", b"x = 0 - -7", true),
     (b"x = -0", b"x = 0", true),
     // words and signs of one meaning, and of others
-    (b"x = some y in s | y == 1", b"x = some y in s has y == 1", true),
+    (
+        b"x = some y in s | y == 1",
+        b"x = some y in s has y == 1",
+        true,
+    ),
     (b"x = some y in s", b"x = each y in s", false),
     (b"x = a < b", b"x = b > a", false),
     (b"await a", b"await (a)", true),
@@ -61,7 +65,10 @@ fn trees_keep_no_grouping(rt: HostRuntime) {
         let (Ok(first), Ok(second)) = (program(alloc, left), program(alloc, right)) else {
             continue;
         };
-        let is_same = match (answer(alloc, first.as_slice()), answer(alloc, second.as_slice())) {
+        let is_same = match (
+            answer(alloc, first.as_slice()),
+            answer(alloc, second.as_slice()),
+        ) {
             (Ok(one), Ok(other)) => one == other,
             _ => false,
         };
