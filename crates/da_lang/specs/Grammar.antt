@@ -1,5 +1,6 @@
 -- The grammar of programs, and which tokens spell a tree.
 use Rattle.std.specs.Prelude.{ℕ, suc, ◌<◌, List, [], ◌∷◌, Option, Some, None}
+use Rattle.std.specs.List.{All}
 use Rattle.da_values.specs.declared.token.Mark.TheVariants as m
 use Rattle.da_values.specs.Marks.{Tok}
 use Rattle.da_lang.specs.declared.tree.ClassTree.{ClassTree}
@@ -16,7 +17,7 @@ use Rattle.da_lang.specs.declared.tree.Tree.{Tree}
 use Rattle.da_lang.specs.declared.ty.ChannelKind.{ChannelKind}
 use Rattle.da_lang.specs.declared.ty.ChannelKind.TheVariants as kind
 use Rattle.da_lang.specs.declared.ty.Ty.{Ty}
-use Rattle.da_lang.specs.Spelling.{Spelling, Room, line, At, Opens, Named, Number, Separated, Closed, Behind, Ended}
+use Rattle.da_lang.specs.Spelling.{Spelling, Room, IsSpelled, line, At, Opens, Named, Number, Separated, Closed, Behind, Ended}
 use Rattle.da_lang.specs.TypeGrammar.{TypeIn}
 use Rattle.da_lang.specs.ExprGrammar.{Deeper, IsPattern, deeper}
 use Rattle.da_lang.specs.StmtGrammar.{IsBlock, BodyIn}
@@ -98,10 +99,10 @@ module _ (room : ℕ → Room) (f : ℕ) where
   pub data IsProgram : Tree → List Tok → Type 0 where
     program : {k : ChannelKind} {xs : List MessageDecl} {cs : List ClassTree} {ls : List MainLine} {t r s : List Tok} → IsKind k t r → IsDecls xs cs r s → IsMain ls s [] → IsProgram (record { kind = k; messages = xs; classes = cs; main = ls }) t
 
--- the tokens spell the tree
+-- each token is spelled as its mark says, and together they spell the tree
 unfoldable pub Spells : Tree → List Tok → Type 0
-Spells tree tokens = (f : ℕ) × IsProgram (λ d t. Unit {0}) f tree tokens
+Spells tree tokens = All IsSpelled tokens × ((f : ℕ) × IsProgram (λ d t. Unit {0}) f tree tokens)
 
--- the tokens spell the tree, and none of them opens more than so many things at once
+-- the same, and none of them opens more than so many things at once
 unfoldable pub SpellsWithin : ℕ → Tree → List Tok → Type 0
-SpellsWithin most tree tokens = IsProgram (λ d t. d < most) (suc most) tree tokens
+SpellsWithin most tree tokens = All IsSpelled tokens × IsProgram (λ d t. d < most) (suc most) tree tokens

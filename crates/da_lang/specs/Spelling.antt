@@ -1,9 +1,13 @@
 -- The pieces of the grammar's rules. Each relation says that the tokens of the first list, up to where the second list
 -- begins, spell something.
-use Rattle.std.specs.Prelude.{◌≡◌, ◌≢◌, ℕ, List, [], ◌∷◌, Option, Some, None}
+use Rattle.std.specs.Prelude.{◌≡◌, ◌≢◌, ℕ, List, [], ◌∷◌, length, Option, Some, None, MatchBool}
 use Rattle.da_values.specs.declared.token.Mark.{Mark}
 use Rattle.da_values.specs.declared.token.Mark.TheVariants as m
-use Rattle.da_values.specs.Marks.{Tok}
+use Rattle.da_values.specs.declared.token.Piece.TheVariants as piece_is
+use Rattle.da_values.specs.declared.token.TokenKind.{TokenKind}
+use Rattle.da_values.specs.Marks.{Tok, mark_of}
+use Rattle.da_values.specs.Piece.{front}
+use Rattle.da_values.specs.TokenFacts.{has_bytes}
 use Rattle.da_lang.specs.Literals.{number_of, text_of}
 
 abbrev pub Spelling : Type 0 → Type 1
@@ -17,6 +21,10 @@ Room = List Tok → Type 0
 abbrev pub line : List Tok → ℕ
 line [] = 0
 line (t ∷ ts) = t.line
+
+-- A token has the mark of its bytes, which alone make one piece; or its kind has no bytes.
+pub data IsSpelled : Tok → Type 0 where
+  spelled : {t : Tok} (k : TokenKind) → t.mark ≡ mark_of k t.text → MatchBool (has_bytes k) (front t.text ≡ piece_is.Token k (length t.text)) (t.text ≡ []) → IsSpelled t
 
 -- one token with this mark
 pub data At (k : Mark) : List Tok → List Tok → Type 0 where
