@@ -1,7 +1,0 @@
-use Rattle.std.proofs.Common.{◌≡◌, ◌-◌, []}
-use Rattle.da_parse.specs.Lists.{ended_from}
-use Rattle.da_parse.specs.Members.{member, members}
-use Rattle.da_parse.proofs.members.members.Given as goal
-
-abbrev pub invariant-loop-turn : goal.invariant-loop-turn
-invariant-loop-turn l = members l.depth l.fn.tokens ≡ ended_from (member l.depth) (l._turn-end - l._turn) l.found l.tokens

@@ -1,8 +1,0 @@
-use Rattle.std.proofs.Common.{◌≡◌, ◌-◌, []}
-use Rattle.da_values.specs.declared.token.Mark.TheVariants as m
-use Rattle.da_parse.specs.Lists.{begun, begun_from}
-use Rattle.da_parse.specs.Programs.{argument}
-use Rattle.da_parse.proofs.programs.setup_args.Given as goal
-
-abbrev pub invariant-loop-turn : goal.invariant-loop-turn
-invariant-loop-turn l = begun m.Comma argument [] l.fn.tokens ≡ begun_from m.Comma argument (l._turn-end - l._turn) l.found l.tokens
