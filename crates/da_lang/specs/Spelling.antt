@@ -6,9 +6,9 @@ use Rattle.da_values.specs.declared.token.Mark.TheVariants as m
 use Rattle.da_values.specs.declared.token.Piece.TheVariants as piece_is
 use Rattle.da_values.specs.declared.token.TokenKind.{TokenKind}
 use Rattle.da_values.specs.Marks.{Tok, mark_of}
-use Rattle.da_values.specs.Piece.{front}
+use Rattle.da_values.specs.Piece.{front, number_of}
 use Rattle.da_values.specs.TokenFacts.{has_bytes}
-use Rattle.da_lang.specs.Literals.{number_of, text_of}
+use Rattle.da_lang.specs.Literals.{text_of}
 
 abbrev pub Spelling : Type 0 → Type 1
 Spelling A = A → List Tok → List Tok → Type 0

@@ -1,2 +1,14 @@
+pub mod Exprs
 pub mod First
+pub mod Holds
+pub mod Lists
+pub mod Members
+pub mod Nests
 pub mod Paren
+pub mod Parse
+pub mod Place
+pub mod Programs
+pub mod Reader
+pub mod Stmts
+pub mod Types
+pub mod View

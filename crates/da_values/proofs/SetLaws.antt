@@ -9,7 +9,7 @@ use Rattle.std.specs.declared.cmp.Ordering.TheVariants.{Less, Equal, Greater}
 use Rattle.std.proofs.Common.{sym, ap, ◌∙◌, subst, inl, inr, arith}
 use Rattle.std.proofs.lemmas.Bool.{false≢true, or_left, or_right}
 use Rattle.std.proofs.lemmas.Cmp.{tied_itself}
-use Rattle.da_values.specs.Sets.{Has, IsAlike, Below, Ascends, placed, dropped, set_has, set_insert, set_remove, canon, set_image, set_union, set_intersection, set_difference}
+use Rattle.da_values.specs.Sets.{Has, Distinct, IsAlike, Below, Ascends, placed, dropped, set_has, set_insert, set_remove, canon, set_image, set_union, set_intersection, set_difference}
 use Rattle.da_values.proofs.Members.{of_filter, Has-filter, of_append, Has-append_left, Has-append_right, of_map, Has-map}
 
 -- ascending in std's word, and back
@@ -155,6 +155,19 @@ module _ {A : Type 0} (c : A → A → Ordering) (order : IsTotalOrder c) (same 
   pub length-insert_new : (xs : List A) (x : A) → (Has xs x → ⊥) → length (set_insert c xs x) ≡ length xs + 1
   length-insert_new [] x new = omega arith
   length-insert_new (y ∷ ys) x new = length_placed (c x y) x y refl ys (set_insert c ys x) new (length-insert_new ys x (λ h. new (inr h)))
+
+  -- how many elements there are is the length: any listing of them in which none stands twice is as long
+  pub Distinct-ascends : (xs : List A) → Ascends c xs → Distinct xs
+  Distinct-ascends [] up = tt
+  Distinct-ascends (x ∷ xs) up = (first_is_not_later x xs up, Distinct-ascends xs up.1)
+
+  pub length-canon : (xs : List A) → Distinct xs → length (canon c xs) ≡ length xs
+  length-canon [] once = refl
+  length-canon (x ∷ xs) once =
+      omega (arith, length-insert_new (canon c xs) x (λ h. once.0 (of_canon xs x h)), length-canon xs once.1)
+
+  pub length_of_listing : (xs ys : List A) → Distinct xs → Ascends c ys → IsAlike xs ys → length xs ≡ length ys
+  length_of_listing xs ys once up alike = sym (length-canon xs once) ∙ ap length (canon_alike xs ys alike ∙ canon_itself ys up)
 
   -- remove
   pub of_remove : (ys : List A) (x z : A) → Ascends c ys → Has (set_remove c ys x) z → Has ys z × (z ≡ x → ⊥)

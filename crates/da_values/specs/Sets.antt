@@ -10,6 +10,11 @@ abbrev pub Has : {A : Type 0} → List A → A → Type 0
 Has [] x = ⊥
 Has (y ∷ ys) x = (x ≡ y) ⊎ Has ys x
 
+-- no element stands there twice
+abbrev pub Distinct : {A : Type 0} → List A → Type 0
+Distinct [] = Unit {0}
+Distinct (x ∷ xs) = (Has xs x → ⊥) × Distinct xs
+
 -- what is in the one list is in the other
 abbrev pub IsAlike : {A : Type 0} → List A → List A → Type 0
 IsAlike {A} xs ys = (x : A) → (Has xs x → Has ys x) × (Has ys x → Has xs x)

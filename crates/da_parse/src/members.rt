@@ -1,0 +1,238 @@
+//! The members of a class.
+ghost use Rattle.std.specs.Prelude.{[], ◌∷◌, ◌≡◌, ◌≤◌, ◌<◌};
+ghost use Rattle.da_parse.specs.Lists.{separated};
+ghost use Rattle.da_parse.specs.Members as spec;
+ghost use Rattle.da_parse.specs.Members.{parts_at};
+ghost use Rattle.da_parse.specs.Reader.{Reads, word};
+
+use crate::cursor::{Cursor, Stop};
+use crate::patterns::pattern_at;
+use crate::place::opening;
+use crate::stmts::block_at;
+use crate::types::type_at;
+use da_lang::{Member, Name, Param, PatternTree};
+use da_values::{List, Mark, copy_bytes};
+use std::alloc::Global;
+
+/// A parameter, in parentheses that were opened where `depth` things are open.
+#[tactic(auto, unfolding(crate::specs::Members::param), using(crate::proofs::Depth::type_there))]
+fn param(alloc: Global, tokens: &mut Cursor<'_>, depth: usize) -> Result<Param, Stop>
+    requires { depth < 32 }
+    ensures { Reads (spec.param (parts_at depth) tokens.old) result tokens.new }
+{
+    let name = tokens.word(alloc, Mark::Name)?;
+    tokens.expect(Mark::Colon)?;
+    let ty = type_at(alloc, tokens, depth + 1)?;
+    Ok(Param { name, ty })
+}
+
+/// One or more parameters with commas between.
+#[tactic(auto, using(crate::proofs::Loops::separated_loop))]
+fn some_params(alloc: Global, tokens: &mut Cursor<'_>, depth: usize) -> Result<List<Param>, Stop>
+    requires { depth < 32 }
+    ensures { Reads (separated Mark.Comma (spec.param (parts_at depth)) [] tokens.old) result tokens.new }
+{
+    let mut found = List::new(alloc);
+    for _turn in 0..tokens.left() {
+        found.push(param(alloc, tokens, depth)?)?;
+        if !tokens.eat(Mark::Comma) {
+            return Ok(found);
+        }
+    }
+    Err(tokens.refuse())
+}
+
+/// Parameters behind `(`, up to `)`.
+#[tactic(auto, unfolding(crate::specs::Members::params, crate::specs::Lists::closed))]
+fn params(alloc: Global, tokens: &mut Cursor<'_>, depth: usize) -> Result<List<Param>, Stop>
+    requires { depth < 32 }
+    ensures { Reads (spec.params (parts_at depth) tokens.old) result tokens.new }
+{
+    if tokens.eat(Mark::CloseParen) {
+        return Ok(List::new(alloc));
+    }
+    let all = some_params(alloc, tokens, depth)?;
+    tokens.expect(Mark::CloseParen)?;
+    Ok(all)
+}
+
+/// What stands behind `var`.
+#[tactic(auto, unfolding(crate::specs::Members::variable))]
+fn variable(alloc: Global, tokens: &mut Cursor<'_>, depth: usize, line: u32) -> Result<Member, Stop>
+    requires { depth ≤ 32 }
+    ensures { Reads (spec.variable (parts_at depth) line tokens.old) result tokens.new }
+{
+    let name = tokens.word(alloc, Mark::Name)?;
+    tokens.expect(Mark::Colon)?;
+    let ty = type_at(alloc, tokens, depth)?;
+    tokens.expect(Mark::Newline)?;
+    Ok(Member::Var { name, ty, line })
+}
+
+/// What stands behind `def setup`.
+#[tactic(auto, unfolding(crate::specs::Members::setup))]
+fn setup(alloc: Global, tokens: &mut Cursor<'_>, depth: usize, line: u32) -> Result<Member, Stop>
+    ensures { Reads (spec.setup (parts_at depth) line tokens.old) result tokens.new }
+{
+    opening(tokens, Mark::OpenParen, depth)?;
+    let params = params(alloc, tokens, depth)?;
+    let body = block_at(alloc, tokens, depth)?;
+    Ok(Member::Setup { params, body, line })
+}
+
+/// What stands behind `def run`.
+#[tactic(auto, unfolding(crate::specs::Members::run))]
+fn run(alloc: Global, tokens: &mut Cursor<'_>, depth: usize, line: u32) -> Result<Member, Stop>
+    ensures { Reads (spec.run (parts_at depth) line tokens.old) result tokens.new }
+{
+    opening(tokens, Mark::OpenParen, depth)?;
+    tokens.expect(Mark::CloseParen)?;
+    let body = block_at(alloc, tokens, depth)?;
+    Ok(Member::Run { body, line })
+}
+
+/// What stands behind `def` and a name.
+#[tactic(auto, unfolding(crate::specs::Members::method))]
+fn method(
+    alloc: Global,
+    tokens: &mut Cursor<'_>,
+    depth: usize,
+    name: Name,
+    line: u32,
+) -> Result<Member, Stop>
+    ensures { Reads (spec.method (parts_at depth) name line tokens.old) result tokens.new }
+{
+    opening(tokens, Mark::OpenParen, depth)?;
+    let params = params(alloc, tokens, depth)?;
+    let body = block_at(alloc, tokens, depth)?;
+    Ok(Member::Method {
+        name,
+        params,
+        body,
+        line,
+    })
+}
+
+/// What stands behind `def`.
+#[tactic(auto, unfolding(crate::specs::Members::definition))]
+fn definition(
+    alloc: Global,
+    tokens: &mut Cursor<'_>,
+    depth: usize,
+    line: u32,
+) -> Result<Member, Stop>
+    ensures { Reads (spec.definition (parts_at depth) line tokens.old) result tokens.new }
+{
+    match tokens.mark() {
+        Some(Mark::Setup) => {
+            tokens.take();
+            setup(alloc, tokens, depth, line)
+        }
+        Some(Mark::Run) => {
+            tokens.take();
+            run(alloc, tokens, depth, line)
+        }
+        Some(Mark::Name) => {
+            let name = copy_bytes(alloc, tokens.take())?;
+            method(alloc, tokens, depth, name, line)
+        }
+        _ => Err(tokens.refuse()),
+    }
+}
+
+/// `from` and a pattern, or nothing.
+#[tactic(auto, unfolding(crate::specs::Members::sender))]
+fn sender(alloc: Global, tokens: &mut Cursor<'_>, depth: usize) -> Result<Option<PatternTree>, Stop>
+    requires { depth ≤ 32 }
+    ensures { Reads (spec.sender (parts_at depth) tokens.old) result tokens.new }
+{
+    if !tokens.eat(Mark::From) {
+        return Ok(None);
+    }
+    Ok(Some(pattern_at(alloc, tokens, depth)?))
+}
+
+/// One or more names with commas between.
+#[tactic(auto, using(crate::proofs::Loops::separated_loop))]
+fn names(alloc: Global, tokens: &mut Cursor<'_>) -> Result<List<Name>, Stop>
+    ensures { Reads (separated Mark.Comma (word Mark.Name) [] tokens.old) result tokens.new }
+{
+    let mut found = List::new(alloc);
+    for _turn in 0..tokens.left() {
+        found.push(tokens.word(alloc, Mark::Name)?)?;
+        if !tokens.eat(Mark::Comma) {
+            return Ok(found);
+        }
+    }
+    Err(tokens.refuse())
+}
+
+/// `at` and names, or nothing.
+#[tactic(auto, unfolding(crate::specs::Members::labels))]
+fn labels(alloc: Global, tokens: &mut Cursor<'_>) -> Result<List<Name>, Stop>
+    ensures { Reads (spec.labels tokens.old) result tokens.new }
+{
+    if !tokens.eat(Mark::At) {
+        return Ok(List::new(alloc));
+    }
+    names(alloc, tokens)
+}
+
+/// What stands behind `receive`.
+#[tactic(auto, unfolding(crate::specs::Members::handler))]
+fn handler(alloc: Global, tokens: &mut Cursor<'_>, depth: usize, line: u32) -> Result<Member, Stop>
+    requires { depth ≤ 32 }
+    ensures { Reads (spec.handler (parts_at depth) line tokens.old) result tokens.new }
+{
+    let message = pattern_at(alloc, tokens, depth)?;
+    let from = sender(alloc, tokens, depth)?;
+    let at = labels(alloc, tokens)?;
+    let body = block_at(alloc, tokens, depth)?;
+    Ok(Member::Receive {
+        message,
+        from,
+        at,
+        body,
+        line,
+    })
+}
+
+/// A member of a class.
+#[tactic(auto, unfolding(crate::specs::Members::member))]
+fn member(alloc: Global, tokens: &mut Cursor<'_>, depth: usize) -> Result<Member, Stop>
+    requires { depth ≤ 32 }
+    ensures { Reads (spec.member (parts_at depth) tokens.old) result tokens.new }
+{
+    let line = tokens.line();
+    match tokens.mark() {
+        Some(Mark::Var) => {
+            tokens.take();
+            variable(alloc, tokens, depth, line)
+        }
+        Some(Mark::Def) => {
+            tokens.take();
+            definition(alloc, tokens, depth, line)
+        }
+        Some(Mark::Receive) => {
+            tokens.take();
+            handler(alloc, tokens, depth, line)
+        }
+        _ => Err(tokens.refuse()),
+    }
+}
+
+/// The members of a class and its end.
+#[tactic(auto, unfolding(crate::specs::Members::members), using(crate::proofs::Loops::ended_loop))]
+pub fn members(alloc: Global, tokens: &mut Cursor<'_>, depth: usize) -> Result<List<Member>, Stop>
+    requires { depth ≤ 32 }
+    ensures { Reads (spec.members (parts_at depth) tokens.old) result tokens.new }
+{
+    let mut found = List::new(alloc);
+    for _turn in 0..tokens.left() {
+        found.push(member(alloc, tokens, depth)?)?;
+        if tokens.eat(Mark::Dedent) {
+            return Ok(found);
+        }
+    }
+    Err(tokens.refuse())
+}
