@@ -39,6 +39,11 @@ pub fn string(alloc: Global, bytes: &[u8]) -> Result<Str, NoMemory> {
     }
 }
 
+/// A block of one `pass`.
+pub fn passes(alloc: Global, line: u32) -> Result<List<Stmt>, NoMemory> {
+    one(alloc, Stmt::Pass { line })
+}
+
 /// The tree of a text. A text that the lexer refuses counts as memory refused, which no row expects.
 pub fn tree_of(alloc: Global, text: &[u8]) -> Result<Tree, ParseFault> {
     if text.len() > 1_048_576 {

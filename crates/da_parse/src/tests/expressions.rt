@@ -55,19 +55,44 @@ fn tuples_and_sets(rt: HostRuntime) -> Result<(), Fail> {
     Ok(())
 }
 
+// `FIRST`, `SECOND`
+fn names(alloc: Global, first: &[u8], second: &[u8]) -> Result<List<Expr>, NoMemory> {
+    let mut list = one(alloc, name(alloc, first)?)?;
+    list.push(name(alloc, second)?)?;
+    Ok(list)
+}
+
+// `b`, `not c`
+fn name_and_negation(alloc: Global) -> Result<List<Expr>, NoMemory> {
+    let mut list = one(alloc, name(alloc, b"b")?)?;
+    list.push(Expr::Not(boxed_name(alloc, b"c")?))?;
+    Ok(list)
+}
+
 #[test]
 fn words_between(rt: HostRuntime) -> Result<(), Fail> {
     let alloc = rt.alloc();
-    let not = Expr::Not(boxed_name(alloc, b"c")?);
-    let and = Expr::And(two(alloc, name(alloc, b"b")?, not)?);
-    let or = Expr::Or(two(alloc, name(alloc, b"a")?, and)?);
-    assert!(rt; assigns(alloc, b"x = a or b and not c", or)?);
-    let inner = Expr::And(two(alloc, name(alloc, b"a")?, name(alloc, b"b")?)?);
-    let outer = Expr::And(two(alloc, inner, name(alloc, b"c")?)?);
-    assert!(rt; assigns(alloc, b"x = (a and b) and c", outer)?);
-    let mut flat = two(alloc, name(alloc, b"a")?, name(alloc, b"b")?)?;
+    let mut parts = one(alloc, name(alloc, b"a")?)?;
+    parts.push(Expr::And(name_and_negation(alloc)?))?;
+    assert!(rt; assigns(alloc, b"x = a or b and not c", Expr::Or(parts))?);
+    let mut flat = names(alloc, b"a", b"b")?;
     flat.push(name(alloc, b"c")?)?;
     assert!(rt; assigns(alloc, b"x = a and b and c", Expr::And(flat))?);
+    Ok(())
+}
+
+#[test]
+fn groupings_that_stay(rt: HostRuntime) -> Result<(), Fail> {
+    let alloc = rt.alloc();
+    let mut outer = one(alloc, Expr::And(names(alloc, b"a", b"b")?))?;
+    outer.push(name(alloc, b"c")?)?;
+    assert!(rt; assigns(alloc, b"x = (a and b) and c", Expr::And(outer))?);
+    Ok(())
+}
+
+#[test]
+fn membership(rt: HostRuntime) -> Result<(), Fail> {
+    let alloc = rt.alloc();
     let member = Expr::Member(boxed_name(alloc, b"y")?, boxed_name(alloc, b"s")?);
     assert!(rt; assigns(alloc, b"x = y in s", member)?);
     Ok(())

@@ -1,9 +1,9 @@
 //! The trees of whole programs, and programs that have none.
 
-use super::build::{boxed, boxed_name, name, one, string, tree_of, two};
+use super::build::{name, one, passes, string, tree_of, two};
 use crate::ParseFault;
 use da_lang::{
-    ChannelKind, ClassTree, Expr, MainLine, Member, MessageDecl, Param, PatternTree, Stmt, Tree, Ty,
+    ChannelKind, ClassTree, Expr, MainLine, Member, MessageDecl, Param, PatternTree, Tree, Ty,
 };
 use da_values::{Boxed, List, NoMemory, copy_bytes};
 use std::alloc::Global;
@@ -48,42 +48,69 @@ fn params(alloc: Global) -> Result<List<Param>, NoMemory> {
     two(alloc, first, second)
 }
 
-fn members(alloc: Global) -> Result<List<Member>, NoMemory> {
-    let var = Member::Var {
+fn variable(alloc: Global) -> Result<Member, NoMemory> {
+    Ok(Member::Var {
         name: copy_bytes(alloc, b"x")?,
         ty: member_of(alloc)?,
         line: 4,
-    };
-    let setup = Member::Setup {
+    })
+}
+
+fn setup(alloc: Global) -> Result<Member, NoMemory> {
+    Ok(Member::Setup {
         params: params(alloc)?,
-        body: one(alloc, Stmt::Pass { line: 6 })?,
+        body: passes(alloc, 6)?,
         line: 5,
-    };
-    let mut members = two(alloc, var, setup)?;
-    members.push(Member::Run {
-        body: one(alloc, Stmt::Pass { line: 8 })?,
+    })
+}
+
+fn run(alloc: Global) -> Result<Member, NoMemory> {
+    Ok(Member::Run {
+        body: passes(alloc, 8)?,
         line: 7,
-    })?;
-    members.push(Member::Method {
+    })
+}
+
+fn method(alloc: Global) -> Result<Member, NoMemory> {
+    Ok(Member::Method {
         name: copy_bytes(alloc, b"f")?,
         params: List::new(alloc),
-        body: one(alloc, Stmt::Pass { line: 10 })?,
+        body: passes(alloc, 10)?,
         line: 9,
-    })?;
-    members.push(Member::Receive {
+    })
+}
+
+fn handler(alloc: Global) -> Result<Member, NoMemory> {
+    Ok(Member::Receive {
         message: PatternTree::Text(string(alloc, b"m")?),
         from: None,
         at: List::new(alloc),
-        body: one(alloc, Stmt::Pass { line: 12 })?,
+        body: passes(alloc, 12)?,
         line: 11,
-    })?;
-    members.push(Member::Receive {
+    })
+}
+
+fn handler_at_labels(alloc: Global) -> Result<Member, NoMemory> {
+    let at = two(alloc, copy_bytes(alloc, b"l")?, copy_bytes(alloc, b"k")?)?;
+    let body = passes(alloc, 14)?;
+    let from = copy_bytes(alloc, b"p")?;
+    Ok(Member::Receive {
         message: PatternTree::Wild,
-        from: Some(PatternTree::Name(copy_bytes(alloc, b"p")?)),
-        at: two(alloc, copy_bytes(alloc, b"l")?, copy_bytes(alloc, b"k")?)?,
-        body: one(alloc, Stmt::Pass { line: 14 })?,
+        from: Some(PatternTree::Name(from)),
+        at,
+        body,
         line: 13,
-    })?;
+    })
+}
+
+fn members(alloc: Global) -> Result<List<Member>, NoMemory> {
+    let mut members = List::new(alloc);
+    members.push(variable(alloc)?)?;
+    members.push(setup(alloc)?)?;
+    members.push(run(alloc)?)?;
+    members.push(method(alloc)?)?;
+    members.push(handler(alloc)?)?;
+    members.push(handler_at_labels(alloc)?)?;
     Ok(members)
 }
 

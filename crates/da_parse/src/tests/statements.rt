@@ -1,16 +1,11 @@
 //! The tree of each form of statement.
 ghost use Rattle.std.specs.Prelude.{◌<◌};
 
-use super::build::{boxed, boxed_name, name, one, runs, two};
+use super::build::{boxed, boxed_name, name, one, passes, runs, two};
 use da_lang::{Branch, Expr, Stmt, TimeoutTree};
 use da_values::{List, NoMemory, copy_bytes};
 use std::alloc::Global;
 use std::test::Fail;
-
-// A block of one `pass`.
-fn passes(alloc: Global, line: u32) -> Result<List<Stmt>, NoMemory> {
-    one(alloc, Stmt::Pass { line })
-}
 
 fn branch(alloc: Global, cond: &[u8], line: u32) -> Result<Branch, NoMemory>
     requires { line < 100 }
