@@ -1,3 +1,4 @@
+pub mod Alone
 pub mod AnswerLemmas
 pub mod Facts
 pub mod LevelLemmas

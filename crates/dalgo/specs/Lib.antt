@@ -1,4 +1,5 @@
 pub mod ExitCode
+pub mod FirstForm
 pub mod Lines
 pub mod Memory
 pub mod Outside

@@ -1,6 +1,7 @@
 //! Replays a schedule of a DistAlgo program, and writes what its processes do.
 #![tactic(auto)]
 
+mod first_form;
 mod lines;
 mod memory;
 mod outside;

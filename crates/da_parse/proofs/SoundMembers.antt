@@ -1,0 +1,163 @@
+-- What is read as a member of a class is spelled so.
+use Rattle.std.proofs.Common.{◌≡◌, ℕ, zero, suc, ◌+◌, ◌-◌, ◌<◌, ◌≤◌, Bool, true, false, List, [], ◌∷◌, ◌++◌, length, Option, Some, None, Result, Ok, Err, refl, sym, ap, ◌∙◌, subst, rules, arith, inl, inr, append_assoc, append-nil}
+use Rattle.std.specs.Prelude.{if◌then◌else◌, ◌==◌, nat_lt}
+use Rattle.da_values.specs.declared.token.Mark.{Mark}
+use Rattle.da_values.specs.declared.token.Mark.TheVariants as m
+use Rattle.da_values.specs.Marks.{Tok}
+use Rattle.da_lang.specs.declared.tree.ClassTree.{ClassTree}
+use Rattle.da_lang.specs.declared.tree.Expr.{Expr}
+use Rattle.da_lang.specs.declared.tree.MainLine.{MainLine}
+use Rattle.da_lang.specs.declared.tree.Member.{Member}
+use Rattle.da_lang.specs.declared.tree.MessageDecl.{MessageDecl}
+use Rattle.da_lang.specs.declared.tree.Param.{Param}
+use Rattle.da_lang.specs.declared.tree.PatternTree.{PatternTree}
+use Rattle.da_lang.specs.declared.tree.Stmt.{Stmt}
+use Rattle.da_lang.specs.declared.tree.Tree.{Tree}
+use Rattle.da_lang.specs.declared.ty.ChannelKind.{ChannelKind}
+use Rattle.da_lang.specs.declared.ty.ChannelKind.TheVariants as kind_of
+use Rattle.da_lang.specs.declared.ty.Ty.{Ty}
+use Rattle.da_lang.specs.Spelling as sp
+use Rattle.da_lang.specs.Spelling.{Spelling, Room, At, Opens, Named, Number, Separated, Closed, Behind, Ended}
+use Rattle.da_lang.specs.TypeGrammar.{IsType, TypeIn}
+use Rattle.da_lang.specs.ExprGrammar.{Deeper, IsExpr, IsPattern, deeper}
+use Rattle.da_lang.specs.StmtGrammar.{IsBlock, BodyIn}
+use Rattle.da_lang.specs.Grammar as g
+use Rattle.da_lang.specs.Grammar.{IsParam, IsFrom, IsAt, IsMember, IsCount, IsMline, IsKind, IsTypes, IsParams, IsMessage, IsClass, IsDecls, IsMain, IsProgram}
+use Rattle.da_parse.specs.declared.place.Level.TheVariants as level
+use Rattle.da_parse.specs.Reader as reader
+use Rattle.da_parse.specs.Reader.{mark, text, rest, sees, after, Outcome, Reader, and_then, ◌>>=◌, ◌>>◌, pure, refuse, take_token, eat, expect, word, number}
+use Rattle.da_parse.specs.Lists.{separated, begun, ended, closed}
+use Rattle.da_parse.specs.Place.{Limit, Place, opening, at_most_32}
+use Rattle.da_parse.specs.Types.{types, type_in, type_at, type_below}
+use Rattle.da_parse.specs.Exprs.{place, at_depth, expression, pattern}
+use Rattle.da_parse.specs.Stmts.{bodies, block_behind_colon, block_at, body_below}
+use Rattle.da_parse.specs.Members.{Parts, parts_in, param, params, variable, setup, run, method, definition_by, definition, sender, labels, handler, member_by, member, members}
+use Rattle.da_parse.specs.Programs.{Outer, outer_in, outermost, count, kind_from, one_of, kind, finish, header_end, message, class, new_line, argument, setup_line, line_by, main_line, main, program_end, decls_by, decls_from, decls, program}
+use Rattle.da_parse.proofs.Steps.{bind_ok, chosen, chosen_value, eat_ok, expect_ok, word_ok, number_ok, opening_ok, left, read_or, At-mark, Named-mark}
+use Rattle.da_parse.proofs.SoundSteps.{made}
+use Rattle.da_parse.proofs.SoundTypes.{types-sound, type_there-sound}
+use Rattle.da_parse.proofs.SoundPlaces.{places-sound, pattern_there-sound}
+use Rattle.da_parse.proofs.ListSound.{all_separated, all_closed, all_behind, ended-sound}
+use Rattle.da_parse.proofs.SoundStmts.{same_line, BehindColon, block_there-sound}
+use Rattle.da_parse.proofs.Laws.{IsSound, Sounds}
+
+labels-sound : IsSound labels IsAt
+unfolding labels
+labels-sound i y e = elim (eat_ok m.At (separated m.Comma (word m.Name) []) (pure []) i y e) [
+  | inl h ↦ g.labels h.1 (all_separated m.Comma (word m.Name) Named word_ok h.0 y h.2)
+  | inr h ↦ made (IsAt) i y h.1 g.no_at
+]
+
+module _ (s : Parts) (room : Room) (fits : (t : List Tok) → s.place.may_open (length t) ≡ true → room t)
+    (Type_ Inner : Spelling Ty) (type_sound : IsSound s.ty Type_) (inner_sound : IsSound s.inner_ty Inner)
+    (Pattern : Spelling PatternTree) (pattern_sound : IsSound (pattern s.place) Pattern)
+    (Block : Spelling (List Stmt)) (block_sound : IsSound s.block (BehindColon Block)) where
+  param-sound : IsSound (param s) (IsParam Inner)
+  unfolding param
+  param-sound i y e =
+      let (u, name, e1) = bind_ok (word m.Name i) _ y e in
+      let (v, colon, e2) = bind_ok (expect m.Colon u.1) _ y e1 in
+      let (w, read, last) = bind_ok (s.inner_ty v.1) _ y e2 in
+      made (IsParam Inner) i y last (g.param (word_ok i u name) (expect_ok m.Colon u.1 v colon) (inner_sound v.1 w read))
+
+  params-sound : IsSound (params s) (Closed m.CloseParen (IsParam Inner))
+  unfolding params
+  params-sound i y e = all_closed m.CloseParen (param s) (IsParam Inner) param-sound i y e
+
+  variable-sound : (t i : List Tok) (y : Member × List Tok) → At m.Var t i → variable s (sp.line t) i ≡ Ok y → IsMember room Type_ (Closed m.CloseParen (IsParam Inner)) Pattern Block y.0 t y.1
+  unfolding variable
+  variable-sound t i y there e =
+      let (u, name, e1) = bind_ok (word m.Name i) _ y e in
+      let (v, colon, e2) = bind_ok (expect m.Colon u.1) _ y e1 in
+      let (w, read, e3) = bind_ok (s.ty v.1) _ y e2 in
+      let (x, over, last) = bind_ok (expect m.Newline w.1) _ y e3 in
+      made (IsMember room Type_ (Closed m.CloseParen (IsParam Inner)) Pattern Block) t y last
+        (g.var there (word_ok i u name) (expect_ok m.Colon u.1 v colon) (type_sound v.1 w read) (expect_ok m.Newline w.1 x over))
+
+  setup-sound : (t r i : List Tok) (y : Member × List Tok) → At m.Def t r → At m.Setup r i → setup s (sp.line t) i ≡ Ok y → IsMember room Type_ (Closed m.CloseParen (IsParam Inner)) Pattern Block y.0 t y.1
+  unfolding setup
+  setup-sound t r i y def there e =
+      let (u, opened, e1) = bind_ok (opening s.place.may_open m.OpenParen i) _ y e in
+      let (v, read, e2) = bind_ok (params s u.1) _ y e1 in
+      let (w, does, last) = bind_ok (s.block v.1) _ y e2 in
+      let (a, colon, b) = block_sound v.1 w does in
+      made (IsMember room Type_ (Closed m.CloseParen (IsParam Inner)) Pattern Block) t y last
+        (g.IsMember.setup def there (opening_ok s.place.may_open room fits m.OpenParen i u opened) (params-sound u.1 v read) colon b)
+
+  run-sound : (t r i : List Tok) (y : Member × List Tok) → At m.Def t r → At m.Run r i → run s (sp.line t) i ≡ Ok y → IsMember room Type_ (Closed m.CloseParen (IsParam Inner)) Pattern Block y.0 t y.1
+  unfolding run
+  run-sound t r i y def there e =
+      let (u, opened, e1) = bind_ok (opening s.place.may_open m.OpenParen i) _ y e in
+      let (v, close, e2) = bind_ok (expect m.CloseParen u.1) _ y e1 in
+      let (w, does, last) = bind_ok (s.block v.1) _ y e2 in
+      let (a, colon, b) = block_sound v.1 w does in
+      made (IsMember room Type_ (Closed m.CloseParen (IsParam Inner)) Pattern Block) t y last
+        (g.run def there (opening_ok s.place.may_open room fits m.OpenParen i u opened) (expect_ok m.CloseParen u.1 v close) colon b)
+
+  method-sound : (n : List ℕ) (t r i : List Tok) (y : Member × List Tok) → At m.Def t r → Named n r i → method s n (sp.line t) i ≡ Ok y → IsMember room Type_ (Closed m.CloseParen (IsParam Inner)) Pattern Block y.0 t y.1
+  unfolding method
+  method-sound n t r i y def name e =
+      let (u, opened, e1) = bind_ok (opening s.place.may_open m.OpenParen i) _ y e in
+      let (v, read, e2) = bind_ok (params s u.1) _ y e1 in
+      let (w, does, last) = bind_ok (s.block v.1) _ y e2 in
+      let (a, colon, b) = block_sound v.1 w does in
+      made (IsMember room Type_ (Closed m.CloseParen (IsParam Inner)) Pattern Block) t y last
+        (g.method def name (opening_ok s.place.may_open room fits m.OpenParen i u opened) (params-sound u.1 v read) colon b)
+
+  definition_by-sound : (k : Option Mark) (t i : List Tok) (y : Member × List Tok) → At m.Def t i → mark i ≡ k → definition_by s (sp.line t) k i ≡ Ok y → IsMember room Type_ (Closed m.CloseParen (IsParam Inner)) Pattern Block y.0 t y.1
+  definition_by-sound (Some m.Setup) t i y def is e = setup-sound t i (rest i) y def (At-mark m.Setup i is) e
+  definition_by-sound (Some m.Run) t i y def is e = run-sound t i (rest i) y def (At-mark m.Run i is) e
+  definition_by-sound (Some m.Name) t i y def is e = method-sound (text i) t i (rest i) y def (Named-mark i is) e
+  definition_by-sound _ t i y def is e = cc
+
+  definition-sound : (t i : List Tok) (y : Member × List Tok) → At m.Def t i → definition s (sp.line t) i ≡ Ok y → IsMember room Type_ (Closed m.CloseParen (IsParam Inner)) Pattern Block y.0 t y.1
+  unfolding definition
+  definition-sound t i y def e = definition_by-sound (mark i) t i y def refl e
+
+  sender-sound : IsSound (sender s) (IsFrom Pattern)
+  unfolding sender
+  sender-sound i y e = elim (eat_ok m.From (pattern s.place >>= λ x. pure (Some x)) (pure None) i y e) [
+    | inl h ↦ (
+      let (u, read, last) = bind_ok (pattern s.place h.0) _ y h.2 in
+      made (IsFrom Pattern) i y last (g.from h.1 (pattern_sound h.0 u read)))
+    | inr h ↦ made (IsFrom Pattern) i y h.1 g.no_from
+  ]
+
+  handler-sound : (t i : List Tok) (y : Member × List Tok) → At m.Receive t i → handler s (sp.line t) i ≡ Ok y → IsMember room Type_ (Closed m.CloseParen (IsParam Inner)) Pattern Block y.0 t y.1
+  unfolding handler
+  handler-sound t i y there e =
+      let (u, read, e1) = bind_ok (pattern s.place i) _ y e in
+      let (v, whence, e2) = bind_ok (sender s u.1) _ y e1 in
+      let (w, places, e3) = bind_ok (labels v.1) _ y e2 in
+      let (x, does, last) = bind_ok (s.block w.1) _ y e3 in
+      let (a, colon, b) = block_sound w.1 x does in
+      made (IsMember room Type_ (Closed m.CloseParen (IsParam Inner)) Pattern Block) t y last
+        (g.receive there (pattern_sound i u read) (sender-sound u.1 v whence) (labels-sound v.1 w places) colon b)
+
+  member_by-sound : (k : Option Mark) (i : List Tok) (y : Member × List Tok) → mark i ≡ k → member_by s (sp.line i) k i ≡ Ok y → IsMember room Type_ (Closed m.CloseParen (IsParam Inner)) Pattern Block y.0 i y.1
+  member_by-sound (Some m.Var) i y is e = variable-sound i (rest i) y (At-mark m.Var i is) e
+  member_by-sound (Some m.Def) i y is e = definition-sound i (rest i) y (At-mark m.Def i is) e
+  member_by-sound (Some m.Receive) i y is e = handler-sound i (rest i) y (At-mark m.Receive i is) e
+  member_by-sound _ i y is e = cc
+
+  member-sound : IsSound (member s) (IsMember room Type_ (Closed m.CloseParen (IsParam Inner)) Pattern Block)
+  unfolding member
+  member-sound i y e = member_by-sound (mark i) i y refl (subst (λ at. member_by s at (mark i) i ≡ Ok y) (same_line i) e)
+
+  pub members-sound : IsSound (members s) (Ended (IsMember room Type_ (Closed m.CloseParen (IsParam Inner)) Pattern Block))
+  unfolding members
+  members-sound i y e = ended-sound (member s) (IsMember room Type_ (Closed m.CloseParen (IsParam Inner)) Pattern Block) member-sound i y e
+
+-- the members of a class where d things are open, by a rule that allows no more than that of the grammar
+module _ (limit : Limit) (room : ℕ → Room) (fits : (d : ℕ) (t : List Tok) → limit d (length t) ≡ true → room d t) where
+  type_inside-sound : (f n d : ℕ) → f < n → IsSound (type_in (limit d) (types limit f (suc d))) (TypeIn room n d)
+  unfolding TypeIn
+  type_inside-sound f zero d less i y e = absurd (omega (arith, less))
+  type_inside-sound f (suc n) d less i y e = type_there-sound limit room fits f n d (omega (arith, less)) i y e
+
+  pub members_there-sound : (f n d : ℕ) → f < n
+      → IsSound (members (parts_in limit f d)) (Ended (IsMember (room d) (TypeIn room n d) (Closed m.CloseParen (IsParam (TypeIn room n (suc d)))) (IsPattern (room d) (deeper room n (suc d))) (IsBlock (room d) (deeper room n (suc d)) (BodyIn room n (suc d)))))
+  members_there-sound f n d less =
+      let few : f ≤ n = omega (arith, less) in
+      members-sound (parts_in limit f d) (room d) (places-sound limit room fits f n d few).fits (TypeIn room n d) (TypeIn room n (suc d)) (type_inside-sound f n d less) (types-sound limit room fits f n (suc d) few)
+        (IsPattern (room d) (deeper room n (suc d))) (pattern_there-sound limit room fits f n d few) (IsBlock (room d) (deeper room n (suc d)) (BodyIn room n (suc d))) (block_there-sound limit room fits f n d few)

@@ -1,0 +1,113 @@
+//! The programs that run today: one class whose `run` prints integers, and one process of it.
+ghost use Rattle.dalgo.specs.FirstForm as spec;
+ghost use Rattle.std.specs.Prelude.{◌≡◌, ◌∷◌, IfOk};
+
+use da_lang::{Class, ClassTree, Expr, Item, ItemKind, MainLine, Member, ProcDecl, Program, RExpr, Stmt, Tree};
+use da_values::{List, NoMemory, Value, copy_bytes};
+use std::alloc::Global;
+
+/// The statements that `run` may have.
+const MOST_OUTPUTS: usize = 16_384;
+
+/// The program of a tree, or `None` exactly where the tree has a message, not exactly one class, members other than
+/// one `run`, a statement that is not `output` of an integer, more than 16,384 statements, or a `main` of other than
+/// one line that makes one process of the class.
+#[tactic(auto, unfolding(crate::specs::FirstForm::first_program))]
+pub fn first_program(alloc: Global, tree: &Tree) -> Result<Option<Program>, NoMemory>
+    ensures { IfOk result (λ found. found ≡ spec.first_program tree.now) }
+{
+    if tree.messages.len() != 0 {
+        return Ok(None);
+    }
+    let [class] = tree.classes.as_slice() else {
+        return Ok(None);
+    };
+    let [line] = tree.main.as_slice() else {
+        return Ok(None);
+    };
+    if !makes_one(class, line) {
+        return Ok(None);
+    }
+    match run_items(alloc, class.members.as_slice())? {
+        None => Ok(None),
+        Some(items) => Ok(Some(program_of(alloc, class, items)?)),
+    }
+}
+
+// Whether a line of `main` makes one process of the class.
+fn makes_one(class: &ClassTree, line: &MainLine) -> bool
+    ensures { result ≡ spec.makes_one class.now line.now }
+{
+    match line {
+        MainLine::New {
+            class: of,
+            count: None,
+            ..
+        } => of.as_slice() == class.name.as_slice(),
+        _ => false,
+    }
+}
+
+// The items of the only member of a class, its `run`.
+fn run_items(alloc: Global, members: &[Member]) -> Result<Option<List<Item>>, NoMemory>
+    ensures { IfOk result (λ found. found ≡ spec.run_items members.now) }
+{
+    match members {
+        [Member::Run { body, .. }] => {
+            if body.len() <= MOST_OUTPUTS {
+                items_of(alloc, body.as_slice())
+            } else {
+                Ok(None)
+            }
+        }
+        _ => Ok(None),
+    }
+}
+
+// The items of statements that all print integers.
+#[tactic(auto, using(crate::proofs::FormLemmas::items_loop))]
+fn items_of(alloc: Global, body: &[Stmt]) -> Result<Option<List<Item>>, NoMemory>
+    ensures { IfOk result (λ found. found ≡ spec.items_of body.now) }
+{
+    let mut items = List::new(alloc);
+    let mut left = body;
+    while let [statement, rest @ ..] = left {
+        match item_of(statement) {
+            None => return Ok(None),
+            Some(item) => items.push(item)?,
+        }
+        left = rest;
+    }
+    Ok(Some(items))
+}
+
+// The item of a statement that prints an integer.
+fn item_of(statement: &Stmt) -> Option<Item>
+    ensures { result ≡ spec.item_of statement.now }
+{
+    match statement {
+        Stmt::Output { value, line } => match value.get() {
+            Expr::Int(n) => Some(Item {
+                line: *line,
+                kind: ItemKind::Output(RExpr::Const(Value::Int(*n))),
+            }),
+            _ => None,
+        },
+        _ => None,
+    }
+}
+
+// The program of a class with these items in its `run`, and of one process.
+fn program_of(alloc: Global, class: &ClassTree, items: List<Item>) -> Result<Program, NoMemory>
+    ensures { IfOk result (λ program. program ≡ spec.program_of class.now items) }
+{
+    let mut classes = List::new(alloc);
+    classes.push(Class {
+        name: copy_bytes(alloc, class.name.as_slice())?,
+        run: items,
+        line: class.line,
+    })?;
+    let mut procs = List::new(alloc);
+    procs.push(ProcDecl { class: 0 })?;
+    Ok(Program { classes, procs })
+}
