@@ -24,6 +24,7 @@ use Rattle.da_parse.proofs.Laws.{IsComplete, Shrinks, Lacks, Anything, Completes
 use Rattle.da_parse.proofs.Firsts.{Beginning, deeper-begins, begins_disj, never_seen, lacked, apart, next-At}
 use Rattle.da_parse.proofs.Shorter.{Shrinking, deeper-shrinks}
 use Rattle.da_parse.proofs.CompleteTypes.{Enough, enough_inside, enough_any}
+use Rattle.da_parse.proofs.CompletePlaces.{place-complete, expression_there-complete}
 use Rattle.da_parse.proofs.ShorterStmts.{begins_stmt, goes_on_stmt, next_stmt, IsStmt-begins, IsStmt-shrinks, IsBranch-shrinks, BodyIn-shrinks}
 use Rattle.da_parse.proofs.ListComplete.{closed-complete, begun-complete, ended-complete}
 use Rattle.da_parse.proofs.SoundStmts.{same_line}
@@ -140,10 +141,9 @@ module _ (p : Place) (room : Room) (deep : Deeper) (beginning : Beginning deep) 
       (λ x j q h. (never_seen begins_stmt m.Dedent j refl (IsStmt-begins room deep Body x j q h), apart begins_stmt goes_on_stmt next_stmt j (IsStmt-begins room deep Body x j q h)))
       (λ j q h. next-At goes_on_stmt h) xs i r l
 
--- the statements of a block behind a token that opened it, where d things are open round it
-module _ (limit : Limit) (room : ℕ → Room) (allows : (d : ℕ) (t : List Tok) → room d t → limit d (length t) ≡ true)
-    (place_complete : (g f d : ℕ) → Enough room g f d → Completes (place limit f d) (room d) (deeper room g (suc d)))
-    (expression_complete : (g f d : ℕ) → Enough room g f d → IsComplete (Lacks goes_on_expr) (expression (place limit f d)) (IsExpr (room d) (deeper room g (suc d)))) where
+-- by a rule of how many things may be open, which allows all that the grammar allows
+module _ (limit : Limit) (room : ℕ → Room) (allows : (d : ℕ) (t : List Tok) → room d t → limit d (length t) ≡ true) where
+  -- the statements of a block behind a token that opened it, where d things are open round it
   pub bodies-complete : (g f d : ℕ) → Enough room g f d → (t : List Tok) → room d t → IsComplete Anything (bodies limit f (suc d)) (BodyIn room g (suc d))
   unfolding bodies BodyIn
   bodies-complete zero f d e t some x i r h s = absurd h
@@ -151,5 +151,13 @@ module _ (limit : Limit) (room : ℕ → Room) (allows : (d : ℕ) (t : List Tok
   bodies-complete (suc g) (suc f) d e t some x i r h s =
       let inside = enough_inside room g f d e in
       stmts-complete (place limit f (suc d)) (room (suc d)) (deeper room g (suc (suc d))) (deeper-begins room g (suc (suc d))) (deeper-shrinks room g (suc (suc d)))
-        (place_complete g f (suc d) inside) (expression_complete g f (suc d) inside)
+        (place-complete limit room allows g f (suc d) inside) (expression_there-complete limit room allows g f (suc d) inside)
         (bodies limit f (suc (suc d))) (BodyIn room g (suc (suc d))) (BodyIn-shrinks room g (suc (suc d))) (bodies-complete g f (suc d) inside) x i r h
+
+  -- a block where d things are open, behind its colon
+  pub block_there-complete : (g f d : ℕ) → Enough room g f d → (b : List Stmt) (i r s : List Tok) → At m.Colon i r → IsBlock (room d) (deeper room g (suc d)) (BodyIn room g (suc d)) b r s
+      → block_behind_colon (place limit f d) (bodies limit f (suc d)) i ≡ Ok (b, s)
+  block_there-complete g f d e =
+      block_behind_colon-complete (place limit f d) (room d) (deeper room g (suc d)) (deeper-begins room g (suc d)) (deeper-shrinks room g (suc d))
+        (place-complete limit room allows g f d e) (expression_there-complete limit room allows g f d e)
+        (bodies limit f (suc d)) (BodyIn room g (suc d)) (BodyIn-shrinks room g (suc d)) (bodies-complete g f d e)

@@ -1,6 +1,8 @@
 pub mod CompleteExprs
+pub mod CompleteMembers
 pub mod CompleteOperators
 pub mod CompletePlaces
+pub mod CompletePrograms
 pub mod CompleteStmts
 pub mod CompleteTypes
 pub mod Decls
@@ -13,6 +15,7 @@ pub mod ListComplete
 pub mod ListSound
 pub mod Loops
 pub mod NumberLemmas
+pub mod ParseLaws
 pub mod Shorter
 pub mod ShorterStmts
 pub mod SoundExprs
@@ -26,3 +29,4 @@ pub mod SoundTypes
 pub mod Spelled
 pub mod Steps
 pub mod Texts
+pub mod WholePrograms

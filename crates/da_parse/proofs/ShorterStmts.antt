@@ -172,7 +172,7 @@ module _ (room : Room) (deep : Deeper) where
 
 module _ (room : ℕ → Room) (f : ℕ) where
   -- what the members of a class pass
-  member_shrinks : Shrinks (IsMember (room 1) (TypeIn room f 1) (IsParams room f) (IsPattern (room 1) (deeper room f 2)) (IsBlock (room 1) (deeper room f 2) (BodyIn room f 2)))
+  pub member_shrinks : Shrinks (IsMember (room 1) (TypeIn room f 1) (IsParams room f) (IsPattern (room 1) (deeper room f 2)) (IsBlock (room 1) (deeper room f 2) (BodyIn room f 2)))
   member_shrinks = IsMember-shrinks (room 1) (TypeIn room f 1) (IsParams room f) (IsPattern (room 1) (deeper room f 2)) (IsBlock (room 1) (deeper room f 2) (BodyIn room f 2))
       (TypeIn-shrinks room f 1) (Closed-shrinks (IsParam (TypeIn room f 2)) (IsParam-shrinks (TypeIn room f 2) (TypeIn-shrinks room f 2)) m.CloseParen)
       (IsPattern-shrinks (room 1) (deeper room f 2) (deeper-shrinks room f 2)) (IsBlock-shrinks (room 1) (deeper room f 2) (deeper-shrinks room f 2) (BodyIn room f 2) (BodyIn-shrinks room f 2))

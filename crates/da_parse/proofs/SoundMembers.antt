@@ -34,7 +34,7 @@ use Rattle.da_parse.specs.Stmts.{bodies, block_behind_colon, block_at, body_belo
 use Rattle.da_parse.specs.Members.{Parts, parts_in, param, params, variable, setup, run, method, definition_by, definition, sender, labels, handler, member_by, member, members}
 use Rattle.da_parse.specs.Programs.{Outer, outer_in, outermost, count, kind_from, one_of, kind, finish, header_end, message, class, new_line, argument, setup_line, line_by, main_line, main, program_end, decls_by, decls_from, decls, program}
 use Rattle.da_parse.proofs.Steps.{bind_ok, chosen, chosen_value, eat_ok, expect_ok, word_ok, number_ok, opening_ok, left, read_or, At-mark, Named-mark}
-use Rattle.da_parse.proofs.SoundSteps.{made}
+use Rattle.da_parse.proofs.SoundSteps.{reads, made, passes, names, opening_by}
 use Rattle.da_parse.proofs.SoundTypes.{types-sound, type_there-sound}
 use Rattle.da_parse.proofs.SoundPlaces.{places-sound, pattern_there-sound}
 use Rattle.da_parse.proofs.ListSound.{all_separated, all_closed, all_behind, ended-sound}
@@ -55,10 +55,10 @@ module _ (s : Parts) (room : Room) (fits : (t : List Tok) → s.place.may_open (
   param-sound : IsSound (param s) (IsParam Inner)
   unfolding param
   param-sound i y e =
-      let (u, name, e1) = bind_ok (word m.Name i) _ y e in
-      let (v, colon, e2) = bind_ok (expect m.Colon u.1) _ y e1 in
-      let (w, read, last) = bind_ok (s.inner_ty v.1) _ y e2 in
-      made (IsParam Inner) i y last (g.param (word_ok i u name) (expect_ok m.Colon u.1 v colon) (inner_sound v.1 w read))
+      names i _ y e (λ u after_u name e1.
+      passes m.Colon after_u _ y e1 (λ after_v colon e2.
+      reads (s.inner_ty after_v) _ y e2 (λ w after_w read last.
+      made (IsParam Inner) i y last (g.param name colon (inner_sound after_v (w, after_w) read)))))
 
   params-sound : IsSound (params s) (Closed m.CloseParen (IsParam Inner))
   unfolding params
@@ -67,42 +67,42 @@ module _ (s : Parts) (room : Room) (fits : (t : List Tok) → s.place.may_open (
   variable-sound : (t i : List Tok) (y : Member × List Tok) → At m.Var t i → variable s (sp.line t) i ≡ Ok y → IsMember room Type_ (Closed m.CloseParen (IsParam Inner)) Pattern Block y.0 t y.1
   unfolding variable
   variable-sound t i y there e =
-      let (u, name, e1) = bind_ok (word m.Name i) _ y e in
-      let (v, colon, e2) = bind_ok (expect m.Colon u.1) _ y e1 in
-      let (w, read, e3) = bind_ok (s.ty v.1) _ y e2 in
-      let (x, over, last) = bind_ok (expect m.Newline w.1) _ y e3 in
+      names i _ y e (λ u after_u name e1.
+      passes m.Colon after_u _ y e1 (λ after_v colon e2.
+      reads (s.ty after_v) _ y e2 (λ w after_w read e3.
+      passes m.Newline after_w _ y e3 (λ after_x over last.
       made (IsMember room Type_ (Closed m.CloseParen (IsParam Inner)) Pattern Block) t y last
-        (g.var there (word_ok i u name) (expect_ok m.Colon u.1 v colon) (type_sound v.1 w read) (expect_ok m.Newline w.1 x over))
+        (g.var there name colon (type_sound after_v (w, after_w) read) over)))))
 
   setup-sound : (t r i : List Tok) (y : Member × List Tok) → At m.Def t r → At m.Setup r i → setup s (sp.line t) i ≡ Ok y → IsMember room Type_ (Closed m.CloseParen (IsParam Inner)) Pattern Block y.0 t y.1
   unfolding setup
   setup-sound t r i y def there e =
-      let (u, opened, e1) = bind_ok (opening s.place.may_open m.OpenParen i) _ y e in
-      let (v, read, e2) = bind_ok (params s u.1) _ y e1 in
-      let (w, does, last) = bind_ok (s.block v.1) _ y e2 in
-      let (a, colon, b) = block_sound v.1 w does in
+      opening_by s.place.may_open room fits m.OpenParen i _ y e (λ after_u opened e1.
+      reads (params s after_u) _ y e1 (λ v after_v read e2.
+      reads (s.block after_v) _ y e2 (λ w after_w does last.
+      let (a, colon, b) = block_sound after_v (w, after_w) does in
       made (IsMember room Type_ (Closed m.CloseParen (IsParam Inner)) Pattern Block) t y last
-        (g.IsMember.setup def there (opening_ok s.place.may_open room fits m.OpenParen i u opened) (params-sound u.1 v read) colon b)
+        (g.IsMember.setup def there opened (params-sound after_u (v, after_v) read) colon b))))
 
   run-sound : (t r i : List Tok) (y : Member × List Tok) → At m.Def t r → At m.Run r i → run s (sp.line t) i ≡ Ok y → IsMember room Type_ (Closed m.CloseParen (IsParam Inner)) Pattern Block y.0 t y.1
   unfolding run
   run-sound t r i y def there e =
-      let (u, opened, e1) = bind_ok (opening s.place.may_open m.OpenParen i) _ y e in
-      let (v, close, e2) = bind_ok (expect m.CloseParen u.1) _ y e1 in
-      let (w, does, last) = bind_ok (s.block v.1) _ y e2 in
-      let (a, colon, b) = block_sound v.1 w does in
+      opening_by s.place.may_open room fits m.OpenParen i _ y e (λ after_u opened e1.
+      passes m.CloseParen after_u _ y e1 (λ after_v close e2.
+      reads (s.block after_v) _ y e2 (λ w after_w does last.
+      let (a, colon, b) = block_sound after_v (w, after_w) does in
       made (IsMember room Type_ (Closed m.CloseParen (IsParam Inner)) Pattern Block) t y last
-        (g.run def there (opening_ok s.place.may_open room fits m.OpenParen i u opened) (expect_ok m.CloseParen u.1 v close) colon b)
+        (g.run def there opened close colon b))))
 
   method-sound : (n : List ℕ) (t r i : List Tok) (y : Member × List Tok) → At m.Def t r → Named n r i → method s n (sp.line t) i ≡ Ok y → IsMember room Type_ (Closed m.CloseParen (IsParam Inner)) Pattern Block y.0 t y.1
   unfolding method
   method-sound n t r i y def name e =
-      let (u, opened, e1) = bind_ok (opening s.place.may_open m.OpenParen i) _ y e in
-      let (v, read, e2) = bind_ok (params s u.1) _ y e1 in
-      let (w, does, last) = bind_ok (s.block v.1) _ y e2 in
-      let (a, colon, b) = block_sound v.1 w does in
+      opening_by s.place.may_open room fits m.OpenParen i _ y e (λ after_u opened e1.
+      reads (params s after_u) _ y e1 (λ v after_v read e2.
+      reads (s.block after_v) _ y e2 (λ w after_w does last.
+      let (a, colon, b) = block_sound after_v (w, after_w) does in
       made (IsMember room Type_ (Closed m.CloseParen (IsParam Inner)) Pattern Block) t y last
-        (g.method def name (opening_ok s.place.may_open room fits m.OpenParen i u opened) (params-sound u.1 v read) colon b)
+        (g.method def name opened (params-sound after_u (v, after_v) read) colon b))))
 
   definition_by-sound : (k : Option Mark) (t i : List Tok) (y : Member × List Tok) → At m.Def t i → mark i ≡ k → definition_by s (sp.line t) k i ≡ Ok y → IsMember room Type_ (Closed m.CloseParen (IsParam Inner)) Pattern Block y.0 t y.1
   definition_by-sound (Some m.Setup) t i y def is e = setup-sound t i (rest i) y def (At-mark m.Setup i is) e
@@ -118,21 +118,21 @@ module _ (s : Parts) (room : Room) (fits : (t : List Tok) → s.place.may_open (
   unfolding sender
   sender-sound i y e = elim (eat_ok m.From (pattern s.place >>= λ x. pure (Some x)) (pure None) i y e) [
     | inl h ↦ (
-      let (u, read, last) = bind_ok (pattern s.place h.0) _ y h.2 in
-      made (IsFrom Pattern) i y last (g.from h.1 (pattern_sound h.0 u read)))
+      reads (pattern s.place h.0) _ y h.2 (λ u after_u read last.
+      made (IsFrom Pattern) i y last (g.from h.1 (pattern_sound h.0 (u, after_u) read))))
     | inr h ↦ made (IsFrom Pattern) i y h.1 g.no_from
   ]
 
   handler-sound : (t i : List Tok) (y : Member × List Tok) → At m.Receive t i → handler s (sp.line t) i ≡ Ok y → IsMember room Type_ (Closed m.CloseParen (IsParam Inner)) Pattern Block y.0 t y.1
   unfolding handler
   handler-sound t i y there e =
-      let (u, read, e1) = bind_ok (pattern s.place i) _ y e in
-      let (v, whence, e2) = bind_ok (sender s u.1) _ y e1 in
-      let (w, places, e3) = bind_ok (labels v.1) _ y e2 in
-      let (x, does, last) = bind_ok (s.block w.1) _ y e3 in
-      let (a, colon, b) = block_sound w.1 x does in
+      reads (pattern s.place i) _ y e (λ u after_u read e1.
+      reads (sender s after_u) _ y e1 (λ v after_v whence e2.
+      reads (labels after_v) _ y e2 (λ w after_w places e3.
+      reads (s.block after_w) _ y e3 (λ x after_x does last.
+      let (a, colon, b) = block_sound after_w (x, after_x) does in
       made (IsMember room Type_ (Closed m.CloseParen (IsParam Inner)) Pattern Block) t y last
-        (g.receive there (pattern_sound i u read) (sender-sound u.1 v whence) (labels-sound v.1 w places) colon b)
+        (g.receive there (pattern_sound i (u, after_u) read) (sender-sound after_u (v, after_v) whence) (labels-sound after_v (w, after_w) places) colon b)))))
 
   member_by-sound : (k : Option Mark) (i : List Tok) (y : Member × List Tok) → mark i ≡ k → member_by s (sp.line i) k i ≡ Ok y → IsMember room Type_ (Closed m.CloseParen (IsParam Inner)) Pattern Block y.0 i y.1
   member_by-sound (Some m.Var) i y is e = variable-sound i (rest i) y (At-mark m.Var i is) e

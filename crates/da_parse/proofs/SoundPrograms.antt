@@ -34,7 +34,7 @@ use Rattle.da_parse.specs.Stmts.{bodies, block_behind_colon, block_at, body_belo
 use Rattle.da_parse.specs.Members.{Parts, parts_in, param, params, variable, setup, run, method, definition_by, definition, sender, labels, handler, member_by, member, members}
 use Rattle.da_parse.specs.Programs.{Outer, outer_in, outermost, count, kind_from, one_of, kind, finish, header_end, message, class, new_line, argument, setup_line, line_by, main_line, main, program_end, decls_by, decls_from, decls, program}
 use Rattle.da_parse.proofs.Steps.{bind_ok, chosen, chosen_value, eat_ok, expect_ok, word_ok, number_ok, opening_ok, left, read_or, At-mark, Named-mark}
-use Rattle.da_parse.proofs.SoundSteps.{made}
+use Rattle.da_parse.proofs.SoundSteps.{reads, made, passes, names, opening_by}
 use Rattle.da_parse.proofs.SoundTypes.{types-sound}
 use Rattle.da_parse.proofs.ListSound.{all_separated, all_closed, all_behind, ended-sound}
 use Rattle.da_parse.proofs.SoundStmts.{same_line}
@@ -47,8 +47,8 @@ count-sound : IsSound count IsCount
 unfolding count
 count-sound i y e = elim (eat_ok m.Comma (number >>= λ n. pure (Some n)) (pure None) i y e) [
   | inl h ↦ (
-    let (u, read, last) = bind_ok (number h.0) _ y h.2 in
-    made (IsCount) i y last (g.count h.1 (number_ok h.0 u read)))
+    reads (number h.0) _ y h.2 (λ u after_u read last.
+    made (IsCount) i y last (g.count h.1 (number_ok h.0 (u, after_u) read))))
   | inr h ↦ made (IsCount) i y h.1 g.no_count
 ]
 
@@ -62,8 +62,8 @@ unfolding one_of
 one_of-sound k other i y e = elim (eat_ok k (pure true) (expect other >> pure false) i y e) [
   | inl h ↦ made (OneOf k other) i y h.2 h.1
   | inr h ↦ (
-    let (u, passed, last) = bind_ok (expect other i) _ y h.1 in
-    made (OneOf k other) i y last (expect_ok other i u passed))
+    passes other i _ y h.1 (λ after_u passed last.
+    made (OneOf k other) i y last passed))
 ]
 
 kinds : (fifo reliable : Bool) (t r s q z : List Tok) → At m.Channel t r → OneOf m.Fifo m.Unordered fifo r s → OneOf m.Reliable m.Unreliable reliable s q → At m.Newline q z → IsKind (kind_from fifo reliable) t z
@@ -77,11 +77,11 @@ unfolding kind
 kind-sound i y e = elim (eat_ok m.Channel (one_of m.Fifo m.Unordered >>= λ fifo. one_of m.Reliable m.Unreliable >>= λ reliable. expect m.Newline >> pure (kind_from fifo reliable)) (pure kind_of.UnorderedUnreliable) i y e) [
   | inl h ↦ (
     let (r, there, e1) = h in
-    let (u, fifo, e2) = bind_ok (one_of m.Fifo m.Unordered r) _ y e1 in
-    let (v, reliable, e3) = bind_ok (one_of m.Reliable m.Unreliable u.1) _ y e2 in
-    let (w, over, last) = bind_ok (expect m.Newline v.1) _ y e3 in
+    reads (one_of m.Fifo m.Unordered r) _ y e1 (λ u after_u fifo e2.
+    reads (one_of m.Reliable m.Unreliable after_u) _ y e2 (λ v after_v reliable e3.
+    passes m.Newline after_v _ y e3 (λ after_w over last.
     made (IsKind) i y last
-      (kinds u.0 v.0 i r u.1 v.1 w.1 there (one_of-sound m.Fifo m.Unordered r u fifo) (one_of-sound m.Reliable m.Unreliable u.1 v reliable) (expect_ok m.Newline v.1 w over)))
+      (kinds u v i r after_u after_v after_w there (one_of-sound m.Fifo m.Unordered r (u, after_u) fifo) (one_of-sound m.Reliable m.Unreliable after_u (v, after_v) reliable) over)))))
   | inr h ↦ made (IsKind) i y h.1 g.no_kind
 ]
 
@@ -89,9 +89,9 @@ none_left : (i : List Tok) → (length i == 0) ≡ true → i ≡ []
 none_left [] e = refl
 none_left (t ∷ r) e = let never : ⊥ = grind (arith, e) in absurd never
 
-finish-sound : (i : List Tok) (y : Unit {0} × List Tok) → finish i ≡ Ok y → i ≡ []
+finish-sound : (i : List Tok) (y : Unit {0} × List Tok) → finish i ≡ Ok y → (i ≡ []) × (y.1 ≡ [])
 finish-sound i y e = elim (chosen_value (length i == 0) (Ok (tt, i)) (refuse i) (Ok y) e) [
-  | inl h ↦ none_left i h.0
+  | inl h ↦ (none_left i h.0, sym (ap left h.1) ∙ none_left i h.0)
   | inr h ↦ cc
 ]
 
@@ -106,56 +106,56 @@ module _ (o : Outer) (room : ℕ → Room) (f : ℕ) (sounds : OuterSounds o roo
   header_end-sound : (i : List Tok) (y : Unit {0} × List Tok) → header_end o i ≡ Ok y → (r : List Tok) × (s : List Tok) × At m.Colon i r × At m.Newline r s × Opens m.Indent (room 0) s y.1
   unfolding header_end
   header_end-sound i y e =
-      let (u, colon, e1) = bind_ok (expect m.Colon i) _ y e in
-      let (v, over, e2) = bind_ok (expect m.Newline u.1) _ y e1 in
-      (u.1, v.1, expect_ok m.Colon i u colon, expect_ok m.Newline u.1 v over, opening_ok o.place.may_open (room 0) sounds.fits m.Indent v.1 y e2)
+      passes m.Colon i _ y e (λ after_u colon e1.
+      passes m.Newline after_u _ y e1 (λ after_v over e2.
+      (after_u, after_v, colon, over, opening_ok o.place.may_open (room 0) sounds.fits m.Indent after_v y e2)))
 
   message-sound : (t i : List Tok) (y : MessageDecl × List Tok) → At m.Message t i → message o (sp.line t) i ≡ Ok y → IsMessage room f y.0 t y.1
   unfolding message
   message-sound t i y there e =
-      let (u, name, e1) = bind_ok (word m.Name i) _ y e in
-      let (v, opened, e2) = bind_ok (opening o.place.may_open m.OpenParen u.1) _ y e1 in
-      let (w, read, e3) = bind_ok (closed m.CloseParen o.inner_ty [] v.1) _ y e2 in
-      let (x, over, last) = bind_ok (expect m.Newline w.1) _ y e3 in
+      names i _ y e (λ u after_u name e1.
+      opening_by o.place.may_open (room 0) sounds.fits m.OpenParen after_u _ y e1 (λ after_v opened e2.
+      reads (closed m.CloseParen o.inner_ty [] after_v) _ y e2 (λ w after_w read e3.
+      passes m.Newline after_w _ y e3 (λ after_x over last.
       made (IsMessage room f) t y last
-        (g.IsMessage.message there (word_ok i u name) (opening_ok o.place.may_open (room 0) sounds.fits m.OpenParen u.1 v opened) (all_closed m.CloseParen o.inner_ty (TypeIn room f 1) sounds.types v.1 w read) (expect_ok m.Newline w.1 x over))
+        (g.IsMessage.message there name opened (all_closed m.CloseParen o.inner_ty (TypeIn room f 1) sounds.types after_v (w, after_w) read) over)))))
 
   class-sound : (t i : List Tok) (y : ClassTree × List Tok) → At m.Class t i → class o (sp.line t) i ≡ Ok y → IsClass room f y.0 t y.1
   unfolding class
   class-sound t i y there e =
-      let (u, name, e1) = bind_ok (word m.Name i) _ y e in
-      let (v, extends, e2) = bind_ok (expect m.Extends u.1) _ y e1 in
-      let (w, process, e3) = bind_ok (expect m.Process v.1) _ y e2 in
-      let (x, header, e4) = bind_ok (header_end o w.1) _ y e3 in
-      let (k, read, last) = bind_ok (members o.inside x.1) _ y e4 in
-      let (a, b, colon, over, opened) = header_end-sound w.1 x header in
+      names i _ y e (λ u after_u name e1.
+      passes m.Extends after_u _ y e1 (λ after_v extends e2.
+      passes m.Process after_v _ y e2 (λ after_w process e3.
+      reads (header_end o after_w) _ y e3 (λ x after_x header e4.
+      reads (members o.inside after_x) _ y e4 (λ k after_k read last.
+      let (a, b, colon, over, opened) = header_end-sound after_w (x, after_x) header in
       made (IsClass room f) t y last
-        (g.IsClass.class there (word_ok i u name) (expect_ok m.Extends u.1 v extends) (expect_ok m.Process v.1 w process) colon over opened (sounds.members x.1 k read))
+        (g.IsClass.class there name extends process colon over opened (sounds.members after_x (k, after_k) read)))))))
 
   new_line-sound : (n : List ℕ) (t i : List Tok) (y : MainLine × List Tok) → Named n t i → new_line o n (sp.line t) i ≡ Ok y → IsMline (room 1) (deeper room f 2) y.0 t y.1
   unfolding new_line
   new_line-sound n t i y name e =
-      let (u, is, e1) = bind_ok (expect m.Assign i) _ y e in
-      let (v, new, e2) = bind_ok (expect m.New u.1) _ y e1 in
-      let (w, opened, e3) = bind_ok (opening o.inside.place.may_open m.OpenParen v.1) _ y e2 in
-      let (x, class, e4) = bind_ok (word m.Name w.1) _ y e3 in
-      let (k, many, e5) = bind_ok (count x.1) _ y e4 in
-      let (l, close, e6) = bind_ok (expect m.CloseParen k.1) _ y e5 in
-      let (j, over, last) = bind_ok (expect m.Newline l.1) _ y e6 in
+      passes m.Assign i _ y e (λ after_u is e1.
+      passes m.New after_u _ y e1 (λ after_v new e2.
+      opening_by o.inside.place.may_open (room 1) sounds.inside.fits m.OpenParen after_v _ y e2 (λ after_w opened e3.
+      names after_w _ y e3 (λ x after_x class e4.
+      reads (count after_x) _ y e4 (λ k after_k many e5.
+      passes m.CloseParen after_k _ y e5 (λ after_l close e6.
+      passes m.Newline after_l _ y e6 (λ after_j over last.
       made (IsMline (room 1) (deeper room f 2)) t y last
-        (g.new name (expect_ok m.Assign i u is) (expect_ok m.New u.1 v new) (opening_ok o.inside.place.may_open (room 1) sounds.inside.fits m.OpenParen v.1 w opened) (word_ok w.1 x class) (count-sound x.1 k many) (expect_ok m.CloseParen k.1 l close) (expect_ok m.Newline l.1 j over))
+        (g.new name is new opened class (count-sound after_x (k, after_k) many) close over))))))))
 
   setup_line-sound : (t i : List Tok) (y : MainLine × List Tok) → At m.Setup t i → setup_line o (sp.line t) i ≡ Ok y → IsMline (room 1) (deeper room f 2) y.0 t y.1
   unfolding setup_line
   setup_line-sound t i y there e =
-      let (u, opened, e1) = bind_ok (opening o.inside.place.may_open m.OpenParen i) _ y e in
-      let (v, name, e2) = bind_ok (word m.Name u.1) _ y e1 in
-      let (w, read, e3) = bind_ok (begun m.Comma (argument o) [] v.1) _ y e2 in
-      let (x, close, e4) = bind_ok (expect m.CloseParen w.1) _ y e3 in
-      let (k, over, last) = bind_ok (expect m.Newline x.1) _ y e4 in
+      opening_by o.inside.place.may_open (room 1) sounds.inside.fits m.OpenParen i _ y e (λ after_u opened e1.
+      names after_u _ y e1 (λ v after_v name e2.
+      reads (begun m.Comma (argument o) [] after_v) _ y e2 (λ w after_w read e3.
+      passes m.CloseParen after_w _ y e3 (λ after_x close e4.
+      passes m.Newline after_x _ y e4 (λ after_k over last.
       made (IsMline (room 1) (deeper room f 2)) t y last
-        (g.IsMline.setup there (opening_ok o.inside.place.may_open (room 1) sounds.inside.fits m.OpenParen i u opened) (word_ok u.1 v name)
-          (all_behind m.Comma (o.inside.place.expr level.Disj) (deeper room f 2).disj sounds.inside.disj v.1 w read) (expect_ok m.CloseParen w.1 x close) (expect_ok m.Newline x.1 k over))
+        (g.IsMline.setup there opened name
+          (all_behind m.Comma (o.inside.place.expr level.Disj) (deeper room f 2).disj sounds.inside.disj after_v (w, after_w) read) close over))))))
 
   line_by-sound : (k : Option Mark) (i : List Tok) (y : MainLine × List Tok) → mark i ≡ k → line_by o (sp.line i) k i ≡ Ok y → IsMline (room 1) (deeper room f 2) y.0 i y.1
   line_by-sound (Some m.Name) i y is e = new_line-sound (text i) i (rest i) y (Named-mark i is) e
@@ -169,14 +169,14 @@ module _ (o : Outer) (room : ℕ → Room) (f : ℕ) (sounds : OuterSounds o roo
   main-sound : IsSound (main o) (IsMain room f)
   unfolding main
   main-sound i y e =
-      let (u, def, e1) = bind_ok (expect m.Def i) _ y e in
-      let (v, there, e2) = bind_ok (expect m.Main u.1) _ y e1 in
-      let (w, opened, e3) = bind_ok (opening o.place.may_open m.OpenParen v.1) _ y e2 in
-      let (x, close, e4) = bind_ok (expect m.CloseParen w.1) _ y e3 in
-      let (k, header, e5) = bind_ok (header_end o x.1) _ y e4 in
-      let (a, b, colon, over, begun) = header_end-sound x.1 k header in
-      g.main (expect_ok m.Def i u def) (expect_ok m.Main u.1 v there) (opening_ok o.place.may_open (room 0) sounds.fits m.OpenParen v.1 w opened) (expect_ok m.CloseParen w.1 x close) colon over begun
-        (ended-sound (main_line o) (IsMline (room 1) (deeper room f 2)) main_line-sound k.1 y e5)
+      passes m.Def i _ y e (λ after_u def e1.
+      passes m.Main after_u _ y e1 (λ after_v there e2.
+      opening_by o.place.may_open (room 0) sounds.fits m.OpenParen after_v _ y e2 (λ after_w opened e3.
+      passes m.CloseParen after_w _ y e3 (λ after_x close e4.
+      reads (header_end o after_x) _ y e4 (λ k after_k header e5.
+      let (a, b, colon, over, begun) = header_end-sound after_x (k, after_k) header in
+      g.main def there opened close colon over begun
+        (ended-sound (main_line o) (IsMline (room 1) (deeper room f 2)) main_line-sound after_k y e5))))))
 
   -- a program whose kind, messages and classes so far are known: the further ones are spelled here, then `main`, and nothing is left
   abbrev Rest : ChannelKind → List MessageDecl → List ClassTree → List Tok → Tree × List Tok → Type 0
@@ -186,10 +186,10 @@ module _ (o : Outer) (room : ℕ → Room) (f : ℕ) (sounds : OuterSounds o roo
   program_end-sound : (k : ChannelKind) (xs : List MessageDecl) (cs : List ClassTree) (i : List Tok) (y : Tree × List Tok) → program_end o k xs cs i ≡ Ok y → Rest k xs cs i y
   unfolding program_end
   program_end-sound k xs cs i y e =
-      let (u, read, e1) = bind_ok (main o i) _ y e in
-      let (v, done, last) = bind_ok (finish u.1) _ y e1 in
-      let over : u.1 ≡ [] = finish-sound u.1 v done in
-      ([], [], u.0, i, cc (append-nil xs, append-nil cs), g.no_decl, subst (IsMain room f u.0 i) over (main-sound i u read), cc)
+      reads (main o i) _ y e (λ ls rest_of read e1.
+      reads (finish rest_of) _ y e1 (λ u end done last.
+      let (over, ended_there) = finish-sound rest_of (u, end) done in
+      ([], [], ls, i, cc (append-nil xs, append-nil cs), g.no_decl, subst (IsMain room f ls i) over (main-sound i (ls, rest_of) read), sym (ap left last) ∙ ended_there)))
 
 module _ (o : Outer) (room : ℕ → Room) (f : ℕ) (sounds : OuterSounds o room f) (k : ChannelKind) where
   -- one step, where the steps after it are sound
@@ -197,15 +197,15 @@ module _ (o : Outer) (room : ℕ → Room) (f : ℕ) (sounds : OuterSounds o roo
       (next : (xs : List MessageDecl) (cs : List ClassTree) (i : List Tok) (y : Tree × List Tok) → go_on xs cs i ≡ Ok y → Rest o room f sounds k xs cs i y)
       (xs : List MessageDecl) (cs : List ClassTree) (b : Option Mark) (i : List Tok) (y : Tree × List Tok) → mark i ≡ b → decls_by o k go_on xs cs b i ≡ Ok y → Rest o room f sounds k xs cs i y
   decls_by-sound go_on next xs cs (Some m.Message) i y is e =
-      let (u, read, e1) = bind_ok (message o (reader.line i) (rest i)) _ y e in
-      let x = message-sound o room f sounds i (rest i) u (At-mark m.Message i is) (subst (λ at. message o at (rest i) ≡ Ok u) (same_line i) read) in
-      let (ms, ds, ls, r, whole, ones, end, over) = next (xs ++ u.0 ∷ []) cs u.1 y e1 in
-      (u.0 ∷ ms, ds, ls, r, whole ∙ ap (λ z. record { kind = k; messages = z; classes = cs ++ ds; main = ls }) (append_assoc xs (u.0 ∷ []) ms), g.IsDecls.message x ones, end, over)
+      reads (message o (reader.line i) (rest i)) _ y e (λ u after_u read e1.
+      let x = message-sound o room f sounds i (rest i) (u, after_u) (At-mark m.Message i is) (subst (λ at. message o at (rest i) ≡ Ok (u, after_u)) (same_line i) read) in
+      let (ms, ds, ls, r, whole, ones, end, over) = next (xs ++ u ∷ []) cs after_u y e1 in
+      (u ∷ ms, ds, ls, r, whole ∙ ap (λ z. record { kind = k; messages = z; classes = cs ++ ds; main = ls }) (append_assoc xs (u ∷ []) ms), g.IsDecls.message x ones, end, over))
   decls_by-sound go_on next xs cs (Some m.Class) i y is e =
-      let (u, read, e1) = bind_ok (class o (reader.line i) (rest i)) _ y e in
-      let c = class-sound o room f sounds i (rest i) u (At-mark m.Class i is) (subst (λ at. class o at (rest i) ≡ Ok u) (same_line i) read) in
-      let (ms, ds, ls, r, whole, ones, end, over) = next xs (cs ++ u.0 ∷ []) u.1 y e1 in
-      (ms, u.0 ∷ ds, ls, r, whole ∙ ap (λ z. record { kind = k; messages = xs ++ ms; classes = z; main = ls }) (append_assoc cs (u.0 ∷ []) ds), g.IsDecls.class c ones, end, over)
+      reads (class o (reader.line i) (rest i)) _ y e (λ u after_u read e1.
+      let c = class-sound o room f sounds i (rest i) (u, after_u) (At-mark m.Class i is) (subst (λ at. class o at (rest i) ≡ Ok (u, after_u)) (same_line i) read) in
+      let (ms, ds, ls, r, whole, ones, end, over) = next xs (cs ++ u ∷ []) after_u y e1 in
+      (ms, u ∷ ds, ls, r, whole ∙ ap (λ z. record { kind = k; messages = xs ++ ms; classes = z; main = ls }) (append_assoc cs (u ∷ []) ds), g.IsDecls.class c ones, end, over))
   decls_by-sound go_on next xs cs _ i y is e = program_end-sound o room f sounds k xs cs i y e
 
   decls_from-sound : (n : ℕ) (xs : List MessageDecl) (cs : List ClassTree) (i : List Tok) (y : Tree × List Tok) → decls_from o k n xs cs i ≡ Ok y → Rest o room f sounds k xs cs i y
@@ -217,9 +217,9 @@ module _ (o : Outer) (room : ℕ → Room) (f : ℕ) (sounds : OuterSounds o roo
 pub program-sound : (o : Outer) (room : ℕ → Room) (f : ℕ) → OuterSounds o room f → (i : List Tok) (y : Tree × List Tok) → program o i ≡ Ok y → IsProgram room f y.0 i × (y.1 ≡ [])
 unfolding program decls
 program-sound o room f sounds i y e =
-    let (u, read, e1) = bind_ok (kind i) _ y e in
-    let (ms, ds, ls, r, whole, ones, end, over) = decls_from-sound o room f sounds u.0 (length u.1) [] [] u.1 y e1 in
-    (subst (λ z. IsProgram room f z i) (sym whole) (g.program (kind-sound i u read) ones end), over)
+    reads (kind i) _ y e (λ u after_u read e1.
+    let (ms, ds, ls, r, whole, ones, end, over) = decls_from-sound o room f sounds u (length after_u) [] [] after_u y e1 in
+    (subst (λ z. IsProgram room f z i) (sym whole) (g.program (kind-sound i (u, after_u) read) ones end), over))
 
 -- by a rule of how many things may be open, which allows no more than that of the grammar
 module _ (limit : Limit) (room : ℕ → Room) (fits : (d : ℕ) (t : List Tok) → limit d (length t) ≡ true → room d t) where
@@ -238,12 +238,3 @@ module _ (limit : Limit) (room : ℕ → Room) (fits : (d : ℕ) (t : List Tok) 
 pub outermost_is : outermost ≡ outer_in at_most_32 32
 unfolding at_depth type_at type_below block_at body_below
 outermost_is = refl
-
--- what the reader of the code reads is spelled so, with at most 32 things open
-pub outermost-sound : (i : List Tok) (y : Tree × List Tok) → program outermost i ≡ Ok y → IsProgram (λ d t. d < 32) 33 y.0 i × (y.1 ≡ [])
-outermost-sound i y e =
-    program_in-sound at_most_32 (λ d t. d < 32) (λ d t h. grind (arith, nat_tests, h)) 32 33 (omega arith) (omega arith) i y (subst (λ o. program o i ≡ Ok y) outermost_is e)
-
--- the same, whatever the grammar allows to be open
-pub outermost_spells : (i : List Tok) (y : Tree × List Tok) → program outermost i ≡ Ok y → IsProgram (λ d t. Unit {0}) 32 y.0 i
-outermost_spells i y e = (program_in-sound at_most_32 (λ d t. Unit {0}) (λ d t h. tt) 32 32 (omega arith) (omega arith) i y (subst (λ o. program o i ≡ Ok y) outermost_is e)).0

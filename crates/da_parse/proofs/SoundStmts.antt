@@ -22,7 +22,7 @@ use Rattle.da_parse.specs.Place.{Limit, Place, opening}
 use Rattle.da_parse.specs.Exprs.{place, expression}
 use Rattle.da_parse.specs.Stmts.{branch_of, in_parens, behind_paren, arguments, assigned, changed, called, named, sending, output, passing, label, simple_by, block, block_behind_colon, branch, otherwise, timeout, conditional, while_loop, for_loop, alternatives, awaiting, stmt_by, stmt, stmts, bodies}
 use Rattle.da_parse.proofs.Steps.{bind_ok, chosen, eat_ok, expect_ok, word_ok, opening_ok, At-mark, Named-mark}
-use Rattle.da_parse.proofs.SoundSteps.{made}
+use Rattle.da_parse.proofs.SoundSteps.{reads, made, passes, names, opening_by}
 use Rattle.da_parse.proofs.SoundPlaces.{places-sound, expression_there-sound}
 use Rattle.da_parse.proofs.ListSound.{IsSoundAt, all_closed, begun-sound, ended-sound}
 use Rattle.da_parse.proofs.Laws.{IsSound, Sounds}
@@ -41,50 +41,50 @@ module _ (p : Place) (room : Room) (deep : Deeper) (sounds : Sounds p room deep)
       → (r : List Tok) × (s : List Tok) × Opens m.OpenParen room i r × deep.expr y.0 r s × At m.CloseParen s y.1
   unfolding in_parens
   in_parens-sound i y e =
-      let (a, opened, e1) = bind_ok (opening p.may_open m.OpenParen i) _ y e in
-      let (b, read, e2) = bind_ok (p.expr level.Expr a.1) _ y e1 in
-      let (c, passed, last) = bind_ok (expect m.CloseParen b.1) _ y e2 in
+      opening_by p.may_open room sounds.fits m.OpenParen i _ y e (λ after_a opened e1.
+      reads (p.expr level.Expr after_a) _ y e1 (λ b after_b read e2.
+      passes m.CloseParen after_b _ y e2 (λ after_c passed last.
       subst (λ (z : Expr × List Tok). (r : List Tok) × (s : List Tok) × Opens m.OpenParen room i r × deep.expr z.0 r s × At m.CloseParen s z.1) (cc)
-        (a.1, b.1, opening_ok p.may_open room sounds.fits m.OpenParen i a opened, sounds.expr a.1 b read, expect_ok m.CloseParen b.1 c passed)
+        (after_a, after_b, opened, sounds.expr after_a (b, after_b) read, passed))))
 
 module _ (p : Place) (room : Room) (deep : Deeper) (sounds : Sounds p room deep) (expression_sound : IsSound (expression p) (IsExpr room deep)) (Body : Spelling (List Stmt)) where
   assigned-sound : (b : List ℕ) (t s i : List Tok) (y : Stmt × List Tok) → Named b t s → At m.Assign s i → assigned p b (sp.line t) i ≡ Ok y → IsStmt room deep Body y.0 t y.1
   unfolding assigned
   assigned-sound b t s i y name is e =
-      let (u, read, e1) = bind_ok (expression p i) _ y e in
-      let (v, over, last) = bind_ok (expect m.Newline u.1) _ y e1 in
-      made (IsStmt room deep Body) t y last (g.assign name is (expression_sound i u read) (expect_ok m.Newline u.1 v over))
+      reads (expression p i) _ y e (λ u after_u read e1.
+      passes m.Newline after_u _ y e1 (λ after_v over last.
+      made (IsStmt room deep Body) t y last (g.assign name is (expression_sound i (u, after_u) read) over)))
 
   changed-sound : (b : List ℕ) (t s i : List Tok) (y : Stmt × List Tok) → Named b t s → At m.Dot s i → changed p b (sp.line t) i ≡ Ok y → IsStmt room deep Body y.0 t y.1
   unfolding changed
   changed-sound b t s i y name dot e = elim (eat_ok m.Add (in_parens p >>= λ x. expect m.Newline >> pure (stmt_tree.Add b x (sp.line t))) (expect m.Del >> (in_parens p >>= λ x. expect m.Newline >> pure (stmt_tree.Del b x (sp.line t)))) i y e) [
     | inl h ↦ (
       let (r, adds, e1) = h in
-      let (u, read, e2) = bind_ok (in_parens p r) _ y e1 in
-      let (v, over, last) = bind_ok (expect m.Newline u.1) _ y e2 in
-      let (c, d, opened, x, close) = in_parens-sound p room deep sounds r u read in
-      made (IsStmt room deep Body) t y last (g.add name dot adds opened x close (expect_ok m.Newline u.1 v over)))
+      reads (in_parens p r) _ y e1 (λ u after_u read e2.
+      passes m.Newline after_u _ y e2 (λ after_v over last.
+      let (c, d, opened, x, close) = in_parens-sound p room deep sounds r (u, after_u) read in
+      made (IsStmt room deep Body) t y last (g.add name dot adds opened x close over))))
     | inr h ↦ (
-      let (w, dels, e1) = bind_ok (expect m.Del i) _ y h.1 in
-      let (u, read, e2) = bind_ok (in_parens p w.1) _ y e1 in
-      let (v, over, last) = bind_ok (expect m.Newline u.1) _ y e2 in
-      let (c, d, opened, x, close) = in_parens-sound p room deep sounds w.1 u read in
-      made (IsStmt room deep Body) t y last (g.remove name dot (expect_ok m.Del i w dels) opened x close (expect_ok m.Newline u.1 v over)))
+      passes m.Del i _ y h.1 (λ after_w dels e1.
+      reads (in_parens p after_w) _ y e1 (λ u after_u read e2.
+      passes m.Newline after_u _ y e2 (λ after_v over last.
+      let (c, d, opened, x, close) = in_parens-sound p room deep sounds after_w (u, after_u) read in
+      made (IsStmt room deep Body) t y last (g.remove name dot dels opened x close over)))))
   ]
 
   arguments-sound : (i : List Tok) (y : List Expr × List Tok) → arguments p i ≡ Ok y → (r : List Tok) × Opens m.OpenParen room i r × Closed m.CloseParen deep.disj y.0 r y.1
   unfolding arguments
   arguments-sound i y e =
-      let (u, opened, e1) = bind_ok (opening p.may_open m.OpenParen i) _ y e in
-      (u.1, opening_ok p.may_open room sounds.fits m.OpenParen i u opened, all_closed m.CloseParen (p.expr level.Disj) deep.disj sounds.disj u.1 y e1)
+      opening_by p.may_open room sounds.fits m.OpenParen i _ y e (λ after_u opened e1.
+      (after_u, opened, all_closed m.CloseParen (p.expr level.Disj) deep.disj sounds.disj after_u y e1))
 
   called-sound : (b : List ℕ) (t i : List Tok) (y : Stmt × List Tok) → Named b t i → called p b (sp.line t) i ≡ Ok y → IsStmt room deep Body y.0 t y.1
   unfolding called
   called-sound b t i y name e =
-      let (u, read, e1) = bind_ok (arguments p i) _ y e in
-      let (v, over, last) = bind_ok (expect m.Newline u.1) _ y e1 in
-      let (r, opened, xs) = arguments-sound i u read in
-      made (IsStmt room deep Body) t y last (g.call name opened xs (expect_ok m.Newline u.1 v over))
+      reads (arguments p i) _ y e (λ u after_u read e1.
+      passes m.Newline after_u _ y e1 (λ after_v over last.
+      let (r, opened, xs) = arguments-sound i (u, after_u) read in
+      made (IsStmt room deep Body) t y last (g.call name opened xs over)))
 
   named-sound : (b : List ℕ) (t i : List Tok) (y : Stmt × List Tok) → Named b t i → named p b (sp.line t) i ≡ Ok y → IsStmt room deep Body y.0 t y.1
   unfolding named
@@ -99,32 +99,32 @@ module _ (p : Place) (room : Room) (deep : Deeper) (sounds : Sounds p room deep)
   sending-sound : (t i : List Tok) (y : Stmt × List Tok) → At m.Send t i → sending p (sp.line t) i ≡ Ok y → IsStmt room deep Body y.0 t y.1
   unfolding sending
   sending-sound t i y there e =
-      let (a, read, e1) = bind_ok (expression p i) _ y e in
-      let (b, to, e2) = bind_ok (expect m.To a.1) _ y e1 in
-      let (c, other, e3) = bind_ok (expression p b.1) _ y e2 in
-      let (d, over, last) = bind_ok (expect m.Newline c.1) _ y e3 in
-      made (IsStmt room deep Body) t y last (g.send there (expression_sound i a read) (expect_ok m.To a.1 b to) (expression_sound b.1 c other) (expect_ok m.Newline c.1 d over))
+      reads (expression p i) _ y e (λ a after_a read e1.
+      passes m.To after_a _ y e1 (λ after_b to e2.
+      reads (expression p after_b) _ y e2 (λ c after_c other e3.
+      passes m.Newline after_c _ y e3 (λ after_d over last.
+      made (IsStmt room deep Body) t y last (g.send there (expression_sound i (a, after_a) read) to (expression_sound after_b (c, after_c) other) over)))))
 
   output-sound : (t i : List Tok) (y : Stmt × List Tok) → At m.Output t i → output p (sp.line t) i ≡ Ok y → IsStmt room deep Body y.0 t y.1
   unfolding output
   output-sound t i y there e =
-      let (u, read, e1) = bind_ok (in_parens p i) _ y e in
-      let (v, over, last) = bind_ok (expect m.Newline u.1) _ y e1 in
-      let (c, d, opened, x, close) = in_parens-sound p room deep sounds i u read in
-      made (IsStmt room deep Body) t y last (g.output there opened x close (expect_ok m.Newline u.1 v over))
+      reads (in_parens p i) _ y e (λ u after_u read e1.
+      passes m.Newline after_u _ y e1 (λ after_v over last.
+      let (c, d, opened, x, close) = in_parens-sound p room deep sounds i (u, after_u) read in
+      made (IsStmt room deep Body) t y last (g.output there opened x close over)))
 
   passing-sound : (t i : List Tok) (y : Stmt × List Tok) → At m.Pass t i → passing (sp.line t) i ≡ Ok y → IsStmt room deep Body y.0 t y.1
   unfolding passing
   passing-sound t i y there e =
-      let (v, over, last) = bind_ok (expect m.Newline i) _ y e in
-      made (IsStmt room deep Body) t y last (g.pass there (expect_ok m.Newline i v over))
+      passes m.Newline i _ y e (λ after_v over last.
+      made (IsStmt room deep Body) t y last (g.pass there over))
 
   label-sound : (t i : List Tok) (y : Stmt × List Tok) → At m.Dashes t i → label (sp.line t) i ≡ Ok y → IsStmt room deep Body y.0 t y.1
   unfolding label
   label-sound t i y there e =
-      let (u, read, e1) = bind_ok (word m.Name i) _ y e in
-      let (v, over, last) = bind_ok (expect m.Newline u.1) _ y e1 in
-      made (IsStmt room deep Body) t y last (g.label there (word_ok i u read) (expect_ok m.Newline u.1 v over))
+      names i _ y e (λ u after_u read e1.
+      passes m.Newline after_u _ y e1 (λ after_v over last.
+      made (IsStmt room deep Body) t y last (g.label there read over)))
 
   simple_by-sound : (k : Option Mark) (i : List Tok) (y : Stmt × List Tok) → mark i ≡ k → simple_by p (sp.line i) k i ≡ Ok y → IsStmt room deep Body y.0 i y.1
   simple_by-sound (Some m.Name) i y is e = named-sound (text i) i (rest i) y (Named-mark i is) e
@@ -139,32 +139,32 @@ module _ (p : Place) (room : Room) (deep : Deeper) (sounds : Sounds p room deep)
   pub block-sound : IsSound (block p body) (IsBlock room deep Body)
   unfolding block
   block-sound i y e =
-      let (u, over, e1) = bind_ok (expect m.Newline i) _ y e in
-      let (v, opened, e2) = bind_ok (opening p.may_open m.Indent u.1) _ y e1 in
-      g.block (expect_ok m.Newline i u over) (opening_ok p.may_open room sounds.fits m.Indent u.1 v opened) (body_sound v.1 y e2)
+      passes m.Newline i _ y e (λ after_u over e1.
+      opening_by p.may_open room sounds.fits m.Indent after_u _ y e1 (λ after_v opened e2.
+      g.block over opened (body_sound after_v y e2)))
 
   pub block_behind_colon-sound : IsSound (block_behind_colon p body) (BehindColon (IsBlock room deep Body))
   unfolding block_behind_colon
   block_behind_colon-sound i y e =
-      let (u, colon, e1) = bind_ok (expect m.Colon i) _ y e in
-      (u.1, expect_ok m.Colon i u colon, block-sound u.1 y e1)
+      passes m.Colon i _ y e (λ after_u colon e1.
+      (after_u, colon, block-sound after_u y e1))
 
   branch-sound : (k : Mark) → IsSoundAt k (branch p body) (IsBranch room deep Body k)
   unfolding branch
   branch-sound k i y there e =
-      let (u, read, e1) = bind_ok (expression p (rest i)) _ y e in
-      let (v, does, last) = bind_ok (block_behind_colon p body u.1) _ y e1 in
-      let (r, colon, b) = block_behind_colon-sound u.1 v does in
-      subst (λ (z : Branch × List Tok). IsBranch room deep Body k z.0 i z.1) (cc (same_line i)) (g.branch there (expression_sound (rest i) u read) colon b)
+      reads (expression p (rest i)) _ y e (λ u after_u read e1.
+      reads (block_behind_colon p body after_u) _ y e1 (λ v after_v does last.
+      let (r, colon, b) = block_behind_colon-sound after_u (v, after_v) does in
+      subst (λ (z : Branch × List Tok). IsBranch room deep Body k z.0 i z.1) (cc (same_line i)) (g.branch there (expression_sound (rest i) (u, after_u) read) colon b)))
 
   otherwise-sound : IsSound (otherwise p body) (IsElse room deep Body)
   unfolding otherwise
   otherwise-sound i y e = elim (eat_ok m.Else (block_behind_colon p body >>= λ b. pure (Some b)) (pure None) i y e) [
     | inl h ↦ (
       let (r, there, e1) = h in
-      let (u, read, last) = bind_ok (block_behind_colon p body r) _ y e1 in
-      let (s, colon, b) = block_behind_colon-sound r u read in
-      made (IsElse room deep Body) i y last (g.otherwise there colon b))
+      reads (block_behind_colon p body r) _ y e1 (λ u after_u read last.
+      let (s, colon, b) = block_behind_colon-sound r (u, after_u) read in
+      made (IsElse room deep Body) i y last (g.otherwise there colon b)))
     | inr h ↦ made (IsElse room deep Body) i y h.1 g.no_else
   ]
 
@@ -173,58 +173,58 @@ module _ (p : Place) (room : Room) (deep : Deeper) (sounds : Sounds p room deep)
   timeout-sound i y e = elim (eat_ok m.Timeout (block_behind_colon p body >>= λ b. pure (Some (roll-TimeoutTree (record { body = b; line = reader.line i })))) (pure None) i y e) [
     | inl h ↦ (
       let (r, there, e1) = h in
-      let (u, read, last) = bind_ok (block_behind_colon p body r) _ y e1 in
-      let (s, colon, b) = block_behind_colon-sound r u read in
-      subst (λ (z : Option TimeoutTree × List Tok). IsTimeout room deep Body z.0 i z.1) (cc (same_line i)) (g.timeout there colon b))
+      reads (block_behind_colon p body r) _ y e1 (λ u after_u read last.
+      let (s, colon, b) = block_behind_colon-sound r (u, after_u) read in
+      subst (λ (z : Option TimeoutTree × List Tok). IsTimeout room deep Body z.0 i z.1) (cc (same_line i)) (g.timeout there colon b)))
     | inr h ↦ made (IsTimeout room deep Body) i y h.1 g.no_timeout
   ]
 
   conditional-sound : (i : List Tok) (y : Stmt × List Tok) → At m.If i (rest i) → conditional p body (sp.line i) i ≡ Ok y → IsStmt room deep Body y.0 i y.1
   unfolding conditional
   conditional-sound i y there e =
-      let (u, read, e1) = bind_ok (branch p body i) _ y e in
-      let (v, others, e2) = bind_ok (begun m.Elif (branch p body) (u.0 ∷ []) u.1) _ y e1 in
-      let (w, other, last) = bind_ok (otherwise p body v.1) _ y e2 in
-      let (bs, is, spelled) = begun-sound m.Elif (branch p body) (IsBranch room deep Body m.Elif) (branch-sound m.Elif) (u.0 ∷ []) u.1 v others in
-      subst (λ (z : Stmt × List Tok). IsStmt room deep Body z.0 i z.1) (cc) (g.conditional (branch-sound m.If i u there read) spelled (otherwise-sound v.1 w other))
+      reads (branch p body i) _ y e (λ u after_u read e1.
+      reads (begun m.Elif (branch p body) (u ∷ []) after_u) _ y e1 (λ v after_v others e2.
+      reads (otherwise p body after_v) _ y e2 (λ w after_w other last.
+      let (bs, is, spelled) = begun-sound m.Elif (branch p body) (IsBranch room deep Body m.Elif) (branch-sound m.Elif) (u ∷ []) after_u (v, after_v) others in
+      subst (λ (z : Stmt × List Tok). IsStmt room deep Body z.0 i z.1) (cc) (g.conditional (branch-sound m.If i (u, after_u) there read) spelled (otherwise-sound after_v (w, after_w) other)))))
 
   while_loop-sound : (t i : List Tok) (y : Stmt × List Tok) → At m.While t i → while_loop p body (sp.line t) i ≡ Ok y → IsStmt room deep Body y.0 t y.1
   unfolding while_loop
   while_loop-sound t i y there e =
-      let (u, read, e1) = bind_ok (expression p i) _ y e in
-      let (v, does, last) = bind_ok (block_behind_colon p body u.1) _ y e1 in
-      let (r, colon, b) = block_behind_colon-sound u.1 v does in
-      made (IsStmt room deep Body) t y last (g.while there (expression_sound i u read) colon b)
+      reads (expression p i) _ y e (λ u after_u read e1.
+      reads (block_behind_colon p body after_u) _ y e1 (λ v after_v does last.
+      let (r, colon, b) = block_behind_colon-sound after_u (v, after_v) does in
+      made (IsStmt room deep Body) t y last (g.while there (expression_sound i (u, after_u) read) colon b)))
 
   for_loop-sound : (t i : List Tok) (y : Stmt × List Tok) → At m.For t i → for_loop p body (sp.line t) i ≡ Ok y → IsStmt room deep Body y.0 t y.1
   unfolding for_loop
   for_loop-sound t i y there e =
-      let (u, name, e1) = bind_ok (word m.Name i) _ y e in
-      let (v, goes, e2) = bind_ok (expect m.In u.1) _ y e1 in
-      let (w, read, e3) = bind_ok (expression p v.1) _ y e2 in
-      let (x, does, last) = bind_ok (block_behind_colon p body w.1) _ y e3 in
-      let (r, colon, b) = block_behind_colon-sound w.1 x does in
-      made (IsStmt room deep Body) t y last (g.for there (word_ok i u name) (expect_ok m.In u.1 v goes) (expression_sound v.1 w read) colon b)
+      names i _ y e (λ u after_u name e1.
+      passes m.In after_u _ y e1 (λ after_v goes e2.
+      reads (expression p after_v) _ y e2 (λ w after_w read e3.
+      reads (block_behind_colon p body after_w) _ y e3 (λ x after_x does last.
+      let (r, colon, b) = block_behind_colon-sound after_w (x, after_x) does in
+      made (IsStmt room deep Body) t y last (g.for there name goes (expression_sound after_v (w, after_w) read) colon b)))))
 
   alternatives-sound : (x : Expr) (t s i : List Tok) (y : Stmt × List Tok) → At m.Await t s → IsExpr room deep x s i → alternatives p body x (sp.line t) i ≡ Ok y → IsStmt room deep Body y.0 t y.1
   unfolding alternatives
   alternatives-sound x t s i y there cond e =
-      let (u, does, e1) = bind_ok (block_behind_colon p body i) _ y e in
-      let (v, others, e2) = bind_ok (begun m.Or (branch p body) (branch_of x u.0 (sp.line t) ∷ []) u.1) _ y e1 in
-      let (w, over, last) = bind_ok (timeout p body v.1) _ y e2 in
-      let (r, colon, b) = block_behind_colon-sound i u does in
-      let (bs, is, spelled) = begun-sound m.Or (branch p body) (IsBranch room deep Body m.Or) (branch-sound m.Or) (branch_of x u.0 (sp.line t) ∷ []) u.1 v others in
-      subst (λ (z : Stmt × List Tok). IsStmt room deep Body z.0 t z.1) (cc) (g.await (g.branch there cond colon b) spelled (timeout-sound v.1 w over))
+      reads (block_behind_colon p body i) _ y e (λ u after_u does e1.
+      reads (begun m.Or (branch p body) (branch_of x u (sp.line t) ∷ []) after_u) _ y e1 (λ v after_v others e2.
+      reads (timeout p body after_v) _ y e2 (λ w after_w over last.
+      let (r, colon, b) = block_behind_colon-sound i (u, after_u) does in
+      let (bs, is, spelled) = begun-sound m.Or (branch p body) (IsBranch room deep Body m.Or) (branch-sound m.Or) (branch_of x u (sp.line t) ∷ []) after_u (v, after_v) others in
+      subst (λ (z : Stmt × List Tok). IsStmt room deep Body z.0 t z.1) (cc) (g.await (g.branch there cond colon b) spelled (timeout-sound after_v (w, after_w) over)))))
 
   awaiting-sound : (t i : List Tok) (y : Stmt × List Tok) → At m.Await t i → awaiting p body (sp.line t) i ≡ Ok y → IsStmt room deep Body y.0 t y.1
   unfolding awaiting
   awaiting-sound t i y there e =
-      let (u, read, e1) = bind_ok (expression p i) _ y e in
-      let x = expression_sound i u read in
-      elim (eat_ok m.Newline (pure (stmt_tree.AwaitOne u.0 (sp.line t))) (alternatives p body u.0 (sp.line t)) u.1 y e1) [
+      reads (expression p i) _ y e (λ u after_u read e1.
+      let x = expression_sound i (u, after_u) read in
+      elim (eat_ok m.Newline (pure (stmt_tree.AwaitOne u (sp.line t))) (alternatives p body u (sp.line t)) after_u y e1) [
         | inl h ↦ made (IsStmt room deep Body) t y h.2 (g.await_one there x h.1)
-        | inr h ↦ alternatives-sound u.0 t i u.1 y there x h.1
-      ]
+        | inr h ↦ alternatives-sound u t i after_u y there x h.1
+      ])
 
   stmt_by-sound : (k : Option Mark) (i : List Tok) (y : Stmt × List Tok) → mark i ≡ k → stmt_by p body (sp.line i) k i ≡ Ok y → IsStmt room deep Body y.0 i y.1
   stmt_by-sound (Some m.If) i y is e = conditional-sound i y (At-mark m.If i is) e

@@ -1,8 +1,11 @@
 //! The whole text.
-ghost use Rattle.std.specs.Prelude.{◌≡◌, ℕ, List, IfErr};
+ghost use Rattle.std.specs.Prelude.{◌≡◌, ℕ, List, Ok, IfErr, IfOk, MatchResult};
 ghost use Rattle.std.specs.List.{All};
 ghost use Rattle.da_values.specs.Marks.{toks};
 ghost use Rattle.da_values.specs.TokenFacts.{IsOnLine};
+ghost use Rattle.da_values.specs.Tokens.{tokens as tokens_of};
+ghost use Rattle.da_lang.specs.Grammar.{Spells, SpellsWithin};
+ghost use Rattle.da_lang.specs.declared.tree.Tree.{Tree};
 ghost use Rattle.da_parse.specs.Parse as spec;
 ghost use Rattle.da_parse.specs.Parse.{Answers, IsLineOf, NamesLine};
 
@@ -41,11 +44,9 @@ fn line_at(tokens: &[Token], left: usize) -> u32
     }
 }
 
-/// The tree that the tokens of a text spell. Otherwise the answer is the first token with which the tokens before it
-/// begin no program, or which opens one thing too many, by its line; the end of the text counts as a last token. Where
-/// each token stands on a line of its text, as those of `lex` do, so does the fault.
+// What the reader answers.
 #[tactic(auto, unfolding(crate::specs::Parse::parsed))]
-pub fn parse(alloc: Global, tokens: &Tokens<'_>) -> Result<Tree, ParseFault>
+fn read_tree(alloc: Global, tokens: &Tokens<'_>) -> Result<Tree, ParseFault>
     ensures answer { Answers result (spec.parsed (toks tokens.now.text.now tokens.now.list)) }
     ensures line { IfErr result (λ fault. All (IsOnLine tokens.now.text.now) tokens.now.list → NamesLine tokens.now.text.now fault) }
 {
@@ -60,4 +61,25 @@ pub fn parse(alloc: Global, tokens: &Tokens<'_>) -> Result<Tree, ParseFault>
             line: line_at(list, left),
         }),
     }
+}
+
+/// The tree that the tokens of a text spell, if they spell one in which no more than 32 things are open at once; there is
+/// one such tree. Otherwise the answer is the first token with which the tokens before it begin no program, or which
+/// opens one thing too many, by its line; the end of the text counts as a last token.
+pub fn parse(alloc: Global, tokens: &Tokens<'_>) -> Result<Tree, ParseFault>
+    // What is read is spelled so, where the tokens are those of their text.
+    ensures spelled { tokens_of tokens.now.text.now ≡ Ok tokens.now.list → IfOk result (λ tree. SpellsWithin 32 tree (toks tokens.now.text.now tokens.now.list)) }
+
+    // What is spelled so is read, or memory was refused.
+    ensures only { (tree : Tree) → SpellsWithin 32 tree (toks tokens.now.text.now tokens.now.list)
+        → MatchResult result (λ found. found ≡ tree) (λ fault. fault ≡ ParseFault.Memory) }
+
+    // No tokens spell two trees, however many things are open.
+    ensures one { (tree other : Tree) → Spells tree (toks tokens.now.text.now tokens.now.list) → Spells other (toks tokens.now.text.now tokens.now.list) → tree ≡ other }
+
+    // The answer is that of the reader, and a fault is on a line of the text.
+    ensures answer { Answers result (spec.parsed (toks tokens.now.text.now tokens.now.list)) }
+    ensures line { IfErr result (λ fault. All (IsOnLine tokens.now.text.now) tokens.now.list → NamesLine tokens.now.text.now fault) }
+{
+    read_tree(alloc, tokens)
 }

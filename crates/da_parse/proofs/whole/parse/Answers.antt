@@ -1,0 +1,12 @@
+use Rattle.da_parse.proofs.ParseLaws.{spelled_law, only_law}
+use Rattle.da_parse.proofs.WholePrograms.{Spells_unique}
+use Rattle.da_parse.proofs.whole.parse.Goals as goal
+
+pub returns-clause-spelled : goal.returns-clause-spelled
+returns-clause-spelled c = λ lexed. spelled_law _ _ _ c.read_tree.ensures.answer lexed
+
+pub returns-clause-only : goal.returns-clause-only
+returns-clause-only c = λ tree spells. only_law _ _ tree c.read_tree.ensures.answer spells
+
+pub returns-clause-one : goal.returns-clause-one
+returns-clause-one c = λ tree other spelled also. Spells_unique tree other _ spelled also
