@@ -104,8 +104,8 @@ module _ (p : Place) (room : Room) (deep : Deeper) (shrinking : Shrinking deep) 
   unfolding grouped
   tuple-complete there some {x} {xs} {i = i} a h l =
       ap (λ k. grouped_by p k i) (not_quantified (mark i) (beginning.disj _ _ _ a))
-        ∙ rw (c.disj there some _ _ _ a (next-At goes_on_disj h))
-          (eat_is _ _ h ∙ rw (closed-complete (c.disj there some) shrinking.disj m.CloseParen begins_disj beginning.disj refl refl (λ j z e. next-At goes_on_disj e) (λ j z e. next-At goes_on_disj e) (x ∷ []) xs _ _ l) refl)
+      ∙ rw (c.disj there some _ _ _ a (next-At goes_on_disj h))
+      (eat_is _ _ h ∙ rw (closed-complete (c.disj there some) shrinking.disj m.CloseParen begins_disj beginning.disj refl refl (λ j z e. next-At goes_on_disj e) (λ j z e. next-At goes_on_disj e) (x ∷ []) xs _ _ l) refl)
 
   -- nothing that stands in braces begins with their end
   not_over : {x : Expr} {i r : List Tok} → deep.disj x i r → sees m.CloseBrace i ≡ false
@@ -116,11 +116,11 @@ module _ (p : Place) (room : Room) (deep : Deeper) (shrinking : Shrinking deep) 
   set_of-complete there some (Closed.empty h) = eat_is _ _ h
   set_of-complete there some (Closed.full (Separated.last a) h) =
       eat_not m.CloseBrace _ _ (not_over a)
-        ∙ rw (c.disj there some _ _ _ a (next-At goes_on_disj h)) (eat_not m.Colon _ _ (not_seen m.Colon h refl) ∙ eat_not m.Comma _ _ (not_seen m.Comma h refl) ∙ rw (expect_is h) refl)
+      ∙ rw (c.disj there some _ _ _ a (next-At goes_on_disj h)) (eat_not m.Colon _ _ (not_seen m.Colon h refl) ∙ eat_not m.Comma _ _ (not_seen m.Comma h refl) ∙ rw (expect_is h) refl)
   set_of-complete there some (Closed.full (Separated.more {x} {xs} a b l) h) =
       eat_not m.CloseBrace _ _ (not_over a)
-        ∙ rw (c.disj there some _ _ _ a (next-At goes_on_disj b)) (eat_not m.Colon _ _ (not_seen m.Colon b refl)
-          ∙ eat_is _ _ b ∙ rw (separated-complete (c.disj there some) shrinking.disj m.Comma (λ j z e. next-At goes_on_disj e) (x ∷ []) xs _ _ l (next-At goes_on_disj h) (not_seen m.Comma h refl), expect_is h) refl)
+      ∙ rw (c.disj there some _ _ _ a (next-At goes_on_disj b)) (eat_not m.Colon _ _ (not_seen m.Colon b refl)
+      ∙ eat_is _ _ b ∙ rw (separated-complete (c.disj there some) shrinking.disj m.Comma (λ j z e. next-At goes_on_disj e) (x ∷ []) xs _ _ l (next-At goes_on_disj h) (not_seen m.Comma h refl), expect_is h) refl)
 
   comprehension-complete : (there : List Tok) (some : room there) {x : Expr} {gs : List GenTree} {o : Option Expr} {i r s q z a : List Tok}
       → deep.disj x i r → At m.Colon r s → IsGens deep.pattern gs s q → IsCond deep.expr o q z → At m.CloseBrace z a → braced p i ≡ Ok (ex.Comp x gs o, a)
@@ -128,7 +128,7 @@ module _ (p : Place) (room : Room) (deep : Deeper) (shrinking : Shrinking deep) 
   comprehension-complete there some {x} {gs} {o} a h l b e =
       let s = next-At goes_on_expr e in
       eat_not m.CloseBrace _ _ (not_over a)
-        ∙ rw (c.disj there some _ _ _ a (next-At goes_on_disj h)) (eat_is _ _ h ∙ rw (generators-complete there some gs _ _ l (IsCond-ends o _ _ b s), condition-complete there some o _ _ b s, expect_is e) refl)
+      ∙ rw (c.disj there some _ _ _ a (next-At goes_on_disj h)) (eat_is _ _ h ∙ rw (generators-complete there some gs _ _ l (IsCond-ends o _ _ b s), condition-complete there some o _ _ b s, expect_is e) refl)
 
   at_atom : {k : Mark} (i : List Tok) {o : Outcome Expr} → mark i ≡ Some k → atom_by p (Some k) i ≡ o → atom p i ≡ o
   unfolding atom

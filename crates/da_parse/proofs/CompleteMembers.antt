@@ -1,11 +1,9 @@
 -- The members of classes that are spelled so are read so.
-use Rattle.std.proofs.Common.{◌≡◌, ℕ, zero, suc, ◌+◌, ◌<◌, ◌≤◌, Bool, true, false, List, [], ◌∷◌, ◌++◌, length, Option, Some, None, Result, Ok, Err, refl, sym, ap, ◌∙◌, subst, arith}
-use Rattle.std.specs.Prelude.{if◌then◌else◌}
+use Rattle.std.proofs.Common.{◌≡◌, ℕ, true, false, List, [], length, Option, Some, Ok, refl, ap, ◌∙◌}
 use Rattle.da_values.specs.declared.token.Mark.{Mark}
 use Rattle.da_values.specs.declared.token.Mark.TheVariants as m
 use Rattle.da_values.specs.Marks.{Tok}
 use Rattle.da_lang.specs.declared.tree.Member.{Member}
-use Rattle.da_lang.specs.declared.tree.Member.TheVariants as member_tree
 use Rattle.da_lang.specs.declared.tree.Param.{Param}
 use Rattle.da_lang.specs.declared.tree.PatternTree.{PatternTree}
 use Rattle.da_lang.specs.declared.tree.Stmt.{Stmt}
@@ -18,14 +16,11 @@ use Rattle.da_lang.specs.StmtGrammar.{IsBlock, BodyIn}
 use Rattle.da_lang.specs.Grammar.{IsParam, IsFrom, IsAt, IsMember, IsParams}
 use Rattle.da_parse.specs.Reader as reader
 use Rattle.da_parse.specs.Reader.{mark, text, rest, same, sees, after, Outcome, Reader, and_then, ◌>>=◌, ◌>>◌, pure, refuse, take_token, eat, expect, word}
-use Rattle.da_parse.specs.Lists.{separated, closed, ended}
-use Rattle.da_parse.specs.Place.{Limit, Place, opening}
-use Rattle.da_parse.specs.Types.{types, type_in}
-use Rattle.da_parse.specs.Exprs.{place, pattern}
-use Rattle.da_parse.specs.Stmts.{bodies, block_behind_colon}
+use Rattle.da_parse.specs.Place.{Limit}
+use Rattle.da_parse.specs.Exprs.{pattern}
 use Rattle.da_parse.specs.Members.{Parts, parts_in, param, params, variable, setup, run, method, definition_by, definition, sender, labels, handler, member_by, member, members}
-use Rattle.da_parse.proofs.Steps.{mark-At, mark-Named, rest-At, eat_is, eat_not, expect_is, not_seen, room-Opens, opening_is, word_is, taken_is, passed_is}
-use Rattle.da_parse.proofs.Laws.{IsComplete, Shrinks, Anything, Completes}
+use Rattle.da_parse.proofs.Steps.{mark-At, mark-Named, eat_is, eat_not, expect_is, not_seen, room-Opens, opening_is, word_is, taken_is, passed_is}
+use Rattle.da_parse.proofs.Laws.{IsComplete, Shrinks, Anything}
 use Rattle.da_parse.proofs.Firsts.{never_seen}
 use Rattle.da_parse.proofs.ShorterStmts.{begins_name, begins_member, IsParam-begins, IsParam-shrinks, Named-shrinks, IsMember-begins, member_shrinks}
 use Rattle.da_parse.proofs.ListComplete.{separated-complete, closed-complete, ended-complete}
@@ -92,7 +87,7 @@ module _ (s : Parts) (room : Room) (allows : (t : List Tok) → room t → s.pla
   unfolding members
   members-complete ms i r l =
       ended-complete member-complete member_shrinks
-        (λ x j q h. (never_seen begins_member m.Dedent j refl (IsMember-begins room Type_ (Closed m.CloseParen (IsParam Inner)) Pattern Block x j q h), tt)) (λ j q h. tt) ms i r l
+      (λ x j q h. (never_seen begins_member m.Dedent j refl (IsMember-begins room Type_ (Closed m.CloseParen (IsParam Inner)) Pattern Block x j q h), tt)) (λ j q h. tt) ms i r l
 
 -- the members of a class inside its block, by a rule of how many things may be open, which allows all that the grammar allows
 module _ (limit : Limit) (room : ℕ → Room) (allows : (d : ℕ) (t : List Tok) → room d t → limit d (length t) ≡ true) where
@@ -100,6 +95,6 @@ module _ (limit : Limit) (room : ℕ → Room) (allows : (d : ℕ) (t : List Tok
       → Ended (IsMember (room 1) (TypeIn room g 1) (IsParams room g) (IsPattern (room 1) (deeper room g 2)) (IsBlock (room 1) (deeper room g 2) (BodyIn room g 2))) ms i r → members (parts_in limit f 1) i ≡ Ok (ms, r)
   members_inside-complete g f e =
       members-complete (parts_in limit f 1) (room 1) (place-complete limit room allows g f 1 e).allows
-        (TypeIn room g 1) (type_at-complete limit room allows g f 1 e) (TypeIn room g 2) (TypeIn-shrinks room g 2) (types-complete limit room allows g f 1 e)
-        (IsPattern (room 1) (deeper room g 2)) (pattern_there-complete limit room allows g f 1 e) (IsBlock (room 1) (deeper room g 2) (BodyIn room g 2)) (block_there-complete limit room allows g f 1 e)
-        (member_shrinks room g)
+      (TypeIn room g 1) (type_at-complete limit room allows g f 1 e) (TypeIn room g 2) (TypeIn-shrinks room g 2) (types-complete limit room allows g f 1 e)
+      (IsPattern (room 1) (deeper room g 2)) (pattern_there-complete limit room allows g f 1 e) (IsBlock (room 1) (deeper room g 2) (BodyIn room g 2)) (block_there-complete limit room allows g f 1 e)
+      (member_shrinks room g)

@@ -93,7 +93,7 @@ module _ (p : Place) (room : Room) (deep : Deeper) (ready : Ready p room deep) w
   pub behind_paren-complete : {t s : List Tok} → Opens m.OpenParen room t s → (xs : List Expr) (i r : List Tok) → Closed m.CloseParen deep.disj xs i r → closed m.CloseParen (p.expr level.Disj) [] i ≡ Ok (xs, r)
   behind_paren-complete o xs i r l =
       closed-complete (ready.completes.disj _ (room-Opens o)) ready.shrinking.disj m.CloseParen begins_disj ready.beginning.disj refl refl
-        (λ j q h. next-At goes_on_disj h) (λ j q h. next-At goes_on_disj h) [] xs i r l
+      (λ j q h. next-At goes_on_disj h) (λ j q h. next-At goes_on_disj h) [] xs i r l
 
   -- expressions that each stand behind a comma, behind a parenthesis
   pub behind_commas-complete : {t s : List Tok} → Opens m.OpenParen room t s → (xs : List Expr) (i r : List Tok) → Behind m.Comma deep.disj xs i r → Lacks goes_on_disj r → sees m.Comma r ≡ false

@@ -1,6 +1,6 @@
 -- The programs that are spelled so are read so.
-use Rattle.std.proofs.Common.{◌≡◌, ℕ, zero, suc, ◌+◌, ◌-◌, ◌<◌, ◌≤◌, Bool, true, false, List, [], ◌∷◌, ◌++◌, length, Option, Some, None, Result, Ok, Err, refl, sym, ap, ◌∙◌, subst, arith, append_assoc, append-nil}
-use Rattle.std.specs.Prelude.{if◌then◌else◌, ◌==◌, ◌⊎◌}
+use Rattle.std.proofs.Common.{◌≡◌, ℕ, zero, suc, ◌+◌, ◌-◌, ◌≤◌, true, false, List, [], ◌∷◌, ◌++◌, length, Option, Some, Ok, refl, sym, ap, ◌∙◌, subst, arith, append_assoc, append-nil}
+use Rattle.std.specs.Prelude.{◌⊎◌}
 use Rattle.da_values.specs.declared.token.Mark.{Mark}
 use Rattle.da_values.specs.declared.token.Mark.TheVariants as m
 use Rattle.da_values.specs.Marks.{Tok}
@@ -10,24 +10,19 @@ use Rattle.da_lang.specs.declared.tree.Member.{Member}
 use Rattle.da_lang.specs.declared.tree.MessageDecl.{MessageDecl}
 use Rattle.da_lang.specs.declared.tree.Tree.{Tree}
 use Rattle.da_lang.specs.declared.ty.ChannelKind.{ChannelKind}
-use Rattle.da_lang.specs.declared.ty.Ty.{Ty}
 use Rattle.da_lang.specs.Spelling as sp
 use Rattle.da_lang.specs.Spelling.{Spelling, Room, At, Opens, Named, Ended}
 use Rattle.da_lang.specs.TypeGrammar.{TypeIn}
 use Rattle.da_lang.specs.ExprGrammar.{IsPattern, deeper}
 use Rattle.da_lang.specs.StmtGrammar.{IsBlock, BodyIn}
 use Rattle.da_lang.specs.Grammar.{IsMember, IsCount, IsMline, IsKind, IsParams, IsMessage, IsClass, IsDecls, IsMain, IsProgram}
-use Rattle.da_parse.specs.declared.place.Level.TheVariants as level
 use Rattle.da_parse.specs.Reader as reader
 use Rattle.da_parse.specs.Reader.{mark, text, rest, same, is_mark, sees, after, Outcome, Reader, and_then, ◌>>=◌, ◌>>◌, pure, refuse, peek, take_token, eat, expect, word, number}
-use Rattle.da_parse.specs.Lists.{begun, ended, closed}
-use Rattle.da_parse.specs.Place.{Limit, Place, opening}
-use Rattle.da_parse.specs.Types.{types}
-use Rattle.da_parse.specs.Exprs.{place}
-use Rattle.da_parse.specs.Members.{parts_in, members}
-use Rattle.da_parse.specs.Programs.{Outer, outer_in, count, kind_from, one_of, kind, finish, header_end, message, class, new_line, argument, setup_line, line_by, main_line, main, program_end, decls_by, decls_from, decls, program}
+use Rattle.da_parse.specs.Place.{Limit}
+use Rattle.da_parse.specs.Members.{members}
+use Rattle.da_parse.specs.Programs.{Outer, outer_in, count, one_of, kind, header_end, message, class, new_line, setup_line, line_by, main_line, main, program_end, decls_by, decls_from, decls, program}
 use Rattle.da_parse.proofs.Steps.{mark-At, mark-Named, rest-At, eat_is, eat_not, expect_is, not_seen, room-Opens, opening_is, word_is, number_is, taken_is, passed_is}
-use Rattle.da_parse.proofs.Laws.{IsComplete, Shrinks, Begins, Anything, Completes, is_next, goes_on_disj}
+use Rattle.da_parse.proofs.Laws.{IsComplete, Anything, Completes, goes_on_disj}
 use Rattle.da_parse.proofs.Firsts.{begins_type, never_seen, next-At, TypeIn-begins}
 use Rattle.da_parse.proofs.Shorter.{TypeIn-shrinks, deeper-shrinks}
 use Rattle.da_parse.proofs.ShorterStmts.{begins_line, IsMline-begins, IsMline-shrinks, IsMessage-shrinks, IsClass-shrinks}
@@ -58,13 +53,6 @@ kind-complete _ i r (IsKind.unordered_reliable h a b e) s = eat_is _ _ h ∙ rw 
 kind-complete _ i r (IsKind.fifo_unreliable h a b e) s = eat_is _ _ h ∙ rw (first_of m.Unordered a, second_of m.Reliable refl b, expect_is e) refl
 kind-complete _ i r (IsKind.unordered_unreliable h a b e) s = eat_is _ _ h ∙ rw (second_of m.Fifo refl a, second_of m.Reliable refl b, expect_is e) refl
 
--- a message, a class or `main` begins with one of these
-abbrev begins_decl : Mark → Bool
-begins_decl m.Message = true
-begins_decl m.Class = true
-begins_decl m.Def = true
-begins_decl _ = false
-
 -- the readers of a program are complete for what the grammar has where so many things are open, if anything may be opened there
 pub record OuterCompletes (o : Outer) (room : ℕ → Room) (f : ℕ) : Type 0 where
   pub allows : (t : List Tok) → room 0 t → o.place.may_open (length t) ≡ true
@@ -82,8 +70,13 @@ module _ (o : Outer) (room : ℕ → Room) (f : ℕ) (completes : OuterCompletes
   unfolding message
   message-complete _ i r (IsMessage.message {n} {xs} h a b l e) =
       ap (λ at. message o at (rest i)) (same_line i)
-      ∙ rw (rest-At h, word_is a, opening_is o.place.may_open completes.allows b,
-          closed-complete (completes.types _ (room-Opens b)) (TypeIn-shrinks room f 1) m.CloseParen begins_type (TypeIn-begins room f 1) refl refl (λ j q k. tt) (λ j q k. tt) [] xs _ _ l, expect_is e) refl
+      ∙ rw (
+        rest-At h,
+        word_is a,
+        opening_is o.place.may_open completes.allows b,
+        closed-complete (completes.types _ (room-Opens b)) (TypeIn-shrinks room f 1) m.CloseParen begins_type (TypeIn-begins room f 1) refl refl (λ j q k. tt) (λ j q k. tt) [] xs _ _ l,
+        expect_is e,
+      ) refl
 
   class-complete : (x : ClassTree) (i r : List Tok) → IsClass room f x i r → class o (reader.line i) (rest i) ≡ Ok (x, r)
   unfolding class
@@ -100,18 +93,23 @@ module _ (o : Outer) (room : ℕ → Room) (f : ℕ) (completes : OuterCompletes
   unfolding new_line setup_line
   main_line-complete t some _ i r (IsMline.new {n} {c} {o = many} a h k b d l p e) _ =
       at_line i (mark-Named a) (taken_is (λ z. new_line o z (sp.line i)) a
-        ∙ rw (expect_is h, expect_is k, opening_is o.inside.place.may_open (completes.inside t some).allows b, word_is d, count-complete many _ _ l (not_seen m.Comma p refl), expect_is p, expect_is e) refl)
+      ∙ rw (expect_is h, expect_is k, opening_is o.inside.place.may_open (completes.inside t some).allows b, word_is d, count-complete many _ _ l (not_seen m.Comma p refl), expect_is p, expect_is e) refl)
   main_line-complete t some _ i r (IsMline.setup {n} {xs} h b a l p e) _ =
       at_line i (mark-At h) (passed_is (setup_line o (sp.line i)) h
-        ∙ rw (opening_is o.inside.place.may_open (completes.inside t some).allows b, word_is a,
-            behind-complete ((completes.inside t some).disj _ (room-Opens b)) (deeper-shrinks room f 2).disj m.Comma (λ j q k. next-At goes_on_disj k) [] xs _ _ l (next-At goes_on_disj p) (not_seen m.Comma p refl), expect_is p, expect_is e) refl)
+      ∙ rw (
+        opening_is o.inside.place.may_open (completes.inside t some).allows b,
+        word_is a,
+        behind-complete ((completes.inside t some).disj _ (room-Opens b)) (deeper-shrinks room f 2).disj m.Comma (λ j q k. next-At goes_on_disj k) [] xs _ _ l (next-At goes_on_disj p) (not_seen m.Comma p refl),
+        expect_is p,
+        expect_is e,
+      ) refl)
 
   main-complete : (ls : List MainLine) (i r : List Tok) → IsMain room f ls i r → main o i ≡ Ok (ls, r)
   unfolding main
   main-complete ls i r (IsMain.main d h b c k l a x) =
       rw (expect_is d, expect_is h, opening_is o.place.may_open completes.allows b, expect_is c, header_end-complete k l a)
-        (ended-complete (main_line-complete _ (room-Opens b)) (IsMline-shrinks (room 1) (deeper room f 2) (deeper-shrinks room f 2))
-          (λ z j q y. (never_seen begins_line m.Dedent j refl (IsMline-begins (room 1) (deeper room f 2) z j q y), tt)) (λ j q y. tt) ls _ r x)
+      (ended-complete (main_line-complete _ (room-Opens b)) (IsMline-shrinks (room 1) (deeper room f 2) (deeper-shrinks room f 2))
+      (λ z j q y. (never_seen begins_line m.Dedent j refl (IsMline-begins (room 1) (deeper room f 2) z j q y), tt)) (λ j q y. tt) ls _ r x)
 
   program_end-complete : (k : ChannelKind) (xs : List MessageDecl) (cs : List ClassTree) (ls : List MainLine) (i : List Tok) → IsMain room f ls i [] → program_end o k xs cs i ≡ Ok (record { kind = k; messages = xs; classes = cs; main = ls }, [])
   unfolding program_end
@@ -126,7 +124,7 @@ module _ (o : Outer) (room : ℕ → Room) (f : ℕ) (completes : OuterCompletes
   mark-Class : {c : ClassTree} {i r : List Tok} → IsClass room f c i r → mark i ≡ Some m.Class
   mark-Class (IsClass.class h a e p c l b d) = mark-At h
 
-  -- no program begins behind its kind with `channel`
+  -- what follows the kind does not begin with `channel`
   no_channel : {xs : List MessageDecl} {cs : List ClassTree} {ls : List MainLine} {i r s : List Tok} → IsDecls room f xs cs i r → IsMain room f ls r s → sees m.Channel i ≡ false
   unfolding sees
   no_channel IsDecls.no_decl a = ap (is_mark m.Channel) (mark-Main a)
@@ -151,11 +149,11 @@ module _ (o : Outer) (room : ℕ → Room) (f : ℕ) (completes : OuterCompletes
   decls_from-complete k zero xs cs _ _ ls i r (IsDecls.message x l) a turns = absurd (omega (arith, IsMessage-shrinks room f _ _ _ x))
   decls_from-complete k (suc n) xs cs _ ds ls i r (IsDecls.message {x} {xs = ms} h l) a turns =
       decls_step k n xs cs i (mark-Message h) (rw (message-complete x i _ h) (decls_from-complete k n (xs ++ x ∷ []) cs ms ds ls _ r l a (omega (arith, IsMessage-shrinks room f _ _ _ h))
-        ∙ ap (λ z. Ok (record { kind = k; messages = z; classes = cs ++ ds; main = ls }, [])) (append_assoc xs (x ∷ []) ms)))
+      ∙ ap (λ z. Ok (record { kind = k; messages = z; classes = cs ++ ds; main = ls }, [])) (append_assoc xs (x ∷ []) ms)))
   decls_from-complete k zero xs cs _ _ ls i r (IsDecls.class c l) a turns = absurd (omega (arith, IsClass-shrinks room f _ _ _ c))
   decls_from-complete k (suc n) xs cs ms _ ls i r (IsDecls.class {c} {cs = ds} h l) a turns =
       decls_step k n xs cs i (mark-Class h) (rw (class-complete c i _ h) (decls_from-complete k n xs (cs ++ c ∷ []) ms ds ls _ r l a (omega (arith, IsClass-shrinks room f _ _ _ h))
-        ∙ ap (λ z. Ok (record { kind = k; messages = xs ++ ms; classes = z; main = ls }, [])) (append_assoc cs (c ∷ []) ds)))
+      ∙ ap (λ z. Ok (record { kind = k; messages = xs ++ ms; classes = z; main = ls }, [])) (append_assoc cs (c ∷ []) ds)))
 
   pub program-complete : (x : Tree) (i : List Tok) → IsProgram room f x i → program o i ≡ Ok (x, [])
   unfolding program decls

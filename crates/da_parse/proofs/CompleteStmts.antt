@@ -1,10 +1,9 @@
 -- The statements and blocks that are spelled so are read so.
-use Rattle.std.proofs.Common.{◌≡◌, ℕ, zero, suc, ◌+◌, ◌<◌, ◌≤◌, Bool, true, false, List, [], ◌∷◌, ◌++◌, length, Option, Some, None, Result, Ok, Err, refl, sym, ap, ◌∙◌, subst, arith, inl, inr}
-use Rattle.std.specs.Prelude.{if◌then◌else◌, ◌⊎◌}
+use Rattle.std.proofs.Common.{◌≡◌, ℕ, zero, suc, true, false, List, [], ◌∷◌, length, Option, Some, Ok, refl, ap, ◌∙◌}
 use Rattle.da_values.specs.declared.token.Mark.{Mark}
 use Rattle.da_values.specs.declared.token.Mark.TheVariants as m
 use Rattle.da_values.specs.Marks.{Tok}
-use Rattle.da_lang.specs.declared.tree.Branch.{Branch, roll-Branch}
+use Rattle.da_lang.specs.declared.tree.Branch.{Branch}
 use Rattle.da_lang.specs.declared.tree.Expr.{Expr}
 use Rattle.da_lang.specs.declared.tree.Stmt.{Stmt}
 use Rattle.da_lang.specs.declared.tree.Stmt.TheVariants as stmt_tree
@@ -13,10 +12,9 @@ use Rattle.da_lang.specs.Spelling as sp
 use Rattle.da_lang.specs.Spelling.{Spelling, Room, At, Opens, Named, Closed, Many, Ended}
 use Rattle.da_lang.specs.ExprGrammar.{Deeper, IsExpr, deeper}
 use Rattle.da_lang.specs.StmtGrammar.{IsBlock, IsBranch, IsElse, IsTimeout, IsStmt, BodyIn}
-use Rattle.da_parse.specs.declared.place.Level.TheVariants as level
 use Rattle.da_parse.specs.Reader as reader
 use Rattle.da_parse.specs.Reader.{mark, text, rest, same, sees, after, Outcome, Reader, and_then, ◌>>=◌, ◌>>◌, pure, refuse, take_token, eat, expect, word}
-use Rattle.da_parse.specs.Place.{Limit, Place, opening}
+use Rattle.da_parse.specs.Place.{Limit, Place}
 use Rattle.da_parse.specs.Exprs.{place, expression}
 use Rattle.da_parse.specs.Stmts.{branch_of, in_parens, arguments, assigned, changed, called, named, sending, output, passing, label, block, block_behind_colon, branch, otherwise, timeout, conditional, while_loop, for_loop, alternatives, awaiting, stmt_by, stmt, stmts, bodies}
 use Rattle.da_parse.proofs.Steps.{mark-At, mark-Named, sees-At, rest-At, eat_is, eat_not, expect_is, not_seen, At-Opens, room-Opens, opening_is, word_is, taken_is}
@@ -85,17 +83,21 @@ module _ (p : Place) (room : Room) (deep : Deeper) (beginning : Beginning deep) 
       → Lacks goes_on_stmt q → conditional p body at i ≡ Ok (stmt_tree.If (b ∷ bs) o at, q)
   unfolding conditional
   conditional-complete b bs o at i r s q a l e stops =
-      rw (branch-complete m.If b i r a tt,
+      rw (
+        branch-complete m.If b i r a tt,
         begun-complete (branch-complete m.Elif) (IsBranch-shrinks room deep shrinking Body body_shrinks m.Elif) m.Elif (λ x j k h. IsBranch-sees h) (λ j k h. tt) (b ∷ []) bs r s l tt (no_elif e stops),
-        otherwise-complete o s q e stops) refl
+        otherwise-complete o s q e stops,
+      ) refl
 
   alternatives-complete : (x : Expr) (b : List Stmt) (bs : List Branch) (o : Option TimeoutTree) (at : ℕ) (i r s q z : List Tok) → At m.Colon i r → IsBlock room deep Body b r s → Many (IsBranch room deep Body m.Or) bs s q → IsTimeout room deep Body o q z
       → Lacks goes_on_stmt z → alternatives p body x at i ≡ Ok (stmt_tree.Await (branch_of x b at ∷ bs) o at, z)
   unfolding alternatives
   alternatives-complete x b bs o at i r s q z h a l e stops =
-      rw (block_behind_colon-complete b i r s h a,
+      rw (
+        block_behind_colon-complete b i r s h a,
         begun-complete (branch-complete m.Or) (IsBranch-shrinks room deep shrinking Body body_shrinks m.Or) m.Or (λ x j k h. IsBranch-sees h) (λ j k h. tt) (branch_of x b at ∷ []) bs s q l tt (no_or e stops),
-        timeout-complete o q z e stops) refl
+        timeout-complete o q z e stops,
+      ) refl
 
   -- a statement is read by its first token, at its line
   at_stmt : {k : Mark} (i : List Tok) {o : Outcome Stmt} → mark i ≡ Some k → stmt_by p body (sp.line i) (Some k) i ≡ o → stmt p body i ≡ o
@@ -133,7 +135,7 @@ module _ (p : Place) (room : Room) (deep : Deeper) (beginning : Beginning deep) 
       word_stmt (awaiting p body (sp.line i)) h (λ j. refl) (rw (expression_complete x _ _ a (next-At goes_on_expr e)) (eat_is _ _ e))
   stmt-complete _ i r (IsStmt.await {bs = bs} {o = o} (IsBranch.branch {x} {b} h a c k) l e) s =
       word_stmt (awaiting p body (sp.line i)) h (λ j. refl)
-        (rw (expression_complete x _ _ a (next-At goes_on_expr c)) (eat_not m.Newline _ _ (not_seen m.Newline c refl) ∙ alternatives-complete x b bs o (sp.line i) _ _ _ _ r c k l e s))
+      (rw (expression_complete x _ _ a (next-At goes_on_expr c)) (eat_not m.Newline _ _ (not_seen m.Newline c refl) ∙ alternatives-complete x b bs o (sp.line i) _ _ _ _ r c k l e s))
 
   pub stmts-complete : (xs : List Stmt) (i r : List Tok) → Ended (IsStmt room deep Body) xs i r → stmts p body i ≡ Ok (xs, r)
   unfolding stmts
@@ -151,13 +153,13 @@ module _ (limit : Limit) (room : ℕ → Room) (allows : (d : ℕ) (t : List Tok
   bodies-complete (suc g) (suc f) d e t some x i r h s =
       let inside = enough_inside room g f d e in
       stmts-complete (place limit f (suc d)) (room (suc d)) (deeper room g (suc (suc d))) (deeper-begins room g (suc (suc d))) (deeper-shrinks room g (suc (suc d)))
-        (place-complete limit room allows g f (suc d) inside) (expression_there-complete limit room allows g f (suc d) inside)
-        (bodies limit f (suc (suc d))) (BodyIn room g (suc (suc d))) (BodyIn-shrinks room g (suc (suc d))) (bodies-complete g f (suc d) inside) x i r h
+      (place-complete limit room allows g f (suc d) inside) (expression_there-complete limit room allows g f (suc d) inside)
+      (bodies limit f (suc (suc d))) (BodyIn room g (suc (suc d))) (BodyIn-shrinks room g (suc (suc d))) (bodies-complete g f (suc d) inside) x i r h
 
   -- a block where d things are open, behind its colon
   pub block_there-complete : (g f d : ℕ) → Enough room g f d → (b : List Stmt) (i r s : List Tok) → At m.Colon i r → IsBlock (room d) (deeper room g (suc d)) (BodyIn room g (suc d)) b r s
       → block_behind_colon (place limit f d) (bodies limit f (suc d)) i ≡ Ok (b, s)
   block_there-complete g f d e =
       block_behind_colon-complete (place limit f d) (room d) (deeper room g (suc d)) (deeper-begins room g (suc d)) (deeper-shrinks room g (suc d))
-        (place-complete limit room allows g f d e) (expression_there-complete limit room allows g f d e)
-        (bodies limit f (suc d)) (BodyIn room g (suc d)) (BodyIn-shrinks room g (suc d)) (bodies-complete g f d e)
+      (place-complete limit room allows g f d e) (expression_there-complete limit room allows g f d e)
+      (bodies limit f (suc d)) (BodyIn room g (suc d)) (BodyIn-shrinks room g (suc d)) (bodies-complete g f d e)

@@ -83,7 +83,7 @@ module _ (limit : Limit) (room : ℕ → Room) (allows : (d : ℕ) (t : List Tok
   types-complete (suc g) zero d e t some x i r h s = absurd (enough_any room g d t some e)
   types-complete (suc g) (suc f) d e t some x i r h s =
       type_in-complete (limit (suc d)) (types limit f (suc (suc d))) (room (suc d)) (TypeIn room g (suc (suc d))) (allows (suc d))
-        (types-complete g f (suc d) (enough_inside room g f d e)) (TypeIn-shrinks room g (suc (suc d))) (TypeIn-begins room g (suc (suc d))) x i r h s
+      (types-complete g f (suc d) (enough_inside room g f d e)) (TypeIn-shrinks room g (suc (suc d))) (TypeIn-begins room g (suc (suc d))) x i r h s
 
   -- a type where d things are open
   pub type_there-complete : (g f d : ℕ) → Enough room g f d → IsComplete Anything (type_in (limit d) (types limit f (suc d))) (IsType (room d) (TypeIn room g (suc d)))

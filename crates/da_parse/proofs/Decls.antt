@@ -1,5 +1,5 @@
 -- One turn of the reader of messages and classes, as a loop takes it.
-use Rattle.std.proofs.Common.{◌≡◌, ℕ, zero, suc, ◌+◌, ◌-◌, ◌<◌, ◌≤◌, List, [], length, refl, ap, arith}
+use Rattle.std.proofs.Common.{◌≡◌, ℕ, suc, ◌+◌, ◌-◌, ◌<◌, ◌≤◌, List, [], length, refl, ap, arith}
 use Rattle.da_values.specs.Marks.{Tok}
 use Rattle.da_lang.specs.declared.tree.ClassTree.{ClassTree}
 use Rattle.da_lang.specs.declared.tree.MessageDecl.{MessageDecl}

@@ -1,5 +1,5 @@
 -- What is known of the place where some things are open.
-use Rattle.std.proofs.Common.{◌≡◌, ℕ, zero, suc, ◌+◌, ◌-◌, ◌<◌, ◌≤◌, List, refl, sym, ap, arith, add-one}
+use Rattle.std.proofs.Common.{◌≡◌, ℕ, zero, suc, ◌+◌, ◌-◌, ◌<◌, List, refl, sym, ap, arith, add-one}
 use Rattle.std.specs.Prelude.{nat_lt}
 use Rattle.da_values.specs.Marks.{Tok}
 use Rattle.da_parse.specs.declared.place.Level.{Level}

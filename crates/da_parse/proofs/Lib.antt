@@ -7,14 +7,12 @@ pub mod CompleteStmts
 pub mod CompleteTypes
 pub mod Decls
 pub mod Depth
-pub mod FirstLemmas
 pub mod Firsts
 pub mod Laws
 pub mod Lines
 pub mod ListComplete
 pub mod ListSound
 pub mod Loops
-pub mod NumberLemmas
 pub mod ParseLaws
 pub mod Shorter
 pub mod ShorterStmts

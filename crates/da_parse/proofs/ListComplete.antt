@@ -1,5 +1,5 @@
 -- A list that is spelled by the grammar is read, whatever reads its elements, if each element that is spelled is read and passes a token.
-use Rattle.std.proofs.Common.{◌≡◌, ℕ, zero, suc, ◌+◌, ◌≤◌, Bool, true, false, List, [], ◌∷◌, ◌++◌, length, Option, Some, None, Ok, refl, sym, ap, ◌∙◌, arith, append_assoc, append-nil}
+use Rattle.std.proofs.Common.{◌≡◌, ℕ, zero, suc, ◌≤◌, Bool, true, false, List, [], ◌∷◌, ◌++◌, length, Option, Some, None, Ok, refl, sym, ap, ◌∙◌, arith, append_assoc, append-nil}
 use Rattle.da_values.specs.declared.token.Mark.{Mark}
 use Rattle.da_values.specs.declared.token.Mark.TheVariants as m
 use Rattle.da_values.specs.Marks.{Tok}
@@ -45,7 +45,7 @@ module _ {A : Type 0} {Stops : List Tok → Type 0} {item : Reader A} {Item : Sp
   closed-complete close one begins apart differs commas over found _ i r (Closed.empty h) = eat_is _ _ h ∙ append_none found r
   closed-complete close one begins apart differs commas over found xs i r (Closed.full l h) =
       eat_not close _ _ (never_seen one close i apart (Separated-begins Item one begins _ xs i _ l))
-        ∙ rw (separated-complete m.Comma commas found xs i _ l (over _ _ h) (not_seen m.Comma h differs), expect_is h) refl
+      ∙ rw (separated-complete m.Comma commas found xs i _ l (over _ _ h) (not_seen m.Comma h differs), expect_is h) refl
 
   -- what follows the first of several may follow the element before it
   Many-stops : (k : Mark) (starts : (x : A) (i r : List Tok) → Item x i r → sees k i ≡ true) (between : (i r : List Tok) → At k i r → Stops i) (xs : List A) (i r : List Tok) → Many Item xs i r → Stops r → Stops i
@@ -60,7 +60,7 @@ module _ {A : Type 0} {Stops : List Tok → Type 0} {item : Reader A} {Item : Sp
   begun_from-complete k starts between zero found _ i r (Many.one a l) s c turns = absurd (omega (arith, shrinks _ _ _ a))
   begun_from-complete k starts between (suc n) found _ i r (Many.one {x} {xs} a l) s c turns =
       rw (starts _ _ _ a, complete _ _ _ a (Many-stops k starts between _ _ _ l s))
-        (append_one found x xs r (begun_from-complete k starts between n (found ++ x ∷ []) xs _ r l s c (omega (arith, shrinks _ _ _ a))))
+      (append_one found x xs r (begun_from-complete k starts between n (found ++ x ∷ []) xs _ r l s c (omega (arith, shrinks _ _ _ a))))
 
   -- none or more, each of which begins with a token of this mark
   pub begun-complete : (k : Mark) (starts : (x : A) (i r : List Tok) → Item x i r → sees k i ≡ true) (between : (i r : List Tok) → At k i r → Stops i) (found xs : List A) (i r : List Tok)
@@ -103,7 +103,7 @@ pub behind-complete : {A : Type 0} {Stops : List Tok → Type 0} {item : Reader 
     → Behind k Item xs i r → Stops r → sees k r ≡ false → begun k (take_token >> item) found i ≡ Ok (found ++ xs, r)
 behind-complete {item = item} {Item = Item} complete shrinks k between found xs i r l s c =
     begun-complete {item = take_token >> item} {Item = After k Item} (λ x j q h t. passed_is item h.1 ∙ complete _ _ _ h.2 t) (λ x j q h. omega (arith, shorter-At h.1, shrinks _ _ _ h.2))
-      k (λ x j q h. sees-At h.1) between found xs i r (Behind-many k Item xs i r l) s c
+    k (λ x j q h. sees-At h.1) between found xs i r (Behind-many k Item xs i r l) s c
 
 -- ---- the further operands of a chain
 

@@ -1,5 +1,5 @@
 -- Each statement, member, line of `main`, message and class passes at least one token; and the tokens with which they begin.
-use Rattle.std.proofs.Common.{◌≡◌, ℕ, zero, suc, ◌+◌, ◌<◌, ◌≤◌, Bool, true, false, List, [], ◌∷◌, length, Option, Some, None, refl, ap, arith}
+use Rattle.std.proofs.Common.{◌≡◌, ℕ, zero, suc, Bool, true, false, List, refl, ap, arith}
 use Rattle.da_values.specs.declared.token.Mark.{Mark}
 use Rattle.da_values.specs.declared.token.Mark.TheVariants as m
 use Rattle.da_values.specs.Marks.{Tok}
@@ -7,14 +7,14 @@ use Rattle.da_lang.specs.declared.tree.Param.{Param}
 use Rattle.da_lang.specs.declared.tree.PatternTree.{PatternTree}
 use Rattle.da_lang.specs.declared.tree.Stmt.{Stmt}
 use Rattle.da_lang.specs.declared.ty.Ty.{Ty}
-use Rattle.da_lang.specs.Spelling.{Spelling, Room, At, Opens, Named, Separated, Closed}
+use Rattle.da_lang.specs.Spelling.{Spelling, Room, Named}
 use Rattle.da_lang.specs.TypeGrammar.{TypeIn}
 use Rattle.da_lang.specs.ExprGrammar.{Deeper, IsPattern, deeper}
 use Rattle.da_lang.specs.StmtGrammar.{IsBlock, IsBranch, IsElse, IsTimeout, IsStmt, BodyIn}
-use Rattle.da_lang.specs.Grammar.{IsParam, IsFrom, IsAt, IsMember, IsCount, IsMline, IsTypes, IsParams, IsMessage, IsClass}
+use Rattle.da_lang.specs.Grammar.{IsParam, IsFrom, IsAt, IsMember, IsCount, IsMline, IsParams, IsMessage, IsClass}
 use Rattle.da_parse.specs.Reader.{mark}
 use Rattle.da_parse.proofs.Laws.{Shrinks, Begins, is_next}
-use Rattle.da_parse.proofs.Steps.{mark-At, mark-Named, shorter-At, shorter-Named, shorter-Number}
+use Rattle.da_parse.proofs.Steps.{mark-Named, shorter-At, shorter-Named, shorter-Number}
 use Rattle.da_parse.proofs.Firsts.{next-At}
 use Rattle.da_parse.proofs.Shorter.{Keeps, shorter-Opens, Separated-shrinks, Closed-shrinks, Behind-keeps, Many-keeps, Ended-shrinks, TypeIn-shrinks, Shrinking, IsExpr-shrinks, IsPattern-shrinks, deeper-shrinks}
 
@@ -55,7 +55,7 @@ unfolding BodyIn
 BodyIn-shrinks room zero d x i r h = absurd h
 BodyIn-shrinks room (suc f) d x i r h =
     Ended-shrinks (IsStmt (room d) (deeper room f (suc d)) (BodyIn room f (suc d)))
-      (IsStmt-shrinks (room d) (deeper room f (suc d)) (deeper-shrinks room f (suc d)) (BodyIn room f (suc d)) (BodyIn-shrinks room f (suc d))) x i r h
+    (IsStmt-shrinks (room d) (deeper room f (suc d)) (deeper-shrinks room f (suc d)) (BodyIn room f (suc d)) (BodyIn-shrinks room f (suc d))) x i r h
 
 -- a statement begins with one of these
 abbrev pub begins_stmt : Mark → Bool

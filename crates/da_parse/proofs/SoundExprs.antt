@@ -60,12 +60,12 @@ module _ (p : Place) (room : Room) (deep : Deeper) (s : Sounds p room deep) wher
       reads (p.pattern i) _ y e (λ message r read e1.
       let of = s.pattern i (message, r) read in
       eats m.From _ _ r y e1
-        (λ q h e2. generator_with-sound message peer_tree.From i r q y of (λ x z there. g.IsPeer.from h there) e2)
-        (λ no e2. eats m.To _ _ r y e2
-          (λ q h e3. generator_with-sound message peer_tree.To i r q y of (λ x z there. g.IsPeer.to h there) e3)
-          (λ nor e3. reads (source r) _ y e3 (λ from q goes last.
-            let (z, h, through) = source-sound r (from, q) goes in
-            made (IsGen deep.pattern) i y last (g.gen of g.no_peer h through)))))
+      (λ q h e2. generator_with-sound message peer_tree.From i r q y of (λ x z there. g.IsPeer.from h there) e2)
+      (λ no e2. eats m.To _ _ r y e2
+      (λ q h e3. generator_with-sound message peer_tree.To i r q y of (λ x z there. g.IsPeer.to h there) e3)
+      (λ nor e3. reads (source r) _ y e3 (λ from q goes last.
+      let (z, h, through) = source-sound r (from, q) goes in
+      made (IsGen deep.pattern) i y last (g.gen of g.no_peer h through)))))
 
   pub generators-sound : IsSound (generators p) (IsGens deep.pattern)
   unfolding generators
@@ -74,8 +74,8 @@ module _ (p : Place) (room : Room) (deep : Deeper) (s : Sounds p room deep) wher
   pub condition-sound : IsSound (condition p) (IsCond deep.expr)
   unfolding condition
   condition-sound i y e = eats m.Bar _ _ i y e
-    (λ r h e1. reads (p.expr level.Expr r) _ y e1 (λ x q read last. made (IsCond deep.expr) i y last (g.bar h (s.expr r (x, q) read))))
-    (λ no e1. eats m.Has _ _ i y e1
+      (λ r h e1. reads (p.expr level.Expr r) _ y e1 (λ x q read last. made (IsCond deep.expr) i y last (g.bar h (s.expr r (x, q) read))))
+      (λ no e1. eats m.Has _ _ i y e1
       (λ r h e2. reads (p.expr level.Expr r) _ y e2 (λ x q read last. made (IsCond deep.expr) i y last (g.has h (s.expr r (x, q) read))))
       (λ nor last. made (IsCond deep.expr) i y last g.no_cond))
 
@@ -145,17 +145,17 @@ module _ (p : Place) (room : Room) (deep : Deeper) (s : Sounds p room deep) wher
   braced-sound : (t i : List Tok) (y : Expr × List Tok) → Opens m.OpenBrace room t i → braced p i ≡ Ok y → IsAtom room deep y.0 t y.1
   unfolding braced
   braced-sound t i y opened e = eats m.CloseBrace _ _ i y e
-    (λ r over last. made (IsAtom room deep) t y last (g.set_of opened (spelling.empty over)))
-    (λ some e1. reads (p.expr level.Disj i) _ y e1 (λ x r read e2.
+      (λ r over last. made (IsAtom room deep) t y last (g.set_of opened (spelling.empty over)))
+      (λ some e1. reads (p.expr level.Disj i) _ y e1 (λ x r read e2.
       let term = s.disj i (x, r) read in
       eats m.Colon _ _ r y e2
-        (λ q colon e3. comprehension-sound x t i r q y opened term colon e3)
-        (λ no e3. eats m.Comma _ _ r y e3
-          (λ q comma e4. reads (separated m.Comma (p.expr level.Disj) (x ∷ []) q) _ y e4 (λ all z others e5.
-            passes m.CloseBrace z _ y e5 (λ a over last.
-            let (xs, is, spelled) = separated-sound m.Comma (p.expr level.Disj) deep.disj s.disj (x ∷ []) q (all, z) others in
-            made (IsAtom room deep) t y last (subst (λ l. IsAtom room deep (ex.SetOf l) t a) (sym is) (g.set_of opened (spelling.full (spelling.more term comma spelled) over))))))
-          (λ nor e4. passes m.CloseBrace r _ y e4 (λ a over last. made (IsAtom room deep) t y last (g.set_of opened (spelling.full (spelling.last term) over)))))))
+      (λ q colon e3. comprehension-sound x t i r q y opened term colon e3)
+      (λ no e3. eats m.Comma _ _ r y e3
+      (λ q comma e4. reads (separated m.Comma (p.expr level.Disj) (x ∷ []) q) _ y e4 (λ all z others e5.
+      passes m.CloseBrace z _ y e5 (λ a over last.
+      let (xs, is, spelled) = separated-sound m.Comma (p.expr level.Disj) deep.disj s.disj (x ∷ []) q (all, z) others in
+      made (IsAtom room deep) t y last (subst (λ l. IsAtom room deep (ex.SetOf l) t a) (sym is) (g.set_of opened (spelling.full (spelling.more term comma spelled) over))))))
+      (λ nor e4. passes m.CloseBrace r _ y e4 (λ a over last. made (IsAtom room deep) t y last (g.set_of opened (spelling.full (spelling.last term) over)))))))
 
   -- an atom that a word begins
   word-sound : (k : Mark) (i : List Tok) (y : Expr × List Tok) → mark i ≡ Some k → exprs.word p k i ≡ Ok y → IsAtom room deep y.0 i y.1
@@ -163,15 +163,15 @@ module _ (p : Place) (room : Room) (deep : Deeper) (s : Sounds p room deep) wher
   word-sound m.False i y is e = made (IsAtom room deep) i y e (g.IsAtom.no (At-mark m.False i is))
   word-sound m.SelfWord i y is e = made (IsAtom room deep) i y e (g.IsAtom.me (At-mark m.SelfWord i is))
   word-sound m.LogicalTime i y is e = reads (no_argument p (rest i)) _ y e (λ u q read last.
-    let (r, opened, over) = no_argument-sound (rest i) (u, q) read in
-    made (IsAtom room deep) i y last (g.clock (At-mark m.LogicalTime i is) opened over))
+      let (r, opened, over) = no_argument-sound (rest i) (u, q) read in
+      made (IsAtom room deep) i y last (g.clock (At-mark m.LogicalTime i is) opened over))
   word-sound m.Range i y is e = two_arguments-sound ex.Range i (rest i) y (λ a b r q z u v opened one comma two over. g.range (At-mark m.Range i is) opened one comma two over) e
   word-sound m.Count i y is e = reads (one_argument p (rest i)) _ y e (λ x z read last.
-    let (r, q, opened, one, over) = one_argument-sound (rest i) (x, z) read in
-    made (IsAtom room deep) i y last (g.IsAtom.count (At-mark m.Count i is) opened one over))
+      let (r, q, opened, one, over) = one_argument-sound (rest i) (x, z) read in
+      made (IsAtom room deep) i y last (g.IsAtom.count (At-mark m.Count i is) opened one over))
   word-sound m.Sum i y is e = reads (one_argument p (rest i)) _ y e (λ x z read last.
-    let (r, q, opened, one, over) = one_argument-sound (rest i) (x, z) read in
-    made (IsAtom room deep) i y last (g.IsAtom.sum (At-mark m.Sum i is) opened one over))
+      let (r, q, opened, one, over) = one_argument-sound (rest i) (x, z) read in
+      made (IsAtom room deep) i y last (g.IsAtom.sum (At-mark m.Sum i is) opened one over))
   word-sound m.Min i y is e = two_arguments-sound ex.Min i (rest i) y (λ a b r q z u v opened one comma two over. g.IsAtom.min (At-mark m.Min i is) opened one comma two over) e
   word-sound m.Max i y is e = two_arguments-sound ex.Max i (rest i) y (λ a b r q z u v opened one comma two over. g.IsAtom.max (At-mark m.Max i is) opened one comma two over) e
   word-sound _ i y is e = cc
@@ -187,10 +187,10 @@ module _ (p : Place) (room : Room) (deep : Deeper) (s : Sounds p room deep) (sha
       reads (p.expr level.Disj i) _ y e (λ x r read e1.
       let inside = s.disj i (x, r) read in
       eats m.Comma _ _ r y e1
-        (λ q comma e2. reads (closed m.CloseParen (p.expr level.Disj) (x ∷ []) q) _ y e2 (λ all z others last.
-          let (xs, is, spelled) = closed-sound m.CloseParen (p.expr level.Disj) deep.disj s.disj (x ∷ []) q (all, z) others in
-          made (IsAtom room deep) t y last (subst (λ l. IsAtom room deep (ex.Tuple l) t z) (sym is) (g.IsAtom.tuple opened inside comma spelled))))
-        (λ no e2. passes m.CloseParen r _ y e2 (λ q over last. made (IsAtom room deep) t y last (g.group opened (shaped.widens x i r inside) over))))
+      (λ q comma e2. reads (closed m.CloseParen (p.expr level.Disj) (x ∷ []) q) _ y e2 (λ all z others last.
+      let (xs, is, spelled) = closed-sound m.CloseParen (p.expr level.Disj) deep.disj s.disj (x ∷ []) q (all, z) others in
+      made (IsAtom room deep) t y last (subst (λ l. IsAtom room deep (ex.Tuple l) t z) (sym is) (g.IsAtom.tuple opened inside comma spelled))))
+      (λ no e2. passes m.CloseParen r _ y e2 (λ q over last. made (IsAtom room deep) t y last (g.group opened (shaped.widens x i r inside) over))))
 
   grouped-sound : (t i : List Tok) (y : Expr × List Tok) → Opens m.OpenParen room t i → grouped p i ≡ Ok y → IsAtom room deep y.0 t y.1
   unfolding grouped

@@ -1,51 +1,38 @@
 -- What is read as a member of a class is spelled so.
-use Rattle.std.proofs.Common.{◌≡◌, ℕ, zero, suc, ◌+◌, ◌-◌, ◌<◌, ◌≤◌, Bool, true, false, List, [], ◌∷◌, ◌++◌, length, Option, Some, None, Result, Ok, Err, refl, sym, ap, ◌∙◌, subst, rules, arith, inl, inr, append_assoc, append-nil}
-use Rattle.std.specs.Prelude.{if◌then◌else◌, ◌==◌, nat_lt}
+use Rattle.std.proofs.Common.{◌≡◌, ℕ, zero, suc, ◌<◌, ◌≤◌, true, List, [], length, Option, Some, None, Ok, refl, subst, arith, inl, inr}
 use Rattle.da_values.specs.declared.token.Mark.{Mark}
 use Rattle.da_values.specs.declared.token.Mark.TheVariants as m
 use Rattle.da_values.specs.Marks.{Tok}
-use Rattle.da_lang.specs.declared.tree.ClassTree.{ClassTree}
-use Rattle.da_lang.specs.declared.tree.Expr.{Expr}
-use Rattle.da_lang.specs.declared.tree.MainLine.{MainLine}
 use Rattle.da_lang.specs.declared.tree.Member.{Member}
-use Rattle.da_lang.specs.declared.tree.MessageDecl.{MessageDecl}
-use Rattle.da_lang.specs.declared.tree.Param.{Param}
 use Rattle.da_lang.specs.declared.tree.PatternTree.{PatternTree}
 use Rattle.da_lang.specs.declared.tree.Stmt.{Stmt}
-use Rattle.da_lang.specs.declared.tree.Tree.{Tree}
-use Rattle.da_lang.specs.declared.ty.ChannelKind.{ChannelKind}
-use Rattle.da_lang.specs.declared.ty.ChannelKind.TheVariants as kind_of
 use Rattle.da_lang.specs.declared.ty.Ty.{Ty}
 use Rattle.da_lang.specs.Spelling as sp
 use Rattle.da_lang.specs.Spelling.{Spelling, Room, At, Opens, Named, Number, Separated, Closed, Behind, Ended}
-use Rattle.da_lang.specs.TypeGrammar.{IsType, TypeIn}
-use Rattle.da_lang.specs.ExprGrammar.{Deeper, IsExpr, IsPattern, deeper}
+use Rattle.da_lang.specs.TypeGrammar.{TypeIn}
+use Rattle.da_lang.specs.ExprGrammar.{IsPattern, deeper}
 use Rattle.da_lang.specs.StmtGrammar.{IsBlock, BodyIn}
 use Rattle.da_lang.specs.Grammar as g
 use Rattle.da_lang.specs.Grammar.{IsParam, IsFrom, IsAt, IsMember, IsCount, IsMline, IsKind, IsTypes, IsParams, IsMessage, IsClass, IsDecls, IsMain, IsProgram}
-use Rattle.da_parse.specs.declared.place.Level.TheVariants as level
-use Rattle.da_parse.specs.Reader as reader
-use Rattle.da_parse.specs.Reader.{mark, text, rest, sees, after, Outcome, Reader, and_then, ◌>>=◌, ◌>>◌, pure, refuse, take_token, eat, expect, word, number}
-use Rattle.da_parse.specs.Lists.{separated, begun, ended, closed}
-use Rattle.da_parse.specs.Place.{Limit, Place, opening, at_most_32}
-use Rattle.da_parse.specs.Types.{types, type_in, type_at, type_below}
-use Rattle.da_parse.specs.Exprs.{place, at_depth, expression, pattern}
-use Rattle.da_parse.specs.Stmts.{bodies, block_behind_colon, block_at, body_below}
+use Rattle.da_parse.specs.Reader.{mark, text, rest, ◌>>=◌, pure, word}
+use Rattle.da_parse.specs.Lists.{separated}
+use Rattle.da_parse.specs.Place.{Limit}
+use Rattle.da_parse.specs.Types.{types, type_in}
+use Rattle.da_parse.specs.Exprs.{pattern}
 use Rattle.da_parse.specs.Members.{Parts, parts_in, param, params, variable, setup, run, method, definition_by, definition, sender, labels, handler, member_by, member, members}
-use Rattle.da_parse.specs.Programs.{Outer, outer_in, outermost, count, kind_from, one_of, kind, finish, header_end, message, class, new_line, argument, setup_line, line_by, main_line, main, program_end, decls_by, decls_from, decls, program}
-use Rattle.da_parse.proofs.Steps.{bind_ok, chosen, chosen_value, eat_ok, expect_ok, word_ok, number_ok, opening_ok, left, read_or, At-mark, Named-mark}
+use Rattle.da_parse.proofs.Steps.{eat_ok, word_ok, At-mark, Named-mark}
 use Rattle.da_parse.proofs.SoundSteps.{reads, made, passes, names, opening_by}
 use Rattle.da_parse.proofs.SoundTypes.{types-sound, type_there-sound}
 use Rattle.da_parse.proofs.SoundPlaces.{places-sound, pattern_there-sound}
-use Rattle.da_parse.proofs.ListSound.{all_separated, all_closed, all_behind, ended-sound}
+use Rattle.da_parse.proofs.ListSound.{all_separated, all_closed, ended-sound}
 use Rattle.da_parse.proofs.SoundStmts.{same_line, BehindColon, block_there-sound}
-use Rattle.da_parse.proofs.Laws.{IsSound, Sounds}
+use Rattle.da_parse.proofs.Laws.{IsSound}
 
 labels-sound : IsSound labels IsAt
 unfolding labels
 labels-sound i y e = elim (eat_ok m.At (separated m.Comma (word m.Name) []) (pure []) i y e) [
   | inl h ↦ g.labels h.1 (all_separated m.Comma (word m.Name) Named word_ok h.0 y h.2)
-  | inr h ↦ made (IsAt) i y h.1 g.no_at
+  | inr h ↦ made IsAt i y h.1 g.no_at
 ]
 
 module _ (s : Parts) (room : Room) (fits : (t : List Tok) → s.place.may_open (length t) ≡ true → room t)
@@ -72,7 +59,7 @@ module _ (s : Parts) (room : Room) (fits : (t : List Tok) → s.place.may_open (
       reads (s.ty after_v) _ y e2 (λ w after_w read e3.
       passes m.Newline after_w _ y e3 (λ after_x over last.
       made (IsMember room Type_ (Closed m.CloseParen (IsParam Inner)) Pattern Block) t y last
-        (g.var there name colon (type_sound after_v (w, after_w) read) over)))))
+      (g.var there name colon (type_sound after_v (w, after_w) read) over)))))
 
   setup-sound : (t r i : List Tok) (y : Member × List Tok) → At m.Def t r → At m.Setup r i → setup s (sp.line t) i ≡ Ok y → IsMember room Type_ (Closed m.CloseParen (IsParam Inner)) Pattern Block y.0 t y.1
   unfolding setup
@@ -82,7 +69,7 @@ module _ (s : Parts) (room : Room) (fits : (t : List Tok) → s.place.may_open (
       reads (s.block after_v) _ y e2 (λ w after_w does last.
       let (a, colon, b) = block_sound after_v (w, after_w) does in
       made (IsMember room Type_ (Closed m.CloseParen (IsParam Inner)) Pattern Block) t y last
-        (g.IsMember.setup def there opened (params-sound after_u (v, after_v) read) colon b))))
+      (g.IsMember.setup def there opened (params-sound after_u (v, after_v) read) colon b))))
 
   run-sound : (t r i : List Tok) (y : Member × List Tok) → At m.Def t r → At m.Run r i → run s (sp.line t) i ≡ Ok y → IsMember room Type_ (Closed m.CloseParen (IsParam Inner)) Pattern Block y.0 t y.1
   unfolding run
@@ -92,7 +79,7 @@ module _ (s : Parts) (room : Room) (fits : (t : List Tok) → s.place.may_open (
       reads (s.block after_v) _ y e2 (λ w after_w does last.
       let (a, colon, b) = block_sound after_v (w, after_w) does in
       made (IsMember room Type_ (Closed m.CloseParen (IsParam Inner)) Pattern Block) t y last
-        (g.run def there opened close colon b))))
+      (g.run def there opened close colon b))))
 
   method-sound : (n : List ℕ) (t r i : List Tok) (y : Member × List Tok) → At m.Def t r → Named n r i → method s n (sp.line t) i ≡ Ok y → IsMember room Type_ (Closed m.CloseParen (IsParam Inner)) Pattern Block y.0 t y.1
   unfolding method
@@ -102,7 +89,7 @@ module _ (s : Parts) (room : Room) (fits : (t : List Tok) → s.place.may_open (
       reads (s.block after_v) _ y e2 (λ w after_w does last.
       let (a, colon, b) = block_sound after_v (w, after_w) does in
       made (IsMember room Type_ (Closed m.CloseParen (IsParam Inner)) Pattern Block) t y last
-        (g.method def name opened (params-sound after_u (v, after_v) read) colon b))))
+      (g.method def name opened (params-sound after_u (v, after_v) read) colon b))))
 
   definition_by-sound : (k : Option Mark) (t i : List Tok) (y : Member × List Tok) → At m.Def t i → mark i ≡ k → definition_by s (sp.line t) k i ≡ Ok y → IsMember room Type_ (Closed m.CloseParen (IsParam Inner)) Pattern Block y.0 t y.1
   definition_by-sound (Some m.Setup) t i y def is e = setup-sound t i (rest i) y def (At-mark m.Setup i is) e
@@ -118,8 +105,8 @@ module _ (s : Parts) (room : Room) (fits : (t : List Tok) → s.place.may_open (
   unfolding sender
   sender-sound i y e = elim (eat_ok m.From (pattern s.place >>= λ x. pure (Some x)) (pure None) i y e) [
     | inl h ↦ (
-      reads (pattern s.place h.0) _ y h.2 (λ u after_u read last.
-      made (IsFrom Pattern) i y last (g.from h.1 (pattern_sound h.0 (u, after_u) read))))
+        reads (pattern s.place h.0) _ y h.2 (λ u after_u read last.
+        made (IsFrom Pattern) i y last (g.from h.1 (pattern_sound h.0 (u, after_u) read))))
     | inr h ↦ made (IsFrom Pattern) i y h.1 g.no_from
   ]
 
@@ -132,7 +119,7 @@ module _ (s : Parts) (room : Room) (fits : (t : List Tok) → s.place.may_open (
       reads (s.block after_w) _ y e3 (λ x after_x does last.
       let (a, colon, b) = block_sound after_w (x, after_x) does in
       made (IsMember room Type_ (Closed m.CloseParen (IsParam Inner)) Pattern Block) t y last
-        (g.receive there (pattern_sound i (u, after_u) read) (sender-sound after_u (v, after_v) whence) (labels-sound after_v (w, after_w) places) colon b)))))
+      (g.receive there (pattern_sound i (u, after_u) read) (sender-sound after_u (v, after_v) whence) (labels-sound after_v (w, after_w) places) colon b)))))
 
   member_by-sound : (k : Option Mark) (i : List Tok) (y : Member × List Tok) → mark i ≡ k → member_by s (sp.line i) k i ≡ Ok y → IsMember room Type_ (Closed m.CloseParen (IsParam Inner)) Pattern Block y.0 i y.1
   member_by-sound (Some m.Var) i y is e = variable-sound i (rest i) y (At-mark m.Var i is) e
@@ -160,4 +147,4 @@ module _ (limit : Limit) (room : ℕ → Room) (fits : (d : ℕ) (t : List Tok) 
   members_there-sound f n d less =
       let few : f ≤ n = omega (arith, less) in
       members-sound (parts_in limit f d) (room d) (places-sound limit room fits f n d few).fits (TypeIn room n d) (TypeIn room n (suc d)) (type_inside-sound f n d less) (types-sound limit room fits f n (suc d) few)
-        (IsPattern (room d) (deeper room n (suc d))) (pattern_there-sound limit room fits f n d few) (IsBlock (room d) (deeper room n (suc d)) (BodyIn room n (suc d))) (block_there-sound limit room fits f n d few)
+      (IsPattern (room d) (deeper room n (suc d))) (pattern_there-sound limit room fits f n d few) (IsBlock (room d) (deeper room n (suc d)) (BodyIn room n (suc d))) (block_there-sound limit room fits f n d few)

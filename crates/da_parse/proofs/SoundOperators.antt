@@ -19,7 +19,7 @@ use Rattle.da_parse.specs.declared.place.Level.TheVariants as level
 use Rattle.da_parse.specs.Reader.{mark, rest, sees, Reader}
 use Rattle.da_parse.specs.Lists.{separated, closed, others}
 use Rattle.da_parse.specs.Place.{Place}
-use Rattle.da_parse.specs.Exprs.{times_op, plus_op, cmp_op_at, quantifier, chained, joined, constant, generators, condition, atom, behind_minus, unary, product, sum, compared_by, comparison, negation, conjunction, disjunction, quantification, expression_by, expression, tuple_pattern, pattern_by, pattern}
+use Rattle.da_parse.specs.Exprs.{times_op, plus_op, cmp_op_at, quantifier, chained, joined, constant, generators, condition, behind_minus, unary, product, sum, compared_by, comparison, negation, conjunction, disjunction, quantification, expression_by, expression, tuple_pattern, pattern_by, pattern}
 use Rattle.da_parse.proofs.Steps.{chosen, At-sees, At-mark, Named-mark, NotAt-sees}
 use Rattle.da_parse.proofs.Laws.{IsSound, Sounds}
 use Rattle.da_parse.proofs.SoundSteps.{reads, made, passes, eats, numbers, quotes, opened_by}
@@ -85,10 +85,10 @@ joined-sound k join operand Operand sound i y e =
     reads (operand i) _ y e (λ x r read e1.
     let first = sound i (x, r) read in
     eats k _ _ r y e1
-      (λ q word e2. reads (separated k operand (x ∷ []) q) _ y e2 (λ all z others last.
-        let (xs, is, spelled) = separated-sound k operand Operand sound (x ∷ []) q (all, z) others in
-        made (IsJoined k join Operand) i y last (subst (λ l. IsJoined k join Operand (join l) i z) (sym is) (joined_more x xs first word spelled))))
-      (λ no last. made (IsJoined k join Operand) i y last (g.IsJoined.lone first)))
+    (λ q word e2. reads (separated k operand (x ∷ []) q) _ y e2 (λ all z others last.
+    let (xs, is, spelled) = separated-sound k operand Operand sound (x ∷ []) q (all, z) others in
+    made (IsJoined k join Operand) i y last (subst (λ l. IsJoined k join Operand (join l) i z) (sym is) (joined_more x xs first word spelled))))
+    (λ no last. made (IsJoined k join Operand) i y last (g.IsJoined.lone first)))
 
 quantified : {room : Room} {deep : Deeper} (each : Bool) {gs : List GenTree} {o : Option Expr} {t r q z : List Tok} → Opens (quantifying each) room t r → IsGens deep.pattern gs r q → IsCond deep.expr o q z → IsQuant room deep (ex.Quant each gs o) t z
 quantified false opened gens cond = g.«some» opened gens cond
@@ -129,7 +129,7 @@ module _ (p : Place) (room : Room) (deep : Deeper) (s : Sounds p room deep) (sha
 
   compared_by-sound : (o : Option CmpOp) (x : Expr) (t i : List Tok) (y : Expr × List Tok) → cmp_op_at (mark i) ≡ o → IsSum room deep x t i → compared_by p x o i ≡ Ok y → IsComp room deep y.0 t y.1
   compared_by-sound (Some op) x t i y is left e = reads (sum p (rest i)) _ y e (λ z r read last.
-    made (IsComp room deep) t y last (g.compared left (cmp-sound i op is) (sum-sound (rest i) (z, r) read)))
+      made (IsComp room deep) t y last (g.compared left (cmp-sound i op is) (sum-sound (rest i) (z, r) read)))
   compared_by-sound None x t i y is left e = made (IsComp room deep) t y e (g.IsComp.lone left)
 
   pub comparison-sound : IsSound (comparison p) (IsComp room deep)
@@ -138,8 +138,8 @@ module _ (p : Place) (room : Room) (deep : Deeper) (s : Sounds p room deep) (sha
       reads (sum p i) _ y e (λ x r read e1.
       let left = sum-sound i (x, r) read in
       eats m.In _ _ r y e1
-        (λ q word e2. reads (sum p q) _ y e2 (λ z a right last. made (IsComp room deep) i y last (g.member left word (sum-sound q (z, a) right))))
-        (λ no e2. compared_by-sound (cmp_op_at (mark r)) x i r y refl left e2))
+      (λ q word e2. reads (sum p q) _ y e2 (λ z a right last. made (IsComp room deep) i y last (g.member left word (sum-sound q (z, a) right))))
+      (λ no e2. compared_by-sound (cmp_op_at (mark r)) x i r y refl left e2))
 
   pub negation-sound : IsSound (negation p) (IsNeg room deep)
   unfolding negation

@@ -1,6 +1,6 @@
 -- Places: where d things are open, the readers of expressions and patterns are sound, for every rule of nesting of the grammar
 -- that allows what the rule of the readers does.
-use Rattle.std.proofs.Common.{◌≡◌, ℕ, zero, suc, ◌≤◌, true, List, [], ◌∷◌, length, refl, arith}
+use Rattle.std.proofs.Common.{◌≡◌, ℕ, zero, suc, ◌≤◌, true, List, ◌∷◌, length, refl, arith}
 use Rattle.da_values.specs.declared.token.Mark.{Mark}
 use Rattle.da_values.specs.Marks.{Tok}
 use Rattle.da_lang.specs.declared.tree.Expr.{Expr}

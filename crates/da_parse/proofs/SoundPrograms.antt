@@ -1,44 +1,37 @@
 -- What is read as a program is spelled so.
-use Rattle.std.proofs.Common.{◌≡◌, ℕ, zero, suc, ◌+◌, ◌-◌, ◌<◌, ◌≤◌, Bool, true, false, List, [], ◌∷◌, ◌++◌, length, Option, Some, None, Result, Ok, Err, refl, sym, ap, ◌∙◌, subst, rules, arith, inl, inr, append_assoc, append-nil}
-use Rattle.std.specs.Prelude.{if◌then◌else◌, ◌==◌, nat_lt}
+use Rattle.std.proofs.Common.{◌≡◌, ℕ, zero, suc, ◌-◌, ◌≤◌, Bool, true, false, List, [], ◌∷◌, ◌++◌, length, Option, Some, None, Ok, refl, sym, ap, ◌∙◌, subst, arith, inl, inr, append_assoc, append-nil}
+use Rattle.std.specs.Prelude.{◌==◌}
 use Rattle.da_values.specs.declared.token.Mark.{Mark}
 use Rattle.da_values.specs.declared.token.Mark.TheVariants as m
 use Rattle.da_values.specs.Marks.{Tok}
 use Rattle.da_lang.specs.declared.tree.ClassTree.{ClassTree}
-use Rattle.da_lang.specs.declared.tree.Expr.{Expr}
 use Rattle.da_lang.specs.declared.tree.MainLine.{MainLine}
-use Rattle.da_lang.specs.declared.tree.Member.{Member}
 use Rattle.da_lang.specs.declared.tree.MessageDecl.{MessageDecl}
-use Rattle.da_lang.specs.declared.tree.Param.{Param}
-use Rattle.da_lang.specs.declared.tree.PatternTree.{PatternTree}
-use Rattle.da_lang.specs.declared.tree.Stmt.{Stmt}
 use Rattle.da_lang.specs.declared.tree.Tree.{Tree}
 use Rattle.da_lang.specs.declared.ty.ChannelKind.{ChannelKind}
 use Rattle.da_lang.specs.declared.ty.ChannelKind.TheVariants as kind_of
-use Rattle.da_lang.specs.declared.ty.Ty.{Ty}
 use Rattle.da_lang.specs.Spelling as sp
 use Rattle.da_lang.specs.Spelling.{Spelling, Room, At, Opens, Named, Number, Separated, Closed, Behind, Ended}
-use Rattle.da_lang.specs.TypeGrammar.{IsType, TypeIn}
-use Rattle.da_lang.specs.ExprGrammar.{Deeper, IsExpr, IsPattern, deeper}
+use Rattle.da_lang.specs.TypeGrammar.{TypeIn}
+use Rattle.da_lang.specs.ExprGrammar.{IsPattern, deeper}
 use Rattle.da_lang.specs.StmtGrammar.{IsBlock, BodyIn}
 use Rattle.da_lang.specs.Grammar as g
 use Rattle.da_lang.specs.Grammar.{IsParam, IsFrom, IsAt, IsMember, IsCount, IsMline, IsKind, IsTypes, IsParams, IsMessage, IsClass, IsDecls, IsMain, IsProgram}
 use Rattle.da_parse.specs.declared.place.Level.TheVariants as level
 use Rattle.da_parse.specs.Reader as reader
 use Rattle.da_parse.specs.Reader.{mark, text, rest, sees, after, Outcome, Reader, and_then, ◌>>=◌, ◌>>◌, pure, refuse, take_token, eat, expect, word, number}
-use Rattle.da_parse.specs.Lists.{separated, begun, ended, closed}
-use Rattle.da_parse.specs.Place.{Limit, Place, opening, at_most_32}
-use Rattle.da_parse.specs.Types.{types, type_in, type_at, type_below}
-use Rattle.da_parse.specs.Exprs.{place, at_depth, expression, pattern}
-use Rattle.da_parse.specs.Stmts.{bodies, block_behind_colon, block_at, body_below}
-use Rattle.da_parse.specs.Members.{Parts, parts_in, param, params, variable, setup, run, method, definition_by, definition, sender, labels, handler, member_by, member, members}
+use Rattle.da_parse.specs.Lists.{begun, closed}
+use Rattle.da_parse.specs.Place.{Limit, at_most_32}
+use Rattle.da_parse.specs.Types.{type_at, type_below}
+use Rattle.da_parse.specs.Exprs.{at_depth}
+use Rattle.da_parse.specs.Stmts.{block_at, body_below}
+use Rattle.da_parse.specs.Members.{members}
 use Rattle.da_parse.specs.Programs.{Outer, outer_in, outermost, count, kind_from, one_of, kind, finish, header_end, message, class, new_line, argument, setup_line, line_by, main_line, main, program_end, decls_by, decls_from, decls, program}
-use Rattle.da_parse.proofs.Steps.{bind_ok, chosen, chosen_value, eat_ok, expect_ok, word_ok, number_ok, opening_ok, left, read_or, At-mark, Named-mark}
+use Rattle.da_parse.proofs.Steps.{chosen_value, eat_ok, number_ok, opening_ok, left, At-mark, Named-mark}
 use Rattle.da_parse.proofs.SoundSteps.{reads, made, passes, names, opening_by}
 use Rattle.da_parse.proofs.SoundTypes.{types-sound}
-use Rattle.da_parse.proofs.ListSound.{all_separated, all_closed, all_behind, ended-sound}
+use Rattle.da_parse.proofs.ListSound.{all_closed, all_behind, ended-sound}
 use Rattle.da_parse.proofs.SoundStmts.{same_line}
-use Rattle.std.proofs.lemmas.Bool.Decides.{nat_tests}
 use Rattle.da_parse.proofs.SoundMembers.{members_there-sound}
 use Rattle.da_parse.proofs.SoundPlaces.{places-sound}
 use Rattle.da_parse.proofs.Laws.{IsSound, Sounds}
@@ -47,9 +40,9 @@ count-sound : IsSound count IsCount
 unfolding count
 count-sound i y e = elim (eat_ok m.Comma (number >>= λ n. pure (Some n)) (pure None) i y e) [
   | inl h ↦ (
-    reads (number h.0) _ y h.2 (λ u after_u read last.
-    made (IsCount) i y last (g.count h.1 (number_ok h.0 (u, after_u) read))))
-  | inr h ↦ made (IsCount) i y h.1 g.no_count
+      reads (number h.0) _ y h.2 (λ u after_u read last.
+      made IsCount i y last (g.count h.1 (number_ok h.0 (u, after_u) read))))
+  | inr h ↦ made IsCount i y h.1 g.no_count
 ]
 
 -- one of two tokens
@@ -62,8 +55,8 @@ unfolding one_of
 one_of-sound k other i y e = elim (eat_ok k (pure true) (expect other >> pure false) i y e) [
   | inl h ↦ made (OneOf k other) i y h.2 h.1
   | inr h ↦ (
-    passes other i _ y h.1 (λ after_u passed last.
-    made (OneOf k other) i y last passed))
+      passes other i _ y h.1 (λ after_u passed last.
+      made (OneOf k other) i y last passed))
 ]
 
 kinds : (fifo reliable : Bool) (t r s q z : List Tok) → At m.Channel t r → OneOf m.Fifo m.Unordered fifo r s → OneOf m.Reliable m.Unreliable reliable s q → At m.Newline q z → IsKind (kind_from fifo reliable) t z
@@ -76,13 +69,13 @@ kind-sound : IsSound kind IsKind
 unfolding kind
 kind-sound i y e = elim (eat_ok m.Channel (one_of m.Fifo m.Unordered >>= λ fifo. one_of m.Reliable m.Unreliable >>= λ reliable. expect m.Newline >> pure (kind_from fifo reliable)) (pure kind_of.UnorderedUnreliable) i y e) [
   | inl h ↦ (
-    let (r, there, e1) = h in
-    reads (one_of m.Fifo m.Unordered r) _ y e1 (λ u after_u fifo e2.
-    reads (one_of m.Reliable m.Unreliable after_u) _ y e2 (λ v after_v reliable e3.
-    passes m.Newline after_v _ y e3 (λ after_w over last.
-    made (IsKind) i y last
+      let (r, there, e1) = h in
+      reads (one_of m.Fifo m.Unordered r) _ y e1 (λ u after_u fifo e2.
+      reads (one_of m.Reliable m.Unreliable after_u) _ y e2 (λ v after_v reliable e3.
+      passes m.Newline after_v _ y e3 (λ after_w over last.
+      made IsKind i y last
       (kinds u v i r after_u after_v after_w there (one_of-sound m.Fifo m.Unordered r (u, after_u) fifo) (one_of-sound m.Reliable m.Unreliable after_u (v, after_v) reliable) over)))))
-  | inr h ↦ made (IsKind) i y h.1 g.no_kind
+  | inr h ↦ made IsKind i y h.1 g.no_kind
 ]
 
 none_left : (i : List Tok) → (length i == 0) ≡ true → i ≡ []
@@ -118,7 +111,7 @@ module _ (o : Outer) (room : ℕ → Room) (f : ℕ) (sounds : OuterSounds o roo
       reads (closed m.CloseParen o.inner_ty [] after_v) _ y e2 (λ w after_w read e3.
       passes m.Newline after_w _ y e3 (λ after_x over last.
       made (IsMessage room f) t y last
-        (g.IsMessage.message there name opened (all_closed m.CloseParen o.inner_ty (TypeIn room f 1) sounds.types after_v (w, after_w) read) over)))))
+      (g.IsMessage.message there name opened (all_closed m.CloseParen o.inner_ty (TypeIn room f 1) sounds.types after_v (w, after_w) read) over)))))
 
   class-sound : (t i : List Tok) (y : ClassTree × List Tok) → At m.Class t i → class o (sp.line t) i ≡ Ok y → IsClass room f y.0 t y.1
   unfolding class
@@ -130,7 +123,7 @@ module _ (o : Outer) (room : ℕ → Room) (f : ℕ) (sounds : OuterSounds o roo
       reads (members o.inside after_x) _ y e4 (λ k after_k read last.
       let (a, b, colon, over, opened) = header_end-sound after_w (x, after_x) header in
       made (IsClass room f) t y last
-        (g.IsClass.class there name extends process colon over opened (sounds.members after_x (k, after_k) read)))))))
+      (g.IsClass.class there name extends process colon over opened (sounds.members after_x (k, after_k) read)))))))
 
   new_line-sound : (n : List ℕ) (t i : List Tok) (y : MainLine × List Tok) → Named n t i → new_line o n (sp.line t) i ≡ Ok y → IsMline (room 1) (deeper room f 2) y.0 t y.1
   unfolding new_line
@@ -143,7 +136,7 @@ module _ (o : Outer) (room : ℕ → Room) (f : ℕ) (sounds : OuterSounds o roo
       passes m.CloseParen after_k _ y e5 (λ after_l close e6.
       passes m.Newline after_l _ y e6 (λ after_j over last.
       made (IsMline (room 1) (deeper room f 2)) t y last
-        (g.new name is new opened class (count-sound after_x (k, after_k) many) close over))))))))
+      (g.new name is new opened class (count-sound after_x (k, after_k) many) close over))))))))
 
   setup_line-sound : (t i : List Tok) (y : MainLine × List Tok) → At m.Setup t i → setup_line o (sp.line t) i ≡ Ok y → IsMline (room 1) (deeper room f 2) y.0 t y.1
   unfolding setup_line
@@ -154,8 +147,8 @@ module _ (o : Outer) (room : ℕ → Room) (f : ℕ) (sounds : OuterSounds o roo
       passes m.CloseParen after_w _ y e3 (λ after_x close e4.
       passes m.Newline after_x _ y e4 (λ after_k over last.
       made (IsMline (room 1) (deeper room f 2)) t y last
-        (g.IsMline.setup there opened name
-          (all_behind m.Comma (o.inside.place.expr level.Disj) (deeper room f 2).disj sounds.inside.disj after_v (w, after_w) read) close over))))))
+      (g.IsMline.setup there opened name
+      (all_behind m.Comma (o.inside.place.expr level.Disj) (deeper room f 2).disj sounds.inside.disj after_v (w, after_w) read) close over))))))
 
   line_by-sound : (k : Option Mark) (i : List Tok) (y : MainLine × List Tok) → mark i ≡ k → line_by o (sp.line i) k i ≡ Ok y → IsMline (room 1) (deeper room f 2) y.0 i y.1
   line_by-sound (Some m.Name) i y is e = new_line-sound (text i) i (rest i) y (Named-mark i is) e
@@ -176,7 +169,7 @@ module _ (o : Outer) (room : ℕ → Room) (f : ℕ) (sounds : OuterSounds o roo
       reads (header_end o after_x) _ y e4 (λ k after_k header e5.
       let (a, b, colon, over, begun) = header_end-sound after_x (k, after_k) header in
       g.main def there opened close colon over begun
-        (ended-sound (main_line o) (IsMline (room 1) (deeper room f 2)) main_line-sound after_k y e5))))))
+      (ended-sound (main_line o) (IsMline (room 1) (deeper room f 2)) main_line-sound after_k y e5))))))
 
   -- a program whose kind, messages and classes so far are known: the further ones are spelled here, then `main`, and nothing is left
   abbrev Rest : ChannelKind → List MessageDecl → List ClassTree → List Tok → Tree × List Tok → Type 0

@@ -1,6 +1,6 @@
 -- Taking apart what was read, step by step. Each lemma hands what a step read to the proof of what follows, so that a proof
 -- speaks of variables and its terms stay small.
-use Rattle.std.proofs.Common.{◌≡◌, ℕ, Bool, true, false, List, [], length, Ok, Err, refl, subst, inl, inr}
+use Rattle.std.proofs.Common.{◌≡◌, ℕ, Bool, true, false, List, length, Ok, Err, refl, subst, inl, inr}
 use Rattle.std.specs.Prelude.{if◌then◌else◌}
 use Rattle.da_values.specs.declared.token.Mark.{Mark}
 use Rattle.da_values.specs.declared.token.Mark.TheVariants as m
@@ -27,7 +27,7 @@ passes k i f y e next = reads (expect k i) f y e (λ x r read later. next r (exp
 -- a token of this mark was passed, or there is none
 pub eats : {B C : Type 0} (k : Mark) (p q : Reader B) (i : List Tok) (y : B × List Tok) → (if sees k i then p else q) (after k i) ≡ Ok y
     → ((r : List Tok) → At k i r → p r ≡ Ok y → C) → (sees k i ≡ false → q i ≡ Ok y → C) → C
-eats k p q i y e there missing = elim (eat_ok k p q i y e) [ | inl h ↦ there h.0 h.1 h.2 | inr h ↦ missing h.0 h.1 ]
+eats k p q i y e there missing = elim (eat_ok k p q i y e) [ inl h ↦ there h.0 h.1 h.2 | inr h ↦ missing h.0 h.1 ]
 
 pub names : {B C : Type 0} (i : List Tok) (f : List ℕ → Reader B) (y : B × List Tok) → and_then (word m.Name i) f ≡ Ok y → ((b : List ℕ) (r : List Tok) → Named b i r → f b r ≡ Ok y → C) → C
 names i f y e next = reads (word m.Name i) f y e (λ x r read later. next x r (word_ok i (x, r) read) later)

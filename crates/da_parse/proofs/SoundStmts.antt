@@ -1,10 +1,10 @@
 -- What is read as a statement or as a block is spelled so.
-use Rattle.std.proofs.Common.{◌≡◌, ℕ, zero, suc, ◌+◌, ◌<◌, ◌≤◌, Bool, true, false, List, [], ◌∷◌, ◌++◌, length, Option, Some, None, Result, Ok, Err, refl, sym, ap, ◌∙◌, subst, rules, arith, inl, inr}
+use Rattle.std.proofs.Common.{◌≡◌, ℕ, zero, suc, ◌≤◌, true, List, [], ◌∷◌, length, Option, Some, None, Ok, refl, subst, arith, inl, inr}
 use Rattle.std.specs.Prelude.{if◌then◌else◌}
 use Rattle.da_values.specs.declared.token.Mark.{Mark}
 use Rattle.da_values.specs.declared.token.Mark.TheVariants as m
 use Rattle.da_values.specs.Marks.{Tok}
-use Rattle.da_lang.specs.declared.tree.Branch.{Branch, roll-Branch}
+use Rattle.da_lang.specs.declared.tree.Branch.{Branch}
 use Rattle.da_lang.specs.declared.tree.Expr.{Expr}
 use Rattle.da_lang.specs.declared.tree.Stmt.{Stmt}
 use Rattle.da_lang.specs.declared.tree.Stmt.TheVariants as stmt_tree
@@ -17,11 +17,11 @@ use Rattle.da_lang.specs.StmtGrammar.{IsBlock, IsBranch, IsElse, IsTimeout, IsSt
 use Rattle.da_parse.specs.declared.place.Level.TheVariants as level
 use Rattle.da_parse.specs.Reader as reader
 use Rattle.da_parse.specs.Reader.{mark, text, rest, sees, after, Outcome, Reader, and_then, ◌>>=◌, ◌>>◌, pure, refuse, take_token, eat, expect, word}
-use Rattle.da_parse.specs.Lists.{begun, ended, closed}
-use Rattle.da_parse.specs.Place.{Limit, Place, opening}
+use Rattle.da_parse.specs.Lists.{begun}
+use Rattle.da_parse.specs.Place.{Limit, Place}
 use Rattle.da_parse.specs.Exprs.{place, expression}
-use Rattle.da_parse.specs.Stmts.{branch_of, in_parens, behind_paren, arguments, assigned, changed, called, named, sending, output, passing, label, simple_by, block, block_behind_colon, branch, otherwise, timeout, conditional, while_loop, for_loop, alternatives, awaiting, stmt_by, stmt, stmts, bodies}
-use Rattle.da_parse.proofs.Steps.{bind_ok, chosen, eat_ok, expect_ok, word_ok, opening_ok, At-mark, Named-mark}
+use Rattle.da_parse.specs.Stmts.{branch_of, in_parens, arguments, assigned, changed, called, named, sending, output, passing, label, simple_by, block, block_behind_colon, branch, otherwise, timeout, conditional, while_loop, for_loop, alternatives, awaiting, stmt_by, stmt, stmts, bodies}
+use Rattle.da_parse.proofs.Steps.{eat_ok, At-mark, Named-mark}
 use Rattle.da_parse.proofs.SoundSteps.{reads, made, passes, names, opening_by}
 use Rattle.da_parse.proofs.SoundPlaces.{places-sound, expression_there-sound}
 use Rattle.da_parse.proofs.ListSound.{IsSoundAt, all_closed, begun-sound, ended-sound}
@@ -45,7 +45,7 @@ module _ (p : Place) (room : Room) (deep : Deeper) (sounds : Sounds p room deep)
       reads (p.expr level.Expr after_a) _ y e1 (λ b after_b read e2.
       passes m.CloseParen after_b _ y e2 (λ after_c passed last.
       subst (λ (z : Expr × List Tok). (r : List Tok) × (s : List Tok) × Opens m.OpenParen room i r × deep.expr z.0 r s × At m.CloseParen s z.1) (cc)
-        (after_a, after_b, opened, sounds.expr after_a (b, after_b) read, passed))))
+      (after_a, after_b, opened, sounds.expr after_a (b, after_b) read, passed))))
 
 module _ (p : Place) (room : Room) (deep : Deeper) (sounds : Sounds p room deep) (expression_sound : IsSound (expression p) (IsExpr room deep)) (Body : Spelling (List Stmt)) where
   assigned-sound : (b : List ℕ) (t s i : List Tok) (y : Stmt × List Tok) → Named b t s → At m.Assign s i → assigned p b (sp.line t) i ≡ Ok y → IsStmt room deep Body y.0 t y.1
@@ -59,17 +59,17 @@ module _ (p : Place) (room : Room) (deep : Deeper) (sounds : Sounds p room deep)
   unfolding changed
   changed-sound b t s i y name dot e = elim (eat_ok m.Add (in_parens p >>= λ x. expect m.Newline >> pure (stmt_tree.Add b x (sp.line t))) (expect m.Del >> (in_parens p >>= λ x. expect m.Newline >> pure (stmt_tree.Del b x (sp.line t)))) i y e) [
     | inl h ↦ (
-      let (r, adds, e1) = h in
-      reads (in_parens p r) _ y e1 (λ u after_u read e2.
-      passes m.Newline after_u _ y e2 (λ after_v over last.
-      let (c, d, opened, x, close) = in_parens-sound p room deep sounds r (u, after_u) read in
-      made (IsStmt room deep Body) t y last (g.add name dot adds opened x close over))))
+        let (r, adds, e1) = h in
+        reads (in_parens p r) _ y e1 (λ u after_u read e2.
+        passes m.Newline after_u _ y e2 (λ after_v over last.
+        let (c, d, opened, x, close) = in_parens-sound p room deep sounds r (u, after_u) read in
+        made (IsStmt room deep Body) t y last (g.add name dot adds opened x close over))))
     | inr h ↦ (
-      passes m.Del i _ y h.1 (λ after_w dels e1.
-      reads (in_parens p after_w) _ y e1 (λ u after_u read e2.
-      passes m.Newline after_u _ y e2 (λ after_v over last.
-      let (c, d, opened, x, close) = in_parens-sound p room deep sounds after_w (u, after_u) read in
-      made (IsStmt room deep Body) t y last (g.remove name dot dels opened x close over)))))
+        passes m.Del i _ y h.1 (λ after_w dels e1.
+        reads (in_parens p after_w) _ y e1 (λ u after_u read e2.
+        passes m.Newline after_u _ y e2 (λ after_v over last.
+        let (c, d, opened, x, close) = in_parens-sound p room deep sounds after_w (u, after_u) read in
+        made (IsStmt room deep Body) t y last (g.remove name dot dels opened x close over)))))
   ]
 
   arguments-sound : (i : List Tok) (y : List Expr × List Tok) → arguments p i ≡ Ok y → (r : List Tok) × Opens m.OpenParen room i r × Closed m.CloseParen deep.disj y.0 r y.1
@@ -161,10 +161,10 @@ module _ (p : Place) (room : Room) (deep : Deeper) (sounds : Sounds p room deep)
   unfolding otherwise
   otherwise-sound i y e = elim (eat_ok m.Else (block_behind_colon p body >>= λ b. pure (Some b)) (pure None) i y e) [
     | inl h ↦ (
-      let (r, there, e1) = h in
-      reads (block_behind_colon p body r) _ y e1 (λ u after_u read last.
-      let (s, colon, b) = block_behind_colon-sound r (u, after_u) read in
-      made (IsElse room deep Body) i y last (g.otherwise there colon b)))
+        let (r, there, e1) = h in
+        reads (block_behind_colon p body r) _ y e1 (λ u after_u read last.
+        let (s, colon, b) = block_behind_colon-sound r (u, after_u) read in
+        made (IsElse room deep Body) i y last (g.otherwise there colon b)))
     | inr h ↦ made (IsElse room deep Body) i y h.1 g.no_else
   ]
 
@@ -172,10 +172,10 @@ module _ (p : Place) (room : Room) (deep : Deeper) (sounds : Sounds p room deep)
   unfolding timeout
   timeout-sound i y e = elim (eat_ok m.Timeout (block_behind_colon p body >>= λ b. pure (Some (roll-TimeoutTree (record { body = b; line = reader.line i })))) (pure None) i y e) [
     | inl h ↦ (
-      let (r, there, e1) = h in
-      reads (block_behind_colon p body r) _ y e1 (λ u after_u read last.
-      let (s, colon, b) = block_behind_colon-sound r (u, after_u) read in
-      subst (λ (z : Option TimeoutTree × List Tok). IsTimeout room deep Body z.0 i z.1) (cc (same_line i)) (g.timeout there colon b)))
+        let (r, there, e1) = h in
+        reads (block_behind_colon p body r) _ y e1 (λ u after_u read last.
+        let (s, colon, b) = block_behind_colon-sound r (u, after_u) read in
+        subst (λ (z : Option TimeoutTree × List Tok). IsTimeout room deep Body z.0 i z.1) (cc (same_line i)) (g.timeout there colon b)))
     | inr h ↦ made (IsTimeout room deep Body) i y h.1 g.no_timeout
   ]
 
@@ -250,10 +250,10 @@ module _ (limit : Limit) (room : ℕ → Room) (fits : (d : ℕ) (t : List Tok) 
   bodies-sound (suc f) (suc n) d few i y e =
       let less : f ≤ n = omega arith in
       stmts-sound (place limit f d) (room d) (deeper room n (suc d)) (places-sound limit room fits f n d less) (expression_there-sound limit room fits f n d less)
-        (bodies limit f (suc d)) (BodyIn room n (suc d)) (bodies-sound f n (suc d) less) i y e
+      (bodies limit f (suc d)) (BodyIn room n (suc d)) (bodies-sound f n (suc d) less) i y e
 
   -- a block where d things are open, behind its colon
   pub block_there-sound : (f n d : ℕ) → f ≤ n → IsSound (block_behind_colon (place limit f d) (bodies limit f (suc d))) (BehindColon (IsBlock (room d) (deeper room n (suc d)) (BodyIn room n (suc d))))
   block_there-sound f n d few =
       block_behind_colon-sound (place limit f d) (room d) (deeper room n (suc d)) (places-sound limit room fits f n d few) (expression_there-sound limit room fits f n d few)
-        (bodies limit f (suc d)) (BodyIn room n (suc d)) (bodies-sound f n (suc d) few)
+      (bodies limit f (suc d)) (BodyIn room n (suc d)) (bodies-sound f n (suc d) few)

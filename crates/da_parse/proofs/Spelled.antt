@@ -17,8 +17,7 @@ slice-stands : (text : List ℕ) (t : Token) → StandsIn text t
     → MatchBool (has_bytes t.kind) (front (slice_of text t) ≡ piece_is.Token t.kind (length (slice_of text t))) (slice_of text t ≡ [])
 slice-stands text t =
     elim (has_bytes t.kind) as (λ h. MatchBool h (front (drop t.first text) ≡ piece_is.Token t.kind t.length) (t.length ≡ 0)
-    → MatchBool h (front (slice_of text t) ≡ piece_is.Token t.kind (length (slice_of text t))) (slice_of text t ≡ []))
-    [
+    → MatchBool h (front (slice_of text t) ≡ piece_is.Token t.kind (length (slice_of text t))) (slice_of text t ≡ [])) [
       | true ↦ λ stands. token_alone (drop t.first text) t.kind t.length stands ∙ ap (piece_is.Token t.kind) (sym (token_length (drop t.first text) t.kind t.length stands))
       | false ↦ λ none. ap (λ n. take n (drop t.first text)) none
     ]

@@ -1,5 +1,5 @@
 -- What the steps of a reader tell, and what tells that they go through.
-use Rattle.std.proofs.Common.{◌≡◌, ℕ, zero, suc, ◌+◌, ◌<◌, ◌≤◌, Bool, true, false, List, [], ◌∷◌, length, Option, Some, None, Result, Ok, Err, refl, sym, ap, ◌∙◌, subst, rules, arith, inl, inr}
+use Rattle.std.proofs.Common.{◌≡◌, ℕ, ◌<◌, Bool, true, false, List, [], ◌∷◌, length, Option, Some, None, Ok, Err, refl, sym, ap, ◌∙◌, subst, rules, arith, inl, inr}
 use Rattle.std.specs.Prelude.{if◌then◌else◌, ◌⊎◌}
 use denote.Enum.Bare.{same_true, same_false, true_same}
 use Rattle.da_values.specs.contracts.token.Mark.{the_type}
@@ -8,8 +8,7 @@ use Rattle.da_values.specs.declared.token.Mark.TheVariants as m
 use Rattle.da_values.specs.Marks.{Tok}
 use Rattle.da_values.specs.Piece.{number_of}
 use Rattle.da_lang.specs.Literals.{text_of}
-use Rattle.da_lang.specs.Spelling.{Spelling, Room, At, at, Opens, opens, NotAt, not_at, Named, named, Number, number, Quoted, quoted}
-use Rattle.da_parse.specs.declared.cursor.Stop.{Stop}
+use Rattle.da_lang.specs.Spelling.{Room, At, at, Opens, opens, NotAt, not_at, Named, named, Number, number, Quoted, quoted}
 use Rattle.da_parse.specs.declared.cursor.Stop.TheVariants.{Deep}
 use Rattle.da_parse.specs.Reader as reader
 use Rattle.da_parse.specs.Reader.{same, mark, text, rest, is_mark, sees, after, Outcome, Reader, and_then, ◌>>=◌, ◌>>◌, pure, refuse, take_token, expect, word, stands_for}

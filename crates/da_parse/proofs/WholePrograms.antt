@@ -1,5 +1,5 @@
 -- Whole programs: what the reader of the code reads is what the tokens spell, which is one tree, however many things may be open.
-use Rattle.std.proofs.Common.{◌≡◌, ℕ, zero, suc, ◌+◌, ◌<◌, ◌≤◌, Bool, true, List, [], length, Ok, Err, refl, sym, ap, ◌∙◌, subst, arith, inl, inr}
+use Rattle.std.proofs.Common.{◌≡◌, ℕ, suc, ◌+◌, ◌<◌, ◌≤◌, true, List, [], Ok, Err, refl, sym, ap, ◌∙◌, subst, arith, inl, inr}
 use Rattle.std.proofs.lemmas.Bool.Decides.{nat_tests}
 use Rattle.std.specs.Prelude.{nat_lt}
 use Rattle.da_values.specs.Marks.{Tok}
@@ -10,7 +10,7 @@ use Rattle.da_parse.specs.declared.cursor.Stop.{Stop}
 use Rattle.da_parse.specs.Parse.{answer, parsed}
 use Rattle.da_parse.specs.Reader.{Outcome}
 use Rattle.da_parse.specs.Place.{Limit, at_most_32}
-use Rattle.da_parse.specs.Programs.{outer_in, outermost, program}
+use Rattle.da_parse.specs.Programs.{outermost, program}
 use Rattle.da_parse.proofs.Steps.{read_or}
 use Rattle.da_parse.proofs.SoundPrograms.{program_in-sound, outermost_is}
 use Rattle.da_parse.proofs.CompletePrograms.{program_in-complete}
@@ -67,7 +67,7 @@ program_unique f g x y i a b =
 pub program_wider : (most : ℕ) (room : ℕ → Room) (f : ℕ) → ((d : ℕ) (t : List Tok) → d < most → room d t) → suc most ≤ f → (x : Tree) (i : List Tok) → IsProgram (Below most) (suc most) x i → IsProgram room f x i
 program_wider most room f fits few x i h =
     (program_in-sound (below most) room (λ d t e. fits d t (true_below most d e)) (suc most) f (omega arith) few i (x, [])
-      (program_in-complete (below most) (Below most) (λ d t some. below_true most d some) (suc most) (suc most) (inr (λ t some. omega (arith, some))) x i h)).0
+    (program_in-complete (below most) (Below most) (λ d t some. below_true most d some) (suc most) (suc most) (inr (λ t some. omega (arith, some))) x i h)).0
 
 pub program_more : (n k : ℕ) (x : Tree) (i : List Tok) → IsProgram (Below n) (suc n) x i → n ≤ k → IsProgram (Below k) (suc k) x i
 program_more n k x i h few = program_wider n (Below k) (suc k) (λ d t less. omega (arith, less, few)) (omega (arith, few)) x i h

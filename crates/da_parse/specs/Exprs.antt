@@ -1,5 +1,5 @@
 -- How expressions and patterns are read, rule by rule.
-use Rattle.std.specs.Prelude.{ℕ, zero, suc, ◌-◌, pos, neg_ℤ, Bool, true, false, if◌then◌else◌, List, [], ◌∷◌, length, ◌==◌, Option, Some, None}
+use Rattle.std.specs.Prelude.{ℕ, zero, suc, ◌-◌, pos, neg_ℤ, Bool, true, false, if◌then◌else◌, List, [], ◌∷◌, Option, Some, None}
 use Rattle.da_values.specs.declared.token.Mark.{Mark}
 use Rattle.da_values.specs.declared.token.Mark.TheVariants as m
 use Rattle.da_lang.specs.declared.tree.ArithOp.{ArithOp}

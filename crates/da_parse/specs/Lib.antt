@@ -1,10 +1,8 @@
 pub mod Exprs
-pub mod First
 pub mod Holds
 pub mod Lists
 pub mod Members
 pub mod Nests
-pub mod Paren
 pub mod Parse
 pub mod Place
 pub mod Programs

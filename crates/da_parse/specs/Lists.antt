@@ -1,8 +1,7 @@
 -- Readers of lists. The number counts the turns that are left; there are as many turns as tokens, and each passes one.
-use Rattle.std.specs.Prelude.{ℕ, zero, suc, Bool, if◌then◌else◌, List, [], ◌∷◌, ◌++◌, length, Option, Some, None, Ok}
+use Rattle.std.specs.Prelude.{ℕ, zero, suc, if◌then◌else◌, List, [], ◌∷◌, ◌++◌, length, Option, Some, None}
 use Rattle.da_values.specs.declared.token.Mark.{Mark}
 use Rattle.da_values.specs.declared.token.Mark.TheVariants as m
-use Rattle.da_values.specs.Marks.{Tok}
 use Rattle.da_lang.specs.declared.tree.ArithOp.{ArithOp}
 use Rattle.da_lang.specs.declared.tree.ChainTree.{ChainTree, roll-ChainTree}
 use Rattle.da_lang.specs.declared.tree.Expr.{Expr}

@@ -1,5 +1,5 @@
 -- What a rule knows of its place.
-use Rattle.std.specs.Prelude.{ℕ, Bool, if◌then◌else◌, nat_lt, List, length, Ok, Err}
+use Rattle.std.specs.Prelude.{ℕ, Bool, if◌then◌else◌, nat_lt, length, Ok, Err}
 use Rattle.da_values.specs.declared.token.Mark.{Mark}
 use Rattle.da_lang.specs.declared.tree.Expr.{Expr}
 use Rattle.da_lang.specs.declared.tree.PatternTree.{PatternTree}

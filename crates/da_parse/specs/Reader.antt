@@ -1,6 +1,6 @@
 -- The steps that the reader of each rule is made of. A reader gives what it read and the tokens behind it, or where it
 -- stopped.
-use Rattle.std.specs.Prelude.{◌≡◌, ◌≢◌, ℕ, Bool, true, false, List, [], ◌∷◌, length, Option, Some, None, Result, Ok, Err, if◌then◌else◌}
+use Rattle.std.specs.Prelude.{◌≡◌, ◌≢◌, ℕ, Bool, false, List, [], ◌∷◌, length, Option, Some, None, Result, Ok, Err, if◌then◌else◌}
 use denote.Enum.Bare.{sameb}
 use Rattle.da_values.specs.contracts.token.Mark.{the_type}
 use Rattle.da_values.specs.declared.token.Mark.{Mark}
@@ -9,7 +9,7 @@ use Rattle.da_values.specs.Marks.{Tok}
 use Rattle.da_values.specs.Piece.{number_of}
 use Rattle.da_lang.specs.Literals.{text_of}
 use Rattle.da_parse.specs.declared.cursor.Stop.{Stop}
-use Rattle.da_parse.specs.declared.cursor.Stop.TheVariants.{Memory, Syntax, Deep}
+use Rattle.da_parse.specs.declared.cursor.Stop.TheVariants.{Memory, Syntax}
 
 -- `==` on marks
 abbrev pub same : Mark → Mark → Bool

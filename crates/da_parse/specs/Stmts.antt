@@ -1,5 +1,5 @@
 -- How statements and blocks are read.
-use Rattle.std.specs.Prelude.{ℕ, zero, suc, ◌-◌, Bool, if◌then◌else◌, List, [], ◌∷◌, Option, Some, None}
+use Rattle.std.specs.Prelude.{ℕ, zero, suc, ◌-◌, if◌then◌else◌, List, [], ◌∷◌, Option, Some, None}
 use Rattle.da_values.specs.declared.token.Mark.{Mark}
 use Rattle.da_values.specs.declared.token.Mark.TheVariants as m
 use Rattle.da_lang.specs.declared.tree.Branch.{Branch, roll-Branch}
@@ -8,7 +8,7 @@ use Rattle.da_lang.specs.declared.tree.Stmt.{Stmt}
 use Rattle.da_lang.specs.declared.tree.Stmt.TheVariants as stmt_tree
 use Rattle.da_lang.specs.declared.tree.TimeoutTree.{TimeoutTree, roll-TimeoutTree}
 use Rattle.da_parse.specs.declared.place.Level.TheVariants as level
-use Rattle.da_parse.specs.Reader.{Reader, ◌>>=◌, ◌>>◌, pure, refuse, peek, next_is, here, take_token, eat, expect, word}
+use Rattle.da_parse.specs.Reader.{Reader, ◌>>=◌, ◌>>◌, pure, refuse, peek, here, take_token, eat, expect, word}
 use Rattle.da_parse.specs.Lists.{begun, ended, closed}
 use Rattle.da_parse.specs.Place.{Limit, Place, at_most_32, opening}
 use Rattle.da_parse.specs.Exprs.{place, at_depth, expression}

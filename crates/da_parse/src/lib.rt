@@ -1,12 +1,10 @@
-//! The parser: from the tokens of a text to its tree; and the first form of program, straight from its bytes.
+//! The parser: from the tokens of a text to its tree.
 #![tactic(auto)]
 
 mod atoms;
 mod cursor;
-mod first;
 mod literals;
 mod members;
-mod number;
 mod operators;
 mod patterns;
 mod place;
@@ -19,5 +17,4 @@ mod tests;
 mod types;
 mod whole;
 
-pub use first::{FirstFault, parse_first};
 pub use whole::{ParseFault, parse};

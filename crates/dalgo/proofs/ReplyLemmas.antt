@@ -5,19 +5,27 @@ use Rattle.da_lang.specs.declared.event.Action.{Action}
 use Rattle.da_lang.specs.declared.event.Action.TheVariants.{Took, Out, End, Fault, Stop}
 use Rattle.da_lang.specs.declared.event.Event.{Event}
 use Rattle.da_lang.specs.declared.program.Program.{Program}
-use Rattle.da_parse.proofs.FirstLemmas.{one_first}
-use Rattle.da_parse.specs.First.{IsFirst, first_program}
+use Rattle.da_lang.specs.declared.tree.Tree.{Tree}
+use Rattle.da_parse.proofs.WholePrograms.{Spells_unique, SpellsWithin_spells}
+use Rattle.da_values.specs.declared.token.LexKind.{LexKind}
+use Rattle.da_values.specs.declared.token.Token.{Token}
+use Rattle.da_values.specs.Marks.{toks}
+use Rattle.da_values.specs.Tokens.{Fault as LexFault, tokens}
+use Rattle.da_lang.specs.Grammar.{SpellsWithin}
 use Rattle.da_system.specs.SourceRun.{src_run}
 use Rattle.da_system.specs.State.{IsNumbered}
+use Rattle.dalgo.specs.declared.program.ProgramFault.{ProgramFault}
+use Rattle.dalgo.specs.declared.program.ProgramFault.TheVariants as fault
 use Rattle.dalgo.specs.declared.status.RefusedKind.{RefusedKind}
-use Rattle.dalgo.specs.declared.status.RefusedKind.TheVariants.{Size, NotYet}
+use Rattle.dalgo.specs.declared.status.RefusedKind.TheVariants as kind_is
 use Rattle.dalgo.specs.declared.status.Status.{Status}
 use Rattle.dalgo.specs.declared.status.Status.TheVariants.{BadSchedule, Refused, ReadFault, WriteFault, Memory}
 use Rattle.dalgo.specs.declared.top.Ending.{Ending}
 use Rattle.dalgo.specs.declared.top.Ending.TheVariants as ending
+use Rattle.dalgo.specs.FirstForm.{first_program}
 use Rattle.dalgo.specs.Lines.{action_text, badline_text, refused_text}
 use Rattle.dalgo.specs.Outside.{Appends, Fits, IsWhole, Rose}
-use Rattle.dalgo.specs.Replies.{Accepts, Answers, IsAnswer, IsBadSchedule, IsRefused, IsReplay, IsReplayStatus, IsSchedule, MayRead, Ran, ReadCause, Refuses, ReplayReply, refused, bad_schedule, ran, Replies, RepliesTo, RepliesTold, RunReply, RunsWhole, bad, carried_out, program_limit, schedule_limit, status_of}
+use Rattle.dalgo.specs.Replies.{IsRefusedAs, HasTree, HasNoTree, IsNotYet, IsNotCut, kind_after, Accepts, Answers, IsAnswer, IsBadSchedule, IsRefused, IsReplay, IsReplayStatus, IsSchedule, MayRead, Ran, ReadCause, Refuses, ReplayReply, refused, bad_schedule, ran, Replies, RepliesTo, RepliesTold, RunReply, RunsWhole, bad, carried_out, program_limit, schedule_limit, status_of}
 use Rattle.dalgo.specs.Schedule.{schedule_events}
 use Rattle.dalgo.specs.Top.{status_after}
 
@@ -110,28 +118,51 @@ of_told told_program told_schedule t s status before after program_is schedule_i
     let at_t : Replies t told.to.schedule_text status before after = subst (λ x. Replies x told.to.schedule_text status before after) program_fits told.to.replies in
     subst (λ x. Replies t x status before after) schedule_fits at_t
 
+same_list : (text : List ℕ) (ts us : List Token) → tokens text ≡ Ok ts → tokens text ≡ Ok us → ts ≡ us
+same_list text ts us one other = let both : ◌≡◌ {A = Result (List Token) LexFault} (Ok ts) (Ok us) = sym one ∙ other in cc
+
+-- a text that is cut has no fault
+cut_or_not : (text : List ℕ) (ts : List Token) (fault : LexFault) → tokens text ≡ Ok ts → tokens text ≡ Err fault → ⊥
+cut_or_not text ts fault one other = let both : ◌≡◌ {A = Result (List Token) LexFault} (Ok ts) (Err fault) = sym one ∙ other in cc
+
+-- a text has one tree
+one_tree : (text : List ℕ) (tree other : Tree) → HasTree text tree → HasTree text other → tree ≡ other
+one_tree text tree other has also =
+    let list = same_list text also.list has.list also.lexed has.lexed in
+    let spelled : SpellsWithin 32 other (toks text has.list) = subst (λ ts. SpellsWithin 32 other (toks text ts)) list also.spelled in
+    Spells_unique tree other (toks text has.list) (SpellsWithin_spells 32 tree (toks text has.list) has.spelled) (SpellsWithin_spells 32 other (toks text has.list) spelled)
+
+no_tree : (text : List ℕ) (tree : Tree) → HasTree text tree → HasNoTree text → ⊥
+no_tree text tree has lacks =
+    lacks.none tree (subst (λ ts. SpellsWithin 32 tree (toks text ts)) (same_list text has.list lacks.list has.lexed lacks.lexed) has.spelled)
+
+not_both : (found : Option Program) (program : Program) → found ≡ Some program → found ≡ None → ⊥
+not_both found program one other = let both : ◌≡◌ {A = Option Program} (Some program) None = sym one ∙ other in cc
+
 -- a text is not both accepted and refused
 pub not_refused : (t : List ℕ) (program : Program) → Accepts t program → IsRefused t → ⊥
 not_refused t program accepts refusal = either refusal.kind refusal.line refusal.refuses
   where
     either : (kind : RefusedKind) (line : ℕ) → Refuses t kind line → ⊥
-    either Size line refuses = omega (arith, refuses.0, accepts.size)
-    either NotYet line refuses = refuses.2 accepts.numbers accepts.is
+    either kind_is.Size line refuses = omega (arith, refuses.0, accepts.has.size)
+    either kind_is.Byte line refuses = cut_or_not t accepts.has.list _ accepts.has.lexed refuses.1
+    either kind_is.Indent line refuses = cut_or_not t accepts.has.list _ accepts.has.lexed refuses.1
+    either kind_is.Token line refuses = cut_or_not t accepts.has.list _ accepts.has.lexed refuses.1
+    either kind_is.Unclosed line refuses = cut_or_not t accepts.has.list _ accepts.has.lexed refuses.1
+    either kind_is.Syntax line refuses = no_tree t accepts.tree accepts.has refuses.0
+    either kind_is.Deep line refuses = no_tree t accepts.tree accepts.has refuses.0
+    either kind_is.NotYet line refuses =
+        not_both (first_program accepts.tree) program accepts.is (ap first_program (one_tree t accepts.tree refuses.0.tree accepts.has refuses.0.has) ∙ refuses.0.is)
 
 -- a text that was read whole, and gives a program
-pub accepts_within : (text t : List ℕ) (program : Program) → text ≡ take (program_limit + 1) t → length text ≤ program_limit
-    → (numbers : List ℕ) × IsFirst text numbers × (program ≡ first_program numbers) → Accepts t program
-accepts_within text t program is few found =
-    let same = take_within program_limit text t is few in
-    record {
-      size = subst (λ x. length x ≤ program_limit) same few;
-      numbers = found.0;
-      is = subst (λ x. IsFirst x found.0) same found.1;
-      program_is = found.2;
-    }
+pub accepts_within : (text t : List ℕ) (program : Program) → text ≡ take (program_limit + 1) t → length text ≤ program_limit → Accepts text program → Accepts t program
+accepts_within text t program is few accepts = subst (λ x. Accepts x program) (take_within program_limit text t is few) accepts
 
-pub first_numbered : (text : List ℕ) (program : Program) → (numbers : List ℕ) × IsFirst text numbers × (program ≡ first_program numbers) → IsNumbered program
-first_numbered text program found = subst IsNumbered (sym found.2) (lit< tt)
+-- a text that was read whole, and is refused
+pub refuses_within : (text t : List ℕ) (e : ProgramFault) (kind : RefusedKind) (line : ℕ) → text ≡ take (program_limit + 1) t → length text ≤ program_limit → e ≡ fault.Refused kind line → IsRefusedAs text e → Refuses t kind line
+refuses_within text t e kind line is few e_is why =
+    let here : IsRefusedAs text (fault.Refused kind line) = subst (IsRefusedAs text) e_is why in
+    subst (λ x. Refuses x kind line) (take_within program_limit text t is few) here
 
 pub schedule_within : (text whole : List ℕ) (events : List Event) → text ≡ take (schedule_limit + 1) whole → length text ≤ schedule_limit → schedule_events text ≡ Ok events → IsSchedule whole events
 schedule_within text whole events is few reads =
@@ -157,7 +188,8 @@ after_replies p q (Err ending.Memory) status before after same answer replies = 
 -- a text gives one program, and a schedule its events
 accepts_one : (t : List ℕ) (program other : Program) → Accepts t program → Accepts t other → other ≡ program
 accepts_one t program other accepts also =
-    also.program_is ∙ ap first_program (one_first t also.numbers accepts.numbers also.is accepts.is) ∙ sym accepts.program_is
+    let both : ◌≡◌ {A = Option Program} (Some other) (Some program) = sym also.is ∙ ap first_program (one_tree t also.tree accepts.tree also.has accepts.has) ∙ accepts.is in
+    cc
 
 not_bad : (s : List ℕ) (events : List Event) (line : ℕ) → IsSchedule s events → IsBadSchedule s line → ⊥
 not_bad s events line good (inl long) = omega (arith, long.0, good.size)

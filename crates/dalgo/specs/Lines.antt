@@ -8,7 +8,7 @@ use Rattle.da_lang.specs.declared.event.Action.TheVariants.{Took, Out, End, Faul
 use Rattle.da_lang.specs.declared.event.FaultKind.{FaultKind}
 use Rattle.da_lang.specs.declared.event.FaultKind.TheVariants.{Overflow, Divide, Range, Message, TooLong}
 use Rattle.dalgo.specs.declared.status.RefusedKind.{RefusedKind}
-use Rattle.dalgo.specs.declared.status.RefusedKind.TheVariants.{Size, NotYet}
+use Rattle.dalgo.specs.declared.status.RefusedKind.TheVariants.{Size, Byte, Indent, Token, Unclosed, Syntax, Deep, NotYet}
 
 abbrev pub fault_word : FaultKind → List ℕ
 fault_word Overflow = codes "overflow"
@@ -30,6 +30,12 @@ action_text = flat_map action_line
 
 abbrev pub refused_word : RefusedKind → List ℕ
 refused_word Size = codes "size"
+refused_word Byte = codes "byte"
+refused_word Indent = codes "indent"
+refused_word Token = codes "token"
+refused_word Unclosed = codes "unclosed"
+refused_word Syntax = codes "syntax"
+refused_word Deep = codes "deep"
 refused_word NotYet = codes "notyet"
 
 -- the line of a refusal, and that of a bad schedule

@@ -1,15 +1,25 @@
 -- What the program answers to the text of a program and that of a schedule.
 use Rattle.std.specs.Prelude.{◌≡◌, ℕ, ◌⊎◌, ◌<◌, ◌≤◌, List, [], ◌∷◌, length, codes, Ok, Err, Option, Some, None}
+use Rattle.da_values.specs.declared.token.LexKind.{LexKind}
+use Rattle.da_values.specs.declared.token.LexKind.TheVariants as lex
+use Rattle.da_values.specs.declared.token.Token.{Token}
+use Rattle.da_values.specs.Marks.{toks}
+use Rattle.da_values.specs.Tokens.{tokens}
 use Rattle.da_lang.specs.declared.event.Action.{Action}
 use Rattle.da_lang.specs.declared.event.Action.TheVariants.{Stop}
 use Rattle.da_lang.specs.declared.event.Event.{Event}
 use Rattle.da_lang.specs.declared.program.Program.{Program}
-use Rattle.da_parse.specs.First.{IsFirst, first_program}
+use Rattle.da_lang.specs.declared.tree.Tree.{Tree}
+use Rattle.da_lang.specs.Grammar.{SpellsWithin}
+use Rattle.da_parse.specs.Parse.{IsLineOf}
 use Rattle.da_system.specs.SourceRun.{src_run}
+use Rattle.dalgo.specs.declared.program.ProgramFault.{ProgramFault}
+use Rattle.dalgo.specs.declared.program.ProgramFault.TheVariants as fault
 use Rattle.dalgo.specs.declared.status.RefusedKind.{RefusedKind}
-use Rattle.dalgo.specs.declared.status.RefusedKind.TheVariants.{Size, NotYet}
+use Rattle.dalgo.specs.declared.status.RefusedKind.TheVariants as kind_is
 use Rattle.dalgo.specs.declared.status.Status.{Status}
 use Rattle.dalgo.specs.declared.status.Status.TheVariants.{Done, Refused, Forbidden, BadSchedule, ReadFault, WriteFault, Memory, Words}
+use Rattle.dalgo.specs.FirstForm.{first_program}
 use Rattle.dalgo.specs.Lines.{action_text, badline_text, refused_text}
 use Rattle.dalgo.specs.Outside.{Appends, Fits, Rose}
 use Rattle.dalgo.specs.Schedule.{schedule_events}
@@ -21,17 +31,59 @@ program_limit = 1048576
 abbrev pub schedule_limit : ℕ
 schedule_limit = 16777216
 
+-- the tokens of the text spell this tree, and none of them opens a thing where 32 are open
+pub record HasTree (text : List ℕ) (tree : Tree) : Type 0 where
+  pub size : length text ≤ program_limit
+  pub list : List Token
+  pub lexed : tokens text ≡ Ok list
+  pub spelled : SpellsWithin 32 tree (toks text list)
+
+-- the text has tokens, and they spell no such tree
+pub record HasNoTree (text : List ℕ) : Type 0 where
+  pub size : length text ≤ program_limit
+  pub list : List Token
+  pub lexed : tokens text ≡ Ok list
+  pub none : (tree : Tree) → SpellsWithin 32 tree (toks text list) → ⊥
+
 -- the text gives this program
 pub record Accepts (text : List ℕ) (program : Program) : Type 0 where
-  pub size : length text ≤ program_limit
-  pub numbers : List ℕ
-  pub is : IsFirst text numbers
-  pub program_is : program ≡ first_program numbers
+  pub tree : Tree
+  pub has : HasTree text tree
+  pub is : first_program tree ≡ Some program
 
--- the text is refused so, at this line
+-- the text gives no program yet
+pub record IsNotYet (text : List ℕ) : Type 0 where
+  pub tree : Tree
+  pub has : HasTree text tree
+  pub is : first_program tree ≡ None
+
+-- the first fault of the text, where it is cut into tokens, is of this kind and on this line
+abbrev pub IsNotCut : List ℕ → LexKind → ℕ → Type 0
+IsNotCut text kind line = (length text ≤ program_limit) × (tokens text ≡ Err (record { kind = kind; line = line }))
+
+-- the kind of the refusal of a text that is not cut into tokens
+abbrev pub kind_after : LexKind → RefusedKind
+kind_after lex.BadByte = kind_is.Byte
+kind_after lex.BadIndent = kind_is.Indent
+kind_after lex.BadToken = kind_is.Token
+kind_after lex.Unclosed = kind_is.Unclosed
+
+-- The text is refused so, at this line. Of the texts without a tree it is not said yet which are `syntax` and which
+-- are `deep`, nor on which of their lines.
 abbrev pub Refuses : List ℕ → RefusedKind → ℕ → Type 0
-Refuses text Size line = (program_limit < length text) × (line ≡ 0)
-Refuses text NotYet line = (length text ≤ program_limit) × (line ≡ 0) × ((numbers : List ℕ) → IsFirst text numbers → ⊥)
+Refuses text kind_is.Size line = (program_limit < length text) × (line ≡ 0)
+Refuses text kind_is.Byte line = IsNotCut text lex.BadByte line
+Refuses text kind_is.Indent line = IsNotCut text lex.BadIndent line
+Refuses text kind_is.Token line = IsNotCut text lex.BadToken line
+Refuses text kind_is.Unclosed line = IsNotCut text lex.Unclosed line
+Refuses text kind_is.Syntax line = HasNoTree text × IsLineOf text line
+Refuses text kind_is.Deep line = HasNoTree text × IsLineOf text line
+Refuses text kind_is.NotYet line = IsNotYet text × (line ≡ 0)
+
+-- a text that gives no program is refused so, or memory was refused
+abbrev pub IsRefusedAs : List ℕ → ProgramFault → Type 0
+IsRefusedAs text (fault.Refused kind line) = Refuses text kind line
+IsRefusedAs text fault.Memory = Unit {0}
 
 -- the text is refused
 pub record IsRefused (text : List ℕ) : Type 0 where

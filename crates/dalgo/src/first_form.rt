@@ -1,6 +1,7 @@
 //! The programs that run today: one class whose `run` prints integers, and one process of it.
+ghost use Rattle.da_system.specs.State.{IsNumbered};
 ghost use Rattle.dalgo.specs.FirstForm as spec;
-ghost use Rattle.std.specs.Prelude.{◌≡◌, ◌∷◌, IfOk};
+ghost use Rattle.std.specs.Prelude.{◌≡◌, ◌∷◌, IfOk, IfSome};
 
 use da_lang::{Class, ClassTree, Expr, Item, ItemKind, MainLine, Member, ProcDecl, Program, RExpr, Stmt, Tree};
 use da_values::{List, NoMemory, Value, copy_bytes};
@@ -14,7 +15,8 @@ const MOST_OUTPUTS: usize = 16_384;
 /// one line that makes one process of the class.
 #[tactic(auto, unfolding(crate::specs::FirstForm::first_program))]
 pub fn first_program(alloc: Global, tree: &Tree) -> Result<Option<Program>, NoMemory>
-    ensures { IfOk result (λ found. found ≡ spec.first_program tree.now) }
+    ensures found { IfOk result (λ found. found ≡ spec.first_program tree.now) }
+    ensures numbered { IfOk result (λ found. IfSome found IsNumbered) }
 {
     if tree.messages.len() != 0 {
         return Ok(None);
@@ -99,7 +101,8 @@ fn item_of(statement: &Stmt) -> Option<Item>
 
 // The program of a class with these items in its `run`, and of one process.
 fn program_of(alloc: Global, class: &ClassTree, items: List<Item>) -> Result<Program, NoMemory>
-    ensures { IfOk result (λ program. program ≡ spec.program_of class.now items) }
+    ensures program { IfOk result (λ program. program ≡ spec.program_of class.now items) }
+    ensures numbered { IfOk result IsNumbered }
 {
     let mut classes = List::new(alloc);
     classes.push(Class {

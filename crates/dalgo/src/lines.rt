@@ -35,6 +35,12 @@ fn refused_word(kind: RefusedKind) -> &'static [u8]
 {
     match kind {
         RefusedKind::Size => b"size",
+        RefusedKind::Byte => b"byte",
+        RefusedKind::Indent => b"indent",
+        RefusedKind::Token => b"token",
+        RefusedKind::Unclosed => b"unclosed",
+        RefusedKind::Syntax => b"syntax",
+        RefusedKind::Deep => b"deep",
         RefusedKind::NotYet => b"notyet",
     }
 }

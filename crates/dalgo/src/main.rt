@@ -5,6 +5,7 @@ mod first_form;
 mod lines;
 mod memory;
 mod outside;
+mod program;
 mod real;
 #[cfg(test)]
 mod rows;

@@ -24,6 +24,11 @@ const NOT_YET: Status = Status::Refused {
     line: 0,
 };
 
+const NO_SYNTAX: Status = Status::Refused {
+    kind: RefusedKind::Syntax,
+    line: 1,
+};
+
 // Some copies of the bytes.
 fn repeated(alloc: Global, bytes: &[u8], count: u32) -> Result<Buf, NoMemory> {
     let mut text = List::new(alloc);
@@ -76,7 +81,7 @@ fn script_of(alloc: Global, call: Option<u64>) -> Result<List<u64>, NoMemory> {
 // Programs, schedules, and what comes of them.
 #[test]
 fn rows(rt: HostRuntime) -> Result<(), Fail> {
-    let rows: [(&[u8], &[u8], Status, &[u8]); 16] = [
+    let rows: [(&[u8], &[u8], Status, &[u8]); 17] = [
         (ONE, b"move 1\n", Status::Done, RAN),
         (ONE, b"move 1", Status::Done, RAN),
         (ONE, b"", Status::Done, b""),
@@ -92,7 +97,6 @@ fn rows(rt: HostRuntime) -> Result<(), Fail> {
             Status::Done,
             b"took 1 0\nout 1 7\nout 1 7\nout 1 7\nend 1\n",
         ),
-        (b"", b"", NOT_YET, b"refused notyet 0\n"),
         (
             ONE,
             b"move 1\nmove 01\n",
@@ -125,25 +129,37 @@ fn rows(rt: HostRuntime) -> Result<(), Fail> {
             b"took 1 0\nout 1 9223372036854775807\nout 1 0\nend 1\n",
         ),
         (
-            b"class P extends process:\n    def run():\n        output(9223372036854775808)\ndef main():\n    a = new(P)\n",
+            b"class P extends process:\r\n    def run():\r\n        output(7)\r\ndef main():\r\n    a = new(P)\r\n",
+            b"move 1\n",
+            Status::Done,
+            RAN,
+        ),
+        (
+            b"channel fifo reliable # a comment\n\nclass Q extends process:\n  def run():\n    output((7)) # another\ndef main():\n  a = new(Q)",
+            b"move 1\n",
+            Status::Done,
+            RAN,
+        ),
+        (
+            b"class P extends process:\n    def run():\n        output(-7)\ndef main():\n    a = new(P)\n",
+            b"move 1\n",
+            Status::Done,
+            b"took 1 0\nout 1 -7\nend 1\n",
+        ),
+        (
+            b"class P extends process:\n    def run():\n        output(1 + 2)\ndef main():\n    a = new(P)\n",
             b"move 1\n",
             NOT_YET,
             b"refused notyet 0\n",
         ),
         (
-            b"class P extends process:\n    def run():\n        output(007)\ndef main():\n    a = new(P)\n",
+            b"message m(int)\nclass P extends process:\n    def run():\n        output(7)\ndef main():\n    a = new(P)\n",
             b"move 1\n",
             NOT_YET,
             b"refused notyet 0\n",
         ),
         (
-            b"class P extends process:\n    def run():\ndef main():\n    a = new(P)\n",
-            b"move 1\n",
-            NOT_YET,
-            b"refused notyet 0\n",
-        ),
-        (
-            b"class P extends process:\n    def run():\n        output(7)\ndef main():\n    a = new(P)",
+            b"class P extends process:\n    def run():\n        output(7)\ndef main():\n    a = new(P, 1)\n",
             b"move 1\n",
             NOT_YET,
             b"refused notyet 0\n",
@@ -152,6 +168,112 @@ fn rows(rt: HostRuntime) -> Result<(), Fail> {
     let words = words_of(rt.alloc(), &["replay", "p", "s"])?;
     for (program, schedule, status, text) in rows {
         let mut files = files_of(rt.alloc(), program, schedule, List::new(rt.alloc()))?;
+        let mut out = MemSink::new(rt.alloc(), 16, List::new(rt.alloc()));
+        assert_eq!(rt;
+            dalgo(rt.alloc(), words.as_slice(), &mut files, &mut out),
+            status
+        );
+        assert!(rt; out.bytes() == text);
+    }
+    Ok(())
+}
+
+// The first program with other lines from the third on.
+fn changed(alloc: Global, lines: &[u8]) -> Result<Buf, NoMemory> {
+    let mut text = List::new(alloc);
+    text.append(HEADING)?;
+    text.append(lines)?;
+    text.append(ENDING)?;
+    Ok(text)
+}
+
+// `output` of 7 in so many parentheses, those of `output` among them.
+fn in_parentheses(alloc: Global, count: u32) -> Result<Buf, NoMemory> {
+    let mut text = List::new(alloc);
+    text.append(b"        output")?;
+    text.append(repeated(alloc, b"(", count)?.as_slice())?;
+    text.append(b"7")?;
+    text.append(repeated(alloc, b")", count)?.as_slice())?;
+    text.append(b"\n")?;
+    Ok(text)
+}
+
+// Lines in the place of the third, by which the program is refused.
+const REFUSED: [(&[u8], RefusedKind, u32, &[u8]); 10] = [
+    (b"\t        output(7)\n", RefusedKind::Byte, 3, b"refused byte 3\n"),
+    (b"        output(7)\n      pass\n", RefusedKind::Indent, 4, b"refused indent 4\n"),
+    (b"        output('ab\n", RefusedKind::Unclosed, 3, b"refused unclosed 3\n"),
+    (b"        output({7)\n", RefusedKind::Unclosed, 3, b"refused unclosed 3\n"),
+    (b"        output(007)\n", RefusedKind::Token, 3, b"refused token 3\n"),
+    (b"        output(9223372036854775808)\n", RefusedKind::Token, 3, b"refused token 3\n"),
+    (b"        output 7\n", RefusedKind::Syntax, 3, b"refused syntax 3\n"),
+    (b"        output(7))\n", RefusedKind::Syntax, 3, b"refused syntax 3\n"),
+    (b"        output(7)}\n", RefusedKind::Syntax, 3, b"refused syntax 3\n"),
+    (b"", RefusedKind::Syntax, 3, b"refused syntax 3\n"),
+];
+
+// A refused program is answered so under the empty schedule.
+#[test]
+fn refusals(rt: HostRuntime) -> Result<(), Fail> {
+    let words = words_of(rt.alloc(), &["replay", "p", "s"])?;
+    for (lines, kind, line, text) in REFUSED {
+        let program = changed(rt.alloc(), lines)?;
+        let mut files = files_of(rt.alloc(), program.as_slice(), b"", List::new(rt.alloc()))?;
+        let mut out = MemSink::new(rt.alloc(), 16, List::new(rt.alloc()));
+        assert_eq!(rt;
+            dalgo(rt.alloc(), words.as_slice(), &mut files, &mut out),
+            Status::Refused { kind, line }
+        );
+        assert!(rt; out.bytes() == text);
+    }
+    Ok(())
+}
+
+// The whole texts of refused programs.
+const REFUSED_TEXTS: [(&[u8], u32, &[u8]); 4] = [
+    (b"", 1, b"refused syntax 1\n"),
+    (b"class P extends process:\n    def run():\n        output(7)\n", 3, b"refused syntax 3\n"),
+    (
+        b"class P extends process\n    def run():\n        output(7)\ndef main():\n    a = new(P)\n",
+        1,
+        b"refused syntax 1\n",
+    ),
+    (
+        b"class P extends process:\n    def run():\n        output(7)\ndef main()\n    a = new(P)\n",
+        4,
+        b"refused syntax 4\n",
+    ),
+];
+
+#[test]
+fn refusals_of_texts(rt: HostRuntime) -> Result<(), Fail> {
+    let words = words_of(rt.alloc(), &["replay", "p", "s"])?;
+    for (program, line, text) in REFUSED_TEXTS {
+        let mut files = files_of(rt.alloc(), program, b"", List::new(rt.alloc()))?;
+        let mut out = MemSink::new(rt.alloc(), 16, List::new(rt.alloc()));
+        let kind = RefusedKind::Syntax;
+        assert_eq!(rt;
+            dalgo(rt.alloc(), words.as_slice(), &mut files, &mut out),
+            Status::Refused { kind, line }
+        );
+        assert!(rt; out.bytes() == text);
+    }
+    Ok(())
+}
+
+// 31 parentheses within two blocks are one too many.
+#[test]
+fn nesting(rt: HostRuntime) -> Result<(), Fail> {
+    let words = words_of(rt.alloc(), &["replay", "p", "s"])?;
+    let deep = Status::Refused {
+        kind: RefusedKind::Deep,
+        line: 3,
+    };
+    let rows: [(u32, Status, &[u8]); 2] = [(30, Status::Done, RAN), (31, deep, b"refused deep 3\n")];
+    for (count, status, text) in rows {
+        let line = in_parentheses(rt.alloc(), count)?;
+        let program = changed(rt.alloc(), line.as_slice())?;
+        let mut files = files_of(rt.alloc(), program.as_slice(), b"move 1\n", List::new(rt.alloc()))?;
         let mut out = MemSink::new(rt.alloc(), 16, List::new(rt.alloc()));
         assert_eq!(rt;
             dalgo(rt.alloc(), words.as_slice(), &mut files, &mut out),
@@ -172,7 +294,7 @@ fn words(rt: HostRuntime) -> Result<(), Fail> {
         (&["replay", "p", "s", "s"], ONE, Status::Words, b"words\n"),
         (&["replay", "x", "s"], ONE, Status::ReadFault, b""),
         (&["replay", "p", "x"], ONE, Status::ReadFault, b""),
-        (&["replay", "p", "x"], b"", NOT_YET, b"refused notyet 0\n"),
+        (&["replay", "p", "x"], b"", NO_SYNTAX, b"refused syntax 1\n"),
     ];
     for (list, program, status, text) in rows {
         let words = words_of(rt.alloc(), list)?;
@@ -206,7 +328,7 @@ fn limits(rt: HostRuntime) -> Result<(), Fail> {
     let mut long_schedule = repeated(rt.alloc(), b"move 1\n", 2_396_745)?;
     long_schedule.append(b"xx")?;
     let rows: [(&[u8], &[u8], Status, usize); 6] = [
-        (at_limit.as_slice(), b"", NOT_YET, 17),
+        (at_limit.as_slice(), b"", NO_SYNTAX, 17),
         (past_limit.as_slice(), b"", size, 15),
         (
             most.as_slice(),

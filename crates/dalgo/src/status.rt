@@ -5,7 +5,19 @@
 pub enum RefusedKind {
     /// The text has more than 1,048,576 bytes.
     Size,
-    /// The text is of no form that can be run yet.
+    /// A byte outside a comment is not allowed.
+    Byte,
+    /// A level is not one of those that are open.
+    Indent,
+    /// Bytes begin no token, or an integer has a leading zero or is too large.
+    Token,
+    /// A text literal or a bracket is not closed.
+    Unclosed,
+    /// No program goes on with a token, or the text ends too early.
+    Syntax,
+    /// A token opens a thing where 32 are open.
+    Deep,
+    /// The program is of no form that can be run yet.
     NotYet,
 }
 

@@ -11,12 +11,12 @@ ghost use Rattle.std.specs.String.{string_bytes};
 
 use crate::lines::{bad_line, refused_line, write_actions};
 use crate::outside::{Files, Sink, Trouble};
+use crate::program::{ProgramFault, read_program};
 use crate::run::{run_events, status_of};
 use crate::schedule::{SchedFault, read_schedule};
 use crate::status::{RefusedKind, Status};
 use crate::transfer::{read_all, write_all};
 use da_lang::{Event, Program};
-use da_parse::{FirstFault, parse_first};
 use da_values::{List, NoMemory};
 use std::alloc::Global;
 use thiserror::Error;
@@ -167,9 +167,9 @@ fn answer_program<F: Files, K: Sink>(
     if text.len() > PROGRAM_LIMIT {
         return refuse(alloc, out, RefusedKind::Size, 0);
     }
-    match parse_first(alloc, text) {
-        Err(FirstFault::NotYet) => refuse(alloc, out, RefusedKind::NotYet, 0),
-        Err(FirstFault::Memory) => Err(Ending::Memory),
+    match read_program(alloc, text) {
+        Err(ProgramFault::Refused { kind, line }) => refuse(alloc, out, kind, line),
+        Err(ProgramFault::Memory) => Err(Ending::Memory),
         Ok(program) => match read_all(alloc, files, name, SCHEDULE_LIMIT) {
             Ok(schedule) => answer_schedule(alloc, &program, schedule.as_slice(), out),
             Err(Trouble::Failed) => Err(Ending::Read),

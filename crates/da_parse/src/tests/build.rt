@@ -101,7 +101,12 @@ fn around(alloc: Global, body: List<Stmt>, lines: u32) -> Result<Tree, NoMemory>
 }
 
 /// Whether these statements, which take so many lines, are read as those.
-pub fn runs(alloc: Global, statements: &[u8], body: List<Stmt>, lines: u32) -> Result<bool, ParseFault>
+pub fn runs(
+    alloc: Global,
+    statements: &[u8],
+    body: List<Stmt>,
+    lines: u32,
+) -> Result<bool, ParseFault>
     requires { lines ≤ 100 }
 {
     let tree = tree_with(alloc, statements)?;

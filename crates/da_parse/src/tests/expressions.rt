@@ -10,7 +10,13 @@ use std::test::Fail;
 fn atoms(rt: HostRuntime) -> Result<(), Fail> {
     let alloc = rt.alloc();
     assert!(rt; assigns(alloc, b"x = 7", Expr::Int(7))?);
-    assert!(rt; assigns(alloc, b"x = 9223372036854775807", Expr::Int(9_223_372_036_854_775_807))?);
+    assert!(rt;
+        assigns(
+            alloc,
+            b"x = 9223372036854775807",
+            Expr::Int(9_223_372_036_854_775_807)
+        )?
+    );
     assert!(rt; assigns(alloc, b"x = -7", Expr::Int(-7))?);
     assert!(rt; assigns(alloc, b"x = 'a b'", Expr::Text(string(alloc, b"a b")?))?);
     assert!(rt; assigns(alloc, b"x = true", Expr::Truth(true))?);
@@ -31,7 +37,13 @@ fn calls_of_the_language(rt: HostRuntime) -> Result<(), Fail> {
     assert!(rt; assigns(alloc, b"x = min(y, z)", Expr::Min(y, z))?);
     let (y, z) = pair(alloc)?;
     assert!(rt; assigns(alloc, b"x = max(y, z)", Expr::Max(y, z))?);
-    assert!(rt; assigns(alloc, b"x = count(y)", Expr::Count(boxed_name(alloc, b"y")?))?);
+    assert!(rt;
+        assigns(
+            alloc,
+            b"x = count(y)",
+            Expr::Count(boxed_name(alloc, b"y")?)
+        )?
+    );
     assert!(rt; assigns(alloc, b"x = sum(y)", Expr::Sum(boxed_name(alloc, b"y")?))?);
     Ok(())
 }

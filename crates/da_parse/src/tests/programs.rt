@@ -174,10 +174,22 @@ fn a_program_with_every_declaration(rt: HostRuntime) -> Result<(), Fail> {
 }
 
 const KINDS: [(&[u8], ChannelKind); 4] = [
-    (b"channel fifo reliable\ndef main():\n  a = new(A)\n", ChannelKind::FifoReliable),
-    (b"channel unordered reliable\ndef main():\n  a = new(A)\n", ChannelKind::UnorderedReliable),
-    (b"channel fifo unreliable\ndef main():\n  a = new(A)\n", ChannelKind::FifoUnreliable),
-    (b"channel unordered unreliable\ndef main():\n  a = new(A)\n", ChannelKind::UnorderedUnreliable),
+    (
+        b"channel fifo reliable\ndef main():\n  a = new(A)\n",
+        ChannelKind::FifoReliable,
+    ),
+    (
+        b"channel unordered reliable\ndef main():\n  a = new(A)\n",
+        ChannelKind::UnorderedReliable,
+    ),
+    (
+        b"channel fifo unreliable\ndef main():\n  a = new(A)\n",
+        ChannelKind::FifoUnreliable,
+    ),
+    (
+        b"channel unordered unreliable\ndef main():\n  a = new(A)\n",
+        ChannelKind::UnorderedUnreliable,
+    ),
 ];
 
 #[test]
@@ -202,7 +214,10 @@ const REFUSED: [(&[u8], u32); 14] = [
     (b"def main():\n  a = new(A)\npass\n", 3),
     (b"def main()\n  a = new(A)\n", 1),
     (b"\ndef main():\n  a = new(A]\n", 3),
-    (b"class A extends process:\n  def run():\n    x = 1 < 2 < 3\n", 3),
+    (
+        b"class A extends process:\n  def run():\n    x = 1 < 2 < 3\n",
+        3,
+    ),
     (b"class A extends process:\n  def run():\n    x = --7\n", 3),
     (b"class A extends process:\n  def run():\n    x = 1\n", 3),
 ];
@@ -210,7 +225,11 @@ const REFUSED: [(&[u8], u32); 14] = [
 #[test]
 fn texts_without_a_tree(rt: HostRuntime) {
     for (text, line) in REFUSED {
-        assert_eq!(rt; refusal(rt.alloc(), text), Some(ParseFault::Syntax { line }), "{text:?}");
+        assert_eq!(rt;
+            refusal(rt.alloc(), text),
+            Some(ParseFault::Syntax { line }),
+            "{text:?}"
+        );
     }
 }
 
@@ -242,6 +261,9 @@ fn thirty_two_things_may_be_open(rt: HostRuntime) -> Result<(), Fail> {
     let accepted = nested(rt.alloc(), 29)?;
     assert!(rt; refusal(rt.alloc(), accepted.as_slice()).is_none());
     let refused = nested(rt.alloc(), 30)?;
-    assert_eq!(rt; refusal(rt.alloc(), refused.as_slice()), Some(ParseFault::Deep { line: 3 }));
+    assert_eq!(rt;
+        refusal(rt.alloc(), refused.as_slice()),
+        Some(ParseFault::Deep { line: 3 })
+    );
     Ok(())
 }

@@ -84,7 +84,8 @@ fn branches(rt: HostRuntime) -> Result<(), Fail> {
         otherwise: Some(passes(alloc, 9)?),
         line: 4,
     };
-    let text = b"if a:\n            pass\n        elif b:\n            pass\n        else:\n            pass";
+    let text =
+        b"if a:\n            pass\n        elif b:\n            pass\n        else:\n            pass";
     assert!(rt; runs(alloc, text, one(alloc, whole)?, 6)?);
     Ok(())
 }
@@ -97,14 +98,28 @@ fn loops(rt: HostRuntime) -> Result<(), Fail> {
         body: two(alloc, Stmt::Pass { line: 5 }, Stmt::Pass { line: 6 })?,
         line: 4,
     };
-    assert!(rt; runs(alloc, b"while a:\n            pass\n            pass", one(alloc, turns)?, 3)?);
+    assert!(rt;
+        runs(
+            alloc,
+            b"while a:\n            pass\n            pass",
+            one(alloc, turns)?,
+            3
+        )?
+    );
     let each = Stmt::For {
         name: copy_bytes(alloc, b"y")?,
         over: boxed_name(alloc, b"s")?,
         body: passes(alloc, 5)?,
         line: 4,
     };
-    assert!(rt; runs(alloc, b"for y in s:\n            pass", one(alloc, each)?, 2)?);
+    assert!(rt;
+        runs(
+            alloc,
+            b"for y in s:\n            pass",
+            one(alloc, each)?,
+            2
+        )?
+    );
     Ok(())
 }
 
@@ -131,7 +146,8 @@ fn awaits(rt: HostRuntime) -> Result<(), Fail> {
         timeout: Some(timeout),
         line: 4,
     };
-    let text = b"await a:\n            pass\n        or b:\n            pass\n        timeout:\n            pass";
+    let text =
+        b"await a:\n            pass\n        or b:\n            pass\n        timeout:\n            pass";
     assert!(rt; runs(alloc, text, one(alloc, whole)?, 6)?);
     Ok(())
 }

@@ -1,4 +1,4 @@
-use Rattle.std.proofs.Common.{◌≡◌, ◌-◌, []}
+use Rattle.std.proofs.Common.{◌≡◌, ◌-◌}
 use Rattle.da_parse.specs.Programs.{outermost, decls, decls_from}
 use Rattle.da_parse.proofs.programs.decls.Given as goal
 

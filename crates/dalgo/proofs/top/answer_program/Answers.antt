@@ -1,22 +1,17 @@
-use Rattle.std.proofs.Common.{refl, ◌≤◌, subst, ap, ◌∙◌, sym, length}
-use Rattle.std.specs.Prelude.{Err}
-use Rattle.da_parse.specs.First.{IsFirst}
-use Rattle.dalgo.specs.declared.status.RefusedKind.TheVariants.{Size, NotYet}
+use Rattle.std.proofs.Common.{refl, ◌≤◌, ◌∙◌}
+use Rattle.dalgo.specs.declared.status.RefusedKind.TheVariants.{Size}
 use Rattle.dalgo.specs.Replies.{program_limit}
-use Rattle.dalgo.proofs.ReplyLemmas.{take_within, take_beyond, accepts_within, replies_refused, replies_answers, not_refused}
+use Rattle.dalgo.proofs.ReplyLemmas.{take_beyond, accepts_within, refuses_within, replies_refused, replies_answers, not_refused}
 use Rattle.dalgo.proofs.top.answer_program.Goals as goal
 
 pub returns-then-text-gt-PROGRAM_LIMIT-clause-replies : goal.returns-then-text-gt-PROGRAM_LIMIT-clause-replies
 returns-then-text-gt-PROGRAM_LIMIT-clause-replies g c = λ t is.
     replies_refused t _ Size 0 _ _ _ (take_beyond program_limit _ t is c.if-text-gt-PROGRAM_LIMIT.true, refl) c.refuse.ensures.said
 
-pub returns-in-Err-NotYet-clause-replies : goal.returns-in-Err-NotYet-clause-replies
-returns-in-Err-NotYet-clause-replies g c = λ t is.
-    let same = take_within program_limit _ t is c.if-text-gt-PROGRAM_LIMIT.false in
-    let few : length t ≤ program_limit = subst (λ x. length x ≤ program_limit) same c.if-text-gt-PROGRAM_LIMIT.false in
-    replies_refused t _ NotYet 0 _ _ _
-    (few, refl, λ numbers first. c.in-Err-NotYet.ensures.not_yet (ap Err c.in-Err-NotYet.field-0-is) numbers (subst (λ x. IsFirst x numbers) (sym same) first))
-    c.refuse-in-Err-NotYet.ensures.said
+pub returns-in-Err-Refused-clause-replies : goal.returns-in-Err-Refused-clause-replies
+returns-in-Err-Refused-clause-replies g c = λ t is.
+    replies_refused t _ c.in-Err-Refused.kind c.in-Err-Refused.line _ _ _
+    (refuses_within _ t _ _ _ is c.if-text-gt-PROGRAM_LIMIT.false c.in-Err-Refused.field-0-is c.in-Err-Refused.ensures.refused) c.refuse-in-Err-Refused.ensures.said
 
 pub returns-in-Ok-read_all-clause-replies : goal.returns-in-Ok-read_all-clause-replies
 returns-in-Ok-read_all-clause-replies g c = λ t is.

@@ -1,4 +1,4 @@
-use Rattle.std.proofs.Common.{◌≡◌, ◌-◌, []}
+use Rattle.std.proofs.Common.{◌≡◌, ◌-◌}
 use Rattle.da_parse.specs.Lists.{begun, begun_from}
 use Rattle.da_parse.specs.Exprs.{at_depth}
 use Rattle.da_parse.specs.Stmts.{branch, body_below}

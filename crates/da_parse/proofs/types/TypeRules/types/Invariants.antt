@@ -1,4 +1,4 @@
-use Rattle.std.proofs.Common.{◌≡◌, ◌-◌, []}
+use Rattle.std.proofs.Common.{◌≡◌, ◌-◌}
 use Rattle.da_values.specs.declared.token.Mark.TheVariants as m
 use Rattle.da_parse.specs.Lists.{separated, separated_from}
 use Rattle.da_parse.specs.Types.{type_below}
