@@ -3,7 +3,9 @@ ghost use Rattle.da_system.specs.State.{IsNumbered};
 ghost use Rattle.dalgo.specs.FirstForm as spec;
 ghost use Rattle.std.specs.Prelude.{◌≡◌, ◌∷◌, IfOk, IfSome};
 
-use da_lang::{Class, ClassTree, Expr, Item, ItemKind, MainLine, Member, ProcDecl, Program, RExpr, Stmt, Tree};
+use da_lang::{
+    Class, ClassTree, Expr, Item, ItemKind, MainLine, Member, ProcDecl, Program, RExpr, Stmt, Tree,
+};
 use da_values::{List, NoMemory, Value, copy_bytes};
 use std::alloc::Global;
 

@@ -200,15 +200,60 @@ fn in_parentheses(alloc: Global, count: u32) -> Result<Buf, NoMemory> {
 
 // Lines in the place of the third, by which the program is refused.
 const REFUSED: [(&[u8], RefusedKind, u32, &[u8]); 10] = [
-    (b"\t        output(7)\n", RefusedKind::Byte, 3, b"refused byte 3\n"),
-    (b"        output(7)\n      pass\n", RefusedKind::Indent, 4, b"refused indent 4\n"),
-    (b"        output('ab\n", RefusedKind::Unclosed, 3, b"refused unclosed 3\n"),
-    (b"        output({7)\n", RefusedKind::Unclosed, 3, b"refused unclosed 3\n"),
-    (b"        output(007)\n", RefusedKind::Token, 3, b"refused token 3\n"),
-    (b"        output(9223372036854775808)\n", RefusedKind::Token, 3, b"refused token 3\n"),
-    (b"        output 7\n", RefusedKind::Syntax, 3, b"refused syntax 3\n"),
-    (b"        output(7))\n", RefusedKind::Syntax, 3, b"refused syntax 3\n"),
-    (b"        output(7)}\n", RefusedKind::Syntax, 3, b"refused syntax 3\n"),
+    (
+        b"\t        output(7)\n",
+        RefusedKind::Byte,
+        3,
+        b"refused byte 3\n",
+    ),
+    (
+        b"        output(7)\n      pass\n",
+        RefusedKind::Indent,
+        4,
+        b"refused indent 4\n",
+    ),
+    (
+        b"        output('ab\n",
+        RefusedKind::Unclosed,
+        3,
+        b"refused unclosed 3\n",
+    ),
+    (
+        b"        output({7)\n",
+        RefusedKind::Unclosed,
+        3,
+        b"refused unclosed 3\n",
+    ),
+    (
+        b"        output(007)\n",
+        RefusedKind::Token,
+        3,
+        b"refused token 3\n",
+    ),
+    (
+        b"        output(9223372036854775808)\n",
+        RefusedKind::Token,
+        3,
+        b"refused token 3\n",
+    ),
+    (
+        b"        output 7\n",
+        RefusedKind::Syntax,
+        3,
+        b"refused syntax 3\n",
+    ),
+    (
+        b"        output(7))\n",
+        RefusedKind::Syntax,
+        3,
+        b"refused syntax 3\n",
+    ),
+    (
+        b"        output(7)}\n",
+        RefusedKind::Syntax,
+        3,
+        b"refused syntax 3\n",
+    ),
     (b"", RefusedKind::Syntax, 3, b"refused syntax 3\n"),
 ];
 
@@ -232,7 +277,11 @@ fn refusals(rt: HostRuntime) -> Result<(), Fail> {
 // The whole texts of refused programs.
 const REFUSED_TEXTS: [(&[u8], u32, &[u8]); 4] = [
     (b"", 1, b"refused syntax 1\n"),
-    (b"class P extends process:\n    def run():\n        output(7)\n", 3, b"refused syntax 3\n"),
+    (
+        b"class P extends process:\n    def run():\n        output(7)\n",
+        3,
+        b"refused syntax 3\n",
+    ),
     (
         b"class P extends process\n    def run():\n        output(7)\ndef main():\n    a = new(P)\n",
         1,
@@ -269,11 +318,19 @@ fn nesting(rt: HostRuntime) -> Result<(), Fail> {
         kind: RefusedKind::Deep,
         line: 3,
     };
-    let rows: [(u32, Status, &[u8]); 2] = [(30, Status::Done, RAN), (31, deep, b"refused deep 3\n")];
+    let rows: [(u32, Status, &[u8]); 2] = [
+        (30, Status::Done, RAN),
+        (31, deep, b"refused deep 3\n"),
+    ];
     for (count, status, text) in rows {
         let line = in_parentheses(rt.alloc(), count)?;
         let program = changed(rt.alloc(), line.as_slice())?;
-        let mut files = files_of(rt.alloc(), program.as_slice(), b"move 1\n", List::new(rt.alloc()))?;
+        let mut files = files_of(
+            rt.alloc(),
+            program.as_slice(),
+            b"move 1\n",
+            List::new(rt.alloc()),
+        )?;
         let mut out = MemSink::new(rt.alloc(), 16, List::new(rt.alloc()));
         assert_eq!(rt;
             dalgo(rt.alloc(), words.as_slice(), &mut files, &mut out),
