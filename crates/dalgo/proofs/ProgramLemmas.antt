@@ -1,18 +1,16 @@
 -- From what the lexer, the parser and the form of a tree answer to what is said of a text.
 use Rattle.std.proofs.Common.{◌≡◌, subst, ℕ, ◌≤◌, List, length}
-use Rattle.std.specs.Prelude.{Ok, Err, Some, None, Option, MatchResult, Result}
+use Rattle.std.specs.Prelude.{Ok, Err, MatchResult, Result}
 use Rattle.da_values.specs.declared.token.LexKind.{LexKind}
 use Rattle.da_values.specs.declared.token.LexKind.TheVariants as lex
 use Rattle.da_values.specs.declared.token.Token.{Token}
 use Rattle.da_values.specs.Marks.{toks}
 use Rattle.da_values.specs.Tokens.{tokens}
-use Rattle.da_lang.specs.declared.program.Program.{Program}
 use Rattle.da_lang.specs.declared.tree.Tree.{Tree}
 use Rattle.da_lang.specs.Grammar.{SpellsWithin}
 use Rattle.da_parse.specs.declared.whole.ParseFault.{ParseFault}
 use Rattle.da_parse.specs.declared.whole.ParseFault.TheVariants as parse_fault
-use Rattle.dalgo.specs.FirstForm.{first_program}
-use Rattle.dalgo.specs.Replies.{Accepts, HasTree, HasNoTree, IsNotYet, Refuses, kind_after, program_limit}
+use Rattle.dalgo.specs.Replies.{HasNoTree, Refuses, kind_after, program_limit}
 
 -- the text is not cut into tokens
 pub not_cut : (text : List ℕ) (kind : LexKind) (line : ℕ) → length text ≤ program_limit → tokens text ≡ Err (record { kind = kind; line = line }) → Refuses text (kind_after kind) line

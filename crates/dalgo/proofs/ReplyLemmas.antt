@@ -1,5 +1,5 @@
 -- From the texts that were read to those that are told.
-use Rattle.std.proofs.Common.{◌≡◌, refl, sym, ◌∙◌, ap, subst, ℕ, lit<, ◌+◌, ◌<◌, ◌≤◌, inl, inr, List, [], ◌∷◌, take, length, arith, take_all, length-take}
+use Rattle.std.proofs.Common.{◌≡◌, refl, sym, ◌∙◌, ap, subst, ℕ, ◌+◌, ◌<◌, ◌≤◌, inl, inr, List, [], ◌∷◌, take, length, arith, take_all, length-take}
 use Rattle.std.specs.Prelude.{Option, Some, None, Result, Ok, Err, IfOk, IsErrOf}
 use Rattle.da_lang.specs.declared.event.Action.{Action}
 use Rattle.da_lang.specs.declared.event.Action.TheVariants.{Took, Out, End, Fault, Stop}
@@ -7,13 +7,11 @@ use Rattle.da_lang.specs.declared.event.Event.{Event}
 use Rattle.da_lang.specs.declared.program.Program.{Program}
 use Rattle.da_lang.specs.declared.tree.Tree.{Tree}
 use Rattle.da_parse.proofs.WholePrograms.{Spells_unique, SpellsWithin_spells}
-use Rattle.da_values.specs.declared.token.LexKind.{LexKind}
 use Rattle.da_values.specs.declared.token.Token.{Token}
 use Rattle.da_values.specs.Marks.{toks}
 use Rattle.da_values.specs.Tokens.{Fault as LexFault, tokens}
 use Rattle.da_lang.specs.Grammar.{SpellsWithin}
 use Rattle.da_system.specs.SourceRun.{src_run}
-use Rattle.da_system.specs.State.{IsNumbered}
 use Rattle.dalgo.specs.declared.program.ProgramFault.{ProgramFault}
 use Rattle.dalgo.specs.declared.program.ProgramFault.TheVariants as fault
 use Rattle.dalgo.specs.declared.status.RefusedKind.{RefusedKind}
@@ -25,7 +23,7 @@ use Rattle.dalgo.specs.declared.top.Ending.TheVariants as ending
 use Rattle.dalgo.specs.FirstForm.{first_program}
 use Rattle.dalgo.specs.Lines.{action_text, badline_text, refused_text}
 use Rattle.dalgo.specs.Outside.{Appends, Fits, IsWhole, Rose}
-use Rattle.dalgo.specs.Replies.{IsRefusedAs, HasTree, HasNoTree, IsNotYet, IsNotCut, kind_after, Accepts, Answers, IsAnswer, IsBadSchedule, IsRefused, IsReplay, IsReplayStatus, IsSchedule, MayRead, Ran, ReadCause, Refuses, ReplayReply, refused, bad_schedule, ran, Replies, RepliesTo, RepliesTold, RunReply, RunsWhole, bad, carried_out, program_limit, schedule_limit, status_of}
+use Rattle.dalgo.specs.Replies.{IsRefusedAs, HasTree, HasNoTree, Accepts, Answers, IsAnswer, IsBadSchedule, IsRefused, IsReplay, IsReplayStatus, IsSchedule, MayRead, Ran, ReadCause, Refuses, ReplayReply, refused, bad_schedule, ran, Replies, RepliesTo, RepliesTold, RunReply, RunsWhole, bad, carried_out, program_limit, schedule_limit, status_of}
 use Rattle.dalgo.specs.Schedule.{schedule_events}
 use Rattle.dalgo.specs.Top.{status_after}
 

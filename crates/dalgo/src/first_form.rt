@@ -13,7 +13,7 @@ use std::alloc::Global;
 const MOST_OUTPUTS: usize = 16_384;
 
 /// The program of a tree, or `None` exactly where the tree has a message, not exactly one class, members other than
-/// one `run`, a statement that is not `output` of an integer, more than 16,384 statements, or a `main` of other than
+/// one `run`, a statement that is not `output` of an integer literal, more than 16,384 statements, or a `main` of other than
 /// one line that makes one process of the class.
 #[tactic(auto, unfolding(crate::specs::FirstForm::first_program))]
 pub fn first_program(alloc: Global, tree: &Tree) -> Result<Option<Program>, NoMemory>

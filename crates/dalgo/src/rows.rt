@@ -78,6 +78,21 @@ fn script_of(alloc: Global, call: Option<u64>) -> Result<List<u64>, NoMemory> {
     Ok(script)
 }
 
+// Whether `replay` of these texts ends so and writes this.
+fn replays(
+    alloc: Global,
+    program: &[u8],
+    schedule: &[u8],
+    status: Status,
+    text: &[u8],
+) -> Result<bool, Fail> {
+    let words = words_of(alloc, &["replay", "p", "s"])?;
+    let mut files = files_of(alloc, program, schedule, List::new(alloc))?;
+    let mut out = MemSink::new(alloc, 16, List::new(alloc));
+    let ended = dalgo(alloc, words.as_slice(), &mut files, &mut out);
+    Ok(ended == status && out.bytes() == text)
+}
+
 // Programs, schedules, and what comes of them.
 #[test]
 fn rows(rt: HostRuntime) -> Result<(), Fail> {
@@ -165,15 +180,11 @@ fn rows(rt: HostRuntime) -> Result<(), Fail> {
             b"refused notyet 0\n",
         ),
     ];
-    let words = words_of(rt.alloc(), &["replay", "p", "s"])?;
     for (program, schedule, status, text) in rows {
-        let mut files = files_of(rt.alloc(), program, schedule, List::new(rt.alloc()))?;
-        let mut out = MemSink::new(rt.alloc(), 16, List::new(rt.alloc()));
-        assert_eq!(rt;
-            dalgo(rt.alloc(), words.as_slice(), &mut files, &mut out),
-            status
+        assert!(rt;
+            replays(rt.alloc(), program, schedule, status, text)?,
+            "{program:?}"
         );
-        assert!(rt; out.bytes() == text);
     }
     Ok(())
 }
@@ -260,16 +271,13 @@ const REFUSED: [(&[u8], RefusedKind, u32, &[u8]); 10] = [
 // A refused program is answered so under the empty schedule.
 #[test]
 fn refusals(rt: HostRuntime) -> Result<(), Fail> {
-    let words = words_of(rt.alloc(), &["replay", "p", "s"])?;
     for (lines, kind, line, text) in REFUSED {
         let program = changed(rt.alloc(), lines)?;
-        let mut files = files_of(rt.alloc(), program.as_slice(), b"", List::new(rt.alloc()))?;
-        let mut out = MemSink::new(rt.alloc(), 16, List::new(rt.alloc()));
-        assert_eq!(rt;
-            dalgo(rt.alloc(), words.as_slice(), &mut files, &mut out),
-            Status::Refused { kind, line }
+        let status = Status::Refused { kind, line };
+        assert!(rt;
+            replays(rt.alloc(), program.as_slice(), b"", status, text)?,
+            "{text:?}"
         );
-        assert!(rt; out.bytes() == text);
     }
     Ok(())
 }
@@ -296,16 +304,15 @@ const REFUSED_TEXTS: [(&[u8], u32, &[u8]); 4] = [
 
 #[test]
 fn refusals_of_texts(rt: HostRuntime) -> Result<(), Fail> {
-    let words = words_of(rt.alloc(), &["replay", "p", "s"])?;
     for (program, line, text) in REFUSED_TEXTS {
-        let mut files = files_of(rt.alloc(), program, b"", List::new(rt.alloc()))?;
-        let mut out = MemSink::new(rt.alloc(), 16, List::new(rt.alloc()));
-        let kind = RefusedKind::Syntax;
-        assert_eq!(rt;
-            dalgo(rt.alloc(), words.as_slice(), &mut files, &mut out),
-            Status::Refused { kind, line }
+        let status = Status::Refused {
+            kind: RefusedKind::Syntax,
+            line,
+        };
+        assert!(rt;
+            replays(rt.alloc(), program, b"", status, text)?,
+            "{program:?}"
         );
-        assert!(rt; out.bytes() == text);
     }
     Ok(())
 }
@@ -313,7 +320,6 @@ fn refusals_of_texts(rt: HostRuntime) -> Result<(), Fail> {
 // 31 parentheses within two blocks are one too many.
 #[test]
 fn nesting(rt: HostRuntime) -> Result<(), Fail> {
-    let words = words_of(rt.alloc(), &["replay", "p", "s"])?;
     let deep = Status::Refused {
         kind: RefusedKind::Deep,
         line: 3,
@@ -325,18 +331,10 @@ fn nesting(rt: HostRuntime) -> Result<(), Fail> {
     for (count, status, text) in rows {
         let line = in_parentheses(rt.alloc(), count)?;
         let program = changed(rt.alloc(), line.as_slice())?;
-        let mut files = files_of(
-            rt.alloc(),
-            program.as_slice(),
-            b"move 1\n",
-            List::new(rt.alloc()),
-        )?;
-        let mut out = MemSink::new(rt.alloc(), 16, List::new(rt.alloc()));
-        assert_eq!(rt;
-            dalgo(rt.alloc(), words.as_slice(), &mut files, &mut out),
-            status
+        assert!(rt;
+            replays(rt.alloc(), program.as_slice(), b"move 1\n", status, text)?,
+            "{count}"
         );
-        assert!(rt; out.bytes() == text);
     }
     Ok(())
 }

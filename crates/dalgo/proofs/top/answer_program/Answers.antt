@@ -1,4 +1,4 @@
-use Rattle.std.proofs.Common.{refl, ◌≤◌, ◌∙◌}
+use Rattle.std.proofs.Common.{refl, ◌∙◌}
 use Rattle.dalgo.specs.declared.status.RefusedKind.TheVariants.{Size}
 use Rattle.dalgo.specs.Replies.{program_limit}
 use Rattle.dalgo.proofs.ReplyLemmas.{take_beyond, accepts_within, refuses_within, replies_refused, replies_answers, not_refused}

@@ -1,0 +1,11 @@
+pub mod Expressions
+pub mod Levels
+pub mod Lines
+pub mod Pieces
+pub mod Printable
+pub mod Prints
+pub mod ProgramTexts
+pub mod Programs
+pub mod Statements
+pub mod Texts
+pub mod Unlined
