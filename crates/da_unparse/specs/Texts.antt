@@ -13,7 +13,7 @@ use Rattle.da_lang.specs.declared.tree.SourceTree.{SourceTree}
 use Rattle.da_lang.specs.declared.tree.Stmt.{Stmt}
 use Rattle.da_lang.specs.declared.tree.TimeoutTree.{TimeoutTree, out-TimeoutTree}
 use Rattle.da_lang.specs.declared.ty.Ty.{Ty}
-use Rattle.da_unparse.specs.Expressions.{shown, at_least, expr_pieces, pattern_pieces, peer_pieces, gen_pieces, type_pieces, op_text, cmp_text, source, is_sum, sum, product, signed}
+use Rattle.da_unparse.specs.Expressions.{shown, at_least, expr_pieces, pattern_pieces, peer_pieces, gen_pieces, type_pieces, op_text, cmp_text, source, is_sum, either, sum, product, signed}
 use Rattle.da_unparse.specs.Lines.{lines_text}
 use Rattle.da_unparse.specs.Pieces.{text_of}
 use Rattle.da_unparse.specs.Statements.{stmt_lines}
@@ -89,7 +89,7 @@ other_text (Some p) = peer_text p
 
 -- an argument in parentheses
 unfoldable pub one_argument : Expr → List ℕ
-one_argument x = codes "(" ++ text_at 1 x ++ codes ")"
+one_argument x = codes "(" ++ text_at either x ++ codes ")"
 
 -- the spaces before a line of a level
 unfoldable pub margin : ℕ → List ℕ
@@ -117,7 +117,7 @@ unfoldable pub send_line : ℕ → Expr → Expr → List ℕ
 send_line level x y = margin level ++ codes "send " ++ expr_text x ++ codes " to " ++ expr_text y ++ codes "\n"
 
 unfoldable pub call_line : ℕ → List ℕ → List Expr → List ℕ
-call_line level name xs = margin level ++ name ++ codes "(" ++ separated (codes ", ") (text_at 1) xs ++ codes ")\n"
+call_line level name xs = margin level ++ name ++ codes "(" ++ separated (codes ", ") (text_at either) xs ++ codes ")\n"
 
 unfoldable pub for_line : ℕ → List ℕ → Expr → List ℕ
 for_line level name x = margin level ++ codes "for " ++ name ++ codes " in " ++ expr_text x ++ codes ":\n"

@@ -6,7 +6,7 @@ ghost use Rattle.std.specs.Prelude.{◌≡◌};
 use da_lang::{ArithOp, Expr};
 
 /// The levels of expressions, the loosest first.
-#[derive(Clone, Copy, Debug, PartialEq, Eq)]
+#[derive(Clone, Copy)]
 pub enum Level {
     /// A quantification.
     Quantified,
@@ -72,11 +72,7 @@ pub fn level_of(x: &Expr) -> Level
     ensures { rank_of result ≡ holds x.now }
 {
     match x {
-        Expr::Quant {
-            each: _,
-            gens: _,
-            cond: _,
-        } => Level::Quantified,
+        Expr::Quant { .. } => Level::Quantified,
         Expr::Or(_) => Level::Either,
         Expr::And(_) => Level::Both,
         Expr::Not(_) => Level::Negation,
@@ -94,11 +90,7 @@ pub fn level_of(x: &Expr) -> Level
         | Expr::Range(_, _)
         | Expr::Tuple(_)
         | Expr::SetOf(_)
-        | Expr::Comp {
-            term: _,
-            gens: _,
-            cond: _,
-        }
+        | Expr::Comp { .. }
         | Expr::Count(_)
         | Expr::Sum(_)
         | Expr::Min(_, _)

@@ -1,12 +1,13 @@
 //! Whole programs.
 ghost use Rattle.da_lang.specs.Grammar.{Spells, SpellsWithin};
 ghost use Rattle.da_lang.specs.declared.tree.Tree.{Tree};
+ghost use Rattle.da_unparse.specs.Expressions.{either};
 ghost use Rattle.da_unparse.specs.Prints.{SpellsAgain, SpellsAgainWithin};
-ghost use Rattle.da_unparse.specs.Unlined.{unlined};
-ghost use Rattle.da_values.specs.Marks.{Tok};
 ghost use Rattle.da_unparse.specs.ProgramTexts.{class_text, classes_text, count_text, kind_text, main_line_text, main_lines_text, main_text, message_text, messages_text};
 ghost use Rattle.da_unparse.specs.Programs.{tree_text};
 ghost use Rattle.da_unparse.specs.Texts.{text_at};
+ghost use Rattle.da_unparse.specs.Unlined.{unlined};
+ghost use Rattle.da_values.specs.Marks.{Tok};
 ghost use Rattle.std.specs.List.{flat_map};
 ghost use Rattle.std.specs.Prelude.{◌≡◌, ◌++◌, ℕ, List, codes, IfOk, OnOk};
 
@@ -38,7 +39,7 @@ pub fn print_tree(alloc: Global, tree: &Tree) -> Result<Buf, NoMemory>
     write_tree(alloc, tree)
 }
 
-// The text of a tree, by the rules.
+/// The text of a tree. `print_tree` says besides what the tokens of this text spell.
 fn write_tree(alloc: Global, tree: &Tree) -> Result<Buf, NoMemory>
     ensures { IfOk result (λ text. text ≡ tree_text tree.now) }
 {
@@ -182,7 +183,7 @@ fn put_count(count: Option<u64>, out: &mut Buf) -> Result<(), NoMemory>
 
 /// Appends arguments, each behind a comma.
 fn put_arguments(args: &[Expr], out: &mut Buf) -> Result<(), NoMemory>
-    ensures { OnOk result (out.new ≡ out.old ++ flat_map (λ x. codes ", " ++ text_at 1 x) args.now) }
+    ensures { OnOk result (out.new ≡ out.old ++ flat_map (λ x. codes ", " ++ text_at either x) args.now) }
 {
     for argument in args {
         out.append(b", ")?;
