@@ -1,6 +1,6 @@
 -- The grammar of expressions and patterns, each nonterminal a relation. Every recursion goes through a token that opens
 -- one thing more, so each relation takes those that stand one deeper as `deep`.
-use Rattle.std.specs.Prelude.{ℕ, zero, suc, pos, neg_ℤ, Bool, true, false, List, [], ◌∷◌, Option, Some, None}
+use Rattle.std.specs.Prelude.{ℕ, zero, suc, pos, neg_ℤ, true, false, List, [], ◌∷◌, Option, Some, None}
 use Rattle.da_values.specs.declared.token.Mark.{Mark}
 use Rattle.da_values.specs.declared.token.Mark.TheVariants as m
 use Rattle.da_values.specs.Marks.{Tok}

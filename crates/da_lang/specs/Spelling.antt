@@ -1,6 +1,6 @@
 -- The pieces of the grammar's rules. Each relation says that the tokens of the first list, up to where the second list
 -- begins, spell something.
-use Rattle.std.specs.Prelude.{◌≡◌, ◌≢◌, ℕ, List, [], ◌∷◌, length, Option, Some, None, MatchBool}
+use Rattle.std.specs.Prelude.{◌≡◌, ◌≢◌, ℕ, List, [], ◌∷◌, length, Some, MatchBool}
 use Rattle.da_values.specs.declared.token.Mark.{Mark}
 use Rattle.da_values.specs.declared.token.Mark.TheVariants as m
 use Rattle.da_values.specs.declared.token.Piece.TheVariants as piece_is

@@ -1,10 +1,10 @@
 -- The grammar of types.
-use Rattle.std.specs.Prelude.{ℕ, zero, suc, List, [], ◌∷◌}
+use Rattle.std.specs.Prelude.{ℕ, zero, suc, List, ◌∷◌}
 use Rattle.da_values.specs.declared.token.Mark.TheVariants as m
 use Rattle.da_values.specs.Marks.{Tok}
 use Rattle.da_lang.specs.declared.ty.Ty.{Ty}
 use Rattle.da_lang.specs.declared.ty.Ty.TheVariants as ty
-use Rattle.da_lang.specs.Spelling.{Spelling, Room, At, Opens, Separated, Closed}
+use Rattle.da_lang.specs.Spelling.{Spelling, Room, At, Opens, Closed}
 
 -- type, whose inner types are spelled by Inner
 pub data IsType (room : Room) (Inner : Spelling Ty) : Ty → List Tok → List Tok → Type 0 where

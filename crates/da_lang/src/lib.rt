@@ -1,13 +1,25 @@
 //! The DistAlgo language: syntax trees, resolved programs, the events and actions of processes, and what they mean.
 #![tactic(auto)]
 
+mod code;
 mod event;
 mod program;
+mod query;
+mod refusal;
 mod tree;
 mod ty;
 
+pub use code::Instr;
 pub use event::{Action, Event, FaultKind};
-pub use program::{Class, Item, ItemKind, Phase, ProcDecl, Program, RExpr};
+pub use program::{
+    Alt, BindArg, ChainPart, Class, Handler, Item, ItemKind, Phase, ProcDecl, Program, RBranch,
+    RExpr, SetupCall,
+};
+pub use query::{
+    Agg, AggOp, Cond, LivePattern, Node, Operand, Pattern, Query, QueryNode, RGen, Shape,
+    SignedOperand, Source, Term,
+};
+pub use refusal::{LimitKind, ScopeKind};
 pub use tree::{
     ArithOp, Branch, ChainTree, ClassTree, CmpOp, Expr, GenTree, MainLine, Member, MessageDecl,
     Param, PatternTree, PeerTree, SourceTree, Stmt, TimeoutTree, Tree,

@@ -1,29 +1,68 @@
 //! Resolved programs: what is left of a text once its names are found.
-use crate::ty::Name;
-use da_values::{List, Value};
+//!
+//! The slots of a class are numbered from 1: its variables, and then what its parameters, loops, patterns and handlers
+//! name. An expression within another type stands in a `Boxed` or a `List`, as in trees.
+use crate::query::{Cond, Pattern, Query};
+use crate::tree::{ArithOp, CmpOp, MessageDecl};
+use crate::ty::{ChannelKind, Name, Ty};
+use da_values::{Boxed, List, Value};
 
-/// A program: its classes in text order, and its processes in the order in which `main` makes them.
+/// A program: its messages and classes in text order, and its processes in the order in which `main` makes them.
 #[derive(Debug, Drop)]
 pub struct Program {
+    pub kind: ChannelKind,
+    pub messages: List<MessageDecl>,
     pub classes: List<Class>,
     pub procs: List<ProcDecl>,
 }
 
-/// A process that `main` makes, of the class at this place in the program, counted from 0.
+/// A process that `main` makes, of the class at this place in the program, counted from 0, with its line of `setup`.
 #[derive(Debug, Drop)]
 pub struct ProcDecl {
     pub class: u16,
+    pub setup: Option<SetupCall>,
 }
 
-/// A class, by the statements of its `run`. The line is that of its header.
+/// A line of `setup`, by its arguments.
+#[derive(Debug, Drop)]
+pub struct SetupCall {
+    pub args: List<RExpr>,
+    pub line: u32,
+}
+
+/// A class, with its calls inlined. The line is that of its header.
 #[derive(Debug, Drop)]
 pub struct Class {
+    /// The name.
     pub name: Name,
+    /// The types of the slots, where they are known.
+    pub slots: List<Option<Ty>>,
+    /// The slots of the parameters of `setup`.
+    pub params: List<u16>,
+    /// The statements of `setup`.
+    pub setup: List<Item>,
+    /// The statements of `run`.
     pub run: List<Item>,
+    /// The handlers, in text order.
+    pub handlers: List<Handler>,
+    /// The numbered queries.
+    pub queries: List<Query>,
+    /// The line of `class`.
+    pub line: u32,
+}
+
+/// A handler. `binds` are the slots that take the parts of the row of its two patterns.
+#[derive(Debug, Drop)]
+pub struct Handler {
+    pub message: Pattern,
+    pub from: Pattern,
+    pub binds: List<u16>,
+    pub body: List<Item>,
     pub line: u32,
 }
 
 /// A statement, with the line where it begins.
+#[cycle(item)]
 #[derive(Debug, Drop)]
 pub struct Item {
     pub line: u32,
@@ -31,23 +70,107 @@ pub struct Item {
 }
 
 /// What a statement does.
+#[cycle(item)]
 #[derive(Debug, Drop)]
 pub enum ItemKind {
+    /// Assigns to a slot.
+    Assign(u16, Boxed<RExpr>),
+    /// Adds an element to the set in a slot.
+    Add(u16, Boxed<RExpr>),
+    /// Deletes an element from the set in a slot.
+    Del(u16, Boxed<RExpr>),
+    /// Sends a message, the first, to a process or to each of a set of them.
+    Send(Boxed<RExpr>, Boxed<RExpr>),
     /// Prints a value.
-    Output(RExpr),
+    Output(Boxed<RExpr>),
+    /// Takes the first branch whose condition holds, or else the other statements.
+    If(List<RBranch>, List<Item>),
+    /// Goes round while the condition holds.
+    While(Boxed<RExpr>, List<Item>),
+    /// Goes round with each element of a set in a slot, ascending.
+    For(u16, Boxed<RExpr>, List<Item>),
+    /// A method's statements in the place of the call, with its arguments.
+    Call(List<BindArg>, List<Item>),
+    /// Waits for one of the alternatives.
+    Await(List<Alt>),
     /// A yield point, which a move takes.
     Label,
     /// Does nothing.
     Pass,
 }
 
-/// An expression.
+/// A branch of an `if`. `found` is the number of the `some` whose row is bound, and `binds` the slots that take its
+/// parts. The line is that of the header.
+#[cycle(item)]
+#[derive(Debug, Drop)]
+pub struct RBranch {
+    pub cond: Boxed<RExpr>,
+    pub found: Option<u32>,
+    pub binds: List<u16>,
+    pub body: List<Item>,
+    pub line: u32,
+}
+
+/// An argument, and the slot of its parameter.
+#[derive(Debug, Drop)]
+pub struct BindArg {
+    pub slot: u16,
+    pub value: Boxed<RExpr>,
+}
+
+/// An alternative of an `await`, as a branch is.
+#[cycle(item)]
+#[derive(Debug, Drop)]
+pub struct Alt {
+    pub cond: Boxed<Cond>,
+    pub found: Option<u32>,
+    pub binds: List<u16>,
+    pub body: List<Item>,
+    pub line: u32,
+}
+
+/// An expression outside queries.
+#[cycle(rexpr)]
 #[derive(Debug, Drop)]
 pub enum RExpr {
     /// This value.
     Const(Value),
+    /// The set of these processes, which a name of `main` made with a count stands for.
+    Procs(List<u16>),
     /// The process itself.
     Me,
+    /// The value of a slot.
+    Slot(u16),
+    /// The clock.
+    Clock,
+    /// The value of the query of this number.
+    Ask(u32),
+    /// The set of the numbers from the first up to the second, without it.
+    Range(Boxed<RExpr>, Boxed<RExpr>),
+    /// A tuple.
+    Tuple(List<RExpr>),
+    /// A set.
+    SetOf(List<RExpr>),
+    /// `or`
+    Or(List<RExpr>),
+    /// `and`
+    And(List<RExpr>),
+    /// `not`
+    Not(Boxed<RExpr>),
+    /// A comparison.
+    Cmp(CmpOp, Boxed<RExpr>, Boxed<RExpr>),
+    /// Whether the first is an element of the second.
+    Member(Boxed<RExpr>, Boxed<RExpr>),
+    /// An operand and others, each with its sign.
+    Chain(Boxed<RExpr>, List<ChainPart>),
+}
+
+/// A further operand of a chain, with its sign.
+#[cycle(rexpr)]
+#[derive(Debug, Drop)]
+pub struct ChainPart {
+    pub op: ArithOp,
+    pub operand: Boxed<RExpr>,
 }
 
 /// Where a process stands: it has not begun, it waits at a yield point, it has used up its statements, or a fault
