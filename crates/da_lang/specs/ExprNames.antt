@@ -27,15 +27,12 @@ abbrev pub is_slot : Option Role → Bool
 is_slot None = false
 is_slot (Some ClassVariable) = true
 is_slot (Some Local) = true
-is_slot (Some QueryVariable) = false
-is_slot (Some Ahead) = false
-is_slot (Some Made) = false
+is_slot (Some _) = false
 
 -- what a use of a name as a value, and as a slot, breaks
 abbrev pub used : Option Role → List ScopeKind
 used None = refusal.Unknown ∷ []
-used (Some Ahead) = refusal.Unknown ∷ []
-used (Some _) = []
+used (Some role) = []
 
 abbrev pub unless : Bool → ScopeKind → List ScopeKind
 unless allowed kind = if allowed then [] else kind ∷ []
@@ -43,13 +40,16 @@ unless allowed kind = if allowed then [] else kind ∷ []
 abbrev pub used_as_slot : Option Role → List ScopeKind
 used_as_slot role = unless (is_slot role) refusal.Unknown
 
--- what a new variable of this role breaks where its name stands for that already
-abbrev pub taken : Role → Option Role → List ScopeKind
-taken role None = []
-taken role (Some Made) = []
-taken Ahead (Some Ahead) = refusal.Shadow ∷ []
-taken _ (Some Ahead) = []
-taken role (Some _) = refusal.Shadow ∷ []
+-- what a new variable breaks where its name stands for that already
+abbrev pub taken : Option Role → List ScopeKind
+taken None = []
+taken (Some Made) = []
+taken (Some _) = refusal.Shadow ∷ []
+
+-- new variables come into scope; those of a handler's patterns do so in its body alone
+abbrev pub brought : Role → List (List ℕ) → Scope Role → Scope Role
+brought Ahead names scope = scope
+brought role names scope = entered role names scope
 
 -- The variables that a part of a text brings; the kinds of refusal in it, by the role of these variables and the names
 -- in scope where the part begins; and whether it may be the argument of an aggregate.
@@ -61,7 +61,7 @@ pub record Part : Type 0 where
 -- parts in the order of the text, each with the variables of those before it in scope
 abbrev pub in_order : List Part → Role → Scope Role → List ScopeKind
 in_order [] role scope = []
-in_order (part ∷ parts) role scope = part.kinds role scope ++ in_order parts role (entered role part.binds scope)
+in_order (part ∷ parts) role scope = part.kinds role scope ++ in_order parts role (brought role part.binds scope)
 
 -- of a pattern or generator; of an expression, from which no variable comes out; of a query, whose variables are its own
 abbrev pub together : List Part → Part
@@ -88,7 +88,7 @@ aggregate argument other = record {
 }
 
 abbrev pub variable : List ℕ → Part
-variable name = record { binds = name ∷ []; kinds = λ role scope. taken role (look scope name); ranges = λ scope. false }
+variable name = record { binds = name ∷ []; kinds = λ role scope. taken (look scope name); ranges = λ scope. false }
 
 abbrev pub source_part : SourceTree → Part
 source_part source_tree.Received = inside []
