@@ -14,12 +14,11 @@ use Rattle.da_lang.specs.declared.tree.SourceTree.TheVariants as source_tree
 use Rattle.da_lang.specs.Scopes.{Scope, look, entered}
 
 -- What a name stands for: a variable of the class; a parameter, or a variable of a loop, of a handler in its body, or
--- that a `some` has bound; a variable of a query; a variable of a handler's patterns, in these patterns; a name of `main`.
+-- that a `some` has bound; a variable of a query; a name of `main`.
 pub data Role : Type 0 where
   ClassVariable : Role
   Local : Role
   QueryVariable : Role
-  Ahead : Role
   Made : Role
 
 -- a slot has a value outside queries
@@ -46,10 +45,10 @@ taken None = []
 taken (Some Made) = []
 taken (Some _) = refusal.Shadow ∷ []
 
--- new variables come into scope; those of a handler's patterns do so in its body alone
+-- the variables of a query come into scope behind their place, those of a handler's patterns in its body alone
 abbrev pub brought : Role → List (List ℕ) → Scope Role → Scope Role
-brought Ahead names scope = scope
-brought role names scope = entered role names scope
+brought QueryVariable names scope = entered QueryVariable names scope
+brought role names scope = scope
 
 -- The variables that a part of a text brings; the kinds of refusal in it, by the role of these variables and the names
 -- in scope where the part begins; and whether it may be the argument of an aggregate.

@@ -92,13 +92,13 @@ abbrev pub made_count : MainLine → ℕ
 made_count (main_line.New name class count line) = many count
 made_count (main_line.Setup name args line) = 0
 
-abbrev pub made_name : ℕ → MainLine → Scope Meaning
-made_name before (main_line.New name class count line) = (name, made_as count before) ∷ []
-made_name before (main_line.Setup name args line) = []
+abbrev pub made_entry : ℕ → MainLine → Scope Meaning
+made_entry before (main_line.New name class count line) = (name, made_as count before) ∷ []
+made_entry before (main_line.Setup name args line) = []
 
 abbrev pub made : ℕ → List MainLine → Scope Meaning
 made before [] = []
-made before (l ∷ ls) = made_name before l ++ made (before + made_count l) ls
+made before (l ∷ ls) = made_entry before l ++ made (before + made_count l) ls
 
 -- the arguments of the line of `setup` for a name
 abbrev pub resolved_args : Scope Meaning → List Expr → List RExpr
