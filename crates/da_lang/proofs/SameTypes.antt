@@ -8,7 +8,7 @@ use Rattle.da_lang.specs.declared.ty.Ty.TheVariants as t
 use Rattle.da_lang.specs.declared.ty.Ty.TheOpen as layer
 use Rattle.da_lang.specs.declared.ty.Ty.TheOpen.{Ty-F}
 use Rattle.da_lang.specs.declared.ty.Ty.TheFolds.{ind-Ty, map-Ty}
-use Rattle.da_lang.specs.Types.{same_type, all_same, tuple_same, set_same, is_int, is_bool, is_text, is_proc, parts_in, element_in}
+use Rattle.da_lang.specs.Types.{same_type, all_same, tuple_same, set_same, int_in, bool_in, text_in, proc_in, parts_in, element_in}
 use Rattle.da_lang.proofs.TermInduction.{bare, all_of-bare}
 use Rattle.da_lang.proofs.TypesAt.{same_type_at-Int, same_type_at-Bool, same_type_at-Text, same_type_at-Proc, same_type_at-Tuple, same_type_at-Set}
 
@@ -19,19 +19,19 @@ IsTold x = (y : Ty) → same_type x y ≡ true → x ≡ y
 from_layer : (y : Ty) (inner : Ty-F Ty) → out-Ty y ≡ inner → roll-Ty inner ≡ y
 from_layer y inner is = ap roll-Ty (sym is) ∙ roll-out-Ty y
 
-int_layer : (y : Ty-F Ty) → is_int y ≡ true → y ≡ layer.Int
+int_layer : (y : Ty-F Ty) → int_in y ≡ true → y ≡ layer.Int
 int_layer layer.Int e = refl
 int_layer _ e = absurd (false≢true e)
 
-bool_layer : (y : Ty-F Ty) → is_bool y ≡ true → y ≡ layer.Bool
+bool_layer : (y : Ty-F Ty) → bool_in y ≡ true → y ≡ layer.Bool
 bool_layer layer.Bool e = refl
 bool_layer _ e = absurd (false≢true e)
 
-text_layer : (y : Ty-F Ty) → is_text y ≡ true → y ≡ layer.Text
+text_layer : (y : Ty-F Ty) → text_in y ≡ true → y ≡ layer.Text
 text_layer layer.Text e = refl
 text_layer _ e = absurd (false≢true e)
 
-proc_layer : (y : Ty-F Ty) → is_proc y ≡ true → y ≡ layer.Proc
+proc_layer : (y : Ty-F Ty) → proc_in y ≡ true → y ≡ layer.Proc
 proc_layer layer.Proc e = refl
 proc_layer _ e = absurd (false≢true e)
 

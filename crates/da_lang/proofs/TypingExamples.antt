@@ -22,9 +22,9 @@ use Rattle.da_lang.specs.declared.tree.ArithOp.TheVariants as op
 use Rattle.da_lang.specs.declared.tree.CmpOp.TheVariants as cmp
 use Rattle.da_lang.specs.declared.ty.Ty.TheVariants as ty
 use Rattle.da_lang.specs.declared.ty.Ty.TheVariants.{outs-Int, outs-Bool, outs-Text, outs-Proc, outs-Tuple, outs-Set}
-use Rattle.da_lang.specs.Types.{most_levels, is_flat, is_set, parts_of, element_of}
+use Rattle.da_lang.specs.Types.{most_levels, is_flat, is_int, is_bool, is_text, is_proc, is_set, parts_of, element_of}
 use Rattle.da_lang.specs.QueryTypes.{Known, flat, cond_holds}
-use Rattle.da_lang.specs.Typing.{Slots, tag_in, tag_first, item_breaks, type_breaks, filled, class_slots}
+use Rattle.da_lang.specs.Typing.{Slots, message_tag, text_part, item_breaks, breaks_in, type_breaks, filled, class_slots}
 use Rattle.da_lang.proofs.ExprTypesAt.{typing_exprs}
 use Rattle.da_lang.proofs.QueryTypesAt.{typing_terms, typing_patterns, typing_conds}
 use Rattle.da_lang.proofs.ResolutionExamples.{at, ping, ping_tree, ping_class}
@@ -32,10 +32,10 @@ use Rattle.da_lang.proofs.TypesAt.{same_types, ordering, levelling}
 use Rattle.da_lang.proofs.TypingAt.{flowing, breaking}
 
 -- the tag of a written message, and of an expression that is none
-pub written_tag : (tag : List ℕ) (xs : List RExpr) → tag_in (out-RExpr (re.Tuple (re.Const (kept.Text tag) ∷ xs))) ≡ Some tag
-written_tag tag xs = rw (re_outs-Tuple (re.Const (kept.Text tag) ∷ xs)) (ap tag_first (re_outs-Const (kept.Text tag)))
+pub written_tag : (tag : List ℕ) (xs : List RExpr) → message_tag (out-RExpr (re.Tuple (re.Const (kept.Text tag) ∷ xs))) ≡ Some tag
+written_tag tag xs = rw (re_outs-Tuple (re.Const (kept.Text tag) ∷ xs)) (ap text_part (re_outs-Const (kept.Text tag)))
 
-pub unwritten_tag : (slot : ℕ) → tag_in (out-RExpr (re.Slot slot)) ≡ None
+pub unwritten_tag : (slot : ℕ) → message_tag (out-RExpr (re.Slot slot)) ≡ None
 unwritten_tag slot = rw (re_outs-Slot slot) refl
 
 -- types of at most 32 levels
@@ -69,19 +69,23 @@ flat_message = simp (flat, is_flat, levelling) refl
 
 pub ruleset levels_at = (flat_int, flat_bool, flat_text, flat_proc, flat_set, flat_set_of_sets, flat_message)
 
-pub ruleset judging = (typing_exprs, typing_terms, typing_patterns, typing_conds, same_types, ordering, levels_at, flowing, breaking, outs-Int, outs-Bool, outs-Text, outs-Proc, outs-Tuple, outs-Set, pa_outs-Tuple, pa_outs-Const, pa_outs-Bind, pa_outs-Any, is_set, parts_of, element_of, is_flat, levelling, written_tag, unwritten_tag)
+pub ruleset judging = (typing_exprs, typing_terms, typing_patterns, typing_conds, same_types, ordering, levels_at, flowing, breaking, outs-Int, outs-Bool, outs-Text, outs-Proc, outs-Tuple, outs-Set, pa_outs-Tuple, pa_outs-Const, pa_outs-Bind, pa_outs-Any, is_int, is_bool, is_text, is_proc, is_set, parts_of, element_of, is_flat, levelling, written_tag, unwritten_tag)
 
 ping_slots : class_slots ping_tree.messages (ping_class (None ∷ None ∷ None ∷ [])) ≡ Some ty.Proc ∷ Some ty.Proc ∷ Some ty.Int ∷ Some ty.Int ∷ Some ty.Proc ∷ []
 unfolding class_slots most_levels
 ping_slots = simp judging refl
 
-ping_typed : type_breaks (ping (None ∷ None ∷ None ∷ [])) ≡ []
-unfolding type_breaks most_levels
-ping_typed = simp (judging, ping_slots) refl
-
 ping_filled : filled (ping (None ∷ None ∷ None ∷ [])) ≡ ping (Some ty.Int ∷ Some ty.Int ∷ Some ty.Proc ∷ [])
 unfolding filled
 ping_filled = simp ping_slots refl
+
+filled_ping_keeps : breaks_in (ping (Some ty.Int ∷ Some ty.Int ∷ Some ty.Proc ∷ [])) ≡ []
+unfolding breaks_in most_levels
+filled_ping_keeps = simp judging refl
+
+ping_typed : type_breaks (ping (None ∷ None ∷ None ∷ [])) ≡ []
+unfolding type_breaks
+ping_typed = simp ping_filled filled_ping_keeps
 
 -- Statements on line 6 where slot 1 is an `int`, slot 2 a `set[int]`, slot 3 a `str` and slot 4 a `set[set[int]]`, and
 -- `ping(int)` is declared; the lines that break a rule.
