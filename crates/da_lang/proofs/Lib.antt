@@ -8,6 +8,7 @@ pub mod EvaluationExamples
 pub mod EventTurns
 pub mod ExprInduction
 pub mod ExprTypesAt
+pub mod FlowLaws
 pub mod ForeignLaws
 pub mod ForeignTypes
 pub mod ItemInduction
@@ -32,6 +33,7 @@ pub mod RunBounds
 pub mod RunExamples
 pub mod SameTypes
 pub mod SendLaws
+pub mod ShapedAt
 pub mod ShownLaws
 pub mod SpelledLaws
 pub mod StatingAt
