@@ -46,6 +46,7 @@ pub mod ToldLaws
 pub mod TreeInduction
 pub mod TurnExamples
 pub mod TurnLaws
+pub mod TypedExamples
 pub mod TypesAt
 pub mod TypingAt
 pub mod TypingExamples
