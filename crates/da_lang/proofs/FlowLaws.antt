@@ -15,6 +15,7 @@ use Rattle.da_lang.specs.declared.query.Query.{Query}
 use Rattle.da_lang.specs.declared.tree.MessageDecl.{MessageDecl}
 use Rattle.da_lang.specs.declared.ty.Ty.{Ty}
 use Rattle.da_lang.specs.QueryTypes.{given, type_at}
+use Rattle.da_lang.specs.Shaped.{HasType}
 use Rattle.da_lang.specs.Typing.{Slots, with_type, with_types, with_row, in_turn, found_row, typed, kind_flow, alt_flow, item_types, branch_flow, handler_row, handler_types, class_slots, filled_class, breaks_in, type_breaks, filled, has_types, IsTyped, Typed}
 use Rattle.da_lang.specs.Types.{element_of}
 use Rattle.da_lang.proofs.ItemInduction.{ItemCases, item_induction, items_induction}
@@ -111,7 +112,7 @@ stays zero other s slot ty e = e
 stays (suc place) other s zero ty e = e
 stays (suc place) other s (suc k) ty e = stays_in s place k other ty e
 
-pub filled_knows : (messages : List MessageDecl) (c : Class) (slot : ℕ) (ty : Ty) → type_at c.slots slot ≡ Some ty → type_at (class_slots messages c) slot ≡ Some ty
+pub filled_knows : (messages : List MessageDecl) (c : Class) (slot : ℕ) (ty : Ty) → HasType c slot ty → HasType (filled_class messages c) slot ty
 filled_knows messages c = class_goes Stays (λ s slot ty e. e) (λ s t u first second slot ty e. second slot ty (first slot ty e)) stays messages c
 
 -- as many slots as before

@@ -1,9 +1,12 @@
 -- Programs that are typed and programs that are not, by all of their lines; messages that may be delivered.
-use Rattle.std.specs.Prelude.{◌≡◌, refl, ℕ, pos, false, true, List, [], ◌∷◌, codes, Option, Some, None}
-use Rattle.std.proofs.Common.{ap}
+use Rattle.std.specs.Prelude.{◌≡◌, ◌&&◌, refl, ℕ, pos, false, true, List, [], ◌∷◌, codes, Option, Some, None}
+use Rattle.std.proofs.Common.{◌∙◌}
 use Rattle.da_values.specs.declared.val.Val.{Val}
 use Rattle.da_values.specs.declared.val.Val.TheVariants as val
+use Rattle.da_values.specs.declared.val.Val.TheVariants.{outs-Int, outs-Bool as val_outs-Bool}
 use Rattle.da_values.specs.declared.value.Value.TheVariants as kept
+use Rattle.da_values.specs.Narrow.{is_i64, is_narrow}
+use Rattle.da_values.proofs.FoldsAt.{is_narrow_of}
 use Rattle.da_lang.specs.declared.program.ChainPart.{roll-ChainPart}
 use Rattle.da_lang.specs.declared.program.Class.{Class}
 use Rattle.da_lang.specs.declared.program.Handler.{Handler}
@@ -21,9 +24,12 @@ use Rattle.da_lang.specs.declared.tree.ArithOp.TheVariants as op
 use Rattle.da_lang.specs.declared.ty.ChannelKind.TheVariants as kind
 use Rattle.da_lang.specs.declared.ty.Ty.{Ty}
 use Rattle.da_lang.specs.declared.ty.Ty.TheVariants as ty
+use Rattle.da_lang.specs.Shaped.{well_typed}
 use Rattle.da_lang.specs.Types.{most_levels}
 use Rattle.da_lang.specs.Typing.{has_queries, has_types, item_breaks, breaks_in, type_breaks, type_fault, filled, class_slots, IsTyped}
 use Rattle.da_lang.proofs.ResolutionExamples.{at, ping, ping_tree}
+use Rattle.da_lang.proofs.ShapedAt.{finding_processes, is_declared-of}
+use Rattle.da_lang.proofs.TypesAt.{belonging}
 use Rattle.da_lang.proofs.TypingExamples.{judging, ping_filled, filled_ping_keeps}
 
 -- PING with the types of all its slots
@@ -140,3 +146,26 @@ broken_breaks = simp broken_filled broken_lines
 
 least_line : type_fault (with_classes (broken (None ∷ None ∷ []) ∷ [])) ≡ Some 5
 least_line = simp broken_breaks refl
+
+-- messages of PING: `('ping', 5)`; one whose integer is too large, one of another type, one that is not declared
+ping_of : Val → Val
+ping_of x = val.Tuple (val.Text (codes "ping") ∷ x ∷ [])
+
+narrow_ping : (n : ℕ) → is_narrow (ping_of (val.Int (pos n))) ≡ (is_i64 (pos n) && true)
+unfolding ping_of
+narrow_ping n = is_narrow_of (kept.Tuple (val.Text (codes "ping") ∷ val.Int (pos n) ∷ [])) ∙ simp (is_narrow_of (kept.Text (codes "ping")), is_narrow_of (kept.Int (pos n))) refl
+
+delivered : well_typed typed_ping (ping_of (val.Int (pos 5))) ≡ true
+unfolding ping_of
+delivered = simp (is_declared-of, narrow_ping 5, finding_processes, belonging, outs-Int) refl
+
+too_large : well_typed typed_ping (ping_of (val.Int (pos 9223372036854775808))) ≡ false
+unfolding ping_of
+too_large = simp (is_declared-of, narrow_ping 9223372036854775808, finding_processes, belonging, outs-Int) refl
+
+of_another_type : well_typed typed_ping (ping_of (val.Bool true)) ≡ false
+unfolding ping_of
+of_another_type = simp (is_declared-of, finding_processes, belonging, val_outs-Bool) refl
+
+undeclared : well_typed typed_ping (val.Tuple (val.Text (codes "pang") ∷ val.Int (pos 5) ∷ [])) ≡ false
+undeclared = simp is_declared-of refl

@@ -23,7 +23,7 @@ use Rattle.da_lang.specs.declared.tree.MessageDecl.{MessageDecl}
 use Rattle.da_lang.specs.declared.ty.Ty.{Ty}
 use Rattle.da_lang.specs.BodyMeaning.{item_at}
 use Rattle.da_lang.specs.Limits.{item_lists}
-use Rattle.da_lang.specs.QueryTypes.{given, holds_of, declared}
+use Rattle.da_lang.specs.QueryTypes.{given, holds_of, type_at, declared}
 use Rattle.da_lang.specs.Turns.{kind_of}
 use Rattle.da_lang.specs.Types.{is_of}
 use Rattle.da_lang.specs.World.{Entry, Task, Do, Loop, Prepare, World, numbered, slot_of, class_of}
@@ -97,7 +97,7 @@ IsItemOf c i = (items : List Item) × Has (item_lists c) items × Within i items
 
 -- the type of a slot of a class
 abbrev pub HasType : Class → ℕ → Ty → Type 0
-HasType c slot ty = numbered c.slots slot ≡ Some (Some ty)
+HasType c slot ty = type_at c.slots slot ≡ Some ty
 
 -- the rest of a `for` of the class, with elements of the type of its slot
 pub record IsLoop (p : Program) (c : Class) (slot : ℕ) (left : List Val) (body : List Item) (line : ℕ) : Type 0 where

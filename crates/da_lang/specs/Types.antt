@@ -3,10 +3,10 @@ use Rattle.std.specs.Prelude.{ℕ, suc, nat_le, Bool, true, false, ◌&&◌, Lis
 use Rattle.std.specs.List.{list_all}
 use Rattle.da_values.specs.declared.val.Val.{Val, out-Val}
 use Rattle.da_values.specs.declared.val.Val.TheOpen as vo
+use Rattle.da_values.specs.Nesting.{deepest}
 use Rattle.da_lang.specs.declared.ty.Ty.{Ty, out-Ty}
 use Rattle.da_lang.specs.declared.ty.Ty.TheFolds.{fold-Ty}
 use Rattle.da_lang.specs.declared.ty.Ty.TheOpen as ty
-use Rattle.da_lang.specs.Written.{greatest}
 
 -- the same type
 abbrev pub all_same : List (Ty → Bool) → List Ty → Bool
@@ -99,7 +99,7 @@ levels_step ty.Int = 0
 levels_step ty.Bool = 0
 levels_step ty.Text = 0
 levels_step ty.Proc = 0
-levels_step (ty.Tuple parts) = suc (greatest parts)
+levels_step (ty.Tuple parts) = suc (deepest parts)
 levels_step (ty.Set element) = suc element
 
 unfoldable pub levels : Ty → ℕ
