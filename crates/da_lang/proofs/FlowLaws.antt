@@ -1,16 +1,14 @@
 -- What is known of the types of slots stays known where the other types are filled in, and nothing changes where all are
 -- known.
-use Rattle.std.specs.Prelude.{◌≡◌, refl, ℕ, zero, suc, Bool, true, false, ◌&&◌, List, [], ◌∷◌, ◌++◌, map, length, Option, Some, None, is_some, slice_get, slice_set}
+use Rattle.std.specs.Prelude.{◌≡◌, refl, ℕ, zero, suc, true, List, [], ◌∷◌, ◌++◌, map, length, Option, Some, None, is_some}
 use Rattle.std.specs.List.{AllByRecursion, list_all}
-use Rattle.std.proofs.Common.{◌∙◌, ap, sym, subst, length-set}
+use Rattle.std.proofs.Common.{◌∙◌, ap, sym, subst}
 use Rattle.std.proofs.lemmas.Bool.{false≢true, and_parts}
-use Rattle.da_lang.specs.declared.program.Alt.{Alt}
 use Rattle.da_lang.specs.declared.program.Class.{Class}
 use Rattle.da_lang.specs.declared.program.Handler.{Handler}
 use Rattle.da_lang.specs.declared.program.Item.{Item}
 use Rattle.da_lang.specs.declared.program.ItemKind.{ItemKind}
 use Rattle.da_lang.specs.declared.program.Program.{Program}
-use Rattle.da_lang.specs.declared.program.RBranch.{RBranch}
 use Rattle.da_lang.specs.declared.query.Query.{Query}
 use Rattle.da_lang.specs.declared.tree.MessageDecl.{MessageDecl}
 use Rattle.da_lang.specs.declared.ty.Ty.{Ty}
@@ -18,7 +16,7 @@ use Rattle.da_lang.specs.QueryTypes.{given, type_at}
 use Rattle.da_lang.specs.Shaped.{HasType}
 use Rattle.da_lang.specs.Typing.{Slots, with_type, with_types, with_row, in_turn, found_row, typed, kind_flow, alt_flow, item_types, branch_flow, handler_row, handler_types, class_slots, filled_class, breaks_in, type_breaks, filled, has_types, IsTyped, Typed}
 use Rattle.da_lang.specs.Types.{element_of}
-use Rattle.da_lang.proofs.ItemInduction.{ItemCases, item_induction, items_induction}
+use Rattle.da_lang.proofs.ItemInduction.{ItemCases, items_induction}
 use Rattle.da_lang.proofs.TypingAt.{kind_flow_at-Assign, kind_flow_at-Add, kind_flow_at-Del, kind_flow_at-Send, kind_flow_at-Output, kind_flow_at-If, kind_flow_at-While, kind_flow_at-For, kind_flow_at-Call, kind_flow_at-Await, kind_flow_at-Label, kind_flow_at-Pass, alt_flow_at-of, item_types_at-of, branch_flow_at-of}
 
 in_turn-append : (fs gs : List (Slots → Slots)) (slots : Slots) → in_turn (fs ++ gs) slots ≡ in_turn gs (in_turn fs slots)

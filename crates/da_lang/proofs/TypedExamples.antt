@@ -26,11 +26,11 @@ use Rattle.da_lang.specs.declared.ty.Ty.{Ty}
 use Rattle.da_lang.specs.declared.ty.Ty.TheVariants as ty
 use Rattle.da_lang.specs.Shaped.{well_typed}
 use Rattle.da_lang.specs.Types.{most_levels}
-use Rattle.da_lang.specs.Typing.{has_queries, has_types, item_breaks, breaks_in, type_breaks, type_fault, filled, class_slots, IsTyped}
+use Rattle.da_lang.specs.Typing.{item_breaks, breaks_in, type_breaks, type_fault, filled, class_slots, IsTyped}
 use Rattle.da_lang.proofs.ResolutionExamples.{at, ping, ping_tree}
 use Rattle.da_lang.proofs.ShapedAt.{finding_processes, is_declared-of}
 use Rattle.da_lang.proofs.TypesAt.{belonging}
-use Rattle.da_lang.proofs.TypingExamples.{judging, ping_filled, filled_ping_keeps}
+use Rattle.da_lang.proofs.TypingExamples.{judging, filled_ping_keeps}
 
 -- PING with the types of all its slots
 abbrev typed_ping : Program
