@@ -14,7 +14,6 @@ use Rattle.da_lang.specs.declared.program.Handler.{Handler}
 use Rattle.da_lang.specs.declared.program.Item.{Item, roll-Item}
 use Rattle.da_lang.specs.declared.program.ItemKind.{ItemKind}
 use Rattle.da_lang.specs.declared.program.ItemKind.TheVariants as it
-use Rattle.da_lang.specs.declared.program.Phase.TheVariants.{Waiting, Faulted}
 use Rattle.da_lang.specs.declared.program.Program.{Program}
 use Rattle.da_lang.specs.declared.program.RExpr.TheVariants as ex
 use Rattle.da_lang.specs.declared.query.Pattern.TheVariants.{Any, Bind, Const, Equal, Tuple}
@@ -26,7 +25,7 @@ use Rattle.da_lang.specs.RunLaws.{run_fails, run_goes, run_to_yield_end}
 use Rattle.da_lang.specs.Runs.{Ran, Faults, UsedUp, behind, max_turns, run_to_yield, stopped}
 use Rattle.da_lang.specs.Steps.{Deliver, Stepped, handle, handled, proc_step}
 use Rattle.da_lang.specs.Turns.{last_time, max_packet}
-use Rattle.da_lang.specs.World.{Entry, Data, Task, Do, put_slot}
+use Rattle.da_lang.specs.World.{Entry, Data, Task, Do, put_slot, Waiting, Faulted}
 use Rattle.da_lang.proofs.RunExamples.{early}
 use Rattle.da_lang.proofs.TurnExamples.{turning}
 

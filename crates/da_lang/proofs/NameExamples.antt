@@ -87,6 +87,16 @@ unknown_in_own_patterns : name_fault (tree_of (run (stmt.Pass 6 ∷ []) ∷ memb
 unfolding name_refusals leads_within yields_within
 unknown_in_own_patterns = simp finding refl
 
+-- there a variable of the class with its name is meant
+shadow_in_own_patterns : name_fault (tree_of (member.Var (codes "x") ty.Int 2 ∷ run (stmt.Pass 6 ∷ []) ∷ member.Receive (pattern.Tuple (pattern.Name (codes "x") ∷ pattern.Equal (ex.Name (codes "x")) ∷ [])) None [] (stmt.Pass 8 ∷ []) 7 ∷ []) []) ≡ told refusal.Shadow 7
+unfolding name_refusals leads_within yields_within
+shadow_in_own_patterns = simp finding refl
+
+-- a variable of a handler's patterns twice
+shadow_of_own : name_fault (tree_of (run (stmt.Pass 6 ∷ []) ∷ member.Receive (pattern.Tuple (pattern.Name (codes "x") ∷ pattern.Name (codes "x") ∷ [])) None [] (stmt.Pass 8 ∷ []) 7 ∷ []) []) ≡ told refusal.Shadow 7
+unfolding name_refusals leads_within yields_within
+shadow_of_own = simp finding refl
+
 -- a variable declared again
 twice : name_fault (tree_of (member.Var (codes "x") ty.Int 2 ∷ member.Var (codes "x") ty.Int 3 ∷ run (stmt.Pass 6 ∷ []) ∷ []) []) ≡ told refusal.Twice 3
 unfolding name_refusals leads_within yields_within

@@ -12,8 +12,6 @@ use Rattle.da_lang.specs.declared.program.Item.{Item, roll-Item}
 use Rattle.da_lang.specs.declared.program.ItemKind.{ItemKind}
 use Rattle.da_lang.specs.declared.program.ItemKind.TheVariants as it
 use Rattle.da_lang.specs.declared.program.ItemKind.TheViews.{out-roll-Alt}
-use Rattle.da_lang.specs.declared.program.Phase.{Phase}
-use Rattle.da_lang.specs.declared.program.Phase.TheVariants.{New, Waiting, Ended, Faulted}
 use Rattle.da_lang.specs.declared.program.Program.{Program}
 use Rattle.da_lang.specs.declared.program.RExpr.{RExpr}
 use Rattle.da_lang.specs.declared.program.RExpr.TheVariants as ex
@@ -28,7 +26,7 @@ use Rattle.da_lang.specs.declared.ty.ChannelKind.TheVariants.{UnorderedUnreliabl
 use Rattle.da_lang.specs.RunLaws.{run_goes, run_to_yield_end, run_to_yield_yield}
 use Rattle.da_lang.specs.Runs.{behind}
 use Rattle.da_lang.specs.Steps.{Step, Go, Take, Deliver, Stepped, moved, proc_step}
-use Rattle.da_lang.specs.World.{Data, Task, Do, Prepare, World}
+use Rattle.da_lang.specs.World.{Data, Task, Do, Prepare, World, Phase, New, Waiting, Ended, Faulted}
 use Rattle.da_lang.proofs.RunExamples.{early}
 use Rattle.da_lang.proofs.TurnExamples.{turning}
 
