@@ -14,7 +14,7 @@ use Rattle.da_lang.specs.declared.tree.MessageDecl.{MessageDecl}
 use Rattle.da_lang.specs.declared.ty.Ty.{Ty}
 use Rattle.da_lang.specs.QueryTypes.{given, type_at}
 use Rattle.da_lang.specs.Shaped.{HasType}
-use Rattle.da_lang.specs.Typing.{Slots, with_type, with_types, with_row, in_turn, found_row, typed, kind_flow, alt_flow, item_types, branch_flow, handler_row, handler_types, class_slots, filled_class, breaks_in, type_breaks, filled, has_types, IsTyped, Typed}
+use Rattle.da_lang.specs.Typing.{Slots, with_type, with_types, with_row_types, in_turn, found_row, typed, kind_flow, alt_flow, item_types, branch_flow, handler_row, handler_types, filled_slots, filled_class, breaks_in, type_breaks, filled, has_types, IsTyped, Typed}
 use Rattle.da_lang.specs.Types.{element_of}
 use Rattle.da_lang.proofs.ItemInduction.{ItemCases, items_induction}
 use Rattle.da_lang.proofs.TypingAt.{kind_flow_at-Assign, kind_flow_at-Add, kind_flow_at-Del, kind_flow_at-Send, kind_flow_at-Output, kind_flow_at-If, kind_flow_at-While, kind_flow_at-For, kind_flow_at-Call, kind_flow_at-Await, kind_flow_at-Label, kind_flow_at-Pass, alt_flow_at-of, item_types_at-of, branch_flow_at-of}
@@ -34,7 +34,7 @@ module _ (R : Slots → Slots → Type 0) (same : (s : Slots) → R s s) (both :
   types_go (b ∷ bs) [] s = same s
   types_go (b ∷ bs) (ty ∷ types) s = both s (with_type b (Some ty) s) (with_types bs types (with_type b (Some ty) s)) (one b (Some ty) s) (types_go bs types (with_type b (Some ty) s))
 
-  row_goes : (bs : List ℕ) (row : Option (List Ty)) → Goes (with_row bs row)
+  row_goes : (bs : List ℕ) (row : Option (List Ty)) → Goes (with_row_types bs row)
   row_goes bs None s = same s
   row_goes bs (Some row) s = types_go bs row s
 
@@ -52,8 +52,8 @@ module _ (R : Slots → Slots → Type 0) (same : (s : Slots) → R s s) (both :
     abbrev flows : Item → Slots → Slots
     flows = item_types messages queries
 
-    bound_goes : (found : Option ℕ) (binds : List ℕ) (body : List Item) → AllByRecursion (λ x. Goes (flows x)) body → (s : Slots) → R s (in_turn (map flows body) (with_row binds (found_row messages queries found s) s))
-    bound_goes found binds body each s = let t = with_row binds (found_row messages queries found s) s in both s t (in_turn (map flows body) t) (row_goes binds (found_row messages queries found s) s) (all_go flows body each t)
+    bound_goes : (found : Option ℕ) (binds : List ℕ) (body : List Item) → AllByRecursion (λ x. Goes (flows x)) body → (s : Slots) → R s (in_turn (map flows body) (with_row_types binds (found_row messages queries found s) s))
+    bound_goes found binds body each s = let t = with_row_types binds (found_row messages queries found s) s in both s t (in_turn (map flows body) t) (row_goes binds (found_row messages queries found s) s) (all_go flows body each t)
 
     abbrev item_cases : ItemCases
     item_cases = record {
@@ -82,14 +82,14 @@ module _ (R : Slots → Slots → Type 0) (same : (s : Slots) → R s s) (both :
     items_go items = all_go flows items (items_induction item_cases items)
 
     handler_goes : (h : Handler) → Goes (handler_types messages queries h)
-    handler_goes h s = let t = with_row h.binds (handler_row messages queries h s) s in both s t (in_turn (map flows h.body) t) (row_goes h.binds (handler_row messages queries h s) s) (items_go h.body t)
+    handler_goes h s = let t = with_row_types h.binds (handler_row messages queries h s) s in both s t (in_turn (map flows h.body) t) (row_goes h.binds (handler_row messages queries h s) s) (items_go h.body t)
 
     handlers_go : (hs : List Handler) → Goes (in_turn (map (handler_types messages queries) hs))
     handlers_go [] s = same s
     handlers_go (h ∷ hs) s = let t = handler_types messages queries h s in both s t (in_turn (map (handler_types messages queries) hs) t) (handler_goes h s) (handlers_go hs t)
 
-  class_goes : (messages : List MessageDecl) (c : Class) → R c.slots (class_slots messages c)
-  unfolding class_slots
+  class_goes : (messages : List MessageDecl) (c : Class) → R c.slots (filled_slots messages c)
+  unfolding filled_slots
   class_goes messages c =
       two_go (map (item_types messages c.queries) (c.setup ++ c.run)) (map (handler_types messages c.queries) c.handlers) (items_go messages c.queries (c.setup ++ c.run)) (handlers_go messages c.queries c.handlers) c.slots
 
@@ -123,7 +123,7 @@ as_many (suc place) other [] = refl
 as_many (suc zero) other (x ∷ s) = refl
 as_many (suc (suc place)) other (x ∷ s) = ap suc (as_many (suc place) other s)
 
-pub filled_size : (messages : List MessageDecl) (c : Class) → length (class_slots messages c) ≡ length c.slots
+pub filled_size : (messages : List MessageDecl) (c : Class) → length (filled_slots messages c) ≡ length c.slots
 filled_size messages c = class_goes AsMany (λ s. refl) (λ s t u first second. second ∙ first) as_many messages c
 
 -- where all types are known nothing changes
@@ -143,7 +143,7 @@ rests : (slot : ℕ) (other : Option Ty) (s : Slots) → Rests s (with_type slot
 rests zero other s full = refl
 rests (suc place) other s full = rests_in s place other full
 
-pub class_rests : (messages : List MessageDecl) (c : Class) → has_types c ≡ true → class_slots messages c ≡ c.slots
+pub class_rests : (messages : List MessageDecl) (c : Class) → has_types c ≡ true → filled_slots messages c ≡ c.slots
 class_rests messages c = class_goes Rests (λ s full. refl) (λ s t u first second full. second (subst Full (sym (first full)) full) ∙ first full) rests messages c
 
 classes_rest : (messages : List MessageDecl) (cs : List Class) → list_all has_types cs ≡ true → map (filled_class messages) cs ≡ cs
@@ -164,3 +164,8 @@ typed_stays p t = full_stays p t.complete
 pub typed_itself : (p : Program) → IsTyped p → Typed p p
 unfolding type_breaks
 typed_itself p t = record { keeps = ap breaks_in (typed_stays p t) ∙ t.keeps; becomes = sym (typed_stays p t) }
+
+-- where no rule was broken, none is in what the program became
+pub typed_keeps : (p q : Program) → Typed p q → breaks_in q ≡ []
+unfolding type_breaks
+typed_keeps p q t = ap breaks_in t.becomes ∙ t.keeps

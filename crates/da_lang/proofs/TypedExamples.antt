@@ -26,7 +26,7 @@ use Rattle.da_lang.specs.declared.ty.Ty.{Ty}
 use Rattle.da_lang.specs.declared.ty.Ty.TheVariants as ty
 use Rattle.da_lang.specs.Shaped.{well_typed}
 use Rattle.da_lang.specs.Types.{most_levels}
-use Rattle.da_lang.specs.Typing.{item_breaks, breaks_in, type_breaks, type_fault, filled, class_slots, IsTyped}
+use Rattle.da_lang.specs.Typing.{item_breaks, breaks_in, type_breaks, type_fault, filled, filled_slots, IsTyped}
 use Rattle.da_lang.proofs.ResolutionExamples.{at, ping, ping_tree}
 use Rattle.da_lang.proofs.ShapedAt.{finding_processes, is_declared-of}
 use Rattle.da_lang.proofs.TypesAt.{belonging}
@@ -71,8 +71,8 @@ found_ping types =
     with_class types (qu.Quant false (record { source = so.Received; message = pa.Tuple (pa.Const (kept.Text (codes "ping")) ∷ pa.Bind ∷ []); peer = pa.Any } ∷ []) None ∷ [])
     (at 5 (it.If (roll-RBranch (record { cond = re.Ask 1; found = Some 1; binds = 1 ∷ []; body = at 6 (it.Output (added (re.Slot 1) number)) ∷ []; line = 5 }) ∷ []) []) ∷ []) []
 
-found_takes_type : class_slots ping_tree.messages (found_ping (None ∷ [])) ≡ Some ty.Int ∷ []
-unfolding class_slots most_levels
+found_takes_type : filled_slots ping_tree.messages (found_ping (None ∷ [])) ≡ Some ty.Int ∷ []
+unfolding filled_slots most_levels
 found_takes_type = simp judging refl
 
 found_keeps : breaks_in (with_classes (found_ping (Some ty.Int ∷ []) ∷ [])) ≡ []
@@ -88,12 +88,12 @@ found_otherwise = simp judging refl
 abbrev looping : List (Option Ty) → Class
 looping types = with_class types [] (at 5 (it.For 1 (re.SetOf (number ∷ [])) (at 6 it.Pass ∷ [])) ∷ []) []
 
-loop_takes_type : class_slots ping_tree.messages (looping (None ∷ [])) ≡ Some ty.Int ∷ []
-unfolding class_slots most_levels
+loop_takes_type : filled_slots ping_tree.messages (looping (None ∷ [])) ≡ Some ty.Int ∷ []
+unfolding filled_slots most_levels
 loop_takes_type = simp judging refl
 
-loop_keeps_type : class_slots ping_tree.messages (looping (Some ty.Text ∷ [])) ≡ Some ty.Text ∷ []
-unfolding class_slots most_levels
+loop_keeps_type : filled_slots ping_tree.messages (looping (Some ty.Text ∷ [])) ≡ Some ty.Text ∷ []
+unfolding filled_slots most_levels
 loop_keeps_type = simp judging refl
 
 loop_otherwise : breaks_in (with_classes (looping (Some ty.Text ∷ []) ∷ [])) ≡ 5 ∷ []
@@ -113,8 +113,8 @@ broken types =
       line = 4;
     } ∷ [])
 
-broken_slots : class_slots ping_tree.messages (broken (None ∷ None ∷ [])) ≡ None ∷ Some ty.Int ∷ []
-unfolding class_slots most_levels
+broken_slots : filled_slots ping_tree.messages (broken (None ∷ None ∷ [])) ≡ None ∷ Some ty.Int ∷ []
+unfolding filled_slots most_levels
 broken_slots = simp judging refl
 
 broken_filled : filled (with_classes (broken (None ∷ None ∷ []) ∷ [])) ≡ with_classes (broken (None ∷ Some ty.Int ∷ []) ∷ [])

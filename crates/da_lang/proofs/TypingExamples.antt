@@ -28,7 +28,7 @@ use Rattle.da_lang.specs.declared.ty.Ty.TheVariants as ty
 use Rattle.da_lang.specs.declared.ty.Ty.TheVariants.{outs-Int, outs-Bool, outs-Text, outs-Proc, outs-Tuple, outs-Set}
 use Rattle.da_lang.specs.Types.{levels, most_levels, is_flat, is_int, is_bool, is_text, is_proc, is_set, parts_of, element_of}
 use Rattle.da_lang.specs.QueryTypes.{Known, flat, cond_holds}
-use Rattle.da_lang.specs.Typing.{Slots, message_tag, text_part, item_breaks, breaks_in, type_breaks, filled, class_slots}
+use Rattle.da_lang.specs.Typing.{Slots, message_tag, text_part, item_breaks, breaks_in, type_breaks, filled, filled_slots}
 use Rattle.da_lang.proofs.ExprTypesAt.{typing_exprs}
 use Rattle.da_lang.proofs.QueryTypesAt.{typing_terms, typing_patterns, typing_conds}
 use Rattle.da_lang.proofs.ResolutionExamples.{at, ping, ping_tree, ping_class}
@@ -79,8 +79,8 @@ pub ruleset levels_at = (flat_all, flat_int, flat_bool, flat_text, flat_proc, fl
 
 pub ruleset judging = (typing_exprs, typing_terms, typing_patterns, typing_conds, same_types, ordering, levels_at, flowing, breaking, outs-Int, outs-Bool, outs-Text, outs-Proc, outs-Tuple, outs-Set, pa_outs-Tuple, pa_outs-Const, pa_outs-Bind, pa_outs-Any, is_int, is_bool, is_text, is_proc, is_set, parts_of, element_of, is_flat, levelling, written_tag, unwritten_tag)
 
-ping_slots : class_slots ping_tree.messages (ping_class (None ∷ None ∷ None ∷ [])) ≡ Some ty.Proc ∷ Some ty.Proc ∷ Some ty.Int ∷ Some ty.Int ∷ Some ty.Proc ∷ []
-unfolding class_slots most_levels
+ping_slots : filled_slots ping_tree.messages (ping_class (None ∷ None ∷ None ∷ [])) ≡ Some ty.Proc ∷ Some ty.Proc ∷ Some ty.Int ∷ Some ty.Int ∷ Some ty.Proc ∷ []
+unfolding filled_slots most_levels
 ping_slots = simp judging refl
 
 pub ping_filled : filled (ping (None ∷ None ∷ None ∷ [])) ≡ ping (Some ty.Int ∷ Some ty.Int ∷ Some ty.Proc ∷ [])

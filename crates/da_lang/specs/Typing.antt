@@ -44,9 +44,9 @@ with_types [] types slots = slots
 with_types (b ∷ bs) [] slots = slots
 with_types (b ∷ bs) (ty ∷ types) slots = with_types bs types (with_type b (Some ty) slots)
 
-abbrev pub with_row : List ℕ → Option (List Ty) → Slots → Slots
-with_row binds None slots = slots
-with_row binds (Some row) slots = with_types binds row slots
+abbrev pub with_row_types : List ℕ → Option (List Ty) → Slots → Slots
+with_row_types binds None slots = slots
+with_row_types binds (Some row) slots = with_types binds row slots
 
 -- one after the other
 abbrev pub in_turn : List (Slots → Slots) → Slots → Slots
@@ -101,13 +101,13 @@ module _ (messages : List MessageDecl) (queries : List Query) where
   kind_types _ slots = slots
 
   abbrev pub alt_types : Alt-F (Slots → Slots) (Slots → Slots) (Slots → Slots) (Slots → Slots) → Slots → Slots
-  alt_types a slots = in_turn a.body (with_row a.binds (found_row a.found slots) slots)
+  alt_types a slots = in_turn a.body (with_row_types a.binds (found_row a.found slots) slots)
 
   abbrev pub item_types_step : Item-F (Slots → Slots) (Slots → Slots) (Slots → Slots) (Slots → Slots) → Slots → Slots
   item_types_step i = i.kind
 
   abbrev pub branch_types : RBranch-F (Slots → Slots) (Slots → Slots) (Slots → Slots) (Slots → Slots) → Slots → Slots
-  branch_types b slots = in_turn b.body (with_row b.binds (found_row b.found slots) slots)
+  branch_types b slots = in_turn b.body (with_row_types b.binds (found_row b.found slots) slots)
 
   unfoldable pub item_types : Item → Slots → Slots
   item_types = fold-Item (Slots → Slots) (Slots → Slots) (Slots → Slots) (Slots → Slots) kind_types alt_types item_types_step branch_types
@@ -126,20 +126,22 @@ module _ (messages : List MessageDecl) (queries : List Query) where
   handler_row h slots = given (message_row (known slots) h.message []) (pattern_row (known slots) h.from t.Proc)
 
   abbrev pub handler_types : Handler → Slots → Slots
-  handler_types h slots = in_turn (map item_types h.body) (with_row h.binds (handler_row h slots) slots)
+  handler_types h slots = in_turn (map item_types h.body) (with_row_types h.binds (handler_row h slots) slots)
 
   -- The lines that break a rule, where the slots have these types.
   module _ (slots : Slots) where
-    -- a slot has this type; slots have the types of a row, one each; of the row of the numbered `some`, if there is one to bind
+    -- a slot has this type
     abbrev pub has_type : ℕ → Ty → Bool
     has_type slot ty = is_typed (slot_type (known slots) slot) ty
 
+    -- slots have the types of a row, one each
     abbrev pub have_types : List ℕ → List Ty → Bool
     have_types [] [] = true
     have_types [] (ty ∷ types) = false
     have_types (b ∷ bs) [] = false
     have_types (b ∷ bs) (ty ∷ types) = has_type b ty && have_types bs types
 
+    -- of the row that a numbered `some` finds, if there is one to bind
     abbrev pub have_found : Option ℕ → List ℕ → Bool
     have_found None binds = true
     have_found (Some query) binds = holds_of (found_row (Some query) slots) (have_types binds)
@@ -162,8 +164,8 @@ module _ (messages : List MessageDecl) (queries : List Query) where
     is_recipient ty = is_proc ty || holds_of (element_of ty) is_proc
 
     -- the slot of a loop has the type of the elements
-    abbrev pub is_loop : ℕ → RExpr → Bool
-    is_loop slot x = holds_of (given (typed slots x).type_ element_of) (has_type slot)
+    abbrev pub takes_elements : ℕ → RExpr → Bool
+    takes_elements slot x = holds_of (given (typed slots x).type_ element_of) (has_type slot)
 
     abbrev pub fits_params : List BindArg → Bool
     fits_params args = list_all (λ a. fits_slot a.slot a.value) args
@@ -176,7 +178,7 @@ module _ (messages : List MessageDecl) (queries : List Query) where
     kind_breaks (ItemKind-F.Output x) = breaks (is_some (typed slots x).type_) []
     kind_breaks (ItemKind-F.If branches other) = breaks true (branches ++ other)
     kind_breaks (ItemKind-F.While x body) = breaks (truth (typed slots x)) body
-    kind_breaks (ItemKind-F.For slot x body) = breaks (is_loop slot x) body
+    kind_breaks (ItemKind-F.For slot x body) = breaks (takes_elements slot x) body
     kind_breaks (ItemKind-F.Call args body) = breaks (fits_params args) body
     kind_breaks (ItemKind-F.Await alts) = breaks true alts
     kind_breaks ItemKind-F.Label = breaks true []
@@ -206,9 +208,9 @@ module _ (messages : List MessageDecl) (queries : List Query) where
     abbrev pub handler_breaks : Handler → List ℕ
     handler_breaks h = unless h.line (holds_of (handler_row h slots) (have_types h.binds)) ++ flat_map item_breaks h.body
 
--- the declared types of the slots of a class with those that come on the way
-unfoldable pub class_slots : List MessageDecl → Class → Slots
-class_slots messages c =
+-- the types of the slots of a class that are known, with those that come on the way
+unfoldable pub filled_slots : List MessageDecl → Class → Slots
+filled_slots messages c =
     in_turn (map (item_types messages c.queries) (c.setup ++ c.run) ++ map (handler_types messages c.queries) c.handlers) c.slots
 
 abbrev pub class_breaks : List MessageDecl → Class → List ℕ
@@ -234,7 +236,7 @@ breaks_in p =
 
 -- the program in which each slot that had no type has the one that its header gives it
 abbrev pub filled_class : List MessageDecl → Class → Class
-filled_class messages c = record c { slots = class_slots messages c }
+filled_class messages c = record c { slots = filled_slots messages c }
 
 unfoldable pub filled : Program → Program
 filled p = record p { classes = map (filled_class p.messages) p.classes }
