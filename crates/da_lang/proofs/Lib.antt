@@ -8,6 +8,7 @@ pub mod EvaluationExamples
 pub mod EventTurns
 pub mod ExprInduction
 pub mod ExprTypesAt
+pub mod FlowLaws
 pub mod ForeignLaws
 pub mod ForeignTypes
 pub mod ItemInduction
@@ -32,6 +33,7 @@ pub mod RunBounds
 pub mod RunExamples
 pub mod SameTypes
 pub mod SendLaws
+pub mod ShapedAt
 pub mod ShownLaws
 pub mod SpelledLaws
 pub mod StatingAt
@@ -44,6 +46,7 @@ pub mod ToldLaws
 pub mod TreeInduction
 pub mod TurnExamples
 pub mod TurnLaws
+pub mod TypedExamples
 pub mod TypesAt
 pub mod TypingAt
 pub mod TypingExamples
