@@ -26,8 +26,7 @@ use Rattle.da_lang.specs.Runs.{Ran, Faults, UsedUp, behind, max_turns, run_to_yi
 use Rattle.da_lang.specs.Steps.{Deliver, Stepped, handle, handled, proc_step}
 use Rattle.da_lang.specs.Turns.{last_time, max_packet}
 use Rattle.da_lang.specs.World.{Entry, Data, Task, Do, put_slot, Waiting, Faulted}
-use Rattle.da_lang.proofs.RunExamples.{early}
-use Rattle.da_lang.proofs.TurnExamples.{turning}
+use Rattle.da_lang.proofs.Computing.{early, turning}
 
 abbrev num : ℕ → Val
 num n = val.Int (pos n)

@@ -27,10 +27,7 @@ use Rattle.da_lang.specs.RunLaws.{run_goes, run_to_yield_end, run_to_yield_yield
 use Rattle.da_lang.specs.Runs.{behind}
 use Rattle.da_lang.specs.Steps.{Step, Go, Take, Deliver, Stepped, moved, proc_step}
 use Rattle.da_lang.specs.World.{Data, Task, Do, Prepare, World, Phase, New, Waiting, Ended, Faulted}
-use Rattle.da_lang.proofs.RunExamples.{early}
-use Rattle.da_lang.proofs.TurnExamples.{turning}
-
-pub ruleset stepping = (turning, out-roll-Alt)
+use Rattle.da_lang.proofs.Computing.{early, stepping}
 
 abbrev num : ℕ → Val
 num n = val.Int (pos n)

@@ -27,10 +27,9 @@ use Rattle.da_lang.specs.EvaluationLaws.{evaluating}
 use Rattle.da_lang.specs.Runs.{yields}
 use Rattle.da_lang.specs.Turns.{After, last_time, max_packet, quiet, turn}
 use Rattle.da_lang.specs.World.{Entry, Data, Task, Do, Loop, Prepare, put_slot}
+use Rattle.da_lang.proofs.Computing.{turning}
 use Rattle.da_lang.proofs.LengthLaws.{measuring, sum-numbers_from}
 use Rattle.da_lang.proofs.QueryLaws.{asking}
-
-pub ruleset turning = (evaluating, asking, measuring, out-roll-Item, out-roll-RBranch, outs-Assign, outs-Add, outs-Del, outs-Send, outs-Output, outs-If, outs-While, outs-For, outs-Call, outs-Await, outs-Label, outs-Pass)
 
 abbrev num : ℕ → Val
 num n = val.Int (pos n)

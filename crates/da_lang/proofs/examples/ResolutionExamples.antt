@@ -38,12 +38,10 @@ use Rattle.da_lang.specs.ExprMeaning.{all_outside}
 use Rattle.da_lang.specs.ExprNames.{found_names}
 use Rattle.da_lang.specs.Resolution.{resolved, resolved_args, procs_of, setup_call, message_matching, sender_matching, from_matching, handler_binds, resolved_class, setup_items, run_items, handlers, handler}
 use Rattle.da_lang.specs.NameRules.{name_refusals}
+use Rattle.da_lang.proofs.Computing.{finding, resolving}
 use Rattle.da_lang.proofs.MeantAt.{meaning}
-use Rattle.da_lang.proofs.NameExamples.{finding}
 use Rattle.da_lang.proofs.NamesAt.{naming}
 use Rattle.da_lang.proofs.StatingAt.{stating_at, stating_in, guarding-of}
-
-pub ruleset resolving = (meaning, naming, resolved_args, procs_of, setup_call, message_matching, sender_matching, from_matching, handler_binds, stating_at, stating_in, guarding-of, body_of, body_with, block, states, calling, changing, with_expr, with_exprs, copy_of, as_alt, as_branch, bound, await_one, setup_items, run_items, handlers, handler, all_outside, outs-Quant, outs-Name, outs-Int, outs-Truth, found_names)
 
 -- a call inlined twice, each with a slot of its own: `f(1)` and `f(2)` where `f(k)` is `x = k`
 twice : ClassTree

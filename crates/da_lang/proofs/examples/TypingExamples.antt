@@ -27,7 +27,7 @@ use Rattle.da_lang.specs.QueryTypes.{Known, flat, cond_holds}
 use Rattle.da_lang.specs.Typing.{Slots, tag_in, tag_first, item_breaks, type_breaks, filled, class_slots}
 use Rattle.da_lang.proofs.ExprTypesAt.{typing_exprs}
 use Rattle.da_lang.proofs.QueryTypesAt.{typing_terms, typing_patterns, typing_conds}
-use Rattle.da_lang.proofs.ResolutionExamples.{at, ping, ping_tree, ping_class}
+use Rattle.da_lang.proofs.examples.ResolutionExamples.{at, ping, ping_tree, ping_class}
 use Rattle.da_lang.proofs.TypesAt.{same_types, ordering, levelling}
 use Rattle.da_lang.proofs.TypingAt.{flowing, breaking}
 

@@ -23,12 +23,11 @@ use Rattle.da_lang.specs.NameRules.{name_fault, name_refusals}
 use Rattle.da_lang.specs.Scopes.{Refused}
 use Rattle.da_lang.specs.StmtNames.{beside, says, changes, guarded, looped}
 use Rattle.da_lang.specs.Written.{asks, reads_clock}
+use Rattle.da_lang.proofs.Computing.{finding}
 use Rattle.da_lang.proofs.DeedsAt.{doing}
 use Rattle.da_lang.proofs.NamesAt.{naming, names_of-Name}
 use Rattle.da_lang.proofs.StmtNamesAt.{naming_stmts}
 use Rattle.da_lang.proofs.WritingAt.{written}
-
-pub ruleset finding = (doing, naming, naming_stmts, written, beside, outs-Quant, outs-Name, outs-Int, outs-Truth, refused_in, says, changes, guarded, looped, found_names, asks, reads_clock)
 
 -- class C, on line 1, with these members, and `a = new(C)` on line 20
 abbrev pub tree_of : List Member → List MainLine → Tree

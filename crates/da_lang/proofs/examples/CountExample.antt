@@ -21,7 +21,7 @@ use Rattle.da_lang.specs.RunLaws.{run_goes, run_to_yield_end, run_to_yield_late}
 use Rattle.da_lang.specs.Runs.{UsedUp, Faults, max_turns, run_to_yield, stopped}
 use Rattle.da_lang.specs.Turns.{quiet, turn}
 use Rattle.da_lang.specs.World.{Data, Task, Do}
-use Rattle.da_lang.proofs.TurnExamples.{turning}
+use Rattle.da_lang.proofs.Computing.{turning}
 
 abbrev int : ℕ → RExpr
 int n = ex.Const (literal.Int (pos n))

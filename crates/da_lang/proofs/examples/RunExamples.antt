@@ -19,8 +19,8 @@ use Rattle.da_lang.specs.RunLaws.{run_fails, run_goes, run_to_yield_end, run_to_
 use Rattle.da_lang.specs.Runs.{behind, AtYield, UsedUp, Faults, max_turns, run, run_to_yield, stopped}
 use Rattle.da_lang.specs.Turns.{failed, max_packet, packet_len, send, send_if}
 use Rattle.da_lang.specs.World.{Data, Task, Do, put_slot}
+use Rattle.da_lang.proofs.Computing.{early, turning}
 use Rattle.da_lang.proofs.LengthLaws.{sum-numbers_from, encoded_len-Tuple, encoded_len-Set, encoded_len-Text}
-use Rattle.da_lang.proofs.TurnExamples.{turning}
 
 abbrev num : ℕ → Val
 num n = val.Int (pos n)
@@ -39,10 +39,6 @@ int n = ex.Const (literal.Int (pos n))
 
 abbrev zero_divisor : RExpr
 zero_divisor = ex.Chain (int 1) (roll-ChainPart (record { op = Div; operand = int 0 }) ∷ [])
-
-pub early : (n : ℕ) → n < 9 → n < max_turns
-unfolding max_turns
-early n few = omega (arith, few)
 
 -- `output(7)`
 prints : run_to_yield class 0 here (on 3 (it.Output (int 7)) ∷ []) ≡ record { data' = here; todo = []; actions = Out 1 (literal.Int (pos 7)) ∷ []; turns = 1; halt = UsedUp }

@@ -1,0 +1,14 @@
+pub mod CountExample
+pub mod DeliveryExamples
+pub mod EvaluationExamples
+pub mod LimitExamples
+pub mod LiveExamples
+pub mod MatchingExamples
+pub mod NameExamples
+pub mod PingExample
+pub mod QueryExamples
+pub mod ResolutionExamples
+pub mod RunExamples
+pub mod StepExamples
+pub mod TurnExamples
+pub mod TypingExamples
