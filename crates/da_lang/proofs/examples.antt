@@ -1,8 +1,10 @@
 pub mod CountExample
 pub mod DeliveryExamples
+pub mod EdgeExamples
 pub mod EvaluationExamples
 pub mod LimitExamples
 pub mod LiveExamples
+pub mod LoopExamples
 pub mod MatchingExamples
 pub mod NameExamples
 pub mod PingExample
