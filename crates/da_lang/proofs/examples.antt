@@ -2,6 +2,7 @@ pub mod CountExample
 pub mod DeliveryExamples
 pub mod EdgeExamples
 pub mod EvaluationExamples
+pub mod InliningExample
 pub mod LimitExamples
 pub mod LiveExamples
 pub mod LoopExamples
