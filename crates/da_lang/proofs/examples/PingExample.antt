@@ -34,8 +34,7 @@ use Rattle.da_lang.specs.Runs.{behind}
 use Rattle.da_lang.specs.Steps.{Go, Take, Deliver, handled, moved, proc_step}
 use Rattle.da_lang.specs.Turns.{last_time, max_packet}
 use Rattle.da_lang.specs.World.{Entry, Data, Task, Do, Prepare, put_slot, New, Waiting, Ended}
-use Rattle.da_lang.proofs.RunExamples.{early}
-use Rattle.da_lang.proofs.StepExamples.{stepping}
+use Rattle.da_lang.proofs.Computing.{early, stepping}
 
 abbrev num : ℕ → Val
 num n = val.Int (pos n)
