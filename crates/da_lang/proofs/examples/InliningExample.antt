@@ -1,6 +1,6 @@
 -- The numbers of slots and queries in a class whose method is inlined three times. The members stand in an order in which
 -- a handler comes first; its slots come last all the same.
-use Rattle.std.specs.Prelude.{◌≡◌, refl, ℕ, ◌+◌, pos, false, List, [], ◌∷◌, ◌++◌, length, codes, Option, Some, None}
+use Rattle.std.specs.Prelude.{◌≡◌, refl, ℕ, ◌+◌, false, List, [], ◌∷◌, ◌++◌, length, codes, Option, Some, None}
 use Rattle.std.proofs.Common.{◌∙◌, ap}
 use Rattle.da_values.specs.declared.value.Value.TheVariants as kept
 use Rattle.da_lang.specs.declared.program.Alt.{roll-Alt}
@@ -29,7 +29,6 @@ use Rattle.da_lang.specs.declared.tree.Expr.{Expr}
 use Rattle.da_lang.specs.declared.tree.Expr.TheVariants as ex
 use Rattle.da_lang.specs.declared.tree.GenTree.{GenTree, roll-GenTree}
 use Rattle.da_lang.specs.declared.tree.Member.TheVariants as member
-use Rattle.da_lang.specs.declared.tree.PatternTree.{PatternTree}
 use Rattle.da_lang.specs.declared.tree.PatternTree.TheVariants as pattern
 use Rattle.da_lang.specs.declared.tree.PeerTree.TheVariants as peer
 use Rattle.da_lang.specs.declared.tree.SourceTree.TheVariants as source

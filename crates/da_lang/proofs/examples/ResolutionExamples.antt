@@ -40,15 +40,11 @@ use Rattle.da_lang.specs.declared.tree.Tree.{Tree}
 use Rattle.da_lang.specs.declared.ty.ChannelKind.TheVariants as kind
 use Rattle.da_lang.specs.declared.ty.Ty.{Ty}
 use Rattle.da_lang.specs.declared.ty.Ty.TheVariants as ty
-use Rattle.da_lang.specs.BodyMeaning.{copies, body_of, body_with, block, states, calling, changing, with_expr, with_exprs, copy_of, as_alt, as_branch, bound, await_one}
+use Rattle.da_lang.specs.BodyMeaning.{copies}
 use Rattle.da_lang.specs.ExprMeaning.{InSlot, meant}
-use Rattle.da_lang.specs.ExprNames.{found_names}
-use Rattle.da_lang.specs.Resolution.{resolved, resolved_args, procs_of, setup_call, message_matching, sender_matching, from_matching, handler_binds, resolved_class, setup_items, run_items, handlers, handler}
+use Rattle.da_lang.specs.Resolution.{resolved, resolved_class}
 use Rattle.da_lang.specs.NameRules.{name_refusals}
 use Rattle.da_lang.proofs.Computing.{finding, resolving}
-use Rattle.da_lang.proofs.MeantAt.{meaning}
-use Rattle.da_lang.proofs.NamesAt.{naming}
-use Rattle.da_lang.proofs.StatingAt.{stating_at, stating_in, guarding-of}
 
 -- a call inlined twice, each with a slot of its own: `f(1)` and `f(2)` where `f(k)` is `x = k`
 twice : ClassTree
