@@ -62,7 +62,7 @@ well_typed p v = is_declared p.messages v && is_narrow v && has_processes (lengt
 abbrev pub IsProcess : Program → ℕ → Type 0
 IsProcess p process = (0 < process) × (process ≤ length p.procs)
 
--- a value of a type, all of whose integers lie in an i64, and whose processes are there
+-- a proper value of a type, all of whose integers lie in an i64 and whose processes are there
 pub record IsOf (p : Program) (ty : Ty) (v : Val) : Type 0 where
   pub proper : IsValue v
   pub narrow : is_narrow v ≡ true
