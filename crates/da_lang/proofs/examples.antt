@@ -1,3 +1,4 @@
+pub mod AtTheLimits
 pub mod CountExample
 pub mod DeliveryExamples
 pub mod EdgeExamples

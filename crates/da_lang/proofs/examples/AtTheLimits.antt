@@ -1,0 +1,205 @@
+-- Trees at the limits and one past them. Long lists are counted by laws.
+use Rattle.std.specs.Prelude.{◌≡◌, refl, ℕ, zero, suc, ◌+◌, pos, Bool, true, false, nat_lt, ◌||◌, max, List, [], ◌∷◌, ◌++◌, map, length, sum, replicate, codes, Option, Some, None}
+use Rattle.std.specs.List.{list_any}
+use Rattle.std.proofs.Common.{◌∙◌, ap, arith}
+use Rattle.std.proofs.Math.Nat.{max-zero, zero-max}
+use Rattle.std.proofs.lemmas.List.{length-map, length-replicate}
+use Rattle.std.proofs.lemmas.List.Sums.{sum_by-cons}
+use Rattle.da_values.specs.declared.value.Value.TheVariants as kept
+use Rattle.da_lang.specs.declared.program.Class.{Class}
+use Rattle.da_lang.specs.declared.program.Item.{Item, roll-Item}
+use Rattle.da_lang.specs.declared.program.ItemKind.TheVariants as it
+use Rattle.da_lang.specs.declared.program.RExpr.TheVariants as re
+use Rattle.da_lang.specs.declared.refusal.LimitKind.TheVariants as limit
+use Rattle.da_lang.specs.declared.tree.ClassTree.{ClassTree}
+use Rattle.da_lang.specs.declared.tree.Expr.{Expr}
+use Rattle.da_lang.specs.declared.tree.Expr.TheVariants as ex
+use Rattle.da_lang.specs.declared.tree.GenTree.{GenTree, roll-GenTree}
+use Rattle.da_lang.specs.declared.tree.Member.{Member}
+use Rattle.da_lang.specs.declared.tree.Member.TheVariants as member
+use Rattle.da_lang.specs.declared.tree.MessageDecl.{MessageDecl}
+use Rattle.da_lang.specs.declared.tree.PatternTree.TheVariants as pattern
+use Rattle.da_lang.specs.declared.tree.SourceTree.TheVariants as source
+use Rattle.da_lang.specs.declared.tree.Stmt.{Stmt}
+use Rattle.da_lang.specs.declared.tree.Stmt.TheVariants as stmt
+use Rattle.da_lang.specs.declared.ty.Ty.TheVariants as ty
+use Rattle.da_lang.specs.BodyMeaning.{Copy, Stating, Behind, block, class_slots, copies, stating}
+use Rattle.da_lang.specs.Calls.{leads_within}
+use Rattle.da_lang.specs.ClassParts.{bodies_where, is_handler}
+use Rattle.da_lang.specs.ExprMeaning.{Meaning, Tables}
+use Rattle.da_lang.specs.Limits.{has_query, reached_deeds, block_depth, blocks_over, class_blocks, class_items, classes_over, generators_over, item_count, item_depth, items_over, limit_fault, limit_refusals, line_if, most_blocks, most_classes, most_generators, most_items, most_parts, most_processes, most_variables, parts_over, variables_over, wide_exprs}
+use Rattle.da_lang.specs.Resolution.{class_tables, handlers, resolved_class}
+use Rattle.da_lang.specs.Scopes.{Scope}
+use Rattle.da_lang.specs.Written.{Writing, greatest, of, tuple, writing}
+use Rattle.da_lang.proofs.Computing.{finding, resolving}
+use Rattle.da_lang.proofs.CountsAt.{counting, measuring_depth}
+use Rattle.da_lang.proofs.MeantAt.{meaning}
+use Rattle.da_lang.proofs.StatingAt.{stating-Pass, stating-While}
+use Rattle.da_lang.proofs.WritingAt.{writing-Int, writing-Tuple, written}
+use Rattle.da_lang.proofs.examples.NameExamples.{tree_of, run}
+
+-- a class on line 1 with these members and `run`, and what it becomes with these statements
+abbrev class_of : List Stmt → ClassTree
+class_of stmts = record { name = codes "C"; members = run stmts ∷ []; line = 1 }
+
+abbrev with_items : List Item → Class
+with_items items = record { name = codes "C"; slots = []; params = []; setup = []; run = items; handlers = []; queries = []; line = 1 }
+
+abbrev pass : Item
+pass = roll-Item (record { line = 6; kind = it.Pass })
+
+abbrev no_tables : Tables
+no_tables = record { slots = []; queries = [] }
+
+-- CLASSES: the line of the one behind the 32nd is told
+
+abbrev idle : ℕ → ClassTree
+idle line = record (class_of (stmt.Pass 6 ∷ [])) { line = line }
+
+most : classes_over (record (tree_of [] []) { classes = replicate 32 (idle 1) }) ≡ []
+unfolding most_classes
+most = refl
+
+one_class_more : classes_over (record (tree_of [] []) { classes = replicate 32 (idle 1) ++ idle 8 ∷ idle 9 ∷ [] }) ≡ 8 ∷ 9 ∷ []
+unfolding most_classes
+one_class_more = refl
+
+-- STATEMENTS: n times `pass`
+
+passes_meant : (copy : Copy) (n : ℕ) (scope : Scope Meaning) (tables : Tables) → block (map (stating copy) (replicate n (stmt.Pass 6))) scope tables ≡ (replicate n pass, tables)
+passes_meant copy zero scope tables = refl
+passes_meant copy (suc n) scope tables =
+    ap (λ (first : Stating). block (first ∷ map (stating copy) (replicate n (stmt.Pass 6))) scope tables) (stating-Pass copy 6)
+    ∙ ap (λ (others : List Item × Tables). (pass ∷ others.0, others.1)) (passes_meant copy n scope tables)
+
+passes_count : (n : ℕ) → sum (map item_count (replicate n pass)) ≡ n
+passes_count zero = refl
+passes_count (suc n) =
+    let one : item_count pass ≡ 1 = simp counting in
+    sum_by-cons (λ k. k) (item_count pass) (map item_count (replicate n pass)) ∙ ap (λ k. k + sum (map item_count (replicate n pass))) one ∙ ap (λ k. 1 + k) (passes_count n) ∙ omega arith
+
+passes_resolved : (n : ℕ) → resolved_class (class_of (replicate n (stmt.Pass 6))) ≡ with_items (replicate n pass)
+unfolding resolved_class
+passes_resolved n =
+    ap (λ (items : List Item × Tables). record (with_items items.0) { slots = items.1.slots; queries = items.1.queries })
+    (passes_meant (copies 1 (class_of (replicate n (stmt.Pass 6)))) n [] no_tables)
+
+items_are : (n : ℕ) → class_items (resolved_class (class_of (replicate n (stmt.Pass 6)))) ≡ n
+items_are n = ap class_items (passes_resolved n) ∙ ap (λ k. sum (0 ∷ k ∷ [])) (passes_count n) ∙ omega arith
+
+most_statements : items_over (class_of (replicate 16384 (stmt.Pass 6))) ≡ []
+unfolding most_items
+most_statements = ap (λ k. line_if (nat_lt most_items k) 1) (items_are 16384)
+
+one_statement_more : items_over (class_of (replicate 16385 (stmt.Pass 6))) ≡ 1 ∷ []
+unfolding most_items
+one_statement_more = ap (λ k. line_if (nat_lt most_items k) 1) (items_are 16385)
+
+-- BLOCKS: `pass` in n blocks of `while true` in the block of `run`
+
+abbrev nest : ℕ → Stmt
+nest zero = stmt.Pass 6
+nest (suc n) = stmt.While (ex.Truth true) (nest n ∷ []) 6
+
+abbrev nested : ℕ → Item
+nested zero = pass
+nested (suc n) = roll-Item (record { line = 6; kind = it.While (re.Const (kept.Bool true)) (nested n ∷ []) })
+
+nest_meant : (copy : Copy) (n : ℕ) (scope : Scope Meaning) (tables : Tables) → stating copy (nest n) scope tables ≡ record { item = nested n; scope = scope; tables = tables }
+nest_meant copy zero scope tables = ap (λ (s : Stating). s scope tables) (stating-Pass copy 6)
+nest_meant copy (suc n) scope tables =
+    ap (λ (s : Stating). s scope tables) (stating-While copy (ex.Truth true) (nest n ∷ []) 6)
+    ∙ simp meaning (rw (nest_meant copy n scope tables) refl)
+
+nested_depth : (n : ℕ) → item_depth (nested n) ≡ n
+nested_depth zero = simp measuring_depth
+nested_depth (suc n) = simp measuring_depth (rw (nested_depth n) (ap suc (max-zero n)))
+
+nest_resolved : (n : ℕ) → resolved_class (class_of (nest n ∷ [])) ≡ with_items (nested n ∷ [])
+unfolding resolved_class
+nest_resolved n =
+    ap (λ (first : Behind). record (with_items (first.item ∷ [])) { slots = first.tables.slots; queries = first.tables.queries })
+    (nest_meant (copies 1 (class_of (nest n ∷ []))) n [] no_tables)
+
+blocks_are : (n : ℕ) → class_blocks (resolved_class (class_of (nest n ∷ []))) ≡ suc n
+blocks_are n =
+    ap class_blocks (nest_resolved n) ∙ ap (λ k. greatest (0 ∷ block_depth (k ∷ []) ∷ [])) (nested_depth n) ∙ zero-max (max (suc (max n 0)) 0) ∙ max-zero (suc (max n 0)) ∙ ap suc (max-zero n)
+
+most_within : blocks_over (class_of (nest 63 ∷ [])) ≡ []
+unfolding most_blocks
+most_within = ap (λ k. line_if (nat_lt most_blocks k) 1) (blocks_are 63)
+
+one_block_more : blocks_over (class_of (nest 64 ∷ [])) ≡ 1 ∷ []
+unfolding most_blocks
+one_block_more = ap (λ k. line_if (nat_lt most_blocks k) 1) (blocks_are 64)
+
+-- `run` calls f, which calls g: three blocks
+chain_of_methods : class_blocks (resolved_class (record (class_of []) { members = run (stmt.Call (codes "f") [] 6 ∷ []) ∷ member.Method (codes "f") [] (stmt.Call (codes "g") [] 8 ∷ []) 7 ∷ member.Method (codes "g") [] (stmt.Pass 10 ∷ []) 9 ∷ [] })) ≡ 3
+unfolding resolved_class copies
+chain_of_methods = simp (resolving, measuring_depth) refl
+
+-- SLOTS: n variables, named a, aa, ..
+
+abbrev vars : ℕ → List Member
+vars zero = []
+vars (suc n) = member.Var (replicate (suc n) 97) ty.Int 2 ∷ vars n
+
+abbrev with_vars : ℕ → ClassTree
+with_vars n = record (class_of []) { members = run (stmt.Pass 6 ∷ []) ∷ vars n }
+
+-- the slots, by what the one statement of `run` becomes
+abbrev slots_by : ClassTree → Stating → ℕ
+slots_by c s = length (handlers c (bodies_where is_handler c) (block (s ∷ []) (class_slots c) (class_tables c)).1).1.slots
+
+most_slots : length (resolved_class (with_vars 1024)).slots ≡ 1024
+unfolding resolved_class
+most_slots = ap (slots_by (with_vars 1024)) (stating-Pass (copies (length (with_vars 1024).members) (with_vars 1024)) 6)
+
+one_slot_more : variables_over (with_vars 1025) ≡ 1 ∷ []
+unfolding most_variables resolved_class
+one_slot_more = ap (λ s. line_if (nat_lt most_variables (slots_by (with_vars 1025) s) || list_any (has_query (λ size. nat_lt most_variables size.variables)) (reached_deeds (with_vars 1025))) 1) (stating-Pass (copies (length (with_vars 1025).members) (with_vars 1025)) 6)
+
+-- PARTS: a tuple of n ones, and a message with n parts behind its tag
+
+unfoldable ones : ℕ → Expr
+ones n = ex.Tuple (replicate n (ex.Int (pos 1)))
+
+abbrev one : Writing
+one = of []
+
+ones_written : (n : ℕ) → map writing (replicate n (ex.Int (pos 1))) ≡ replicate n one
+ones_written zero = refl
+ones_written (suc n) = ap (λ (first : Writing). first ∷ map writing (replicate n (ex.Int (pos 1)))) (writing-Int (pos 1)) ∙ ap (λ others. one ∷ others) (ones_written n)
+
+no_sum : (ks : List ℕ) → sum (0 ∷ ks) ≡ sum ks
+no_sum ks = sum_by-cons (λ k. k) 0 ks ∙ omega arith
+
+abbrev sized : List Writing → ℕ → ℕ → ℕ → Writing
+sized ws gens variables widest = record (of ws) { size = record { gens = gens; variables = variables }; widest = widest }
+
+one_more : (ws : List Writing) → of (one ∷ ws) ≡ of ws
+one_more ws =
+    let gs : List ℕ = map (λ (w : Writing). w.size.gens) ws in
+    let vs : List ℕ = map (λ (w : Writing). w.size.variables) ws in
+    let widest : ℕ = greatest (map (λ (w : Writing). w.widest) ws) in
+    ap (λ k. sized ws k (sum (0 ∷ vs)) (max 0 widest)) (no_sum gs) ∙ ap (λ k. sized ws (sum gs) k (max 0 widest)) (no_sum vs) ∙ ap (sized ws (sum gs) (sum vs)) (zero-max widest)
+
+of_ones : (n : ℕ) → of (replicate n one) ≡ one
+of_ones zero = refl
+of_ones (suc n) = one_more (replicate n one) ∙ of_ones n
+
+writing_ones : (n : ℕ) → writing (ones n) ≡ record (of []) { widest = n }
+unfolding ones
+writing_ones n =
+    writing-Tuple (replicate n (ex.Int (pos 1)))
+    ∙ ap tuple (ones_written n)
+    ∙ ap (λ (w : Writing). record w { widest = max (length (replicate n one)) w.widest }) (of_ones n)
+    ∙ ap (λ k. record (of []) { widest = k }) (max-zero (length (replicate n one)) ∙ length-replicate n one)
+
+most_parts_written : wide_exprs (ones 255 ∷ []) ≡ false
+unfolding most_parts
+most_parts_written = simp writing_ones refl
+
+one_part_more : wide_exprs (ones 256 ∷ []) ≡ true
+unfolding most_parts
+one_part_more = simp writing_ones refl
