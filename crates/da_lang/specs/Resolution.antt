@@ -39,14 +39,16 @@ handler_binds place = (message_matching place).binds ++ (sender_matching place).
 abbrev pub handler : ClassTree → Body → Tables → Handler × Tables
 handler c b tables =
     let binds = handler_binds b.place in
-    let items = body_of c b.stmts (named_slots binds tables (class_slots c)) (untyped binds tables) in
-    (record {
-      message = (message_matching b.place).pattern (class_slots c);
-      from = (sender_matching b.place).pattern (with_row (message_matching b.place).binds (class_slots c));
-      binds = fresh tables (length binds);
-      body = items.0;
-      line = b.line;
-    }, items.1)
+    let items = body_of c b.stmts (named_slots binds tables (class_slots c)) (untyped binds tables) in (
+      record {
+        message = (message_matching b.place).pattern (class_slots c);
+        from = (sender_matching b.place).pattern (with_row (message_matching b.place).binds (class_slots c));
+        binds = fresh tables (length binds);
+        body = items.0;
+        line = b.line;
+      },
+      items.1,
+    )
 
 abbrev pub handlers : ClassTree → List Body → Tables → List Handler × Tables
 handlers c [] tables = ([], tables)

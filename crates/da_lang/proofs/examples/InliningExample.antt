@@ -94,14 +94,14 @@ abbrev tree : ClassTree
 tree = record {
   name = codes "P";
   members =
-    member.Receive (pattern.Tuple (pattern.Text (codes "m") ∷ pattern.Name (codes "k") ∷ pattern.Wild ∷ [])) (Some (pattern.Name (codes "w"))) [] (stmt.Call (codes "g") (name (codes "k") ∷ []) 3 ∷ []) 2
-    ∷ member.Var (codes "s") (ty.Set ty.Int) 4
-    ∷ member.Var (codes "t") (ty.Set (ty.Tuple (ty.Int ∷ ty.Proc ∷ []))) 5
-    ∷ member.Method (codes "g") (record { name = codes "n"; ty = ty.Int } ∷ [])
+      member.Receive (pattern.Tuple (pattern.Text (codes "m") ∷ pattern.Name (codes "k") ∷ pattern.Wild ∷ [])) (Some (pattern.Name (codes "w"))) [] (stmt.Call (codes "g") (name (codes "k") ∷ []) 3 ∷ []) 2
+      ∷ member.Var (codes "s") (ty.Set ty.Int) 4
+      ∷ member.Var (codes "t") (ty.Set (ty.Tuple (ty.Int ∷ ty.Proc ∷ []))) 5
+      ∷ member.Method (codes "g") (record { name = codes "n"; ty = ty.Int } ∷ [])
       stmts_of_g 6
-    ∷ member.Run
+      ∷ member.Run
       stmts_of_run 13
-    ∷ [];
+      ∷ [];
   line = 1;
 }
 

@@ -33,7 +33,13 @@ of_no_variable = simp living
 
 abbrev waits : List Query → Cond → Class
 waits queries b = record {
-  name = codes "P"; slots = []; params = []; setup = []; handlers = []; queries = queries; line = 1;
+  name = codes "P";
+  slots = [];
+  params = [];
+  setup = [];
+  handlers = [];
+  queries = queries;
+  line = 1;
   run = roll-Item (record { line = 2; kind = kind.Await (roll-Alt (record { cond = b; found = None; binds = []; body = []; line = 2 }) ∷ []) }) ∷ [];
 }
 

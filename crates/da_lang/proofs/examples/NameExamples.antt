@@ -39,7 +39,6 @@ told kind line = Some (record { kind = kind; line = line })
 abbrev pub run : List Stmt → Member
 run stmts = member.Run stmts 5
 
-
 -- a variable is assigned to itself
 nothing_refused : name_fault (tree_of (member.Var (codes "x") ty.Int 2 ∷ run (stmt.Assign (codes "x") (ex.Name (codes "x")) 6 ∷ []) ∷ []) []) ≡ None
 unfolding name_refusals leads_within yields_within

@@ -185,8 +185,13 @@ both_acks = simp asking
 -- Each further form, in process 2 whose slot 1 is the set {2, 5}, which sent the message (9,) to 1 and to 3.
 
 abbrev sender : Data
-sender = record { me = 2; slots = val.Set (num 2 ∷ num 5 ∷ []) ∷ []; received = []; clock = 4;
-  sent = record { message = val.Tuple (num 9 ∷ []); peer = 1; time = 3 } ∷ record { message = val.Tuple (num 9 ∷ []); peer = 3; time = 4 } ∷ [] }
+sender = record {
+  me = 2;
+  slots = val.Set (num 2 ∷ num 5 ∷ []) ∷ [];
+  received = [];
+  clock = 4;
+  sent = record { message = val.Tuple (num 9 ∷ []); peer = 1; time = 3 } ∷ record { message = val.Tuple (num 9 ∷ []); peer = 3; time = 4 } ∷ [];
+}
 
 abbrev sent_to : Pattern → RGen
 sent_to p = record { source = source.Sent; message = Tuple (Bind ∷ []); peer = p }
