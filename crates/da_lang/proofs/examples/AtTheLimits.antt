@@ -1,9 +1,9 @@
 -- Trees at the limits and one past them. Long lists are counted by laws.
-use Rattle.std.specs.Prelude.{◌≡◌, refl, ℕ, zero, suc, ◌+◌, pos, Bool, true, false, nat_lt, ◌||◌, max, List, [], ◌∷◌, ◌++◌, map, length, sum, replicate, codes, Option, Some, None}
+use Rattle.std.specs.Prelude.{◌≡◌, refl, ℕ, zero, suc, ◌+◌, pos, Bool, true, false, nat_lt, ◌||◌, max, List, [], ◌∷◌, ◌++◌, map, length, sum, replicate, codes, Some, None}
 use Rattle.std.specs.List.{list_any}
 use Rattle.std.proofs.Common.{◌∙◌, ap, arith}
 use Rattle.std.proofs.Math.Nat.{max-zero, zero-max}
-use Rattle.std.proofs.lemmas.List.{length-map, length-replicate}
+use Rattle.std.proofs.lemmas.List.{length-replicate}
 use Rattle.std.proofs.lemmas.List.Sums.{sum_by-cons}
 use Rattle.da_values.specs.declared.value.Value.TheVariants as kept
 use Rattle.da_lang.specs.declared.program.Class.{Class}
@@ -30,13 +30,15 @@ use Rattle.da_lang.specs.declared.ty.Ty.TheVariants as ty
 use Rattle.da_lang.specs.BodyMeaning.{Copy, Stating, Behind, block, class_slots, copies, stating}
 use Rattle.da_lang.specs.Calls.{leads_within}
 use Rattle.da_lang.specs.ClassParts.{bodies_where, is_handler}
+use Rattle.da_lang.specs.Deeds.{Deed}
 use Rattle.da_lang.specs.ExprMeaning.{Meaning, Tables, meant}
-use Rattle.da_lang.specs.Limits.{parts_in_message, wide, has_query, reached_deeds, block_depth, blocks_over, class_blocks, class_items, classes_over, generators_over, item_count, item_depth, items_over, limit_fault, limit_refusals, line_if, most_blocks, most_classes, most_generators, most_items, most_parts, most_processes, most_variables, parts_over, variables_over, wide_exprs}
+use Rattle.da_lang.specs.Limits.{parts_in_message, wide, has_query, reached_deeds, block_depth, blocks_over, class_blocks, class_items, classes_over, generators_over, item_count, item_depth, items_over, limit_fault, limit_refusals, line_if, most_blocks, most_classes, most_generators, most_items, most_parts, most_processes, most_variables, variables_over, wide_exprs}
 use Rattle.da_lang.specs.Resolution.{class_tables, handlers, resolved_class}
 use Rattle.da_lang.specs.Scopes.{Scope}
 use Rattle.da_lang.specs.Written.{type_width, Writing, greatest, of, tuple, writing}
 use Rattle.da_lang.proofs.Computing.{finding, resolving}
 use Rattle.da_lang.proofs.CountsAt.{counting, measuring_depth}
+use Rattle.da_lang.proofs.DeedsAt.{deeds_of-Pass}
 use Rattle.da_lang.proofs.MeantAt.{meaning}
 use Rattle.da_lang.proofs.StatingAt.{stating-Pass, stating-While}
 use Rattle.da_lang.proofs.TypesAt.{type_width-Int}
@@ -156,13 +158,18 @@ with_vars n = record (class_of []) { members = run (stmt.Pass 6 ∷ []) ∷ vars
 abbrev slots_by : ClassTree → Stating → ℕ
 slots_by c s = length (handlers c (bodies_where is_handler c) (block (s ∷ []) (class_slots c) (class_tables c)).1).1.slots
 
-most_slots : length (resolved_class (with_vars 1024)).slots ≡ 1024
-unfolding resolved_class
-most_slots = ap (slots_by (with_vars 1024)) (stating-Pass (copies (length (with_vars 1024).members) (with_vars 1024)) 6)
+abbrev is_large : Deed → Bool
+is_large = has_query (λ size. nat_lt most_variables size.variables)
+
+most_slots : variables_over (with_vars 1024) ≡ []
+unfolding most_variables resolved_class
+most_slots =
+    ap (λ s. line_if (nat_lt most_variables (slots_by (with_vars 1024) s) || list_any is_large (reached_deeds (with_vars 1024))) 1) (stating-Pass (copies (length (with_vars 1024).members) (with_vars 1024)) 6)
+    ∙ ap (λ ds. line_if (list_any is_large (ds ++ [] ++ [])) 1) (deeds_of-Pass 6)
 
 one_slot_more : variables_over (with_vars 1025) ≡ 1 ∷ []
 unfolding most_variables resolved_class
-one_slot_more = ap (λ s. line_if (nat_lt most_variables (slots_by (with_vars 1025) s) || list_any (has_query (λ size. nat_lt most_variables size.variables)) (reached_deeds (with_vars 1025))) 1) (stating-Pass (copies (length (with_vars 1025).members) (with_vars 1025)) 6)
+one_slot_more = ap (λ s. line_if (nat_lt most_variables (slots_by (with_vars 1025) s) || list_any is_large (reached_deeds (with_vars 1025))) 1) (stating-Pass (copies (length (with_vars 1025).members) (with_vars 1025)) 6)
 
 -- PARTS: a tuple of n ones, and a message with n parts behind its tag
 

@@ -17,12 +17,12 @@ use Rattle.da_lang.specs.declared.ty.ChannelKind.TheVariants.{UnorderedUnreliabl
 use Rattle.da_lang.specs.HandlerLaws.{handle_late, handle_none, handle_runs}
 use Rattle.da_lang.specs.MoveLaws.{step_at_label, step_delivers}
 use Rattle.da_lang.specs.RunLaws.{run_goes, run_to_yield_end, run_to_yield_late}
-use Rattle.da_lang.specs.Runs.{Ran, UsedUp, max_turns, run_to_yield, stopped}
+use Rattle.da_lang.specs.Runs.{UsedUp, max_turns, run_to_yield, stopped}
 use Rattle.da_lang.specs.Steps.{Go, Deliver, handled, moved, proc_step}
 use Rattle.da_lang.specs.Turns.{last_time}
 use Rattle.da_lang.specs.World.{Data, Task, Do, World, Waiting, Ended, Faulted}
 use Rattle.da_lang.proofs.Computing.{stepping, turning}
-use Rattle.da_lang.proofs.examples.CountExample.{begin, begins, goes_round, here, leaves, round, round_item, rounds}
+use Rattle.da_lang.proofs.examples.CountExample.{begin, begins, here, leaves, round, round_item, rounds}
 
 -- two handlers for every message: the first counts x down, the second does nothing
 abbrev counts : Handler

@@ -1,6 +1,6 @@
 -- The numbers of slots and queries in a class whose method is inlined three times. The members stand in an order in which
 -- a handler comes first; its slots come last all the same.
-use Rattle.std.specs.Prelude.{◌≡◌, refl, ℕ, ◌+◌, pos, false, List, [], ◌∷◌, ◌++◌, length, codes, Option, Some, None}
+use Rattle.std.specs.Prelude.{◌≡◌, refl, ℕ, ◌+◌, false, List, [], ◌∷◌, ◌++◌, length, codes, Option, Some, None}
 use Rattle.std.proofs.Common.{◌∙◌, ap}
 use Rattle.da_values.specs.declared.value.Value.TheVariants as kept
 use Rattle.da_lang.specs.declared.program.Alt.{roll-Alt}
@@ -29,7 +29,6 @@ use Rattle.da_lang.specs.declared.tree.Expr.{Expr}
 use Rattle.da_lang.specs.declared.tree.Expr.TheVariants as ex
 use Rattle.da_lang.specs.declared.tree.GenTree.{GenTree, roll-GenTree}
 use Rattle.da_lang.specs.declared.tree.Member.TheVariants as member
-use Rattle.da_lang.specs.declared.tree.PatternTree.{PatternTree}
 use Rattle.da_lang.specs.declared.tree.PatternTree.TheVariants as pattern
 use Rattle.da_lang.specs.declared.tree.PeerTree.TheVariants as peer
 use Rattle.da_lang.specs.declared.tree.SourceTree.TheVariants as source
@@ -95,14 +94,14 @@ abbrev tree : ClassTree
 tree = record {
   name = codes "P";
   members =
-    member.Receive (pattern.Tuple (pattern.Text (codes "m") ∷ pattern.Name (codes "k") ∷ pattern.Wild ∷ [])) (Some (pattern.Name (codes "w"))) [] (stmt.Call (codes "g") (name (codes "k") ∷ []) 3 ∷ []) 2
-    ∷ member.Var (codes "s") (ty.Set ty.Int) 4
-    ∷ member.Var (codes "t") (ty.Set (ty.Tuple (ty.Int ∷ ty.Proc ∷ []))) 5
-    ∷ member.Method (codes "g") (record { name = codes "n"; ty = ty.Int } ∷ [])
+      member.Receive (pattern.Tuple (pattern.Text (codes "m") ∷ pattern.Name (codes "k") ∷ pattern.Wild ∷ [])) (Some (pattern.Name (codes "w"))) [] (stmt.Call (codes "g") (name (codes "k") ∷ []) 3 ∷ []) 2
+      ∷ member.Var (codes "s") (ty.Set ty.Int) 4
+      ∷ member.Var (codes "t") (ty.Set (ty.Tuple (ty.Int ∷ ty.Proc ∷ []))) 5
+      ∷ member.Method (codes "g") (record { name = codes "n"; ty = ty.Int } ∷ [])
       stmts_of_g 6
-    ∷ member.Run
+      ∷ member.Run
       stmts_of_run 13
-    ∷ [];
+      ∷ [];
   line = 1;
 }
 

@@ -19,16 +19,9 @@ use Rattle.da_lang.specs.declared.tree.Tree.{Tree}
 use Rattle.da_lang.specs.declared.ty.ChannelKind.TheVariants as kind
 use Rattle.da_lang.specs.declared.ty.Ty.TheVariants as ty
 use Rattle.da_lang.specs.Calls.{leads_within, yields_within}
-use Rattle.da_lang.specs.ExprNames.{refused_in, found_names}
 use Rattle.da_lang.specs.NameRules.{name_fault, name_refusals}
 use Rattle.da_lang.specs.Scopes.{Refused}
-use Rattle.da_lang.specs.StmtNames.{beside, says, changes, guarded, looped}
-use Rattle.da_lang.specs.Written.{asks, reads_clock}
 use Rattle.da_lang.proofs.Computing.{finding}
-use Rattle.da_lang.proofs.DeedsAt.{doing}
-use Rattle.da_lang.proofs.NamesAt.{naming, names_of-Name}
-use Rattle.da_lang.proofs.StmtNamesAt.{naming_stmts}
-use Rattle.da_lang.proofs.WritingAt.{written}
 
 -- class C, on line 1, with these members, and `a = new(C)` on line 20
 abbrev pub tree_of : List Member → List MainLine → Tree
@@ -45,7 +38,6 @@ told kind line = Some (record { kind = kind; line = line })
 -- `def run():` on line 5 with these statements
 abbrev pub run : List Stmt → Member
 run stmts = member.Run stmts 5
-
 
 -- a variable is assigned to itself
 nothing_refused : name_fault (tree_of (member.Var (codes "x") ty.Int 2 ∷ run (stmt.Assign (codes "x") (ex.Name (codes "x")) 6 ∷ []) ∷ []) []) ≡ None

@@ -40,23 +40,19 @@ use Rattle.da_lang.specs.declared.tree.Tree.{Tree}
 use Rattle.da_lang.specs.declared.ty.ChannelKind.TheVariants as kind
 use Rattle.da_lang.specs.declared.ty.Ty.{Ty}
 use Rattle.da_lang.specs.declared.ty.Ty.TheVariants as ty
-use Rattle.da_lang.specs.BodyMeaning.{copies, body_of, body_with, block, states, calling, changing, with_expr, with_exprs, copy_of, as_alt, as_branch, bound, await_one}
+use Rattle.da_lang.specs.BodyMeaning.{copies}
 use Rattle.da_lang.specs.ExprMeaning.{InSlot, meant}
-use Rattle.da_lang.specs.ExprNames.{found_names}
-use Rattle.da_lang.specs.Resolution.{resolved, resolved_args, procs_of, setup_call, message_matching, sender_matching, from_matching, handler_binds, resolved_class, setup_items, run_items, handlers, handler}
+use Rattle.da_lang.specs.Resolution.{resolved, resolved_class}
 use Rattle.da_lang.specs.NameRules.{name_refusals}
 use Rattle.da_lang.proofs.Computing.{finding, resolving}
-use Rattle.da_lang.proofs.MeantAt.{meaning}
-use Rattle.da_lang.proofs.NamesAt.{naming}
-use Rattle.da_lang.proofs.StatingAt.{stating_at, stating_in, guarding-of}
 
 -- a call inlined twice, each with a slot of its own: `f(1)` and `f(2)` where `f(k)` is `x = k`
 twice : ClassTree
 twice = record {
   name = codes "C";
   members = member.Var (codes "x") ty.Int 2
-    ∷ member.Run (stmt.Call (codes "f") (ex.Int (pos 1) ∷ []) 4 ∷ stmt.Call (codes "f") (ex.Int (pos 2) ∷ []) 5 ∷ []) 3
-    ∷ member.Method (codes "f") (record { name = codes "k"; ty = ty.Int } ∷ []) (stmt.Assign (codes "x") (ex.Name (codes "k")) 7 ∷ []) 6 ∷ [];
+      ∷ member.Run (stmt.Call (codes "f") (ex.Int (pos 1) ∷ []) 4 ∷ stmt.Call (codes "f") (ex.Int (pos 2) ∷ []) 5 ∷ []) 3
+      ∷ member.Method (codes "f") (record { name = codes "k"; ty = ty.Int } ∷ []) (stmt.Assign (codes "x") (ex.Name (codes "k")) 7 ∷ []) 6 ∷ [];
   line = 1;
 }
 
@@ -64,34 +60,34 @@ abbrev pub at : ℕ → ItemKind → Item
 at line kind = roll-Item (record { line = line; kind = kind })
 
 inlined_twice : resolved_class twice ≡ record {
-    name = codes "C";
-    slots = Some ty.Int ∷ Some ty.Int ∷ Some ty.Int ∷ [];
-    params = [];
-    setup = [];
-    run = at 4 (it.Call (record { slot = 2; value = re.Const (kept.Int (pos 1)) } ∷ []) (at 7 (it.Assign 1 (re.Slot 2)) ∷ []))
+  name = codes "C";
+  slots = Some ty.Int ∷ Some ty.Int ∷ Some ty.Int ∷ [];
+  params = [];
+  setup = [];
+  run = at 4 (it.Call (record { slot = 2; value = re.Const (kept.Int (pos 1)) } ∷ []) (at 7 (it.Assign 1 (re.Slot 2)) ∷ []))
       ∷ at 5 (it.Call (record { slot = 3; value = re.Const (kept.Int (pos 2)) } ∷ []) (at 7 (it.Assign 1 (re.Slot 3)) ∷ [])) ∷ [];
-    handlers = [];
-    queries = [];
-    line = 1;
-  }
+  handlers = [];
+  queries = [];
+  line = 1;
+}
 unfolding resolved_class copies twice
 inlined_twice = simp resolving refl
 
 -- PING as a tree: its class; its messages and its two processes
 abbrev pub ping_class_tree : ClassTree
 ping_class_tree = record {
-    name = codes "P";
-    members = member.Var (codes "peer") ty.Proc 4
+  name = codes "P";
+  members = member.Var (codes "peer") ty.Proc 4
       ∷ member.Setup (record { name = codes "other"; ty = ty.Proc } ∷ []) (stmt.Assign (codes "peer") (ex.Name (codes "other")) 6 ∷ []) 5
       ∷ member.Run
-        (stmt.Send (ex.Tuple (ex.Text (codes "ping") ∷ ex.Int (pos 5) ∷ [])) (ex.Name (codes "peer")) 8
-        ∷ stmt.AwaitOne (ex.Quant false (roll-GenTree (record { message = pattern.Tuple (pattern.Text (codes "pong") ∷ pattern.Name (codes "n") ∷ []); peer = None; source = source.Received }) ∷ []) (Some (ex.Cmp cmp.Gt (ex.Name (codes "n")) (ex.Int (pos 5))))) 9
-        ∷ stmt.Output (ex.Name (codes "n")) 10 ∷ []) 7
+      (stmt.Send (ex.Tuple (ex.Text (codes "ping") ∷ ex.Int (pos 5) ∷ [])) (ex.Name (codes "peer")) 8
+      ∷ stmt.AwaitOne (ex.Quant false (roll-GenTree (record { message = pattern.Tuple (pattern.Text (codes "pong") ∷ pattern.Name (codes "n") ∷ []); peer = None; source = source.Received }) ∷ []) (Some (ex.Cmp cmp.Gt (ex.Name (codes "n")) (ex.Int (pos 5))))) 9
+      ∷ stmt.Output (ex.Name (codes "n")) 10 ∷ []) 7
       ∷ member.Receive (pattern.Tuple (pattern.Text (codes "ping") ∷ pattern.Name (codes "k") ∷ [])) (Some (pattern.Name (codes "who"))) []
-        (stmt.Send (ex.Tuple (ex.Text (codes "pong") ∷ ex.Chain (ex.Name (codes "k")) (roll-ChainTree (record { op = op.Plus; operand = ex.Int (pos 1) }) ∷ []) ∷ [])) (ex.Name (codes "who")) 12 ∷ []) 11
+      (stmt.Send (ex.Tuple (ex.Text (codes "pong") ∷ ex.Chain (ex.Name (codes "k")) (roll-ChainTree (record { op = op.Plus; operand = ex.Int (pos 1) }) ∷ []) ∷ [])) (ex.Name (codes "who")) 12 ∷ []) 11
       ∷ [];
-    line = 3;
-  }
+  line = 3;
+}
 
 abbrev pub ping_tree : Tree
 ping_tree = record {
@@ -99,7 +95,7 @@ ping_tree = record {
   messages = record { tag = codes "ping"; parts = ty.Int ∷ []; line = 1 } ∷ record { tag = codes "pong"; parts = ty.Int ∷ []; line = 2 } ∷ [];
   classes = ping_class_tree ∷ [];
   main = main_line.New (codes "a") (codes "P") None 14 ∷ main_line.New (codes "b") (codes "P") None 15
-    ∷ main_line.Setup (codes "a") (ex.Name (codes "b") ∷ []) 16 ∷ main_line.Setup (codes "b") (ex.Name (codes "a") ∷ []) 17 ∷ [];
+      ∷ main_line.Setup (codes "a") (ex.Name (codes "b") ∷ []) 16 ∷ main_line.Setup (codes "b") (ex.Name (codes "a") ∷ []) 17 ∷ [];
 }
 
 -- `n > 5`, `some ('pong', n) in received`
@@ -117,8 +113,8 @@ ping_class types = record {
   params = 2 ∷ [];
   setup = at 6 (it.Assign 1 (re.Slot 2)) ∷ [];
   run = at 8 (it.Send (re.Tuple (re.Const (kept.Text (codes "ping")) ∷ re.Const (kept.Int (pos 5)) ∷ [])) (re.Slot 1))
-    ∷ at 9 (it.Await (roll-Alt (record { cond = co.Quant false pongs (Some over_five); found = Some 1; binds = 3 ∷ []; body = []; line = 9 }) ∷ []))
-    ∷ at 10 (it.Output (re.Slot 3)) ∷ [];
+      ∷ at 9 (it.Await (roll-Alt (record { cond = co.Quant false pongs (Some over_five); found = Some 1; binds = 3 ∷ []; body = []; line = 9 }) ∷ []))
+      ∷ at 10 (it.Output (re.Slot 3)) ∷ [];
   handlers = record {
     message = pa.Tuple (pa.Const (kept.Text (codes "ping")) ∷ pa.Bind ∷ []);
     from = pa.Bind;
@@ -136,7 +132,7 @@ ping types = record {
   messages = ping_tree.messages;
   classes = ping_class types ∷ [];
   procs = record { class = 0; setup = Some (record { args = re.Const (kept.Proc 2) ∷ []; line = 16 }) }
-    ∷ record { class = 0; setup = Some (record { args = re.Const (kept.Proc 1) ∷ []; line = 17 }) } ∷ [];
+      ∷ record { class = 0; setup = Some (record { args = re.Const (kept.Proc 1) ∷ []; line = 17 }) } ∷ [];
 }
 
 pub ping_class_resolved : resolved_class ping_class_tree ≡ ping_class (None ∷ None ∷ None ∷ [])
@@ -166,14 +162,14 @@ many_processes = record {
   messages = [];
   classes = record { name = codes "C"; members = three_params ∷ member.Run (stmt.Pass 5 ∷ []) 4 ∷ []; line = 1 } ∷ [];
   main = main_line.New (codes "a") (codes "C") None 7 ∷ main_line.New (codes "ps") (codes "C") (Some 2) 8 ∷ main_line.New (codes "n") (codes "C") (Some 0) 9 ∷ main_line.New (codes "b") (codes "C") None 10
-    ∷ main_line.Setup (codes "ps") (ex.Name (codes "a") ∷ ex.Chain ps (roll-ChainTree (record { op = op.Minus; operand = ex.SetOf (ex.Me ∷ []) }) ∷ []) ∷ ex.Name (codes "n") ∷ []) 11 ∷ [];
+      ∷ main_line.Setup (codes "ps") (ex.Name (codes "a") ∷ ex.Chain ps (roll-ChainTree (record { op = op.Minus; operand = ex.SetOf (ex.Me ∷ []) }) ∷ []) ∷ ex.Name (codes "n") ∷ []) 11 ∷ [];
 }
 
 abbrev set_up : Option SetupCall
 set_up = Some (record {
-    args = re.Const (kept.Proc 1) ∷ re.Chain (re.Procs (2 ∷ 3 ∷ [])) (roll-ChainPart (record { op = op.Minus; operand = re.SetOf (re.Me ∷ []) }) ∷ []) ∷ re.Procs [] ∷ [];
-    line = 11;
-  })
+  args = re.Const (kept.Proc 1) ∷ re.Chain (re.Procs (2 ∷ 3 ∷ [])) (roll-ChainPart (record { op = op.Minus; operand = re.SetOf (re.Me ∷ []) }) ∷ []) ∷ re.Procs [] ∷ [];
+  line = 11;
+})
 
 four_processes : (resolved many_processes).procs ≡ record { class = 0; setup = None } ∷ record { class = 0; setup = set_up } ∷ record { class = 0; setup = set_up } ∷ record { class = 0; setup = None } ∷ []
 unfolding resolved

@@ -1,5 +1,5 @@
 -- Runs that end, wait, fault, and go on for too long; and a message that is too large.
-use Rattle.std.specs.Prelude.{◌≡◌, refl, ℕ, zero, suc, ◌+◌, ◌*◌, ◌<◌, pos, true, nat_le, List, [], ◌∷◌, replicate, None, codes}
+use Rattle.std.specs.Prelude.{◌≡◌, refl, ℕ, zero, suc, ◌+◌, ◌*◌, pos, true, nat_le, List, [], ◌∷◌, replicate, None, codes}
 use Rattle.std.proofs.Common.{◌∙◌, ap, sym, arith}
 use Rattle.std.proofs.lemmas.List.{length-replicate}
 use Rattle.da_values.specs.declared.val.Val.{Val}

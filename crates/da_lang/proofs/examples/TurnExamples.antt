@@ -14,7 +14,6 @@ use Rattle.da_lang.specs.declared.program.Item.{Item, roll-Item}
 use Rattle.da_lang.specs.declared.program.ItemKind.{ItemKind}
 use Rattle.da_lang.specs.declared.program.ItemKind.TheVariants as it
 use Rattle.da_lang.specs.declared.program.ItemKind.TheVariants.{outs-Assign, outs-Add, outs-Del, outs-Send, outs-Output, outs-If, outs-While, outs-For, outs-Call, outs-Await, outs-Label, outs-Pass}
-use Rattle.da_lang.specs.declared.program.ItemKind.TheViews.{out-roll-Item, out-roll-RBranch}
 use Rattle.da_lang.specs.declared.program.RBranch.{RBranch, roll-RBranch}
 use Rattle.da_lang.specs.declared.program.RExpr.{RExpr}
 use Rattle.da_lang.specs.declared.program.RExpr.TheVariants as ex
@@ -23,13 +22,10 @@ use Rattle.da_lang.specs.declared.query.Query.{Query}
 use Rattle.da_lang.specs.declared.query.Query.TheVariants as query
 use Rattle.da_lang.specs.declared.query.Source.TheVariants as source
 use Rattle.da_lang.specs.declared.tree.ArithOp.TheVariants.{Plus, Div}
-use Rattle.da_lang.specs.EvaluationLaws.{evaluating}
 use Rattle.da_lang.specs.Runs.{yields}
 use Rattle.da_lang.specs.Turns.{After, last_time, max_packet, packet_len, quiet, turn}
 use Rattle.da_lang.specs.World.{Entry, Data, Task, Do, Loop, Prepare, put_slot}
 use Rattle.da_lang.proofs.Computing.{turning}
-use Rattle.da_lang.proofs.LengthLaws.{measuring, sum-numbers_from}
-use Rattle.da_lang.proofs.QueryLaws.{asking}
 
 abbrev num : ℕ → Val
 num n = val.Int (pos n)
