@@ -1,15 +1,19 @@
 -- Trees at the limits and one past them. Long lists are counted by laws.
-use Rattle.std.specs.Prelude.{◌≡◌, refl, ℕ, zero, suc, ◌+◌, pos, Bool, true, false, nat_lt, ◌||◌, max, List, [], ◌∷◌, ◌++◌, map, length, sum, replicate, codes, Option, Some, None}
+use Rattle.std.specs.Prelude.{◌≡◌, refl, ℕ, zero, suc, ◌+◌, pos, Bool, true, false, nat_lt, ◌||◌, max, List, [], ◌∷◌, ◌++◌, map, length, sum, replicate, codes, Some, None}
 use Rattle.std.specs.List.{list_any}
 use Rattle.std.proofs.Common.{◌∙◌, ap, arith}
 use Rattle.std.proofs.Math.Nat.{max-zero, zero-max}
-use Rattle.std.proofs.lemmas.List.{length-map, length-replicate}
+use Rattle.std.proofs.lemmas.List.{length-replicate}
 use Rattle.std.proofs.lemmas.List.Sums.{sum_by-cons}
 use Rattle.da_values.specs.declared.value.Value.TheVariants as kept
 use Rattle.da_lang.specs.declared.program.Class.{Class}
 use Rattle.da_lang.specs.declared.program.Item.{Item, roll-Item}
 use Rattle.da_lang.specs.declared.program.ItemKind.TheVariants as it
 use Rattle.da_lang.specs.declared.program.RExpr.TheVariants as re
+use Rattle.da_lang.specs.declared.query.Pattern.TheVariants as pa
+use Rattle.da_lang.specs.declared.query.Query.{Query}
+use Rattle.da_lang.specs.declared.query.Query.TheVariants as qu
+use Rattle.da_lang.specs.declared.query.Source.TheVariants as so
 use Rattle.da_lang.specs.declared.refusal.LimitKind.TheVariants as limit
 use Rattle.da_lang.specs.declared.tree.ClassTree.{ClassTree}
 use Rattle.da_lang.specs.declared.tree.Expr.{Expr}
@@ -26,15 +30,18 @@ use Rattle.da_lang.specs.declared.ty.Ty.TheVariants as ty
 use Rattle.da_lang.specs.BodyMeaning.{Copy, Stating, Behind, block, class_slots, copies, stating}
 use Rattle.da_lang.specs.Calls.{leads_within}
 use Rattle.da_lang.specs.ClassParts.{bodies_where, is_handler}
-use Rattle.da_lang.specs.ExprMeaning.{Meaning, Tables}
-use Rattle.da_lang.specs.Limits.{has_query, reached_deeds, block_depth, blocks_over, class_blocks, class_items, classes_over, generators_over, item_count, item_depth, items_over, limit_fault, limit_refusals, line_if, most_blocks, most_classes, most_generators, most_items, most_parts, most_processes, most_variables, parts_over, variables_over, wide_exprs}
+use Rattle.da_lang.specs.Deeds.{Deed}
+use Rattle.da_lang.specs.ExprMeaning.{Meaning, Tables, meant}
+use Rattle.da_lang.specs.Limits.{parts_in_message, wide, has_query, reached_deeds, block_depth, blocks_over, class_blocks, class_items, classes_over, generators_over, item_count, item_depth, items_over, limit_fault, limit_refusals, line_if, most_blocks, most_classes, most_generators, most_items, most_parts, most_processes, most_variables, variables_over, wide_exprs}
 use Rattle.da_lang.specs.Resolution.{class_tables, handlers, resolved_class}
 use Rattle.da_lang.specs.Scopes.{Scope}
-use Rattle.da_lang.specs.Written.{Writing, greatest, of, tuple, writing}
+use Rattle.da_lang.specs.Written.{type_width, Writing, greatest, of, tuple, writing}
 use Rattle.da_lang.proofs.Computing.{finding, resolving}
 use Rattle.da_lang.proofs.CountsAt.{counting, measuring_depth}
+use Rattle.da_lang.proofs.DeedsAt.{deeds_of-Pass}
 use Rattle.da_lang.proofs.MeantAt.{meaning}
 use Rattle.da_lang.proofs.StatingAt.{stating-Pass, stating-While}
+use Rattle.da_lang.proofs.TypesAt.{type_width-Int}
 use Rattle.da_lang.proofs.WritingAt.{writing-Int, writing-Tuple, written}
 use Rattle.da_lang.proofs.examples.NameExamples.{tree_of, run}
 
@@ -151,13 +158,18 @@ with_vars n = record (class_of []) { members = run (stmt.Pass 6 ∷ []) ∷ vars
 abbrev slots_by : ClassTree → Stating → ℕ
 slots_by c s = length (handlers c (bodies_where is_handler c) (block (s ∷ []) (class_slots c) (class_tables c)).1).1.slots
 
-most_slots : length (resolved_class (with_vars 1024)).slots ≡ 1024
-unfolding resolved_class
-most_slots = ap (slots_by (with_vars 1024)) (stating-Pass (copies (length (with_vars 1024).members) (with_vars 1024)) 6)
+abbrev is_large : Deed → Bool
+is_large = has_query (λ size. nat_lt most_variables size.variables)
+
+most_slots : variables_over (with_vars 1024) ≡ []
+unfolding most_variables resolved_class
+most_slots =
+    ap (λ s. line_if (nat_lt most_variables (slots_by (with_vars 1024) s) || list_any is_large (reached_deeds (with_vars 1024))) 1) (stating-Pass (copies (length (with_vars 1024).members) (with_vars 1024)) 6)
+    ∙ ap (λ ds. line_if (list_any is_large (ds ++ [] ++ [])) 1) (deeds_of-Pass 6)
 
 one_slot_more : variables_over (with_vars 1025) ≡ 1 ∷ []
 unfolding most_variables resolved_class
-one_slot_more = ap (λ s. line_if (nat_lt most_variables (slots_by (with_vars 1025) s) || list_any (has_query (λ size. nat_lt most_variables size.variables)) (reached_deeds (with_vars 1025))) 1) (stating-Pass (copies (length (with_vars 1025).members) (with_vars 1025)) 6)
+one_slot_more = ap (λ s. line_if (nat_lt most_variables (slots_by (with_vars 1025) s) || list_any is_large (reached_deeds (with_vars 1025))) 1) (stating-Pass (copies (length (with_vars 1025).members) (with_vars 1025)) 6)
 
 -- PARTS: a tuple of n ones, and a message with n parts behind its tag
 
@@ -203,3 +215,61 @@ most_parts_written = simp writing_ones refl
 one_part_more : wide_exprs (ones 256 ∷ []) ≡ true
 unfolding most_parts
 one_part_more = simp writing_ones refl
+
+-- a message whose parts and tag are 255, and one whose are 256
+no_wide : (n : ℕ) → list_any (λ t. wide (type_width t)) (replicate n ty.Int) ≡ false
+unfolding most_parts
+no_wide zero = refl
+no_wide (suc n) = rw type_width-Int (no_wide n)
+
+abbrev message : ℕ → MessageDecl
+message n = record { tag = codes "m"; parts = replicate n ty.Int; line = 2 }
+
+most_message_parts : parts_in_message (message 254) ≡ []
+unfolding most_parts
+most_message_parts = ap (λ b. line_if b 2) (no_wide 254)
+
+one_message_part_more : parts_in_message (message 255) ≡ 2 ∷ []
+unfolding most_parts
+one_message_part_more = refl
+
+-- GENERATORS: k times `_ in s`, with a tuple of n ones behind them
+
+abbrev anything : GenTree
+anything = roll-GenTree (record { message = pattern.Wild; peer = None; source = source.Name (codes "s") })
+
+abbrev asks : ℕ → ℕ → Expr
+asks k n = ex.Quant false (replicate k anything) (Some (ones n))
+
+most_gens : generators_over (class_of (stmt.Output (asks 8 1) 6 ∷ [])) ≡ []
+unfolding most_generators leads_within
+most_gens = simp (finding, writing_ones, written) refl
+
+one_gen_more : generators_over (class_of (stmt.Output (asks 9 1) 6 ∷ [])) ≡ 6 ∷ []
+unfolding most_generators leads_within
+one_gen_more = simp (finding, writing_ones, written) refl
+
+-- WHAT IS TOLD: on one line the parts, which come before the generators; on two lines the first one, whichever limit it
+-- passes
+
+abbrev says : ℕ → ℕ → Item
+says line q = roll-Item (record { line = line; kind = it.Output (re.Ask q) })
+
+abbrev asked : ℕ → ℕ → Query
+asked k n = qu.Quant false (replicate k (record { source = so.Slot 0; message = pa.Any; peer = pa.Any })) (Some ((meant (ones n)).condition []))
+
+both_resolved : resolved_class (class_of (stmt.Output (asks 9 256) 6 ∷ [])) ≡ record (with_items (says 6 1 ∷ [])) { queries = asked 9 256 ∷ [] }
+unfolding resolved_class
+both_resolved = simp resolving refl
+
+lesser_kind : limit_fault (tree_of (run (stmt.Output (asks 9 256) 6 ∷ []) ∷ []) []) ≡ Some (record { kind = limit.Parts; line = 6 })
+unfolding limit_refusals leads_within most_classes most_processes most_items most_blocks most_variables most_parts most_generators
+lesser_kind = simp (both_resolved, writing_ones, finding, counting, measuring_depth) refl
+
+one_after_the_other : resolved_class (class_of (stmt.Output (asks 9 1) 6 ∷ stmt.Output (asks 1 256) 7 ∷ [])) ≡ record (with_items (says 6 1 ∷ says 7 2 ∷ [])) { queries = asked 9 1 ∷ asked 1 256 ∷ [] }
+unfolding resolved_class
+one_after_the_other = simp resolving refl
+
+lesser_line : limit_fault (tree_of (run (stmt.Output (asks 9 1) 6 ∷ stmt.Output (asks 1 256) 7 ∷ []) ∷ []) []) ≡ Some (record { kind = limit.Generators; line = 6 })
+unfolding limit_refusals leads_within most_classes most_processes most_items most_blocks most_variables most_parts most_generators
+lesser_line = simp (one_after_the_other, writing_ones, finding, counting, measuring_depth) refl

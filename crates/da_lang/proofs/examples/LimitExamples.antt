@@ -32,7 +32,7 @@ idle_resolved = simp resolving refl
 too_many_processes : limit_fault (tree_of (run (stmt.Pass 6 ∷ []) ∷ []) (main_line.New (codes "b") (codes "C") (Some 63) 21 ∷ main_line.New (codes "c") (codes "C") None 22 ∷ []))
     ≡ Some (record { kind = limit.Processes; line = 22 })
 unfolding limit_refusals leads_within most_classes most_processes most_items most_blocks most_variables most_parts most_generators
-too_many_processes = simp (idle_resolved, finding, counting, measuring_depth, widening) refl
+too_many_processes = simp (idle_resolved, finding, counting, measuring_depth) refl
 
 ping_within : limit_refusals ping_tree ≡ []
 unfolding limit_refusals leads_within most_classes most_processes most_items most_blocks most_variables most_parts most_generators
