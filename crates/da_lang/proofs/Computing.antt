@@ -5,7 +5,7 @@ use Rattle.da_lang.specs.declared.program.ItemKind.TheVariants.{outs-Assign, out
 use Rattle.da_lang.specs.declared.program.ItemKind.TheViews.{out-roll-Alt, out-roll-Item, out-roll-RBranch}
 use Rattle.da_lang.specs.declared.tree.Expr.TheVariants.{outs-Quant, outs-Name, outs-Int, outs-Truth}
 use Rattle.da_lang.specs.BodyMeaning.{body_of, body_with, block, states, calling, changing, with_expr, with_exprs, copy_of, as_alt, as_branch, bound, await_one}
-use Rattle.da_lang.specs.EvaluationLaws.{evaluating}
+use Rattle.da_lang.proofs.EvaluationLaws.{evaluating}
 use Rattle.da_lang.specs.ExprMeaning.{all_outside}
 use Rattle.da_lang.specs.ExprNames.{refused_in, found_names}
 use Rattle.da_lang.specs.Resolution.{resolved_args, procs_of, setup_call, message_matching, sender_matching, from_matching, handler_binds, setup_items, run_items, handlers, handler}

@@ -1,4 +1,4 @@
--- Which steps a process may take.
+-- Which steps a process of the program may take.
 use Rattle.std.specs.Prelude.{◌≡◌, ℕ, true, List, [], ◌∷◌, Some}
 use Rattle.da_values.specs.declared.val.Val.{Val}
 use Rattle.da_lang.specs.declared.program.Alt.{Alt}

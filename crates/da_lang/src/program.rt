@@ -51,7 +51,7 @@ pub struct Class {
     pub line: u32,
 }
 
-/// A handler. `binds` are the slots that take the parts of the row of its two patterns.
+/// A handler. `binds` are the slots that take the parts of the row of its two patterns. The line is that of `receive`.
 #[derive(Debug, Drop)]
 pub struct Handler {
     pub message: Pattern,
@@ -161,11 +161,11 @@ pub enum RExpr {
     Cmp(CmpOp, Boxed<RExpr>, Boxed<RExpr>),
     /// Whether the first is an element of the second.
     Member(Boxed<RExpr>, Boxed<RExpr>),
-    /// An operand and others, each with its sign.
+    /// An operand and others, each with the operation before it.
     Chain(Boxed<RExpr>, List<ChainPart>),
 }
 
-/// A further operand of a chain, with its sign.
+/// A further operand of a chain, with the operation before it.
 #[cycle(rexpr)]
 #[derive(Debug, Drop)]
 pub struct ChainPart {

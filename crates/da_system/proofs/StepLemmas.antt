@@ -21,7 +21,7 @@ use Rattle.da_lang.specs.declared.query.LivePattern.{LivePattern}
 use Rattle.da_lang.specs.declared.query.Query.{Query}
 use Rattle.da_lang.specs.declared.query.RGen.{RGen}
 use Rattle.da_lang.specs.Live.{Gens, class_gens, is_history, item_gens, live_gen, live_rows, once, kind_gens_step, alt_gens_step, item_gens_step, branch_gens_step}
-use Rattle.da_lang.specs.RunLaws.{run_end, run_late, run_turn, run_yield}
+use Rattle.da_lang.proofs.RunLaws.{run_end, run_late, run_turn, run_yield}
 use Rattle.da_lang.specs.Runs.{AtYield, Faults, Halt, Ran, UsedUp, behind, go_after, max_turns, run, yields}
 use Rattle.da_lang.specs.Steps.{Go, Take, Step, Stepped, class_step, closing, past_await, proc_step, step_in, take_waiting}
 use Rattle.da_lang.specs.Turns.{After as AfterTurn, kind_of}

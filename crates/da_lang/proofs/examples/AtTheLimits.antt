@@ -41,7 +41,7 @@ use Rattle.da_lang.proofs.CountsAt.{counting, measuring_depth}
 use Rattle.da_lang.proofs.DeedsAt.{deeds_of-Pass}
 use Rattle.da_lang.proofs.MeantAt.{meaning}
 use Rattle.da_lang.proofs.StatingAt.{stating-Pass, stating-While}
-use Rattle.da_lang.proofs.TypesAt.{type_width-Int}
+use Rattle.da_lang.proofs.typing.TypesAt.{type_width-Int}
 use Rattle.da_lang.proofs.WritingAt.{writing-Int, writing-Tuple, written}
 use Rattle.da_lang.proofs.examples.NameExamples.{tree_of, run}
 

@@ -17,7 +17,7 @@ use Rattle.da_lang.specs.declared.program.RExpr.{RExpr}
 use Rattle.da_lang.specs.declared.program.RExpr.TheVariants as ex
 use Rattle.da_lang.specs.declared.tree.ArithOp.TheVariants.{Minus}
 use Rattle.da_lang.specs.declared.tree.CmpOp.TheVariants.{Gt}
-use Rattle.da_lang.specs.RunLaws.{run_goes, run_to_yield_end, run_to_yield_late}
+use Rattle.da_lang.proofs.RunLaws.{run_goes, run_to_yield_end, run_to_yield_late}
 use Rattle.da_lang.specs.Runs.{UsedUp, Faults, max_turns, run_to_yield, stopped}
 use Rattle.da_lang.specs.Turns.{quiet, turn}
 use Rattle.da_lang.specs.World.{Data, Task, Do}

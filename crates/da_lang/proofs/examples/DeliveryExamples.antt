@@ -20,8 +20,8 @@ use Rattle.da_lang.specs.declared.query.Pattern.TheVariants.{Any, Bind, Const, E
 use Rattle.da_lang.specs.declared.query.Term.TheVariants as term
 use Rattle.da_lang.specs.declared.tree.ArithOp.TheVariants.{Plus}
 use Rattle.da_lang.specs.declared.ty.ChannelKind.TheVariants.{UnorderedUnreliable}
-use Rattle.da_lang.specs.HandlerLaws.{handle_late, handle_none, handle_passes, handle_runs}
-use Rattle.da_lang.specs.RunLaws.{run_fails, run_goes, run_to_yield_end}
+use Rattle.da_lang.proofs.HandlerLaws.{handle_late, handle_none, handle_passes, handle_runs}
+use Rattle.da_lang.proofs.RunLaws.{run_fails, run_goes, run_to_yield_end}
 use Rattle.da_lang.specs.Runs.{Ran, Faults, UsedUp, behind, max_turns, run_to_yield, stopped}
 use Rattle.da_lang.specs.Steps.{Deliver, Stepped, handle, handled, proc_step}
 use Rattle.da_lang.specs.Turns.{last_time, max_packet}

@@ -14,9 +14,9 @@ use Rattle.da_lang.specs.declared.program.ItemKind.TheVariants as it
 use Rattle.da_lang.specs.declared.program.Program.{Program}
 use Rattle.da_lang.specs.declared.query.Pattern.TheVariants.{Any}
 use Rattle.da_lang.specs.declared.ty.ChannelKind.TheVariants.{UnorderedUnreliable}
-use Rattle.da_lang.specs.HandlerLaws.{handle_late, handle_none, handle_runs}
-use Rattle.da_lang.specs.MoveLaws.{step_at_label, step_delivers}
-use Rattle.da_lang.specs.RunLaws.{run_goes, run_to_yield_end, run_to_yield_late}
+use Rattle.da_lang.proofs.HandlerLaws.{handle_late, handle_none, handle_runs}
+use Rattle.da_lang.proofs.MoveLaws.{step_at_label, step_delivers}
+use Rattle.da_lang.proofs.RunLaws.{run_goes, run_to_yield_end, run_to_yield_late}
 use Rattle.da_lang.specs.Runs.{UsedUp, max_turns, run_to_yield, stopped}
 use Rattle.da_lang.specs.Steps.{Go, Deliver, handled, moved, proc_step}
 use Rattle.da_lang.specs.Turns.{last_time}

@@ -24,7 +24,7 @@ use Rattle.da_lang.specs.declared.tree.ArithOp.TheVariants.{Plus, Minus, Times, 
 use Rattle.da_lang.specs.declared.tree.CmpOp.TheVariants.{Eq, Ne, Lt, Le, Gt, Ge}
 use Rattle.da_lang.specs.Arithmetic.{Outcome, max_range, numbers_from, range as ranges, range_if}
 use Rattle.da_lang.specs.Evaluation.{eval}
-use Rattle.da_lang.specs.EvaluationLaws.{evaluating}
+use Rattle.da_lang.proofs.EvaluationLaws.{evaluating}
 use Rattle.da_lang.specs.World.{Data}
 use Rattle.da_lang.proofs.QueryLaws.{asking}
 

@@ -15,7 +15,7 @@ use Rattle.da_lang.proofs.Computing.{finding, resolving}
 use Rattle.da_lang.proofs.CountsAt.{counting, measuring_depth}
 use Rattle.da_lang.proofs.examples.NameExamples.{tree_of, run}
 use Rattle.da_lang.proofs.examples.ResolutionExamples.{ping_tree, ping_class_resolved}
-use Rattle.da_lang.proofs.TypesAt.{widening}
+use Rattle.da_lang.proofs.typing.TypesAt.{widening}
 
 -- a class whose `run` does nothing
 abbrev idle_tree : ClassTree

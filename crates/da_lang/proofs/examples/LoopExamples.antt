@@ -9,7 +9,7 @@ use Rattle.da_lang.specs.declared.program.Item.{Item, roll-Item}
 use Rattle.da_lang.specs.declared.program.ItemKind.TheVariants as it
 use Rattle.da_lang.specs.declared.program.RExpr.{RExpr}
 use Rattle.da_lang.specs.Evaluation.{eval}
-use Rattle.da_lang.specs.RunLaws.{run_goes}
+use Rattle.da_lang.proofs.RunLaws.{run_goes}
 use Rattle.da_lang.specs.Runs.{max_turns, run_to_yield}
 use Rattle.da_lang.specs.Turns.{quiet, turn}
 use Rattle.da_lang.specs.World.{Data, Task, Do, Loop, put_slot}

@@ -28,8 +28,8 @@ use Rattle.da_lang.specs.declared.query.Term.TheVariants as term
 use Rattle.da_lang.specs.declared.tree.ArithOp.TheVariants.{Plus}
 use Rattle.da_lang.specs.declared.tree.CmpOp.TheVariants.{Gt}
 use Rattle.da_lang.specs.declared.ty.ChannelKind.TheVariants.{UnorderedUnreliable}
-use Rattle.da_lang.specs.HandlerLaws.{handle_none, handle_passes, handle_runs}
-use Rattle.da_lang.specs.RunLaws.{run_goes, run_to_yield_end, run_to_yield_yield}
+use Rattle.da_lang.proofs.HandlerLaws.{handle_none, handle_passes, handle_runs}
+use Rattle.da_lang.proofs.RunLaws.{run_goes, run_to_yield_end, run_to_yield_yield}
 use Rattle.da_lang.specs.Runs.{behind}
 use Rattle.da_lang.specs.Steps.{Go, Take, Deliver, handled, moved, proc_step}
 use Rattle.da_lang.specs.Turns.{last_time, max_packet}

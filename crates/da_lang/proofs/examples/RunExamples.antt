@@ -17,7 +17,7 @@ use Rattle.da_lang.specs.declared.program.RExpr.{RExpr}
 use Rattle.da_lang.specs.declared.program.RExpr.TheVariants as ex
 use Rattle.da_lang.specs.declared.tree.ArithOp.TheVariants.{Div}
 use Rattle.da_lang.specs.Arithmetic.{numbers_from}
-use Rattle.da_lang.specs.RunLaws.{run_fails, run_goes, run_to_yield_end, run_to_yield_late, run_to_yield_yield}
+use Rattle.da_lang.proofs.RunLaws.{run_fails, run_goes, run_to_yield_end, run_to_yield_late, run_to_yield_yield}
 use Rattle.da_lang.specs.Runs.{behind, AtYield, UsedUp, Faults, max_turns, run, run_to_yield, stopped}
 use Rattle.da_lang.specs.Turns.{failed, last_time, max_packet, packet_len, send, send_if}
 use Rattle.da_lang.specs.World.{Data, Task, Do, put_slot}

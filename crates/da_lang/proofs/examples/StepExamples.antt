@@ -25,7 +25,7 @@ use Rattle.da_lang.specs.declared.query.Source.TheVariants as source
 use Rattle.da_lang.specs.declared.query.Term.TheVariants as term
 use Rattle.da_lang.specs.declared.tree.ArithOp.TheVariants.{Div}
 use Rattle.da_lang.specs.declared.ty.ChannelKind.TheVariants.{UnorderedUnreliable}
-use Rattle.da_lang.specs.RunLaws.{run_fails, run_goes, run_to_yield_end, run_to_yield_yield}
+use Rattle.da_lang.proofs.RunLaws.{run_fails, run_goes, run_to_yield_end, run_to_yield_yield}
 use Rattle.da_lang.specs.Runs.{behind}
 use Rattle.da_lang.specs.Steps.{Step, Go, Take, Deliver, Stepped, moved, proc_step}
 use Rattle.da_lang.specs.World.{Data, Task, Do, Prepare, World, Phase, New, Waiting, Ended, Faulted}

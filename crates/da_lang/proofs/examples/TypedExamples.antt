@@ -28,8 +28,8 @@ use Rattle.da_lang.specs.Shaped.{well_typed}
 use Rattle.da_lang.specs.Types.{most_levels}
 use Rattle.da_lang.specs.Typing.{item_breaks, breaks_in, type_breaks, type_fault, filled, filled_slots, IsTyped}
 use Rattle.da_lang.proofs.examples.ResolutionExamples.{at, ping, ping_tree}
-use Rattle.da_lang.proofs.ShapedAt.{finding_processes, is_declared-of}
-use Rattle.da_lang.proofs.TypesAt.{belonging}
+use Rattle.da_lang.proofs.typing.ShapedAt.{finding_processes, is_declared-of}
+use Rattle.da_lang.proofs.typing.TypesAt.{belonging}
 use Rattle.da_lang.proofs.examples.TypingExamples.{judging, filled_ping_keeps}
 
 -- PING with the types of all its slots

@@ -29,11 +29,11 @@ use Rattle.da_lang.specs.declared.ty.Ty.TheVariants.{outs-Int, outs-Bool, outs-T
 use Rattle.da_lang.specs.Types.{levels, most_levels, is_flat, is_int, is_bool, is_text, is_proc, is_set, parts_of, element_of}
 use Rattle.da_lang.specs.QueryTypes.{Known, flat, cond_holds}
 use Rattle.da_lang.specs.Typing.{Slots, message_tag, text_part, item_breaks, breaks_in, type_breaks, filled, filled_slots}
-use Rattle.da_lang.proofs.ExprTypesAt.{typing_exprs}
-use Rattle.da_lang.proofs.QueryTypesAt.{typing_terms, typing_patterns, typing_conds}
+use Rattle.da_lang.proofs.typing.ExprTypesAt.{typing_exprs}
+use Rattle.da_lang.proofs.typing.QueryTypesAt.{typing_terms, typing_patterns, typing_conds}
 use Rattle.da_lang.proofs.examples.ResolutionExamples.{at, ping, ping_tree, ping_class}
-use Rattle.da_lang.proofs.TypesAt.{same_types, ordering, levelling, levels-Set}
-use Rattle.da_lang.proofs.TypingAt.{flowing, breaking}
+use Rattle.da_lang.proofs.typing.TypesAt.{same_types, ordering, levelling, levels-Set}
+use Rattle.da_lang.proofs.typing.TypingAt.{flowing, breaking}
 
 -- the tag of a written message, and of an expression that is none
 pub written_tag : (tag : List ℕ) (xs : List RExpr) → message_tag (out-RExpr (re.Tuple (re.Const (kept.Text tag) ∷ xs))) ≡ Some tag

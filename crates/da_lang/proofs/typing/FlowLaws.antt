@@ -17,7 +17,7 @@ use Rattle.da_lang.specs.Shaped.{HasType}
 use Rattle.da_lang.specs.Typing.{Slots, with_type, with_types, with_row_types, in_turn, found_row, typed, kind_flow, alt_flow, item_types, branch_flow, handler_row, handler_types, filled_slots, filled_class, breaks_in, type_breaks, filled, has_types, IsTyped, Typed}
 use Rattle.da_lang.specs.Types.{element_of}
 use Rattle.da_lang.proofs.ItemInduction.{ItemCases, items_induction}
-use Rattle.da_lang.proofs.TypingAt.{kind_flow_at-Assign, kind_flow_at-Add, kind_flow_at-Del, kind_flow_at-Send, kind_flow_at-Output, kind_flow_at-If, kind_flow_at-While, kind_flow_at-For, kind_flow_at-Call, kind_flow_at-Await, kind_flow_at-Label, kind_flow_at-Pass, alt_flow_at-of, item_types_at-of, branch_flow_at-of}
+use Rattle.da_lang.proofs.typing.TypingAt.{kind_flow_at-Assign, kind_flow_at-Add, kind_flow_at-Del, kind_flow_at-Send, kind_flow_at-Output, kind_flow_at-If, kind_flow_at-While, kind_flow_at-For, kind_flow_at-Call, kind_flow_at-Await, kind_flow_at-Label, kind_flow_at-Pass, alt_flow_at-of, item_types_at-of, branch_flow_at-of}
 
 in_turn-append : (fs gs : List (Slots → Slots)) (slots : Slots) → in_turn (fs ++ gs) slots ≡ in_turn gs (in_turn fs slots)
 in_turn-append [] gs slots = refl

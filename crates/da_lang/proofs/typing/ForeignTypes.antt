@@ -6,7 +6,7 @@ use Rattle.da_lang.specs.declared.query.Pattern.TheVariants as pa
 use Rattle.da_lang.specs.declared.query.Term.TheVariants as te
 use Rattle.da_lang.specs.declared.ty.Ty.{Ty}
 use Rattle.da_lang.specs.QueryTypes.{Known, term_type, pattern_row, operand_side, cond_holds}
-use Rattle.da_lang.proofs.QueryTypesAt.{term_type_at-Foreign, pattern_row_at-Equal, operand_side_at-Term, cond_holds_at-Truth}
+use Rattle.da_lang.proofs.typing.QueryTypesAt.{term_type_at-Foreign, pattern_row_at-Equal, operand_side_at-Term, cond_holds_at-Truth}
 
 module _ (known : Known) (row : List Ty) where
   pub foreign_term : term_type known te.Foreign row ≡ None

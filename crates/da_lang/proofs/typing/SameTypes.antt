@@ -10,7 +10,7 @@ use Rattle.da_lang.specs.declared.ty.Ty.TheOpen.{Ty-F}
 use Rattle.da_lang.specs.declared.ty.Ty.TheFolds.{ind-Ty, map-Ty}
 use Rattle.da_lang.specs.Types.{same_type, all_same, tuple_same, set_same, int_in, bool_in, text_in, proc_in, parts_in, element_in}
 use Rattle.da_lang.proofs.TermInduction.{bare, all_of-bare}
-use Rattle.da_lang.proofs.TypesAt.{same_type_at-Int, same_type_at-Bool, same_type_at-Text, same_type_at-Proc, same_type_at-Tuple, same_type_at-Set}
+use Rattle.da_lang.proofs.typing.TypesAt.{same_type_at-Int, same_type_at-Bool, same_type_at-Text, same_type_at-Proc, same_type_at-Tuple, same_type_at-Set}
 use Rattle.da_lang.proofs.WorldLaws.{ty_induction}
 
 -- same types with this one are equal to it

@@ -19,7 +19,7 @@ use Rattle.da_lang.specs.BodyMeaning.{item_at}
 use Rattle.da_lang.specs.QueryTypes.{given, holds_of}
 use Rattle.da_lang.specs.Shaped.{has_processes, processes_step, is_declared, blocks_of}
 use Rattle.da_lang.specs.Types.{is_of, all_of}
-use Rattle.da_lang.proofs.TypesAt.{belonging}
+use Rattle.da_lang.proofs.typing.TypesAt.{belonging}
 
 has_processes_layer : (most : ℕ) (x : Val-F Val) → has_processes most (roll-Val x) ≡ processes_step most (map-Val Val Bool (has_processes most) x)
 unfolding has_processes
