@@ -5,7 +5,7 @@ use Rattle.da_values.specs.declared.val.Val.TheVariants as val
 use Rattle.da_values.specs.declared.value.Value.{Value}
 use Rattle.da_values.specs.declared.value.Value.TheVariants as literal
 use Rattle.da_lang.specs.declared.event.Action.{Action}
-use Rattle.da_lang.specs.declared.event.Action.TheVariants.{Again, Answer, Got, Kept, Lost, Out, Sent}
+use Rattle.da_lang.specs.declared.event.Action.TheVariants.{Again, Answer, Got, Kept, Lost, Out, Sent, Stop}
 use Rattle.da_lang.specs.declared.event.Event.{Event}
 use Rattle.da_lang.specs.declared.event.Event.TheVariants.{Move, Take, Deliver, Lose, Repeat, Show, Stat}
 use Rattle.da_lang.specs.declared.program.Class.{Class}
@@ -166,7 +166,7 @@ abbrev taught : SystemState
 taught = system UnorderedUnreliable [] (second Waiting (knows (entry 7 1 1 ∷ entry 6 1 3 ∷ entry 7 1 1 ∷ []) 5))
 
 shows : sys_step (program UnorderedUnreliable) taught (Show 2) ≡ Some (record { state = taught; actions = Answer 2 1 (val.Tuple (num 6 ∷ []) ∷ val.Tuple (num 7 ∷ []) ∷ []) ∷ [] })
-shows = simp (stepping, living)
+shows = simp stepping
 
 keeps : sys_step (program UnorderedUnreliable) taught (Stat 2) ≡ Some (record { state = taught; actions = Kept 2 2 ∷ [] })
 keeps = simp living
@@ -184,3 +184,11 @@ keeps_no_third = refl
 
 sends : after_actions (no_letters 2) (Sent 1 1 1 (kept_note 7) ∷ Out 1 (kept_note 5) ∷ Sent 1 2 2 (kept_note 7) ∷ Sent 1 2 3 (kept_note 8) ∷ []) ≡ ((letter 7 1 ∷ []) ∷ (letter 7 2 ∷ letter 8 3 ∷ []) ∷ []) ∷ ([] ∷ [] ∷ []) ∷ []
 sends = refl
+
+-- A RUN, which stops at the first event that is not allowed
+
+stops : src_run (program UnorderedReliable) (Show 1 ∷ Lose 1 2 1 ∷ Show 2 ∷ []) ≡ Answer 1 1 [] ∷ Stop 2 ∷ []
+stops = refl
+
+runs_to_its_end : src_run (program UnorderedReliable) (Stat 1 ∷ Show 2 ∷ []) ≡ Kept 1 0 ∷ Answer 2 1 [] ∷ []
+runs_to_its_end = simp living

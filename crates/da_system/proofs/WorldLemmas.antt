@@ -70,7 +70,7 @@ all_get P [] k all = tt
 all_get P (x ∷ xs) zero all = all.0
 all_get P (x ∷ xs) (suc k) all = all_get P xs k all.1
 
-all_numbered : {A : Type 0} (P : A → Type 0) (xs : List A) (n : ℕ) → AllByRecursion P xs → IfSome (numbered xs n) P
+pub all_numbered : {A : Type 0} (P : A → Type 0) (xs : List A) (n : ℕ) → AllByRecursion P xs → IfSome (numbered xs n) P
 all_numbered P xs zero all = tt
 all_numbered P xs (suc k) all = all_get P xs k all
 
@@ -99,7 +99,7 @@ numbered_row : {A : Type 0} (n : ℕ) (row : List A) (k : ℕ) (P : List A → T
 numbered_row n row zero P none some = none
 numbered_row n row (suc k) P none some = row_of n row k P none some
 
-numbered_none : {A : Type 0} (k : ℕ) → numbered {A = A} [] k ≡ None
+pub numbered_none : {A : Type 0} (k : ℕ) → numbered {A = A} [] k ≡ None
 numbered_none zero = refl
 numbered_none (suc k) = refl
 
