@@ -4,15 +4,14 @@ use Rattle.da_values.specs.declared.val.Val.{Val}
 use Rattle.da_values.specs.declared.val.Val.TheVariants as val
 use Rattle.da_values.specs.declared.value.Value.{Value}
 use Rattle.da_values.specs.declared.value.Value.TheVariants as literal
-use Rattle.da_lang.specs.declared.event.Action.{Action}
 use Rattle.da_lang.specs.declared.event.Action.TheVariants.{Again, Answer, Got, Kept, Lost, Out, Sent, Stop}
 use Rattle.da_lang.specs.declared.event.Event.{Event}
-use Rattle.da_lang.specs.declared.event.Event.TheVariants.{Move, Take, Deliver, Lose, Repeat, Show, Stat}
+use Rattle.da_lang.specs.declared.event.Event.TheVariants.{Deliver, Lose, Repeat, Show, Stat}
 use Rattle.da_lang.specs.declared.program.Class.{Class}
 use Rattle.da_lang.specs.declared.program.Item.{Item, roll-Item}
 use Rattle.da_lang.specs.declared.program.ItemKind.TheVariants as it
 use Rattle.da_lang.specs.declared.program.Phase.{Phase}
-use Rattle.da_lang.specs.declared.program.Phase.TheVariants.{New, Waiting, Ended, Faulted}
+use Rattle.da_lang.specs.declared.program.Phase.TheVariants.{New, Waiting, Ended}
 use Rattle.da_lang.specs.declared.program.Program.{Program}
 use Rattle.da_lang.specs.declared.query.Pattern.TheVariants.{Any, Bind, Const, Tuple}
 use Rattle.da_lang.specs.declared.query.Query.TheVariants as query

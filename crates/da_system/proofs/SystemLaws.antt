@@ -1,6 +1,6 @@
 -- There is a channel for each pair of processes and for no other, before and after each event.
-use Rattle.std.proofs.Common.{◌≡◌, refl, sym, ◌∙◌, ap, subst, ℕ, zero, suc, ◌+◌, ◌-◌, ◌<◌, ◌≤◌, Bool, true, false, cond, List, [], ◌∷◌, ◌++◌, length, map, set, replicate, arith}
-use Rattle.std.specs.Prelude.{Option, Some, None, IfSome, IsSome, is_some, slice_get, slice_set}
+use Rattle.std.proofs.Common.{◌≡◌, refl, sym, ◌∙◌, ap, subst, ℕ, zero, suc, ◌+◌, ◌<◌, Bool, true, false, cond, List, [], ◌∷◌, length, map, replicate, arith}
+use Rattle.std.specs.Prelude.{Option, Some, None, IfSome, is_some, slice_get, slice_set}
 use Rattle.std.specs.List.{AllByRecursion, range_with_len}
 use Rattle.std.proofs.lemmas.Bool.{false≢true}
 use Rattle.std.proofs.lemmas.List.{length-replicate, length-set}
@@ -10,10 +10,10 @@ use Rattle.da_lang.specs.declared.event.Action.TheVariants.{Sent}
 use Rattle.da_lang.specs.declared.event.Event.{Event}
 use Rattle.da_lang.specs.declared.event.Event.TheVariants as event
 use Rattle.da_lang.specs.declared.program.Program.{Program}
-use Rattle.da_lang.specs.Steps.{Go, Take, Deliver, Step, Stepped, proc_step}
+use Rattle.da_lang.specs.Steps.{Go, Take, Step, Stepped, proc_step}
 use Rattle.da_lang.specs.World.{Data, World, numbered, opening}
-use Rattle.da_system.specs.Channels.{Channels, Letter, after_action, after_actions, channel, may_arrive, may_lose, may_repeat, no_letters, or_empty, put_numbered, with_channel, with_letter, without_letter}
-use Rattle.da_system.specs.SystemStep.{After, SystemState, arrive, copy_letter, drop_letter, numbers_to, process_step, start, step_of, stepped, sys_step, told}
+use Rattle.da_system.specs.Channels.{Channels, Letter, after_action, after_actions, channel, may_arrive, may_lose, may_repeat, no_letters, or_empty, put_numbered, with_channel}
+use Rattle.da_system.specs.SystemStep.{After, SystemState, arrive, copy_letter, drop_letter, process_step, start, step_of, stepped, sys_step, told}
 use Rattle.da_system.proofs.WorldLemmas.{all_numbered, numbered_none}
 
 -- so many lists of as many channels

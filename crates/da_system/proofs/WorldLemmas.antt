@@ -1,11 +1,10 @@
 -- The worlds and channels of processes that do no more than print.
-use Rattle.std.proofs.Common.{◌≡◌, refl, sym, ◌∙◌, ap, subst, ℕ, zero, suc, ◌+◌, ◌-◌, ◌<◌, ◌≤◌, true, List, [], ◌∷◌, ◌++◌, length, map, set, replicate, arith, add-one}
-use Rattle.std.specs.Prelude.{Option, Some, None, IfSome, slice_get, is_some, if◌then◌else◌}
+use Rattle.std.proofs.Common.{◌≡◌, refl, sym, ◌∙◌, ap, ℕ, zero, suc, ◌+◌, ◌-◌, ◌<◌, ◌≤◌, true, List, [], ◌∷◌, length, map, set, replicate, arith}
+use Rattle.std.specs.Prelude.{Option, Some, None, IfSome, slice_get, is_some}
 use Rattle.std.specs.List.{AllByRecursion, range_with_len}
 use Rattle.std.specs.Option.{option_map}
 use Rattle.std.proofs.lemmas.Bool.{false≢true}
 use Rattle.std.proofs.lemmas.Option.{slice_get_within}
-use Rattle.da_lang.specs.declared.program.Class.{Class}
 use Rattle.da_lang.specs.declared.program.ProcDecl.{ProcDecl}
 use Rattle.da_lang.specs.declared.program.Program.{Program}
 use Rattle.da_lang.specs.Steps.{setup_of_decl}
@@ -16,7 +15,7 @@ use Rattle.da_system.specs.Channels.{Letter, channel, no_letters, or_empty, put_
 use Rattle.da_system.specs.Place.{world_of}
 use Rattle.da_system.specs.Printing.{ClassPrints, PrintsOnly}
 use Rattle.da_system.specs.State.{run_of, worlds_from}
-use Rattle.da_system.specs.SystemStep.{start, numbers_to}
+use Rattle.da_system.specs.SystemStep.{numbers_to}
 
 -- the world of the process of this number
 abbrev pub world_at : Program → ℕ → Process → World
