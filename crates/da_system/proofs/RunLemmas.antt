@@ -1,12 +1,12 @@
 -- A run through statements that print, turn by turn.
-use Rattle.std.proofs.Common.{◌≡◌, refl, sym, ◌∙◌, ap, subst, ℕ, zero, suc, ◌+◌, ◌-◌, ◌<◌, ◌≤◌, Bool, true, false, List, [], ◌∷◌, ◌++◌, length, map, drop, get_or, arith, add-one, append-nil, append_assoc, drop-cons}
-use Rattle.std.specs.Prelude.{Some, None, Ok}
+use Rattle.std.proofs.Common.{◌≡◌, refl, sym, ◌∙◌, ap, subst, ℕ, zero, suc, ◌+◌, ◌<◌, ◌≤◌, true, false, List, [], ◌∷◌, ◌++◌, length, map, drop, get_or, arith, add-one, append-nil, append_assoc, drop-cons}
+use Rattle.std.specs.Prelude.{None}
 use Rattle.std.specs.List.{AllByRecursion}
 use Rattle.std.proofs.lemmas.List.{drop_all}
 use Rattle.da_values.specs.declared.val.Val.TheVariants.{outs-Proc}
 use Rattle.da_values.specs.declared.value.Value.{Value}
 use Rattle.da_values.specs.Layer.{value_of-val_of}
-use Rattle.da_values.specs.Value.{kept_as, value_of}
+use Rattle.da_values.specs.Value.{kept_as}
 use Rattle.da_lang.specs.declared.event.Action.{Action}
 use Rattle.da_lang.specs.declared.event.Action.TheVariants.{End, Fault, Out}
 use Rattle.da_lang.specs.declared.event.FaultKind.TheVariants.{TooLong}
@@ -23,16 +23,20 @@ use Rattle.da_lang.specs.declared.program.RExpr.TheViews.{out-RExpr}
 use Rattle.da_lang.specs.Arithmetic.{Outcome}
 use Rattle.da_lang.proofs.EvaluationLaws.{eval_at}
 use Rattle.da_lang.specs.Evaluation.{eval}
+<<<<<<< HEAD
 use Rattle.da_lang.proofs.RunLaws.{run_goes, run_to_yield_end, run_to_yield_late, run_to_yield_yield, turn_kind}
+=======
+use Rattle.da_lang.specs.RunLaws.{run_goes, run_to_yield_end, run_to_yield_late, run_to_yield_yield}
+>>>>>>> 784ab162be5c724144525d419282075dfa7061c8
 use Rattle.da_lang.specs.Runs.{AtYield, UsedUp, Faults, Ran, behind, max_turns, run_to_yield, stopped, yields}
 use Rattle.da_lang.specs.Steps.{closing}
-use Rattle.da_lang.specs.Turns.{After, kind_of, kind_turn, line_of, turn, with_outcome, output}
+use Rattle.da_lang.specs.Turns.{kind_of, kind_turn, line_of, turn, with_outcome, output}
 use Rattle.da_lang.specs.World.{Data, Do, Task}
 use Rattle.da_system.specs.declared.machine.Start.{Start}
 use Rattle.da_system.specs.declared.process.Process.{Process}
 use Rattle.da_system.specs.declared.process.Process.TheVariants.{Waiting, Ended, Faulted}
-use Rattle.da_system.specs.Place.{Runs, Whatever, rest_from, run_from, world_after, world_of}
-use Rattle.da_system.specs.Printing.{IsFixed, IsFixedLayer, Prints, PrintsLayer, fixed_layer, fixed_value, printed, printed_layer}
+use Rattle.da_system.specs.Place.{Runs, rest_from, run_from, world_after, world_of}
+use Rattle.da_system.specs.Printing.{IsFixedLayer, Prints, PrintsLayer, fixed_layer, fixed_value, printed, printed_layer}
 
 pub max_turns_is : max_turns ≡ 1000000
 unfolding max_turns
@@ -77,9 +81,6 @@ told me ran = ran.actions ++ closing me ran.halt
 pub record Came (class : Class) (d : Data) (start : Start) (place turns : ℕ) (old out : List Action) : Type 0 where
   pub told_is : old ++ told d.me (run_from class d start) ≡ out ++ told d.me (left_at class d turns place)
   pub world_is : world_after (run_from class d start) ≡ world_after (left_at class d turns place)
-
-pub came_start : (class : Class) (d : Data) (start : Start) (out : List Action) → Came class d start start.place start.turns out out
-came_start class d start out = record { told_is = refl; world_is = refl }
 
 -- a statement of the list is one that prints
 all_at : {A : Type 0} (P : A → Type 0) (xs : List A) (k : ℕ) (x : A) → AllByRecursion P xs → k < length xs → x ≡ get_or xs k x → P x

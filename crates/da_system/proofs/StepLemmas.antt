@@ -1,6 +1,6 @@
 -- The steps of processes that do no more than print.
-use Rattle.std.proofs.Common.{◌≡◌, refl, sym, ◌∙◌, ap, subst, ℕ, zero, suc, ◌+◌, ◌-◌, ◌<◌, Bool, true, false, cond, List, [], ◌∷◌, ◌++◌, length, map, drop, set, arith, append-nil, append_assoc}
-use Rattle.std.specs.Prelude.{Option, Some, None, IfSome, IsSome, IsTrue, slice_get, is_some, sum}
+use Rattle.std.proofs.Common.{◌≡◌, refl, sym, ◌∙◌, ap, subst, ℕ, zero, suc, ◌+◌, ◌-◌, ◌<◌, Bool, true, false, cond, List, [], ◌∷◌, ◌++◌, length, map, drop, set, arith, append-nil}
+use Rattle.std.specs.Prelude.{Option, Some, None, IfSome, IsSome, IsTrue, is_some, sum}
 use Rattle.std.specs.List.{AllByRecursion, filter, flat_map}
 use Rattle.std.specs.Option.{option_map}
 use Rattle.std.proofs.lemmas.Bool.{false≢true}
@@ -14,26 +14,25 @@ use Rattle.da_lang.specs.declared.program.Item.{Item}
 use Rattle.da_lang.specs.declared.program.ItemKind.{ItemKind}
 use Rattle.da_lang.specs.declared.program.ItemKind.TheFolds.{fold-RBranch, fold-Alt, fold-ItemKind, fold_out-Item, fold_out-ItemKind, map-ItemKind}
 use Rattle.da_lang.specs.declared.program.ItemKind.TheOpen.{ItemKind-F, Output, Label, Pass}
-use Rattle.da_lang.specs.declared.program.ItemKind.TheViews.{out-Item, out-ItemKind}
+use Rattle.da_lang.specs.declared.program.ItemKind.TheViews.{out-Item}
 use Rattle.da_lang.specs.declared.program.Program.{Program}
 use Rattle.da_lang.specs.declared.program.RBranch.{RBranch}
 use Rattle.da_lang.specs.declared.query.LivePattern.{LivePattern}
-use Rattle.da_lang.specs.declared.query.Query.{Query}
 use Rattle.da_lang.specs.declared.query.RGen.{RGen}
 use Rattle.da_lang.specs.Live.{Gens, class_gens, is_history, item_gens, live_gen, live_rows, once, kind_gens_step, alt_gens_step, item_gens_step, branch_gens_step}
 use Rattle.da_lang.proofs.RunLaws.{run_end, run_late, run_turn, run_yield}
-use Rattle.da_lang.specs.Runs.{AtYield, Faults, Halt, Ran, UsedUp, behind, go_after, max_turns, run, yields}
-use Rattle.da_lang.specs.Steps.{Go, Take, Step, Stepped, class_step, closing, past_await, proc_step, step_in, take_waiting}
+use Rattle.da_lang.specs.Runs.{AtYield, Faults, Halt, Ran, UsedUp, go_after, max_turns, run, yields}
+use Rattle.da_lang.specs.Steps.{Go, Take, Step, closing, past_await, step_in, take_waiting}
 use Rattle.da_lang.specs.Turns.{After as AfterTurn, kind_of}
 use Rattle.da_lang.specs.World.{Data, Do, Task, World, class_of, numbered, opening_data}
 use Rattle.da_system.specs.declared.machine.Start.{Start}
 use Rattle.da_system.specs.declared.process.Process.{Process}
 use Rattle.da_system.specs.declared.process.Process.TheVariants.{New, Waiting, Ended, Faulted}
-use Rattle.da_system.specs.Channels.{Channels, after_action, after_actions, channel, may_arrive, may_lose, may_repeat, no_letters, put_numbered}
+use Rattle.da_system.specs.Channels.{Channels, after_action, after_actions, may_arrive, may_lose, may_repeat, no_letters, put_numbered}
 use Rattle.da_system.specs.Place.{IsStart, IsStuck, Moves, move_at, move_of, rest_from, run_from, world_of}
 use Rattle.da_system.specs.Printing.{ClassPrints, Prints, PrintsLayer, PrintsOnly, printed, printed_layer}
 use Rattle.da_system.specs.State.{CanStart, run_in, run_of, state_in, worlds_from}
-use Rattle.da_system.specs.SystemStep.{Steps, SystemState, Tells, answers, answers_of, arrive, copy_letter, drop_letter, kept_of, step_of, stepped, sys_step, told}
+use Rattle.da_system.specs.SystemStep.{Steps, SystemState, Tells, arrive, copy_letter, drop_letter, kept_of, step_of, stepped, sys_step, told}
 use Rattle.da_system.proofs.RunLemmas.{prints_turn}
 use Rattle.da_system.proofs.WorldLemmas.{class_prints, no_letter, not_set_up, world_at, worlds-numbered, worlds-put}
 
@@ -120,11 +119,6 @@ module _ (program : Program) (ps : List Process) (p : ℕ) where
       inside : (n : ℕ) → numbered ps n ≡ Some process → n - 1 < length ps
       inside zero there = absurd (false≢true (ap is_some there))
       inside (suc place) there = omega (arith, slice_get_within ps place process there)
-
-  -- WHAT IS TOLD
-
-  pub told_missing : (tell : Data → List Action) → numbered ps p ≡ None → told s (numbered s.worlds p) tell ≡ None
-  told_missing tell none = ap (λ (o : Option World). told s o tell) (worlds-numbered program ps p ∙ ap (option_map (world_at program p)) none)
 
 -- NO LETTER, so none arrives, is lost or doubled
 
@@ -215,75 +209,44 @@ made program ps ps2 p class start process old new prints can moves put =
 
 -- A CLASS THAT PRINTS HAS NOTHING TO TELL
 
-module _ where
-  abbrev kind_gens : ItemKind → Gens
-  kind_gens = fold-ItemKind Gens Gens Gens Gens kind_gens_step alt_gens_step item_gens_step branch_gens_step
+abbrev kind_gens : ItemKind → Gens
+kind_gens = fold-ItemKind Gens Gens Gens Gens kind_gens_step alt_gens_step item_gens_step branch_gens_step
 
-  layer_none : (layer : ItemKind-F ItemKind Alt Item RBranch) → PrintsLayer layer
-      → kind_gens_step (map-ItemKind ItemKind Alt Item RBranch Gens Gens Gens Gens kind_gens
-      (fold-Alt Gens Gens Gens Gens kind_gens_step alt_gens_step item_gens_step branch_gens_step) item_gens
-      (fold-RBranch Gens Gens Gens Gens kind_gens_step alt_gens_step item_gens_step branch_gens_step) layer) ≡ []
-  layer_none (Output e) prints = refl
-  layer_none Label prints = refl
-  layer_none Pass prints = refl
-  layer_none _ prints = absurd prints
+layer_none : (layer : ItemKind-F ItemKind Alt Item RBranch) → PrintsLayer layer
+    → kind_gens_step (map-ItemKind ItemKind Alt Item RBranch Gens Gens Gens Gens kind_gens
+    (fold-Alt Gens Gens Gens Gens kind_gens_step alt_gens_step item_gens_step branch_gens_step) item_gens
+    (fold-RBranch Gens Gens Gens Gens kind_gens_step alt_gens_step item_gens_step branch_gens_step) layer) ≡ []
+layer_none (Output e) prints = refl
+layer_none Label prints = refl
+layer_none Pass prints = refl
+layer_none _ prints = absurd prints
 
-  item_none : (i : Item) → Prints i → item_gens i ≡ []
-  item_none i prints =
-      fold_out-Item Gens Gens Gens Gens kind_gens_step alt_gens_step item_gens_step branch_gens_step i
-      ∙ fold_out-ItemKind Gens Gens Gens Gens kind_gens_step alt_gens_step item_gens_step branch_gens_step (out-Item i).kind
-      ∙ layer_none (kind_of i) prints
+item_none : (i : Item) → Prints i → item_gens i ≡ []
+item_none i prints =
+    fold_out-Item Gens Gens Gens Gens kind_gens_step alt_gens_step item_gens_step branch_gens_step i
+    ∙ fold_out-ItemKind Gens Gens Gens Gens kind_gens_step alt_gens_step item_gens_step branch_gens_step (out-Item i).kind
+    ∙ layer_none (kind_of i) prints
 
-  items_none : (items : List Item) → AllByRecursion Prints items → flat_map item_gens items ≡ []
-  items_none [] all = refl
-  items_none (i ∷ is) all = ap (λ (gens : Gens). gens ++ flat_map item_gens is) (item_none i all.0) ∙ items_none is all.1
+items_none : (items : List Item) → AllByRecursion Prints items → flat_map item_gens items ≡ []
+items_none [] all = refl
+items_none (i ∷ is) all = ap (λ (gens : Gens). gens ++ flat_map item_gens is) (item_none i all.0) ∙ items_none is all.1
 
 no_gens : (class : Class) → ClassPrints class → class_gens class ≡ []
 no_gens class prints = rw (prints.queries, prints.handlers) (append-nil (flat_map item_gens class.run) ∙ items_none class.run prints.run)
-
-no_answers : (p : ℕ) (found : Option Class) (d : Data) → IfSome found ClassPrints → answers_of p found d ≡ []
-no_answers p None d prints = refl
-no_answers p (Some class) d prints = ap (λ (queries : List Query). answers p queries d) prints.queries
 
 none_kept : (found : Option Class) (d : Data) → IfSome found ClassPrints → kept_of found d ≡ 0
 none_kept None d prints = refl
 none_kept (Some class) d prints =
     ap (λ (gens : Gens). sum (map (λ (p : LivePattern). length (live_rows p d)) (once (map live_gen (filter (λ (g : RGen). is_history g.source) gens))))) (no_gens class prints)
 
-told-there : (s : SystemState) (o : Option World) (tell : Data → List Action) → is_some (told s o tell) ≡ is_some o
-told-there s None tell = refl
-told-there s (Some world) tell = refl
-
 tells_all : (s : SystemState) (o : Option World) (tell : Data → List Action) (actions : List Action) → is_some o ≡ true → ((d : Data) → tell d ≡ actions) → told s o tell ≡ Some (record { state = s; actions = actions })
 tells_all s None tell actions there same = absurd (false≢true there)
 tells_all s (Some world) tell actions there same = ap (λ (told' : List Action). Some (record { state = s; actions = told' })) (same world.data')
 
-tells_not : (s : SystemState) (o : Option World) (tell : Data → List Action) → is_some o ≡ false → told s o tell ≡ None
-tells_not s None tell missing = refl
-tells_not s (Some world) tell missing = absurd (false≢true (sym missing))
-
-module _ (program : Program) (ps : List Process) (p : ℕ) where
-  abbrev worlds : List World
-  worlds = worlds_from program 1 ps
-
-  pub show-there : is_some (sys_step program (state_in program ps) (event.Show p)) ≡ is_some (numbered worlds p)
-  show-there = told-there (state_in program ps) (numbered worlds p) _
-
-  pub stat-there : is_some (sys_step program (state_in program ps) (event.Stat p)) ≡ is_some (numbered worlds p)
-  stat-there = told-there (state_in program ps) (numbered worlds p) _
-
-  pub shows : PrintsOnly program → is_some (numbered worlds p) ≡ true → Tells program (state_in program ps) (event.Show p) []
-  shows prints there = tells_all (state_in program ps) (numbered worlds p) _ [] there (λ d. no_answers p (class_of program p) d (class_prints program p prints))
-
-  pub stats : PrintsOnly program → is_some (numbered worlds p) ≡ true → Tells program (state_in program ps) (event.Stat p) (Kept p 0 ∷ [])
-  stats prints there =
-      tells_all (state_in program ps) (numbered worlds p) _ (Kept p 0 ∷ []) there (λ d. ap (λ n. Kept p n ∷ []) (none_kept (class_of program p) d (class_prints program p prints)))
-
-  pub show_missing : is_some (numbered worlds p) ≡ false → sys_step program (state_in program ps) (event.Show p) ≡ None
-  show_missing missing = tells_not (state_in program ps) (numbered worlds p) _ missing
-
-  pub stat_missing : is_some (numbered worlds p) ≡ false → sys_step program (state_in program ps) (event.Stat p) ≡ None
-  stat_missing missing = tells_not (state_in program ps) (numbered worlds p) _ missing
+pub stats : (program : Program) (ps : List Process) (p : ℕ) → PrintsOnly program → is_some (numbered (worlds_from program 1 ps) p) ≡ true → Tells program (state_in program ps) (event.Stat p) (Kept p 0 ∷ [])
+stats program ps p prints there =
+    tells_all (state_in program ps) (numbered (worlds_from program 1 ps) p) _ (Kept p 0 ∷ []) there
+    (λ d. ap (λ n. Kept p n ∷ []) (none_kept (class_of program p) d (class_prints program p prints)))
 
 -- what is not allowed is not enabled
 pub not_enabled : {A : Type 0} {o : Option A} → o ≡ None → (IsTrue false → IsSome o) × (IsSome o → IsTrue false)

@@ -4,15 +4,12 @@ use Rattle.da_values.specs.declared.val.Val.{Val}
 use Rattle.da_values.specs.declared.val.Val.TheVariants as val
 use Rattle.da_values.specs.declared.value.Value.{Value}
 use Rattle.da_values.specs.declared.value.Value.TheVariants as literal
-use Rattle.da_lang.specs.declared.event.Action.{Action}
-use Rattle.da_lang.specs.declared.event.Action.TheVariants.{Again, Answer, Got, Kept, Lost, Out, Sent}
+use Rattle.da_lang.specs.declared.event.Action.TheVariants.{Again, Answer, Got, Kept, Lost, Out, Sent, Stop}
 use Rattle.da_lang.specs.declared.event.Event.{Event}
-use Rattle.da_lang.specs.declared.event.Event.TheVariants.{Move, Take, Deliver, Lose, Repeat, Show, Stat}
+use Rattle.da_lang.specs.declared.event.Event.TheVariants.{Deliver, Lose, Repeat, Show, Stat}
 use Rattle.da_lang.specs.declared.program.Class.{Class}
 use Rattle.da_lang.specs.declared.program.Item.{Item, roll-Item}
 use Rattle.da_lang.specs.declared.program.ItemKind.TheVariants as it
-use Rattle.da_lang.specs.declared.program.Phase.{Phase}
-use Rattle.da_lang.specs.declared.program.Phase.TheVariants.{New, Waiting, Ended, Faulted}
 use Rattle.da_lang.specs.declared.program.Program.{Program}
 use Rattle.da_lang.specs.declared.query.Pattern.TheVariants.{Any, Bind, Const, Tuple}
 use Rattle.da_lang.specs.declared.query.Query.TheVariants as query
@@ -20,9 +17,9 @@ use Rattle.da_lang.specs.declared.query.Source.TheVariants as source
 use Rattle.da_lang.specs.declared.ty.ChannelKind.{ChannelKind}
 use Rattle.da_lang.specs.declared.ty.ChannelKind.TheVariants.{FifoReliable, UnorderedReliable, FifoUnreliable, UnorderedUnreliable}
 use Rattle.da_lang.specs.Turns.{last_time}
-use Rattle.da_lang.specs.World.{Data, Do, Entry, World, opening}
+use Rattle.da_lang.specs.World.{Data, Do, Entry, Phase, World, opening, New, Waiting, Ended}
 use Rattle.da_lang.proofs.LiveLaws.{living}
-use Rattle.da_lang.proofs.StepExamples.{stepping}
+use Rattle.da_lang.proofs.Computing.{stepping}
 use Rattle.da_system.specs.Channels.{Channels, Letter, after_actions, no_letters}
 use Rattle.da_system.specs.SourceRun.{src_run}
 use Rattle.da_system.specs.SystemStep.{After, SystemState, start, sys_step}
@@ -166,7 +163,7 @@ abbrev taught : SystemState
 taught = system UnorderedUnreliable [] (second Waiting (knows (entry 7 1 1 ∷ entry 6 1 3 ∷ entry 7 1 1 ∷ []) 5))
 
 shows : sys_step (program UnorderedUnreliable) taught (Show 2) ≡ Some (record { state = taught; actions = Answer 2 1 (val.Tuple (num 6 ∷ []) ∷ val.Tuple (num 7 ∷ []) ∷ []) ∷ [] })
-shows = simp (stepping, living)
+shows = simp stepping
 
 keeps : sys_step (program UnorderedUnreliable) taught (Stat 2) ≡ Some (record { state = taught; actions = Kept 2 2 ∷ [] })
 keeps = simp living
@@ -184,3 +181,11 @@ keeps_no_third = refl
 
 sends : after_actions (no_letters 2) (Sent 1 1 1 (kept_note 7) ∷ Out 1 (kept_note 5) ∷ Sent 1 2 2 (kept_note 7) ∷ Sent 1 2 3 (kept_note 8) ∷ []) ≡ ((letter 7 1 ∷ []) ∷ (letter 7 2 ∷ letter 8 3 ∷ []) ∷ []) ∷ ([] ∷ [] ∷ []) ∷ []
 sends = refl
+
+-- A RUN, which stops at the first event that is not allowed
+
+stops : src_run (program UnorderedReliable) (Show 1 ∷ Lose 1 2 1 ∷ Show 2 ∷ []) ≡ Answer 1 1 [] ∷ Stop 2 ∷ []
+stops = refl
+
+runs_to_its_end : src_run (program UnorderedReliable) (Stat 1 ∷ Show 2 ∷ []) ≡ Kept 1 0 ∷ Answer 2 1 [] ∷ []
+runs_to_its_end = simp living

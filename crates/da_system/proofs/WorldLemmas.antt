@@ -1,11 +1,10 @@
 -- The worlds and channels of processes that do no more than print.
-use Rattle.std.proofs.Common.{◌≡◌, refl, sym, ◌∙◌, ap, subst, ℕ, zero, suc, ◌+◌, ◌-◌, ◌<◌, ◌≤◌, true, List, [], ◌∷◌, ◌++◌, length, map, set, replicate, arith, add-one}
-use Rattle.std.specs.Prelude.{Option, Some, None, IfSome, slice_get, is_some, if◌then◌else◌}
+use Rattle.std.proofs.Common.{◌≡◌, refl, sym, ◌∙◌, ap, ℕ, zero, suc, ◌+◌, ◌-◌, ◌<◌, ◌≤◌, true, List, [], ◌∷◌, length, map, set, replicate, arith}
+use Rattle.std.specs.Prelude.{Option, Some, None, IfSome, slice_get, is_some}
 use Rattle.std.specs.List.{AllByRecursion, range_with_len}
 use Rattle.std.specs.Option.{option_map}
 use Rattle.std.proofs.lemmas.Bool.{false≢true}
 use Rattle.std.proofs.lemmas.Option.{slice_get_within}
-use Rattle.da_lang.specs.declared.program.Class.{Class}
 use Rattle.da_lang.specs.declared.program.ProcDecl.{ProcDecl}
 use Rattle.da_lang.specs.declared.program.Program.{Program}
 use Rattle.da_lang.specs.Steps.{setup_of_decl}
@@ -16,7 +15,7 @@ use Rattle.da_system.specs.Channels.{Letter, channel, no_letters, or_empty, put_
 use Rattle.da_system.specs.Place.{world_of}
 use Rattle.da_system.specs.Printing.{ClassPrints, PrintsOnly}
 use Rattle.da_system.specs.State.{run_of, worlds_from}
-use Rattle.da_system.specs.SystemStep.{start, numbers_to}
+use Rattle.da_system.specs.SystemStep.{numbers_to}
 
 -- the world of the process of this number
 abbrev pub world_at : Program → ℕ → Process → World
@@ -70,7 +69,7 @@ all_get P [] k all = tt
 all_get P (x ∷ xs) zero all = all.0
 all_get P (x ∷ xs) (suc k) all = all_get P xs k all.1
 
-all_numbered : {A : Type 0} (P : A → Type 0) (xs : List A) (n : ℕ) → AllByRecursion P xs → IfSome (numbered xs n) P
+pub all_numbered : {A : Type 0} (P : A → Type 0) (xs : List A) (n : ℕ) → AllByRecursion P xs → IfSome (numbered xs n) P
 all_numbered P xs zero all = tt
 all_numbered P xs (suc k) all = all_get P xs k all
 
@@ -99,7 +98,7 @@ numbered_row : {A : Type 0} (n : ℕ) (row : List A) (k : ℕ) (P : List A → T
 numbered_row n row zero P none some = none
 numbered_row n row (suc k) P none some = row_of n row k P none some
 
-numbered_none : {A : Type 0} (k : ℕ) → numbered {A = A} [] k ≡ None
+pub numbered_none : {A : Type 0} (k : ℕ) → numbered {A = A} [] k ≡ None
 numbered_none zero = refl
 numbered_none (suc k) = refl
 

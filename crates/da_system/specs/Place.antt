@@ -3,7 +3,7 @@ use Rattle.std.specs.Prelude.{◌≡◌, ℕ, ◌≤◌, List, [], ◌++◌, map
 use Rattle.da_lang.specs.declared.event.Action.{Action}
 use Rattle.da_lang.specs.declared.program.Class.{Class}
 use Rattle.da_lang.specs.declared.program.Item.{Item}
-use Rattle.da_lang.specs.declared.program.Phase.TheVariants as phase
+use Rattle.da_lang.specs.World as phase
 use Rattle.da_lang.specs.declared.program.Program.{Program}
 use Rattle.da_lang.specs.Runs.{Ran, run_to_yield}
 use Rattle.da_lang.specs.Steps.{Go, Stepped, class_step, closing, moved, phase_after, setup_of_decl}
@@ -48,9 +48,9 @@ pub record IsStart (class : Class) (process : Process) (start : Start) : Type 0 
   pub early : start.turns ≤ 1
   pub moves : (program : Program) (d : Data) → setup_of_decl (numbered program.procs d.me) ≡ None → move_of program class d process ≡ Some (move_at class d start)
 
--- it is so whatever process `me` knows
-abbrev pub Whatever : ℕ → (Data → Type 0) → Type 0
-Whatever me P = (d : Data) → d.me ≡ me → P d
+-- it holds whatever process `me` knows
+abbrev pub WhateverKnown : ℕ → (Data → Type 0) → Type 0
+WhateverKnown me P = (d : Data) → d.me ≡ me → P d
 
 -- a run from the start led to the process, and added its actions
 pub record Runs (class : Class) (d : Data) (start : Start) (process : Process) (old new : List Action) : Type 0 where

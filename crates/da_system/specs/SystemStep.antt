@@ -1,5 +1,5 @@
 -- The step of a system: what each event does, and where it is not allowed.
-use Rattle.std.specs.Prelude.{◌≡◌, ℕ, ◌+◌, if◌then◌else◌, List, [], ◌∷◌, ◌++◌, map, length, Option, Some, None}
+use Rattle.std.specs.Prelude.{◌≡◌, ℕ, if◌then◌else◌, List, [], ◌∷◌, ◌++◌, map, length, Option, Some, None}
 use Rattle.std.specs.List.{range_with_len}
 use Rattle.da_lang.specs.declared.event.Action.{Action}
 use Rattle.da_lang.specs.declared.event.Action.TheVariants.{Again, Answer, Kept, Lost}
@@ -110,7 +110,8 @@ show program s p = told s (numbered s.worlds p) (answers_of p (class_of program 
 abbrev pub stat : Program → SystemState → ℕ → Option After
 stat program s p = told s (numbered s.worlds p) (λ d. Kept p (kept_of (class_of program p) d) ∷ [])
 
--- THE STEP OF AN EVENT, or none where it is not allowed. No `await` has an alternative of number 0.
+-- THE STEP OF AN EVENT, or none where it is not allowed. Alternatives are numbered from 1, so there is none to take by the
+-- number 0.
 abbrev pub sys_step : Program → SystemState → Event → Option After
 sys_step program s (event.Move p) = process_step program s p Go
 sys_step program s (event.Take p k) = process_step program s p (Take k)

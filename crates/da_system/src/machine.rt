@@ -1,7 +1,7 @@
 //! A run through the statements of a class that does no more than print.
 ghost use Rattle.da_lang.specs.Runs.{kind_yields};
 ghost use Rattle.da_lang.specs.declared.program.ItemKind.TheViews.{out-ItemKind};
-ghost use Rattle.da_system.specs.Place.{IsStart, IsStuck, Moves, Runs, Whatever};
+ghost use Rattle.da_system.specs.Place.{IsStart, IsStuck, Moves, Runs, WhateverKnown};
 ghost use Rattle.da_system.specs.Printing.{Prints, fixed_value, printed_layer};
 ghost use Rattle.std.specs.List.{AllByRecursion};
 ghost use Rattle.std.specs.Prelude.{◌≡◌, ◌++◌, ◌≤◌, IfOk, MatchOption, OnOk};
@@ -52,7 +52,7 @@ pub fn move_from(
 ) -> Result<Process, NoMemory>
     requires early { start.turns ≤ 1000000 }
     requires prints { AllByRecursion Prints class.now.run }
-    ensures { IfOk result (λ process. Whatever me (λ d. Moves class.now d start process out.old out.new)) }
+    ensures { IfOk result (λ process. WhateverKnown me (λ d. Moves class.now d start process out.old out.new)) }
 {
     out.push(Action::Took { p: me, k: 0 })?;
     run_items(alloc, class, me, start, out)
@@ -68,7 +68,7 @@ fn run_items(
 ) -> Result<Process, NoMemory>
     requires early { start.turns ≤ 1000000 }
     requires prints { AllByRecursion Prints class.now.run }
-    ensures { IfOk result (λ process. Whatever me (λ d. Runs class.now d start process out.old out.new)) }
+    ensures { IfOk result (λ process. WhateverKnown me (λ d. Runs class.now d start process out.old out.new)) }
 {
     let items = class.run.as_slice();
     let mut place = start.place;

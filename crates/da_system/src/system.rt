@@ -44,8 +44,8 @@ pub struct System<'p> {
 }
 
 impl<'p> System<'p> {
-    /// The system before any event. The program has fewer than 65,536 processes. Until the machine for all statements
-    /// is there, it does no more than print.
+    /// The system before any event. The program has fewer than 65,536 processes, and does no more than print: that much
+    /// is asked until the machine for all statements is there.
     pub fn new(alloc: Global, program: &'p Program) -> Result<System<'p>, NoMemory>
         requires few { IsNumbered program.now }
         requires prints { PrintsOnly program.now }

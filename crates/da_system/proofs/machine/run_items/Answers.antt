@@ -1,5 +1,5 @@
 use Rattle.std.proofs.Common.{◌<◌, arith, sym}
-use Rattle.da_system.proofs.RunLemmas.{yields_here, faults_here, came_on, came_start, ends_here}
+use Rattle.da_system.proofs.RunLemmas.{yields_here, faults_here, came_on, ends_here}
 use Rattle.da_system.proofs.machine.run_items.Goals as goal
 
 pub returns-then-is_yield : goal.returns-then-is_yield

@@ -1,7 +1,6 @@
 use Rattle.std.proofs.Common.{◌≡◌, ap, arith, length, List}
 use Rattle.std.proofs.lemmas.List.{length-replicate}
 use Rattle.da_lang.specs.World.{World}
-use Rattle.da_system.specs.declared.process.Process.TheVariants.{New}
 use Rattle.da_system.specs.Channels.{no_letters}
 use Rattle.da_system.specs.SystemStep.{SystemState}
 use Rattle.da_system.proofs.WorldLemmas.{opened}

@@ -1,4 +1,4 @@
-use Rattle.std.proofs.Common.{◌^◌, ◌<◌, ◌≤◌, ◌∷◌, [], arith, length, sym}
+use Rattle.std.proofs.Common.{◌<◌, ◌≤◌, ◌∷◌, [], arith, length, sym}
 use Rattle.da_lang.specs.declared.event.Action.TheVariants.{Kept}
 use Rattle.da_system.proofs.StepLemmas.{stats}
 use Rattle.da_system.proofs.WorldLemmas.{within}
