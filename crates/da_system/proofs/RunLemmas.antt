@@ -23,11 +23,7 @@ use Rattle.da_lang.specs.declared.program.RExpr.TheViews.{out-RExpr}
 use Rattle.da_lang.specs.Arithmetic.{Outcome}
 use Rattle.da_lang.proofs.EvaluationLaws.{eval_at}
 use Rattle.da_lang.specs.Evaluation.{eval}
-<<<<<<< HEAD
-use Rattle.da_lang.proofs.RunLaws.{run_goes, run_to_yield_end, run_to_yield_late, run_to_yield_yield, turn_kind}
-=======
-use Rattle.da_lang.specs.RunLaws.{run_goes, run_to_yield_end, run_to_yield_late, run_to_yield_yield}
->>>>>>> 784ab162be5c724144525d419282075dfa7061c8
+use Rattle.da_lang.proofs.RunLaws.{run_goes, run_to_yield_end, run_to_yield_late, run_to_yield_yield}
 use Rattle.da_lang.specs.Runs.{AtYield, UsedUp, Faults, Ran, behind, max_turns, run_to_yield, stopped, yields}
 use Rattle.da_lang.specs.Steps.{closing}
 use Rattle.da_lang.specs.Turns.{kind_of, kind_turn, line_of, turn, with_outcome, output}
