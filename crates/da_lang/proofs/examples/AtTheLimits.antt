@@ -1,5 +1,5 @@
 -- Trees at the limits and one past them. Long lists are counted by laws.
-use Rattle.std.specs.Prelude.{◌≡◌, refl, ℕ, zero, suc, ◌+◌, pos, Bool, true, false, nat_lt, ◌||◌, max, List, [], ◌∷◌, ◌++◌, map, length, sum, replicate, codes, Some, None}
+use Rattle.std.specs.Prelude.{◌≡◌, refl, ℕ, zero, suc, ◌+◌, pos, Bool, true, false, nat_lt, ◌||◌, max, List, [], ◌∷◌, ◌++◌, map, length, sum, replicate, codes, Option, Some, None}
 use Rattle.std.specs.List.{list_any}
 use Rattle.std.proofs.Common.{◌∙◌, ap, arith}
 use Rattle.std.proofs.Math.Nat.{max-zero, zero-max}
@@ -27,9 +27,9 @@ use Rattle.da_lang.specs.declared.tree.SourceTree.TheVariants as source
 use Rattle.da_lang.specs.declared.tree.Stmt.{Stmt}
 use Rattle.da_lang.specs.declared.tree.Stmt.TheVariants as stmt
 use Rattle.da_lang.specs.declared.ty.Ty.TheVariants as ty
-use Rattle.da_lang.specs.BodyMeaning.{Copy, Stating, Behind, block, class_slots, copies, stating}
+use Rattle.da_lang.specs.BodyMeaning.{Copy, Stating, Behind, block, class_slots, copies, copy_of, item_at, stating}
 use Rattle.da_lang.specs.Calls.{leads_within}
-use Rattle.da_lang.specs.ClassParts.{bodies_where, is_handler}
+use Rattle.da_lang.specs.ClassParts.{InMethod, Body, bodies_where, is_handler, method_of}
 use Rattle.da_lang.specs.Deeds.{Deed}
 use Rattle.da_lang.specs.ExprMeaning.{Meaning, Tables, meant}
 use Rattle.da_lang.specs.Limits.{parts_in_message, wide, has_query, reached_deeds, block_depth, blocks_over, class_blocks, class_items, classes_over, generators_over, item_count, item_depth, items_over, limit_fault, limit_refusals, line_if, most_blocks, most_classes, most_generators, most_items, most_parts, most_processes, most_variables, variables_over, wide_exprs}
@@ -40,7 +40,7 @@ use Rattle.da_lang.proofs.Computing.{finding, resolving}
 use Rattle.da_lang.proofs.CountsAt.{counting, measuring_depth}
 use Rattle.da_lang.proofs.DeedsAt.{deeds_of-Pass}
 use Rattle.da_lang.proofs.MeantAt.{meaning}
-use Rattle.da_lang.proofs.StatingAt.{stating-Pass, stating-While}
+use Rattle.da_lang.proofs.StatingAt.{stating-Call, stating-Pass, stating-While}
 use Rattle.da_lang.proofs.typing.TypesAt.{type_width-Int}
 use Rattle.da_lang.proofs.WritingAt.{writing-Int, writing-Tuple, written}
 use Rattle.da_lang.proofs.examples.NameExamples.{tree_of, run}
@@ -102,48 +102,100 @@ one_statement_more : items_over (class_of (replicate 16385 (stmt.Pass 6))) ≡ 1
 unfolding most_items
 one_statement_more = ap (λ k. line_if (nat_lt most_items k) 1) (items_are 16385)
 
--- BLOCKS: `pass` in n blocks of `while true` in the block of `run`
+-- BLOCKS: `run` calls f within 30 blocks of `while true`, f calls g within 30 such blocks, and g has n of them round `pass`
 
-abbrev nest : ℕ → Stmt
-nest zero = stmt.Pass 6
-nest (suc n) = stmt.While (ex.Truth true) (nest n ∷ []) 6
+abbrev nest : Stmt → ℕ → Stmt
+nest s zero = s
+nest s (suc n) = stmt.While (ex.Truth true) (nest s n ∷ []) 6
 
-abbrev nested : ℕ → Item
-nested zero = pass
-nested (suc n) = roll-Item (record { line = 6; kind = it.While (re.Const (kept.Bool true)) (nested n ∷ []) })
+abbrev nested : Item → ℕ → Item
+nested i zero = i
+nested i (suc n) = roll-Item (record { line = 6; kind = it.While (re.Const (kept.Bool true)) (nested i n ∷ []) })
 
-nest_meant : (copy : Copy) (n : ℕ) (scope : Scope Meaning) (tables : Tables) → stating copy (nest n) scope tables ≡ record { item = nested n; scope = scope; tables = tables }
-nest_meant copy zero scope tables = ap (λ (s : Stating). s scope tables) (stating-Pass copy 6)
-nest_meant copy (suc n) scope tables =
-    ap (λ (s : Stating). s scope tables) (stating-While copy (ex.Truth true) (nest n ∷ []) 6)
-    ∙ simp meaning (rw (nest_meant copy n scope tables) refl)
+abbrev calls : List ℕ → Stmt
+calls name = stmt.Call name [] 6
 
-nested_depth : (n : ℕ) → item_depth (nested n) ≡ n
-nested_depth zero = simp measuring_depth
-nested_depth (suc n) = simp measuring_depth (rw (nested_depth n) (ap suc (max-zero n)))
+abbrev call : Item → Item
+call i = roll-Item (record { line = 6; kind = it.Call [] (i ∷ []) })
 
-nest_resolved : (n : ℕ) → resolved_class (class_of (nest n ∷ [])) ≡ with_items (nested n ∷ [])
+-- a statement that needs no slot and no query becomes this
+abbrev Means : Copy → Stmt → Item → Type 0
+Means copy s i = (scope : Scope Meaning) → stating copy s scope no_tables ≡ record { item = i; scope = scope; tables = no_tables }
+
+nest_means : (copy : Copy) (s : Stmt) (i : Item) → Means copy s i → (n : ℕ) → Means copy (nest s n) (nested i n)
+nest_means copy s i means zero scope = means scope
+nest_means copy s i means (suc n) scope =
+    ap (λ (made : Stating). made scope no_tables) (stating-While copy (ex.Truth true) (nest s n ∷ []) 6) ∙ simp meaning (rw (nest_means copy s i means n scope) refl)
+
+pass_means : (copy : Copy) → Means copy (stmt.Pass 6) pass
+pass_means copy scope = ap (λ (made : Stating). made scope no_tables) (stating-Pass copy 6)
+
+abbrev copied : Copy → ClassTree → Scope Meaning → Option Body → Behind
+copied inner c scope method = let kind = copy_of inner c method [] no_tables in record { item = item_at 6 kind.0; scope = scope; tables = kind.1 }
+
+call_means : (c : ClassTree) (most : ℕ) (name : List ℕ) (s : Stmt) (i : Item) → method_of c name ≡ Some (record { place = InMethod name; params = []; stmts = s ∷ []; line = 7 }) → Means (copies most c) s i → Means (copies (suc most) c) (calls name) (call i)
+unfolding copies
+call_means c most name s i is means scope =
+    ap (λ (made : Stating). made scope no_tables) (stating-Call (copies (suc most) c) name [] 6)
+    ∙ ap (copied (copies most c) c scope) is
+    ∙ ap (λ (first : Behind). record { item = item_at 6 (it.Call [] (first.item ∷ [])); scope = scope; tables = first.tables }) (means (class_slots c))
+
+abbrev chain : ℕ → ClassTree
+chain n = record (class_of []) {
+  members =
+      run (nest (calls (codes "f")) 30 ∷ [])
+      ∷ member.Method (codes "f") [] (nest (calls (codes "g")) 30 ∷ []) 7
+      ∷ member.Method (codes "g") [] (nest (stmt.Pass 6) n ∷ []) 7 ∷ [];
+}
+
+abbrev in_g : ℕ → Item
+in_g n = nested pass n
+
+abbrev in_f : ℕ → Item
+in_f n = nested (call (in_g n)) 30
+
+abbrev in_run : ℕ → Item
+in_run n = nested (call (in_f n)) 30
+
+g_means : (n : ℕ) → Means (copies 2 (chain n)) (calls (codes "g")) (call (in_g n))
+g_means n = call_means (chain n) 1 (codes "g") (nest (stmt.Pass 6) n) (in_g n) refl (nest_means (copies 1 (chain n)) (stmt.Pass 6) pass (pass_means (copies 1 (chain n))) n)
+
+f_means : (n : ℕ) → Means (copies 3 (chain n)) (calls (codes "f")) (call (in_f n))
+f_means n = call_means (chain n) 2 (codes "f") (nest (calls (codes "g")) 30) (in_f n) refl (nest_means (copies 2 (chain n)) (calls (codes "g")) (call (in_g n)) (g_means n) 30)
+
+chain_resolved : (n : ℕ) → resolved_class (chain n) ≡ with_items (in_run n ∷ [])
 unfolding resolved_class
-nest_resolved n =
+chain_resolved n =
     ap (λ (first : Behind). record (with_items (first.item ∷ [])) { slots = first.tables.slots; queries = first.tables.queries })
-    (nest_meant (copies 1 (class_of (nest n ∷ []))) n [] no_tables)
+    (nest_means (copies 3 (chain n)) (calls (codes "f")) (call (in_f n)) (f_means n) 30 [])
 
-blocks_are : (n : ℕ) → class_blocks (resolved_class (class_of (nest n ∷ []))) ≡ suc n
+nested_depth : (i : Item) (n : ℕ) → item_depth (nested i n) ≡ n + item_depth i
+nested_depth i zero = omega arith
+nested_depth i (suc n) = simp measuring_depth (rw (nested_depth i n) (ap suc (max-zero (n + item_depth i)) ∙ omega arith))
+
+call_depth : (i : Item) → item_depth (call i) ≡ 1 + item_depth i
+call_depth i = simp measuring_depth (ap suc (max-zero (item_depth i)) ∙ omega arith)
+
+run_depth : (n : ℕ) → item_depth (in_run n) ≡ 62 + n
+run_depth n =
+    let in_pass : item_depth pass ≡ 0 = simp measuring_depth in
+    let g : item_depth (in_g n) ≡ n = nested_depth pass n ∙ ap (λ k. n + k) in_pass ∙ omega arith in
+    let f : item_depth (in_f n) ≡ 31 + n = nested_depth (call (in_g n)) 30 ∙ ap (λ k. 30 + k) (call_depth (in_g n) ∙ ap (λ k. 1 + k) g) ∙ omega arith in
+    nested_depth (call (in_f n)) 30 ∙ ap (λ k. 30 + k) (call_depth (in_f n) ∙ ap (λ k. 1 + k) f) ∙ omega arith
+
+blocks_are : (n : ℕ) → class_blocks (resolved_class (chain n)) ≡ 63 + n
 blocks_are n =
-    ap class_blocks (nest_resolved n) ∙ ap (λ k. greatest (0 ∷ block_depth (k ∷ []) ∷ [])) (nested_depth n) ∙ zero-max (max (suc (max n 0)) 0) ∙ max-zero (suc (max n 0)) ∙ ap suc (max-zero n)
+    ap class_blocks (chain_resolved n)
+    ∙ ap (λ k. greatest (0 ∷ block_depth (k ∷ []) ∷ [])) (run_depth n)
+    ∙ zero-max (max (suc (max (62 + n) 0)) 0) ∙ max-zero (suc (max (62 + n) 0)) ∙ ap suc (max-zero (62 + n)) ∙ omega arith
 
-most_within : blocks_over (class_of (nest 63 ∷ [])) ≡ []
+most_within : blocks_over (chain 1) ≡ []
 unfolding most_blocks
-most_within = ap (λ k. line_if (nat_lt most_blocks k) 1) (blocks_are 63)
+most_within = ap (λ k. line_if (nat_lt most_blocks k) 1) (blocks_are 1)
 
-one_block_more : blocks_over (class_of (nest 64 ∷ [])) ≡ 1 ∷ []
+one_block_more : blocks_over (chain 2) ≡ 1 ∷ []
 unfolding most_blocks
-one_block_more = ap (λ k. line_if (nat_lt most_blocks k) 1) (blocks_are 64)
-
--- `run` calls f, which calls g: three blocks
-chain_of_methods : class_blocks (resolved_class (record (class_of []) { members = run (stmt.Call (codes "f") [] 6 ∷ []) ∷ member.Method (codes "f") [] (stmt.Call (codes "g") [] 8 ∷ []) 7 ∷ member.Method (codes "g") [] (stmt.Pass 10 ∷ []) 9 ∷ [] })) ≡ 3
-unfolding resolved_class copies
-chain_of_methods = simp (resolving, measuring_depth) refl
+one_block_more = ap (λ k. line_if (nat_lt most_blocks k) 1) (blocks_are 2)
 
 -- SLOTS: n variables, named a, aa, ..
 

@@ -119,3 +119,8 @@ largest = ap (λ len. send_if class 4 here [] (nat_le len max_packet) (note 5997
 one_byte_more : send class 4 here [] (note 59979) (1 ∷ []) ≡ failed class 4 here [] Message
 unfolding max_packet
 one_byte_more = ap (λ len. send_if class 4 here [] (nat_le len max_packet) (note 59979) (1 ∷ [])) (note_len 59979)
+
+-- to nobody it is too many as well
+one_byte_more_for_none : send class 4 here [] (note 59979) [] ≡ failed class 4 here [] Message
+unfolding max_packet
+one_byte_more_for_none = ap (λ len. send_if class 4 here [] (nat_le len max_packet) (note 59979) []) (note_len 59979)
