@@ -16,7 +16,7 @@ fault_word Range = codes "range"
 fault_word Message = codes "message"
 fault_word TooLong = codes "toolong"
 
--- the words of the line of an action
+-- the words of the line of an action; `sent` names the sender first, and `got` the recipient
 abbrev pub action_words : Action → List (List ℕ)
 action_words (Took p k) = codes "took" ∷ decimal p ∷ decimal k ∷ []
 action_words (Sent p q t v) = codes "sent" ∷ decimal p ∷ decimal q ∷ decimal t ∷ value_text (val_of v) ∷ []
