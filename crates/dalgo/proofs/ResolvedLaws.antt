@@ -1,5 +1,5 @@
 -- The program of a tree of the form that runs is the resolved program of the tree.
-use Rattle.std.proofs.Common.{◌≡◌, refl, ◌∙◌, ap, sym, ℕ, ℤ, length, Bool, true, false, List, [], ◌∷◌, ◌++◌, map, append-nil, arith, eqb-true, true≢false}
+use Rattle.std.proofs.Common.{◌≡◌, refl, ◌∙◌, ap, sym, ℕ, ℤ, length, Bool, true, false, List, [], ◌∷◌, map, arith, eqb-true, true≢false}
 use Rattle.std.specs.Option.{option_map}
 use Rattle.std.specs.Prelude.{Option, Some, None, ◌==◌, nat_le, if◌then◌else◌, position, unwrap_or}
 use Rattle.std.specs.Str.{bytes_eq}
@@ -102,9 +102,8 @@ unfolding resolved_class
 class_resolved name [] line items is = absurd (none_some items is)
 class_resolved name (member.Run body place ∷ []) line items is =
     let c : ClassTree = record { name = name; members = member.Run body place ∷ []; line = line } in
-    let whole : items_of (body ++ []) ≡ Some items = ap items_of (append-nil body) ∙ limited (nat_le (length body) most_outputs) (items_of body) items is in
     ap (λ (run : List Item × Tables). record { name = name; slots = run.1.slots; params = []; setup = []; run = run.0; handlers = []; queries = run.1.queries; line = line })
-    (block_states (copies 1 c) [] (record { slots = []; queries = [] }) (body ++ []) items whole)
+    (block_states (copies 1 c) [] (record { slots = []; queries = [] }) body items (limited (nat_le (length body) most_outputs) (items_of body) items is))
 class_resolved name _ line items is = absurd (none_some items is)
 
 -- the process is of the first class
