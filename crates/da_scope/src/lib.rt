@@ -1,0 +1,4 @@
+//! Names, calls and limits of a program: from its tree to its resolved form, or to the rule that refuses it.
+#![tactic(auto)]
+
+mod limits;

@@ -1,0 +1,2 @@
+//! Limits: the refusal of a program that passes one.
+mod extent;

@@ -1,0 +1,73 @@
+//! How large the inlined text of statements is.
+ghost use Rattle.da_scope.specs.Extents.{beside, capped, deeper, one, nothing, wider};
+ghost use Rattle.std.specs.Prelude.{◌≡◌};
+
+/// How large a text is with its calls inlined: its statements, its blocks within each other, and the slots that it
+/// adds. A number that does not fit stands at the greatest that does, which is above each limit.
+#[derive(Clone, Copy, Debug, PartialEq, Eq)]
+pub struct Extent {
+    pub items: u16,
+    pub blocks: u16,
+    pub slots: u16,
+}
+
+impl Extent {
+    /// No statements.
+    pub fn nothing() -> Extent
+        ensures { result ≡ nothing }
+    {
+        Extent {
+            items: 0,
+            blocks: 0,
+            slots: 0,
+        }
+    }
+
+    /// Two texts, one behind the other.
+    pub fn beside(self, other: Extent) -> Extent
+        ensures { result ≡ beside self other }
+    {
+        Extent {
+            items: self.items.saturating_add(other.items),
+            blocks: self.blocks.max(other.blocks),
+            slots: self.slots.saturating_add(other.slots),
+        }
+    }
+
+    /// A statement that holds this.
+    pub fn one(self) -> Extent
+        ensures { result ≡ one self }
+    {
+        Extent {
+            items: self.items.saturating_add(1),
+            ..self
+        }
+    }
+
+    /// A block of these statements.
+    pub fn deeper(self) -> Extent
+        ensures { result ≡ deeper self }
+    {
+        Extent {
+            blocks: self.blocks.saturating_add(1),
+            ..self
+        }
+    }
+
+    /// The same with so many slots besides.
+    pub fn wider(self, count: usize) -> Extent
+        ensures { result ≡ wider count self }
+    {
+        Extent {
+            slots: self.slots.saturating_add(capped(count)),
+            ..self
+        }
+    }
+}
+
+/// A number, or the greatest that fits.
+pub fn capped(number: usize) -> u16
+    ensures { result ≡ capped number }
+{
+    if number < 65_535 { number as u16 } else { u16::MAX }
+}
