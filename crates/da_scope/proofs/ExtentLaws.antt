@@ -30,7 +30,8 @@ use Rattle.da_lang.proofs.StatingAt.{stating_in-Assign, stating_in-Add, stating_
 use Rattle.da_lang.proofs.StmtInduction.{StmtCases, stmt_induction}
 use Rattle.da_scope.specs.declared.limits.extent.Extent.{Extent}
 use Rattle.da_scope.specs.Extents as size
-use Rattle.da_scope.specs.Extents.{Called, capped, nothing, beside, together, one, deeper, wider, as_block, extent, extent_of_branch}
+use Rattle.da_scope.specs.Capped.{capped}
+use Rattle.da_scope.specs.Extents.{Called, nothing, beside, together, one, deeper, wider, as_block, extent, extent_of_branch}
 use Rattle.da_scope.proofs.ExtentsAt.{extent-Assign, extent-Add, extent-Del, extent-Send, extent-Output, extent-Pass, extent-Label, extent-Call, extent-If, extent-While, extent-For, extent-AwaitOne, extent-Await, extent_of_branch-of}
 use Rattle.da_scope.proofs.SlotsKept.{slots_kept, all_slots_kept}
 

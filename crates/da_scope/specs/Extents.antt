@@ -1,6 +1,6 @@
 -- How large the inlined text of statements is, in numbers up to 65,535, where the extent of the copy of each method is
 -- given.
-use Rattle.std.specs.Prelude.{ℕ, zero, suc, ◌+◌, min, max, List, [], ◌∷◌, map, length, Option, Some, None}
+use Rattle.std.specs.Prelude.{ℕ, zero, suc, ◌+◌, max, List, [], ◌∷◌, map, length, Option, Some, None}
 use Rattle.std.specs.List.{fold}
 use Rattle.da_lang.specs.declared.tree.Branch.{Branch}
 use Rattle.da_lang.specs.declared.tree.ClassTree.{ClassTree}
@@ -11,11 +11,8 @@ use Rattle.da_lang.specs.declared.tree.TimeoutTree.{TimeoutTree}
 use Rattle.da_lang.specs.ClassParts.{Body, bodies_where, is_handler, method_of, run_of, setup_of, stmts_if, variables}
 use Rattle.da_lang.specs.ExprNames.{found_names}
 use Rattle.da_lang.specs.Resolution.{handler_binds}
+use Rattle.da_scope.specs.Capped.{capped}
 use Rattle.da_scope.specs.declared.limits.extent.Extent.{Extent}
-
--- a number, or the greatest that is counted
-abbrev pub capped : ℕ → ℕ
-capped n = min n 65535
 
 abbrev pub nothing : Extent
 nothing = record { items = 0; blocks = 0; slots = 0 }

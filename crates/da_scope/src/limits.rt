@@ -1,2 +1,5 @@
 //! Limits: the refusal of a program that passes one.
+mod bound;
 mod extent;
+mod numbers;
+mod written;

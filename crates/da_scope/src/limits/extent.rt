@@ -1,5 +1,5 @@
 //! How large the inlined text of statements is.
-ghost use Rattle.da_scope.specs.Extents.{beside, capped, deeper, one, nothing, wider};
+ghost use Rattle.da_scope.specs.Extents.{beside, deeper, one, nothing, wider};
 ghost use Rattle.std.specs.Prelude.{◌≡◌};
 
 /// How large a text is with its calls inlined: its statements, its blocks within each other, and the slots that it
@@ -55,19 +55,12 @@ impl Extent {
     }
 
     /// The same with so many slots besides.
-    pub fn wider(self, count: usize) -> Extent
+    pub fn wider(self, count: u16) -> Extent
         ensures { result ≡ wider count self }
     {
         Extent {
-            slots: self.slots.saturating_add(capped(count)),
+            slots: self.slots.saturating_add(count),
             ..self
         }
     }
-}
-
-/// A number, or the greatest that fits.
-pub fn capped(number: usize) -> u16
-    ensures { result ≡ capped number }
-{
-    if number < 65_535 { number as u16 } else { u16::MAX }
 }
