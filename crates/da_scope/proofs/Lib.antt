@@ -1,7 +1,9 @@
+pub mod BoundRules
 pub mod CappedSums
 pub mod ClassExtents
 pub mod ExtentLaws
 pub mod ExtentsAt
 pub mod SlotsKept
 pub mod Taken
+pub mod TypeWidths
 pub mod WritingRules

@@ -1,3 +1,4 @@
 pub mod Capped
+pub mod Bound
 pub mod Extents
 pub mod Writings

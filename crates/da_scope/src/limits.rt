@@ -2,4 +2,5 @@
 mod bound;
 mod extent;
 mod numbers;
+mod types;
 mod written;
