@@ -29,9 +29,8 @@ use Rattle.da_lang.proofs.CountsAt.{kind_counted-Assign, kind_counted-Add, kind_
 use Rattle.da_lang.proofs.StatingAt.{stating_in-Assign, stating_in-Add, stating_in-Del, stating_in-Send, stating_in-Output, stating_in-Pass, stating_in-Label, stating_in-Call, stating_in-If, stating_in-While, stating_in-For, stating_in-AwaitOne, stating_in-Await, guarding-of}
 use Rattle.da_lang.proofs.StmtInduction.{StmtCases, stmt_induction}
 use Rattle.da_scope.specs.declared.limits.extent.Extent.{Extent}
-use Rattle.da_scope.specs.Extents as size
 use Rattle.da_scope.specs.Capped.{capped}
-use Rattle.da_scope.specs.Extents.{Called, nothing, beside, together, one, deeper, wider, as_block, extent, extent_of_branch}
+use Rattle.da_scope.specs.Extents.{Called, nothing, beside, together, one, deeper, wider, as_block, else_extent, extent, extent_of_branch}
 use Rattle.da_scope.proofs.ExtentsAt.{extent-Assign, extent-Add, extent-Del, extent-Send, extent-Output, extent-Pass, extent-Label, extent-Call, extent-If, extent-While, extent-For, extent-AwaitOne, extent-Await, extent_of_branch-of}
 use Rattle.da_scope.proofs.SlotsKept.{slots_kept, all_slots_kept}
 
@@ -44,9 +43,11 @@ pub record Fits (e : Extent) (items blocks before after : ℕ) : Type 0 where
   pub grows : after ≡ before + grown
 
 pub nothing_fits : (n : ℕ) → Fits nothing 0 0 n n
+unfolding nothing
 nothing_fits n = record { grown = 0; items_are = refl; blocks_are = refl; slots_are = refl; grows = omega arith }
 
 pub beside_fits : (x y : Extent) (a b i j l m n : ℕ) → Fits x a i l m → Fits y b j m n → Fits (beside x y) (a + b) (max i j) l n
+unfolding beside
 beside_fits x y a b i j l m n first second = record {
   grown = first.grown + second.grown;
   items_are = omega (arith, first.items_are, second.items_are);
@@ -56,12 +57,15 @@ beside_fits x y a b i j l m n first second = record {
 }
 
 pub one_fits : (x : Extent) (a i l m : ℕ) → Fits x a i l m → Fits (one x) (suc a) i l m
+unfolding one
 one_fits x a i l m f = record { grown = f.grown; items_are = omega (arith, f.items_are); blocks_are = f.blocks_are; slots_are = f.slots_are; grows = f.grows }
 
 pub deeper_fits : (x : Extent) (a i l m : ℕ) → Fits x a i l m → Fits (deeper x) a (suc i) l m
+unfolding deeper
 deeper_fits x a i l m f = record { grown = f.grown; items_are = f.items_are; blocks_are = omega (arith, f.blocks_are); slots_are = f.slots_are; grows = f.grows }
 
 pub wider_fits : (x : Extent) (count a i l k m : ℕ) → k ≡ l + count → Fits x a i k m → Fits (wider count x) a i l m
+unfolding wider
 wider_fits x count a i l k m more f =
     record { grown = count + f.grown; items_are = f.items_are; blocks_are = f.blocks_are; slots_are = omega (arith, f.slots_are); grows = omega (arith, more, f.grows) }
 
@@ -94,6 +98,7 @@ module _ {A B C : Type 0} (pick : C → Becomes A) (part : B → C) (count depth
 
   pub parts_fit : (bs : List B) → AllByRecursion PartFits bs → (scope : Scope Meaning) (tables : Tables)
       → Fits (together (map size_of bs)) (sum (map count (Parts bs scope tables).0)) (greatest (map depth (Parts bs scope tables).0)) (length tables.slots) (length (Parts bs scope tables).1.slots)
+  unfolding together
   parts_fit bs fit scope tables = fits_as _ _ _ _ _ refl (omega arith) (omega arith) refl refl (parts_from bs fit nothing 0 0 (length tables.slots) scope tables (nothing_fits (length tables.slots)))
 
 -- the copies of methods are as large as is said
@@ -120,6 +125,7 @@ module _ (copy : Copy) (called : Called) (copied : Copies copy called) where
 
   block_fits : (ss : List Stmt) → AllByRecursion StmtFits ss → (scope : Scope Meaning) (tables : Tables)
       → Fits (as_block (map (extent called) ss)) (sum (map item_count (Block ss scope tables).0)) (block_depth (map item_depth (Block ss scope tables).0)) (length tables.slots) (length (Block ss scope tables).1.slots)
+  unfolding as_block together
   block_fits [] fit scope tables = nothing_fits (length tables.slots)
   block_fits (s ∷ ss) fit scope tables =
       deeper_fits _ _ _ _ _ (fits_as _ _ _ _ _ refl (omega arith) (omega arith) refl refl (stmts_from (s ∷ ss) fit nothing 0 0 (length tables.slots) scope tables (nothing_fits (length tables.slots))))
@@ -192,8 +198,9 @@ module _ (copy : Copy) (called : Called) (copied : Copies copy called) where
     )
 
   else_fits : (other : Option (List Stmt)) → Where (AllByRecursion StmtFits) other → (scope : Scope Meaning) (tables : Tables)
-      → Fits (size.block_if (option_map (map (extent called)) other)) (sum (map item_count (block_if (option_map (map (stating copy)) other) scope tables).0))
+      → Fits (else_extent (option_map (map (extent called)) other)) (sum (map item_count (block_if (option_map (map (stating copy)) other) scope tables).0))
         (block_depth (map item_depth (block_if (option_map (map (stating copy)) other) scope tables).0)) (length tables.slots) (length (block_if (option_map (map (stating copy)) other) scope tables).1.slots)
+  unfolding else_extent
   else_fits None fit scope tables = nothing_fits (length tables.slots)
   else_fits (Some ss) fit scope tables = block_fits ss fit scope tables
 
@@ -221,6 +228,7 @@ module _ (copy : Copy) (called : Called) (copied : Copies copy called) where
         (parts_fit (λ (g : Guarded). g.alt) (guarding copy) alt_counted alt_depth_of (extent_of_branch called) bs (seconds FitsAsBranch FitsAsAlt bs fit) scope tables))
 
   await_one_fits : (x : Expr) (line : ℕ) → StmtFits (stmt.AwaitOne x line)
+  unfolding nothing as_block
   await_one_fits x line =
       stmt_as _ _ _ (extent-AwaitOne called x line) (stating_in-AwaitOne copy x line) (λ scope tables.
         let alt = as_alt line x [] scope tables in

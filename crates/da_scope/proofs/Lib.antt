@@ -1,7 +1,12 @@
+pub mod CallMethods
+pub mod CallNames
+pub mod CallBounds
 pub mod BoundRules
 pub mod CappedSums
 pub mod ClassExtents
+pub mod CopiedAt
 pub mod ExtentLaws
+pub mod ExtentRules
 pub mod ExtentsAt
 pub mod SlotsKept
 pub mod Taken

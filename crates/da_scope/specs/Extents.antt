@@ -14,34 +14,34 @@ use Rattle.da_lang.specs.Resolution.{handler_binds}
 use Rattle.da_scope.specs.Capped.{capped}
 use Rattle.da_scope.specs.declared.limits.extent.Extent.{Extent}
 
-abbrev pub nothing : Extent
+unfoldable pub nothing : Extent
 nothing = record { items = 0; blocks = 0; slots = 0 }
 
 -- one text behind another
-abbrev pub beside : Extent → Extent → Extent
+unfoldable pub beside : Extent → Extent → Extent
 beside x y = record { items = capped (x.items + y.items); blocks = max x.blocks y.blocks; slots = capped (x.slots + y.slots) }
 
-abbrev pub together : List Extent → Extent
+unfoldable pub together : List Extent → Extent
 together xs = fold beside nothing xs
 
 -- a statement that holds this; a block of it; the same with so many slots besides
-abbrev pub one : Extent → Extent
+unfoldable pub one : Extent → Extent
 one x = record x { items = capped (x.items + 1) }
 
-abbrev pub deeper : Extent → Extent
+unfoldable pub deeper : Extent → Extent
 deeper x = record x { blocks = capped (x.blocks + 1) }
 
-abbrev pub wider : ℕ → Extent → Extent
+unfoldable pub wider : ℕ → Extent → Extent
 wider count x = record x { slots = capped (x.slots + count) }
 
 -- the statements of a block; no statements are no block
-abbrev pub as_block : List Extent → Extent
+unfoldable pub as_block : List Extent → Extent
 as_block [] = nothing
 as_block (x ∷ xs) = deeper (together (x ∷ xs))
 
-abbrev pub block_if : Option (List Extent) → Extent
-block_if None = nothing
-block_if (Some xs) = as_block xs
+unfoldable pub else_extent : Option (List Extent) → Extent
+else_extent None = nothing
+else_extent (Some xs) = as_block xs
 
 -- the extent of the copy of the method of a name
 abbrev pub Called : Type 0
@@ -56,7 +56,7 @@ stmt_extent called (Stmt-F.Output x line) = one nothing
 stmt_extent called (Stmt-F.Pass line) = one nothing
 stmt_extent called (Stmt-F.Label name line) = one nothing
 stmt_extent called (Stmt-F.Call name xs line) = one (called name)
-stmt_extent called (Stmt-F.If branches other line) = one (beside (together branches) (block_if other))
+stmt_extent called (Stmt-F.If branches other line) = one (beside (together branches) (else_extent other))
 stmt_extent called (Stmt-F.While x body line) = one (as_block body)
 stmt_extent called (Stmt-F.For name x body line) = one (wider 1 (as_block body))
 stmt_extent called (Stmt-F.AwaitOne x line) = one (wider (length (found_names x)) nothing)

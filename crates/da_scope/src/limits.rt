@@ -1,6 +1,8 @@
 //! Limits: the refusal of a program that passes one.
 mod bound;
+mod copies;
 mod extent;
 mod numbers;
+mod statements;
 mod types;
 mod written;

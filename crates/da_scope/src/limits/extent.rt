@@ -13,6 +13,7 @@ pub struct Extent {
 
 impl Extent {
     /// No statements.
+    #[tactic(auto, unfolding(crate::specs::Extents::nothing))]
     pub fn nothing() -> Extent
         ensures { result ≡ nothing }
     {
@@ -24,6 +25,7 @@ impl Extent {
     }
 
     /// Two texts, one behind the other.
+    #[tactic(auto, unfolding(crate::specs::Extents::beside))]
     pub fn beside(self, other: Extent) -> Extent
         ensures { result ≡ beside self other }
     {
@@ -35,6 +37,7 @@ impl Extent {
     }
 
     /// A statement that holds this.
+    #[tactic(auto, unfolding(crate::specs::Extents::one))]
     pub fn one(self) -> Extent
         ensures { result ≡ one self }
     {
@@ -45,6 +48,7 @@ impl Extent {
     }
 
     /// A block of these statements.
+    #[tactic(auto, unfolding(crate::specs::Extents::deeper))]
     pub fn deeper(self) -> Extent
         ensures { result ≡ deeper self }
     {
@@ -55,6 +59,7 @@ impl Extent {
     }
 
     /// The same with so many slots besides.
+    #[tactic(auto, unfolding(crate::specs::Extents::wider))]
     pub fn wider(self, count: u16) -> Extent
         ensures { result ≡ wider count self }
     {
