@@ -89,7 +89,7 @@ of-lone x = of-more [] x ∙ ap (λ y. beside y (seen x)) of-none
 of-cons : (x : Writing) (xs : List Writing) → seen (of (x ∷ xs)) ≡ beside (seen x) (seen (of xs))
 of-cons x xs = of-append (x ∷ []) xs ∙ of-first x (seen (of xs))
 
-of-two : (x y : Writing) → seen (of (x ∷ y ∷ [])) ≡ beside (seen x) (seen y)
+pub of-two : (x y : Writing) → seen (of (x ∷ y ∷ [])) ≡ beside (seen x) (seen y)
 of-two x y = of-cons x (y ∷ []) ∙ of-one y (seen x)
 
 -- a query of these parts, a tuple of them

@@ -5,4 +5,5 @@ pub mod CallPaths
 pub mod Capped
 pub mod Copied
 pub mod Extents
+pub mod Sizes
 pub mod Writings

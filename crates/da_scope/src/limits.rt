@@ -3,6 +3,7 @@ mod bound;
 mod copies;
 mod extent;
 mod numbers;
+mod sizes;
 mod statements;
 mod types;
 mod written;
