@@ -8,6 +8,7 @@ pub mod CopiedAt
 pub mod ExtentLaws
 pub mod ExtentRules
 pub mod ExtentsAt
+pub mod LimitTellingLaws
 pub mod SizesAt
 pub mod SlotsKept
 pub mod Taken

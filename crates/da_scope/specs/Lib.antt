@@ -5,5 +5,6 @@ pub mod CallPaths
 pub mod Capped
 pub mod Copied
 pub mod Extents
+pub mod LimitTelling
 pub mod Sizes
 pub mod Writings

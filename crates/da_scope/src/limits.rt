@@ -2,6 +2,7 @@
 mod bound;
 mod copies;
 mod extent;
+mod least;
 mod numbers;
 mod sizes;
 mod statements;
