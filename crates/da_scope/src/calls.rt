@@ -1,0 +1,9 @@
+//! The calls of a class: which method leads to which.
+mod bodies;
+mod cycles;
+pub mod graph;
+pub mod methods;
+mod names;
+mod order;
+mod rows;
+mod search;
