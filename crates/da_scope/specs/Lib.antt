@@ -1,7 +1,13 @@
 pub mod Bound
+pub mod CallBodies
+pub mod CallCycles
+pub mod CallGraph
 pub mod CallMethods
 pub mod CallNames
+pub mod CallOrder
 pub mod CallPaths
+pub mod CallRows
+pub mod CallTasks
 pub mod Capped
 pub mod Copied
 pub mod Extents

@@ -1,4 +1,5 @@
 //! How large the inlined text of statements is.
+ghost use Rattle.da_scope.specs.CallGraph.{IsCallGraph};
 ghost use Rattle.da_scope.specs.Copied.{copied};
 ghost use Rattle.da_scope.specs.Extents.{as_block, extent, extent_of_branch, together};
 ghost use Rattle.std.specs.Prelude.{◌≡◌, map};
@@ -11,7 +12,8 @@ use da_lang::{Branch, Stmt};
 /// The extent of a statement.
 #[cycle(statements)]
 #[tactic(auto, using(crate::proofs::ExtentRules::stmt_rules))]
-fn statement(stmt: &Stmt, copies: &Copies<'_>) -> Extent
+fn statement(stmt: &Stmt, copies: &Copies<'_, '_>) -> Extent
+    requires { IsCallGraph copies.now.graph.now }
     ensures { result ≡ extent (copied copies.now) stmt.now }
 {
     match stmt {
@@ -22,7 +24,7 @@ fn statement(stmt: &Stmt, copies: &Copies<'_>) -> Extent
         Stmt::Output { .. } => Extent::nothing().one(),
         Stmt::Pass { .. } => Extent::nothing().one(),
         Stmt::Label { .. } => Extent::nothing().one(),
-        Stmt::Call { name, .. } => copies.of(name.as_slice()).one(),
+        Stmt::Call { name, .. } => copied(copies, name.as_slice()).one(),
         Stmt::If {
             branches,
             otherwise,
@@ -44,7 +46,8 @@ fn statement(stmt: &Stmt, copies: &Copies<'_>) -> Extent
 /// The extent of a block.
 #[cycle(statements)]
 #[tactic(auto, using(crate::proofs::ExtentRules::block_rules))]
-pub fn block(stmts: &[Stmt], copies: &Copies<'_>) -> Extent
+pub fn block(stmts: &[Stmt], copies: &Copies<'_, '_>) -> Extent
+    requires { IsCallGraph copies.now.graph.now }
     ensures { result ≡ as_block (map (extent (copied copies.now)) stmts.now) }
 {
     if stmts.is_empty() {
@@ -60,7 +63,8 @@ pub fn block(stmts: &[Stmt], copies: &Copies<'_>) -> Extent
 // The extent of conditions with their blocks.
 #[cycle(statements)]
 #[tactic(auto, using(crate::proofs::ExtentRules::block_rules))]
-fn branches_of(branches: &[Branch], copies: &Copies<'_>) -> Extent
+fn branches_of(branches: &[Branch], copies: &Copies<'_, '_>) -> Extent
+    requires { IsCallGraph copies.now.graph.now }
     ensures { result ≡ together (map (extent_of_branch (copied copies.now)) branches.now) }
 {
     let mut all = Extent::nothing();
@@ -73,8 +77,24 @@ fn branches_of(branches: &[Branch], copies: &Copies<'_>) -> Extent
 // The extent of a condition with its block.
 #[cycle(statements)]
 #[tactic(auto, using(crate::proofs::ExtentRules::branch_rules))]
-fn branch_of(branch: &Branch, copies: &Copies<'_>) -> Extent
+fn branch_of(branch: &Branch, copies: &Copies<'_, '_>) -> Extent
+    requires { IsCallGraph copies.now.graph.now }
     ensures { result ≡ extent_of_branch (copied copies.now) branch.now }
 {
     block(branch.body.as_slice(), copies).wider(found_by(branch.cond.get()))
+}
+
+/// The extent of a copy of the method of a name. Where there is no such method, nothing is copied.
+#[tactic(auto, unfolding(crate::specs::Copied::copied, crate::specs::Copied::copied_by))]
+fn copied(copies: &Copies<'_, '_>, name: &[u8]) -> Extent
+    requires { IsCallGraph copies.now.graph.now }
+    ensures { result ≡ copied copies.now name.now }
+{
+    match copies.graph.number(name) {
+        None => Extent::nothing(),
+        Some(number) => match copies.extents.get(number) {
+            None => Extent::nothing(),
+            Some(extent) => *extent,
+        },
+    }
 }
