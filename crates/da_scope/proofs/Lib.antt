@@ -16,8 +16,11 @@ pub mod ClassExtents
 pub mod CopiedAt
 pub mod ExtentLaws
 pub mod ExtentRules
+pub mod ExtentsAgree
 pub mod ExtentsAt
 pub mod LimitTellingLaws
+pub mod MethodExtents
+pub mod Numbered
 pub mod SizesAt
 pub mod SlotsKept
 pub mod Taken

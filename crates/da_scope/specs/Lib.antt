@@ -12,5 +12,6 @@ pub mod Capped
 pub mod Copied
 pub mod Extents
 pub mod LimitTelling
+pub mod Loops
 pub mod Sizes
 pub mod Writings
