@@ -77,3 +77,5 @@ block_end f xs i all whole end some so_far closed =
     closed ∙ ap deeper (so_far ∙ ap (λ ys. together (map f ys)) (take_all i xs end)) ∙ sym (block-some f xs some)
 
 pub ruleset block_rules = (else_extent-None, else_extent-Some, together-none, block-none, block-some)
+
+pub ruleset wider_rules = (wider-capped)

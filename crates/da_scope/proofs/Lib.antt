@@ -14,6 +14,7 @@ pub mod CallTranslation
 pub mod CappedSums
 pub mod ClassExtents
 pub mod CopiedAt
+pub mod CopiesFilled
 pub mod ExtentLaws
 pub mod ExtentRules
 pub mod ExtentsAgree

@@ -3,6 +3,7 @@ mod bound;
 mod copies;
 mod extent;
 mod least;
+mod methods;
 mod numbers;
 mod sizes;
 mod statements;
