@@ -79,3 +79,12 @@ block_end f xs i all whole end some so_far closed =
 pub ruleset block_rules = (else_extent-None, else_extent-Some, together-none, block-none, block-some)
 
 pub ruleset wider_rules = (wider-capped)
+
+-- a body with the slots of its parameters
+pub body_made : {A : Type 0} (params : List A) (count wide : ℕ) (inner block whole : Extent) → count ≡ length params → wide ≡ capped count → inner ≡ block → whole ≡ wider wide inner → whole ≡ wider (length params) block
+body_made params count wide inner block whole counted cap body is =
+    is ∙ ap (wider wide) body ∙ ap (λ n. wider n block) (cap ∙ ap capped counted) ∙ wider-capped (length params) block
+
+pub block-empty : as_block [] ≡ nothing
+unfolding as_block
+block-empty = refl

@@ -12,13 +12,16 @@ pub mod CallRows
 pub mod CallSearch
 pub mod CallTranslation
 pub mod CappedSums
+pub mod ClassExtentRules
 pub mod ClassExtents
+pub mod ClassMembersAt
 pub mod CopiedAt
 pub mod CopiesFilled
 pub mod ExtentLaws
 pub mod ExtentRules
 pub mod ExtentsAgree
 pub mod ExtentsAt
+pub mod LimitLinesAt
 pub mod LimitTellingLaws
 pub mod MethodExtents
 pub mod Numbered

@@ -9,8 +9,10 @@ pub mod CallPaths
 pub mod CallRows
 pub mod CallTasks
 pub mod Capped
+pub mod ClassMembers
 pub mod Copied
 pub mod Extents
+pub mod LimitLines
 pub mod LimitTelling
 pub mod Loops
 pub mod Sizes

@@ -1,8 +1,10 @@
 //! Limits: the refusal of a program that passes one.
 mod bound;
+mod classes;
 mod copies;
 mod extent;
 mod least;
+mod lines;
 mod methods;
 mod numbers;
 mod sizes;
