@@ -23,6 +23,7 @@ pub mod ExtentsAgree
 pub mod ExtentsAt
 pub mod LimitLinesAt
 pub mod LimitTellingLaws
+pub mod LimitWalkAt
 pub mod MethodExtents
 pub mod Numbered
 pub mod SizesAt

@@ -5,6 +5,7 @@ mod copies;
 mod extent;
 mod least;
 mod lines;
+mod members;
 mod methods;
 mod numbers;
 mod sizes;
