@@ -17,6 +17,7 @@ pub mod ClassExtents
 pub mod ClassMembersAt
 pub mod CopiedAt
 pub mod CopiesFilled
+pub mod DeedLimits
 pub mod ExtentLaws
 pub mod ExtentRules
 pub mod ExtentsAgree
