@@ -14,6 +14,7 @@ pub mod CallTranslation
 pub mod CappedSums
 pub mod ClassExtentRules
 pub mod ClassExtents
+pub mod ClassLimits
 pub mod ClassMembersAt
 pub mod CopiedAt
 pub mod CopiesFilled
@@ -24,6 +25,7 @@ pub mod ExtentsAgree
 pub mod ExtentsAt
 pub mod LimitLinesAt
 pub mod LimitTellingLaws
+pub mod LimitTreeAt
 pub mod LimitWalkAt
 pub mod MethodExtents
 pub mod Numbered

@@ -69,7 +69,7 @@ pub processes-is : most_processes ≡ 64
 unfolding most_processes
 processes-is = refl
 
-pub ruleset limit_rules = (parts-is, generators-is, variables-is)
+pub ruleset limit_rules = (parts-is, generators-is, variables-is, items-is, blocks-is)
 
 abbrev pub wide_line : DeedSize → List ℕ
 wide_line d = line_if (nat_lt most_parts d.written.widest) d.line

@@ -14,6 +14,7 @@ pub mod Copied
 pub mod Extents
 pub mod LimitLines
 pub mod LimitTelling
+pub mod LimitTree
 pub mod LimitWalk
 pub mod Loops
 pub mod Sizes

@@ -10,5 +10,7 @@ mod methods;
 mod numbers;
 mod sizes;
 mod statements;
+mod tree;
 mod types;
+mod walk;
 mod written;

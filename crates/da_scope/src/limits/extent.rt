@@ -1,6 +1,9 @@
 //! How large the inlined text of statements is.
 ghost use Rattle.da_scope.specs.Extents.{beside, deeper, one, nothing, wider};
-ghost use Rattle.std.specs.Prelude.{◌≡◌};
+ghost use Rattle.da_lang.specs.Limits.{most_blocks, most_items, most_variables};
+ghost use Rattle.std.specs.Prelude.{◌≡◌, nat_lt};
+
+use crate::limits::numbers::{MOST_BLOCKS, MOST_ITEMS, MOST_VARIABLES};
 
 /// How large a text is with its calls inlined: its statements, its blocks within each other, and the slots that it
 /// adds. A number that does not fit stands at the greatest that does, which is above each limit.
@@ -67,5 +70,29 @@ impl Extent {
             slots: self.slots.saturating_add(count),
             ..self
         }
+    }
+
+    /// Whether there are too many statements.
+    #[tactic(auto, using(crate::proofs::LimitLinesAt::limit_rules))]
+    pub fn has_many_items(self) -> bool
+        ensures { result ≡ nat_lt most_items self.items }
+    {
+        self.items > MOST_ITEMS
+    }
+
+    /// Whether too many blocks are within each other.
+    #[tactic(auto, using(crate::proofs::LimitLinesAt::limit_rules))]
+    pub fn has_many_blocks(self) -> bool
+        ensures { result ≡ nat_lt most_blocks self.blocks }
+    {
+        self.blocks > MOST_BLOCKS
+    }
+
+    /// Whether there are too many slots.
+    #[tactic(auto, using(crate::proofs::LimitLinesAt::limit_rules))]
+    pub fn has_many_slots(self) -> bool
+        ensures { result ≡ nat_lt most_variables self.slots }
+    {
+        self.slots > MOST_VARIABLES
     }
 }

@@ -6,17 +6,9 @@ ghost use Rattle.std.specs.List.{list_any};
 ghost use Rattle.std.specs.Prelude.{◌≡◌, nat_lt};
 
 use crate::limits::least::Least;
+use crate::limits::numbers::{MOST_GENERATORS, MOST_PARTS, MOST_VARIABLES};
 use crate::limits::sizes::DeedSize;
 use da_lang::LimitKind;
-
-/// The most parts of a tuple.
-pub const MOST_PARTS: u16 = 255;
-
-/// The most generators of a query.
-pub const MOST_GENERATORS: u16 = 8;
-
-/// The most slots of a class, and the most variables of a query.
-pub const MOST_VARIABLES: u16 = 1024;
 
 /// A limit is passed at a line, if it is.
 #[tactic(auto, using(crate::proofs::LimitLinesAt::if_rules))]
