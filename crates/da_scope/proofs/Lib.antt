@@ -24,6 +24,7 @@ pub mod ExtentRules
 pub mod ExtentsAgree
 pub mod ExtentsAt
 pub mod LimitLinesAt
+pub mod LimitOrder
 pub mod LimitTellingLaws
 pub mod LimitTreeAt
 pub mod LimitWalkAt

@@ -1,7 +1,8 @@
 -- What limits a tree passes outside its classes, one by one.
 use Rattle.std.specs.Prelude.{◌≡◌, refl, ℕ, zero, suc, ◌+◌, ◌<◌, ◌≤◌, min, nat_lt, ◌||◌, Bool, true, false, if◌then◌else◌, List, [], ◌∷◌, ◌++◌, length, map, flat_map, drop, Option, Some, None}
 use Rattle.std.specs.List.{list_any}
-use Rattle.std.proofs.Common.{◌∙◌, ap, sym, arith, get_or, take}
+use Rattle.std.proofs.Common.{◌∙◌, ap, sym, arith, get_or, take, ◌-◌, length-drop}
+use Rattle.std.proofs.lemmas.List.{take_all}
 use Rattle.std.proofs.lemmas.Bool.{lt-ltb, le-ltb}
 use Rattle.da_lang.specs.declared.refusal.LimitKind.TheVariants as limit
 use Rattle.da_lang.specs.declared.tree.ClassTree.{ClassTree}
@@ -62,14 +63,6 @@ message-of x =
 pub ruleset message_rules = (message-of)
 
 -- lines of `main`
-pub main-New : (name class : List ℕ) (count : Option ℕ) (line : ℕ) (found : Option Refusal) → told_at limit.Parts found (parts_in_main (main_line.New name class count line)) ≡ found
-main-New name class count line found = told-none limit.Parts found
-
-pub main-Setup : (name : List ℕ) (args : List Expr) (line : ℕ) → parts_in_main (main_line.Setup name args line) ≡ line_if (nat_lt most_parts (seen (of (map writing args))).widest) line
-main-Setup name args line = ap (λ b. line_if b line) (sym (exprs-wide args))
-
-pub ruleset main_rules = (main-New, main-Setup)
-
 pub main_lines-is : (ls : List MainLine) → flat_map parts_in_main ls ≡ main_lines ls
 unfolding main_lines
 main_lines-is ls = refl
@@ -84,3 +77,9 @@ line_of_class c = c.line ∷ []
 pub class_lines : (cs : List ClassTree) → flat_map line_of_class cs ≡ map (λ (c : ClassTree). c.line) cs
 class_lines [] = refl
 class_lines (c ∷ cs) = ap (λ ls. c.line ∷ ls) (class_lines cs)
+
+abbrev pub counted : ℕ → ℕ → ℕ
+counted made count = min (made + count) 18446744073709551615
+
+pub classes_rest : (cs : List ClassTree) → take (length cs - 32) (drop 32 cs) ≡ drop most_classes cs
+classes_rest cs = take_all (length cs - 32) (drop 32 cs) (omega (arith, length-drop 32 cs)) ∙ ap (λ n. drop n cs) (sym classes-is)

@@ -116,7 +116,6 @@ pub fn tell_main(main: &[MainLine], least: &mut Least)
 }
 
 // A line of `main`, if it has too wide a tuple.
-#[tactic(auto, using(crate::proofs::LimitTreeAt::main_rules))]
 fn tell_line(line: &MainLine, least: &mut Least)
     ensures { least.new ≡ told_at limit.Parts least.old (parts_in_main line.now) }
 {
