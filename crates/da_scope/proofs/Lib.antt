@@ -29,6 +29,7 @@ pub mod LimitTellingLaws
 pub mod LimitTreeAt
 pub mod LimitWalkAt
 pub mod MethodExtents
+pub mod NoneBack
 pub mod Numbered
 pub mod SizesAt
 pub mod SlotsKept

@@ -21,7 +21,7 @@ use Rattle.da_scope.specs.LimitTree.{classes_told, main_lines, message_lines}
 use Rattle.da_scope.specs.LimitWalk.{class_told, member_told, members_told, stmts_told, wide_params, wide_patterns}
 use Rattle.da_scope.specs.Sizes.{sizes}
 use Rattle.da_scope.proofs.DeedLimits.{lines-wide, lines-gens}
-use Rattle.da_scope.proofs.LimitTellingLaws.{Alike, alike-refl, alike-trans, alike-sym, alike-is, alike-both, alike-swap, alike-flat, telling-nil, telling-append, told-telling}
+use Rattle.da_scope.proofs.LimitTellingLaws.{Alike, alike-refl, alike-trans, alike-sym, alike-is, alike-both, alike-swap, alike-flat, telling-nil, telling-append, telling-swap, told-telling}
 
 -- refusals of one kind
 abbrev At : LimitKind → List ℕ → List Refusal
@@ -180,3 +180,75 @@ members-alike c =
     alike-trans split
     (alike-trans (alike-both _ vars _ (parts ++ gens) (alike-is first) (alike-trans (alike-is second) inner))
     (alike-is (sym (append_assoc vars parts gens) ∙ ap (λ rs. rs ++ gens) all_parts ∙ ap (λ rs. At limit.Parts (parts_in_class c) ++ rs) all_gens)))
+
+-- one list of refusals behind another, as it is told
+abbrev T : Option Refusal → List Refusal → Option Refusal
+T = telling
+
+-- the refusals in all classes by their kinds
+classes-alike : (cs : List ClassTree) → Alike (flat_map of_class cs)
+    (At limit.Parts (flat_map parts_in_class cs) ++ At limit.Generators (flat_map generators_over cs) ++ At limit.Items (flat_map items_over cs) ++ At limit.Blocks (flat_map blocks_over cs) ++ At limit.Variables (flat_map variables_over cs))
+classes-alike cs =
+    let ms = λ (c : ClassTree). flat_map (of_member c) c.members in
+    let is = λ (c : ClassTree). At limit.Items (items_over c) in
+    let bs = λ (c : ClassTree). At limit.Blocks (blocks_over c) in
+    let vs = λ (c : ClassTree). At limit.Variables (variables_over c) in
+    let ps = λ (c : ClassTree). At limit.Parts (parts_in_class c) in
+    let gs = λ (c : ClassTree). At limit.Generators (generators_over c) in
+    let last = alike-sym (alike-flat (λ c. ms c ++ is c ++ bs c) vs cs) in
+    let third = alike-sym (alike-flat (λ c. ms c ++ is c) bs cs) in
+    let second = alike-sym (alike-flat ms is cs) in
+    let first = alike-trans (alike-each ms (λ c. ps c ++ gs c) members-alike cs) (alike-sym (alike-flat ps gs cs)) in
+    let kinds : flat_map ps cs ++ flat_map gs cs ++ flat_map is cs ++ flat_map bs cs ++ flat_map vs cs
+      ≡ At limit.Parts (flat_map parts_in_class cs) ++ At limit.Generators (flat_map generators_over cs) ++ At limit.Items (flat_map items_over cs) ++ At limit.Blocks (flat_map blocks_over cs) ++ At limit.Variables (flat_map variables_over cs) =
+      ap (λ rs. rs ++ flat_map gs cs ++ flat_map is cs ++ flat_map bs cs ++ flat_map vs cs) (sym (at-flat limit.Parts parts_in_class cs))
+      ∙ ap (λ rs. At limit.Parts (flat_map parts_in_class cs) ++ rs ++ flat_map is cs ++ flat_map bs cs ++ flat_map vs cs) (sym (at-flat limit.Generators generators_over cs))
+      ∙ ap (λ rs. At limit.Parts (flat_map parts_in_class cs) ++ At limit.Generators (flat_map generators_over cs) ++ rs ++ flat_map bs cs ++ flat_map vs cs) (sym (at-flat limit.Items items_over cs))
+      ∙ ap (λ rs. At limit.Parts (flat_map parts_in_class cs) ++ At limit.Generators (flat_map generators_over cs) ++ At limit.Items (flat_map items_over cs) ++ rs ++ flat_map vs cs) (sym (at-flat limit.Blocks blocks_over cs))
+      ∙ ap (λ rs. At limit.Parts (flat_map parts_in_class cs) ++ At limit.Generators (flat_map generators_over cs) ++ At limit.Items (flat_map items_over cs) ++ At limit.Blocks (flat_map blocks_over cs) ++ rs) (sym (at-flat limit.Variables variables_over cs)) in
+    alike-trans last
+    (alike-trans (alike-both _ _ (flat_map vs cs) _ (alike-trans third (alike-both _ _ (flat_map bs cs) _ (alike-trans second (alike-both _ _ (flat_map is cs) _ first (alike-refl (flat_map is cs)))) (alike-refl (flat_map bs cs)))) (alike-refl (flat_map vs cs)))
+    (alike-is kinds))
+
+-- the two orders, from where classes and processes were counted
+orders : (s : Option Refusal) (i b v m k x g : List Refusal) → T (T (T (T (T s i) b) v) (m ++ k ++ x)) g ≡ T (T (T s m) x) (k ++ g ++ i ++ b ++ v)
+orders s i b v m k x g =
+    let q = i ++ b ++ v in
+    let front : T (T (T s i) b) v ≡ T s q = sym (telling-append s (i ++ b) v ∙ ap (λ f. T f v) (telling-append s i b)) in
+    let back : T (T (T (T (T s m) x) k) g) q ≡ T (T (T s m) x) (k ++ g ++ i ++ b ++ v) =
+      let from = T (T s m) x in
+      ap (λ f. T f q) (sym (telling-append from k g)) ∙ sym (telling-append from (k ++ g) q) ∙ ap (T from) (sym (append_assoc (k ++ g) (i ++ b) v) ∙ ap (λ rs. rs ++ v) (sym (append_assoc (k ++ g) i b))) in
+    ap (λ f. T (T f (m ++ k ++ x)) g) front
+    ∙ ap (λ f. T f g) (telling-swap s q (m ++ k ++ x))
+    ∙ telling-swap (T s (m ++ k ++ x)) q g
+    ∙ ap (λ f. T (T f g) q) (telling-append s (m ++ k) x ∙ ap (λ f. T f x) (telling-append s m k) ∙ telling-swap (T s m) k x)
+    ∙ back
+
+-- what is told of a tree
+pub tree_told : (t : Tree) → told rank (limit_refusals t)
+    ≡ classes_told t.classes (told_at limit.Parts (told_at limit.Parts (told_at limit.Processes (told_at limit.Classes None (classes_over t)) (processes_over 0 t.main)) (message_lines t.messages)) (main_lines t.main))
+unfolding limit_refusals message_lines main_lines
+tree_told t =
+    let c = At limit.Classes (classes_over t) in
+    let p = At limit.Processes (processes_over 0 t.main) in
+    let i = At limit.Items (flat_map items_over t.classes) in
+    let b = At limit.Blocks (flat_map blocks_over t.classes) in
+    let v = At limit.Variables (flat_map variables_over t.classes) in
+    let m = At limit.Parts (flat_map parts_in_message t.messages) in
+    let k = At limit.Parts (flat_map parts_in_class t.classes) in
+    let x = At limit.Parts (flat_map parts_in_main t.main) in
+    let g = At limit.Generators (flat_map generators_over t.classes) in
+    let s = T (T None c) p in
+    let parts : At limit.Parts (parts_over t) ≡ m ++ k ++ x =
+      at-append limit.Parts (flat_map parts_in_message t.messages ++ flat_map parts_in_class t.classes) (flat_map parts_in_main t.main) ∙ ap (λ rs. rs ++ x) (at-append limit.Parts (flat_map parts_in_message t.messages) (flat_map parts_in_class t.classes)) in
+    let defined : T None (c ++ p ++ i ++ b ++ v ++ At limit.Parts (parts_over t) ++ g) ≡ T (T (T (T (T s i) b) v) (m ++ k ++ x)) g =
+      telling-append None (c ++ p ++ i ++ b ++ v ++ At limit.Parts (parts_over t)) g
+      ∙ ap (λ f. T f g) (telling-append None (c ++ p ++ i ++ b ++ v) (At limit.Parts (parts_over t)) ∙ ap (T (T None (c ++ p ++ i ++ b ++ v))) parts
+      ∙ ap (λ f. T f (m ++ k ++ x)) (telling-append None (c ++ p ++ i ++ b) v ∙ ap (λ f. T f v) (telling-append None (c ++ p ++ i) b ∙ ap (λ f. T f b) (telling-append None (c ++ p) i ∙ ap (λ f. T f i) (telling-append None c p))))) in
+    let outside : told_at limit.Parts (told_at limit.Parts (told_at limit.Processes (told_at limit.Classes None (classes_over t)) (processes_over 0 t.main)) (flat_map parts_in_message t.messages)) (flat_map parts_in_main t.main) ≡ T (T s m) x =
+      told_at-is limit.Parts (told_at limit.Parts (told_at limit.Processes (told_at limit.Classes None (classes_over t)) (processes_over 0 t.main)) (flat_map parts_in_message t.messages)) (flat_map parts_in_main t.main)
+      ∙ ap (λ f. T f x) (told_at-is limit.Parts (told_at limit.Processes (told_at limit.Classes None (classes_over t)) (processes_over 0 t.main)) (flat_map parts_in_message t.messages)
+      ∙ ap (λ f. T f m) (told_at-is limit.Processes (told_at limit.Classes None (classes_over t)) (processes_over 0 t.main) ∙ ap (λ f. T f p) (told_at-is limit.Classes None (classes_over t)))) in
+    let kinds = classes-alike t.classes in
+    told-telling (c ++ p ++ i ++ b ++ v ++ At limit.Parts (parts_over t) ++ g) ∙ defined ∙ orders s i b v m k x g
+    ∙ sym (kinds.tells (T (T s m) x)) ∙ sym (classes-told t.classes (T (T s m) x)) ∙ ap (classes_told t.classes) (sym outside)
