@@ -1,25 +1,28 @@
 -- The refusals by limits are told alike in the order of the definition and in the order in which they are looked for.
-use Rattle.std.specs.Prelude.{◌≡◌, refl, ℕ, nat_lt, ◌||◌, Bool, true, false, if◌then◌else◌, List, [], ◌∷◌, ◌++◌, map, drop, flat_map, filter, filter_map, Option, option_to_list, Some, None}
+use Rattle.std.specs.Prelude.{◌≡◌, refl, ℕ, ◌+◌, ◌<◌, ◌≤◌, length, nat_lt, ◌||◌, Bool, true, false, if◌then◌else◌, List, [], ◌∷◌, ◌++◌, map, drop, flat_map, filter, filter_map, Option, option_to_list, Some, None}
 use Rattle.std.specs.List.{cons_option}
-use Rattle.std.proofs.Common.{◌∙◌, ap, sym, cond, append_assoc, append-nil}
+use Rattle.std.proofs.Common.{◌∙◌, ap, sym, cond, get_or, append_assoc, append-nil}
 use Rattle.std.proofs.lemmas.List.{map-append}
 use Rattle.std.proofs.lemmas.Grind.{flat_map-append}
 use Rattle.da_lang.specs.declared.refusal.LimitKind.{LimitKind}
 use Rattle.da_lang.specs.declared.refusal.LimitKind.TheVariants as limit
 use Rattle.da_lang.specs.declared.tree.ClassTree.{ClassTree}
+use Rattle.da_lang.specs.declared.tree.MainLine.{MainLine}
 use Rattle.da_lang.specs.declared.tree.Member.{Member}
 use Rattle.da_lang.specs.declared.tree.Member.TheVariants as member
+use Rattle.da_lang.specs.declared.tree.MessageDecl.{MessageDecl}
 use Rattle.da_lang.specs.declared.tree.Stmt.{Stmt}
 use Rattle.da_lang.specs.declared.tree.Tree.{Tree}
 use Rattle.da_lang.specs.ClassParts.{Body, Variable, InSetup, InRun, InMethod, InHandler, bodies, body_in, variable_in, variables}
 use Rattle.da_lang.specs.Deeds.{Deed, deeds}
-use Rattle.da_lang.specs.Limits.{line_if, has_query, is_reached, wide_exprs, most_generators, classes_over, processes_over, items_over, blocks_over, variables_over, generators_over, wide_header, parts_in_body, parts_in_class, parts_in_main, parts_in_message, parts_in_variable, parts_over, limit_refusals, rank}
+use Rattle.da_lang.specs.Limits.{line_if, has_query, is_reached, most_classes, wide_exprs, most_generators, classes_over, processes_over, items_over, blocks_over, variables_over, generators_over, wide_header, parts_in_body, parts_in_class, parts_in_main, parts_in_message, parts_in_variable, parts_over, limit_refusals, rank}
 use Rattle.da_lang.specs.Scopes.{Refused, at_lines, told}
 use Rattle.da_scope.specs.LimitLines.{told_at, wide_lines, gen_lines}
 use Rattle.da_scope.specs.LimitTelling.{Refusal, telling}
 use Rattle.da_scope.specs.LimitTree.{classes_told, main_lines, message_lines}
 use Rattle.da_scope.specs.LimitWalk.{class_told, member_told, members_told, stmts_told, wide_params, wide_patterns}
 use Rattle.da_scope.specs.Sizes.{sizes}
+use Rattle.da_scope.proofs.ClassMembersAt.{dropped, dropped_all}
 use Rattle.da_scope.proofs.DeedLimits.{lines-wide, lines-gens}
 use Rattle.da_scope.proofs.LimitTellingLaws.{Alike, alike-refl, alike-trans, alike-sym, alike-is, alike-both, alike-swap, alike-flat, telling-nil, telling-append, telling-swap, told-telling}
 
@@ -252,3 +255,26 @@ tree_told t =
     let kinds = classes-alike t.classes in
     told-telling (c ++ p ++ i ++ b ++ v ++ At limit.Parts (parts_over t) ++ g) ∙ defined ∙ orders s i b v m k x g
     ∙ sym (kinds.tells (T (T s m) x)) ∙ sym (classes-told t.classes (T (T s m) x)) ∙ ap (classes_told t.classes) (sym outside)
+
+-- each class one behind the other
+pub classes_step : (cs : List ClassTree) (i : ℕ) (c : ClassTree) (found more whole : Option Refusal) → i < length cs → c ≡ get_or cs i c → classes_told (drop i cs) found ≡ whole → more ≡ class_told c found → classes_told (drop (i + 1) cs) more ≡ whole
+unfolding classes_told
+classes_step cs i c found more whole inside here so_far grown = ap (classes_told (drop (i + 1) cs)) grown ∙ ap (λ xs. classes_told xs found) (sym (dropped cs i c inside here)) ∙ so_far
+
+pub classes_end : (cs : List ClassTree) (i : ℕ) (found whole : Option Refusal) → length cs ≤ i → classes_told (drop i cs) found ≡ whole → found ≡ whole
+unfolding classes_told
+classes_end cs i found whole end so_far = ap (λ xs. classes_told xs found) (sym (dropped_all cs i end)) ∙ so_far
+
+-- one step behind the other, by what each is handed
+pub all_told : (t : Tree) (classes : List ClassTree) (main : List MainLine) (messages : List MessageDecl) (begun counted made sent set walked : Option Refusal)
+    → classes ≡ t.classes → main ≡ t.main → messages ≡ t.messages → begun ≡ None
+    → counted ≡ told_at limit.Classes begun (map (λ (c : ClassTree). c.line) (drop most_classes classes)) → made ≡ told_at limit.Processes counted (processes_over 0 main)
+    → sent ≡ told_at limit.Parts made (message_lines messages) → set ≡ told_at limit.Parts sent (main_lines main) → walked ≡ classes_told classes set
+    → walked ≡ told rank (limit_refusals t)
+all_told t classes main messages begun counted made sent set walked cs ls ms start one two three four five =
+    let first : counted ≡ told_at limit.Classes None (classes_over t) = one ∙ ap (λ f. told_at limit.Classes f (map (λ (c : ClassTree). c.line) (drop most_classes classes))) start ∙ ap (λ xs. told_at limit.Classes None (map (λ (c : ClassTree). c.line) (drop most_classes xs))) cs in
+    let second : made ≡ told_at limit.Processes (told_at limit.Classes None (classes_over t)) (processes_over 0 t.main) = two ∙ ap (λ f. told_at limit.Processes f (processes_over 0 main)) first ∙ ap (λ xs. told_at limit.Processes (told_at limit.Classes None (classes_over t)) (processes_over 0 xs)) ls in
+    let outside : Option Refusal = told_at limit.Processes (told_at limit.Classes None (classes_over t)) (processes_over 0 t.main) in
+    let third : sent ≡ told_at limit.Parts outside (message_lines t.messages) = three ∙ ap (λ f. told_at limit.Parts f (message_lines messages)) second ∙ ap (λ xs. told_at limit.Parts outside (message_lines xs)) ms in
+    let fourth : set ≡ told_at limit.Parts (told_at limit.Parts outside (message_lines t.messages)) (main_lines t.main) = four ∙ ap (λ f. told_at limit.Parts f (main_lines main)) third ∙ ap (λ xs. told_at limit.Parts (told_at limit.Parts outside (message_lines t.messages)) (main_lines xs)) ls in
+    five ∙ ap (classes_told classes) fourth ∙ ap (λ xs. classes_told xs (told_at limit.Parts (told_at limit.Parts outside (message_lines t.messages)) (main_lines t.main))) cs ∙ sym (tree_told t)

@@ -36,12 +36,15 @@ pub fn limit_fault(alloc: Global, tree: &Tree) -> Result<Option<LimitFault>, NoM
     requires { name_refusals tree.now ≡ [] }
     ensures { IfOk result (λ fault. option_map refusal_of fault ≡ limit_fault tree.now) }
 {
+    let classes = tree.classes.as_slice();
+    let main = tree.main.as_slice();
+    let messages = tree.messages.as_slice();
     let mut least = Least::new();
-    tell_count(tree.classes.as_slice(), &mut least);
-    tell_processes(tree.main.as_slice(), &mut least);
-    tell_messages(tree.messages.as_slice(), &mut least);
-    tell_main(tree.main.as_slice(), &mut least);
-    tell_classes(alloc, tree.classes.as_slice(), &mut least)?;
+    tell_count(classes, &mut least);
+    tell_processes(main, &mut least);
+    tell_messages(messages, &mut least);
+    tell_main(main, &mut least);
+    tell_classes(alloc, classes, &mut least)?;
     Ok(least.fault())
 }
 
