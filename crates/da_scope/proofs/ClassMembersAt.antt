@@ -38,8 +38,6 @@ pub setup-Receive : (message : PatternTree) (from : Option PatternTree) (labels 
 unfolding setup_in
 setup-Receive message from labels stmts line ms = refl
 
-pub ruleset setup_rules = (setup-none, setup-Var, setup-Setup, setup-Run, setup-Method, setup-Receive)
-
 pub run-none : run_in [] ≡ None
 unfolding run_in
 run-none = refl
@@ -64,8 +62,6 @@ pub run-Receive : (message : PatternTree) (from : Option PatternTree) (labels : 
 unfolding run_in
 run-Receive message from labels stmts line ms = refl
 
-pub ruleset run_rules = (run-none, run-Var, run-Setup, run-Run, run-Method, run-Receive)
-
 pub handlers-none : (called : Called) (x : Extent) → with_handlers called x [] ≡ x
 unfolding with_handlers
 handlers-none called x = refl
@@ -89,8 +85,6 @@ handlers-Method called x name params stmts line ms = refl
 pub handlers-Receive : (called : Called) (x : Extent) (message : PatternTree) (from : Option PatternTree) (labels : List (List ℕ)) (stmts : List Stmt) (line : ℕ) (ms : List Member) → with_handlers called x (member.Receive message from labels stmts line ∷ ms) ≡ with_handlers called (beside x (handler_extent called (record { place = InHandler message from labels; params = []; stmts = stmts; line = line }))) ms
 unfolding with_handlers
 handlers-Receive called x message from labels stmts line ms = refl
-
-pub ruleset handlers_rules = (handlers-none, handlers-Var, handlers-Setup, handlers-Run, handlers-Method, handlers-Receive)
 
 pub variables-counted : (ms : List Member) → count_by is_variable ms ≡ length (filter_map variable_in ms)
 variables-counted [] = refl

@@ -11,7 +11,6 @@ pub mod CallReached
 pub mod CallRows
 pub mod CallSearch
 pub mod CallTranslation
-pub mod CappedSums
 pub mod ClassExtentRules
 pub mod ClassExtents
 pub mod ClassLimits

@@ -84,13 +84,6 @@ pub gens-is : (ds : List DeedSize) → flat_map gen_line ds ≡ gen_lines ds
 unfolding gen_lines
 gens-is ds = refl
 
--- a number is over a limit, or within it
-pub over : (most limit n : ℕ) → most ≡ limit → limit < n → nat_lt most n ≡ true
-over most limit n is h = ap (λ m. nat_lt m n) is ∙ lt-ltb limit n h
-
-pub within : (most limit n : ℕ) → most ≡ limit → n ≤ limit → nat_lt most n ≡ false
-within most limit n is h = ap (λ m. nat_lt m n) is ∙ le-ltb limit n h
-
 -- some element passes a test
 pub any_step : {A : Type 0} (p : A → Bool) (xs : List A) (i : ℕ) (x : A) → i < length xs → x ≡ get_or xs i x → p x ≡ false → list_any p (drop i xs) ≡ list_any p xs → list_any p (drop (i + 1) xs) ≡ list_any p xs
 any_step p xs i x inside here not_it so_far = sym (ap (list_any p) (dropped xs i x inside here) ∙ ap (λ b. b || list_any p (drop (i + 1) xs)) not_it) ∙ so_far

@@ -189,8 +189,5 @@ alike-both xs xs' ys ys' first second = record {
   tells = λ found. telling-append found xs ys ∙ ap (λ f. telling f ys) (first.tells found) ∙ second.tells (telling found xs') ∙ sym (telling-append found xs' ys');
 }
 
-pub alike-swap : (xs ys : List Refusal) → Alike (xs ++ ys) (ys ++ xs)
-alike-swap xs ys = record { tells = λ found. telling-append found xs ys ∙ telling-swap found xs ys ∙ sym (telling-append found ys xs) }
-
 pub alike-flat : {A : Type 0} (p q : A → List Refusal) (xs : List A) → Alike (flat_map p xs ++ flat_map q xs) (flat_map (λ x. p x ++ q x) xs)
 alike-flat p q xs = record { tells = λ found. telling-append found (flat_map p xs) (flat_map q xs) ∙ sym (telling-both p q found xs) }

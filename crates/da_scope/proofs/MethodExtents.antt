@@ -96,9 +96,6 @@ module _ (c : ClassTree) (methods : List Body) (number : List ℕ → Option ℕ
   length-set (x ∷ xs) zero y = refl
   length-set (x ∷ xs) (suc k) y = ap suc (length-set xs k y)
 
-  pub filled_none : (extents : List Extent) → length extents ≡ length methods → FilledTo 0 extents
-  filled_none extents sized = record { sized = sized; stands = λ name k most is has enough. absurd (in_none k has) }
-
   placed_same : (extents : List Extent) (name : List ℕ) (m : ℕ) (new : Extent) → number name ≡ Some m → m < length extents → copied_by number (slice_set extents m new) name ≡ new
   placed_same extents name m new is inside = copied-some number (slice_set extents m new) name m is ∙ ap (λ e. unwrap_or e nothing) (get_set_same extents m new inside)
 
