@@ -1,0 +1,4 @@
+pub mod CallCycles
+pub mod CallOrder
+pub mod CallReach
+pub mod CallSearch
