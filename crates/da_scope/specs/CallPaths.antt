@@ -1,5 +1,5 @@
 -- What leads to what, by steps from each to those that it goes to; and graphs, whose nodes are numbers from 0.
-use Rattle.std.specs.Prelude.{◌≡◌, ℕ, ◌<◌, List, [], length, Option, Some, None, Contains, slice_index_or}
+use Rattle.std.specs.Prelude.{◌≡◌, ◌↔◌, ℕ, ◌<◌, List, [], length, Option, Some, None, Contains, slice_index_or}
 
 -- it is the goal, or it goes to one that leads there
 pub data LeadsTo {A : Type 0} (next : A → List A) (goal : A) : A → Type 0 where
@@ -37,3 +37,8 @@ pub record MarkedFrom (g : Graph) (from : ℕ) (old new : List (Option ℕ)) : T
   pub start : IsMarked new from
   pub found : (m l : ℕ) → mark old m ≡ None → mark new m ≡ Some l → (l ≡ from) × Leads g from m
   pub closed : (m n : ℕ) → mark old m ≡ None → IsMarked new m → Edge g m n → IsMarked new n
+
+-- the nodes that some of these lead to have marks
+pub record MarksReached (g : Graph) (starts : List ℕ) (marks : List (Option ℕ)) : Type 0 where
+  pub sized : length marks ≡ length g
+  pub reached : (m : ℕ) → IsMarked marks m ↔ ((s : ℕ) × Contains starts s × Leads g s m)

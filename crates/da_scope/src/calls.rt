@@ -1,4 +1,6 @@
 //! The calls of a class: which method leads to which.
+mod bodies;
 mod cycles;
+mod names;
 mod order;
 mod search;

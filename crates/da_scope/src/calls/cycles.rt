@@ -2,9 +2,9 @@
 ghost use Rattle.da_scope.specs.CallCycles.{AddsSteps, IsTurned, MarksCycles};
 ghost use Rattle.da_scope.specs.CallOrder.{Leaves};
 ghost use Rattle.da_scope.specs.CallPaths.{IsGraph};
-ghost use Rattle.std.specs.Prelude.{◌<◌, ◌≡◌, [], Contains, IfOk, None, OnOk, length, replicate, ℕ};
+ghost use Rattle.std.specs.Prelude.{◌<◌, ◌≡◌, [], Contains, IfOk, OnOk, length, replicate, ℕ};
 
-use crate::calls::search::mark_from;
+use crate::calls::search::{mark_from, no_marks};
 use da_values::{List, NoMemory};
 use std::alloc::Global;
 
@@ -28,16 +28,6 @@ pub fn cycle_marks(
         mark_from(alloc, back, order[left], marks.as_mut_slice())?;
     }
     Ok(marks)
-}
-
-/// No marks for so many nodes.
-pub fn no_marks(alloc: Global, count: usize) -> Result<Vec<Option<usize>>, NoMemory>
-    ensures { IfOk result (λ marks. marks.items ≡ replicate count None) }
-{
-    match vec![in alloc; None; count] {
-        Ok(marks) => Ok(marks),
-        Err(_) => Err(NoMemory),
-    }
 }
 
 /// The graph with all its steps turned round.
