@@ -1,6 +1,6 @@
 //! The numbers of methods, by their names.
-ghost use Rattle.da_scope.specs.CallNames.{number_in};
-ghost use Rattle.std.specs.Prelude.{◌≡◌, ◌++◌, None, OnOk, Some, ℕ, List, bytes_eq, if◌then◌else◌};
+ghost use Rattle.da_scope.specs.CallNames.{number_in, PutUnder};
+ghost use Rattle.std.specs.Prelude.{◌≡◌, None, OnOk, ℕ, List};
 
 use da_values::NoMemory;
 use std::alloc::Global;
@@ -31,7 +31,7 @@ impl Numbers {
 
     /// Gives a number to a name, in the place of the one that it has.
     pub fn put(&mut self, alloc: Global, name: &[u8], number: usize) -> Result<(), NoMemory>
-        ensures { OnOk result ((other : List ℕ) → number_in self.new other ≡ (if bytes_eq name.now other then Some number else number_in self.old other)) }
+        ensures { OnOk result (PutUnder name.now number self.old self.new) }
     {
         let mut key = Vec::new(alloc);
         match key.extend_from_slice(name) {
