@@ -1,5 +1,7 @@
 pub mod CallBodies
+pub mod CallBounds
 pub mod CallCycles
+pub mod CallMethods
 pub mod CallNames
 pub mod CallOrder
 pub mod CallReach

@@ -1,6 +1,7 @@
 //! The calls of a class: which method leads to which.
 mod bodies;
 mod cycles;
+mod methods;
 mod names;
 mod order;
 mod search;
