@@ -1,11 +1,11 @@
 -- Numbers of methods, step by step.
-use Rattle.std.proofs.Common.{◌≡◌, ◌∙◌, ℕ, zero, suc, ◌+◌, ◌<◌, ◌≤◌, ◌⊎◌, Bool, true, false, List, [], ◌∷◌, ◌++◌, length, map, find, filter_map, cond, Option, Some, None, subst, sym, refl, ap, inl, inr, ⊎_elim, arith}
+use Rattle.std.proofs.Common.{◌≡◌, ◌∙◌, ℕ, zero, suc, ◌+◌, ◌<◌, ◌≤◌, ◌⊎◌, Bool, true, false, List, [], ◌∷◌, ◌++◌, length, map, take, get_or, find, filter_map, cond, Option, Some, None, subst, sym, refl, ap, inl, inr, ⊎_elim, arith}
 use Rattle.std.specs.Bool.{if◌then◌else◌}
 use Rattle.std.specs.List.{cons_option, slice_get}
-use Rattle.std.specs.Option.{option_and_then, option_or, option_map}
+use Rattle.std.specs.Option.{option_and_then, option_or, option_map, is_some}
 use Rattle.std.specs.Str.{bytes_eq}
 use Rattle.std.proofs.lemmas.Bool.{cases_Bool, cases_eq}
-use Rattle.std.proofs.lemmas.List.{append-nil, length-append, length-map}
+use Rattle.std.proofs.lemmas.List.{append-nil, length-append, length-map, map-append, take_more}
 use Rattle.std.proofs.lemmas.List.Folds.{find-append}
 use Rattle.std.proofs.lemmas.List.Elements.{filter_map-append}
 use Rattle.da_lang.specs.declared.tree.ClassTree.{ClassTree}
@@ -13,6 +13,8 @@ use Rattle.da_lang.specs.declared.tree.Member.{Member}
 use Rattle.da_lang.specs.declared.tree.Member.TheVariants as member
 use Rattle.da_lang.specs.ClassParts.{Body, Place, InSetup, InRun, InMethod, InHandler, bodies, body_in, is_method}
 use Rattle.da_scope.specs.CallMethods.{Numbering, AddsMethod, method_body}
+use Rattle.da_scope.specs.CallNames.{number_in, PutUnder}
+use Rattle.da_scope.specs.declared.calls.names.Numbers.{Numbers}
 use Rattle.da_scope.proofs.CallBounds.{false_true, none_is_some, some_same}
 use Rattle.da_scope.proofs.CallNames.{same_name, name_same}
 
@@ -137,3 +139,25 @@ numbering_method before (member.Run stmts line) b methods longer number now is s
 numbering_method before (member.Method name params stmts line) b methods longer number now is s w =
     subst (λ bs. Numbering bs longer now) (sym (members_more before (member.Method name params stmts line) ∙ ap (λ x. filter_map body_in before ++ x ∷ []) (some_same _ b is))) (s.behind (filter_map body_in before) w)
 numbering_method before (member.Receive message from labels stmts line) b methods longer number now is s w = absurd (none_is_some b is)
+
+-- as the code adds one
+pub adds_known : (b : Body) (name key : List ℕ) (methods : List Body) (number : List ℕ → Option ℕ) (o : Option ℕ) → b.place ≡ InMethod name → key ≡ name → o ≡ number key → true ≡ is_some o → AddsMethod b methods number methods number
+adds_known b name key methods number None place same finds test = absurd (false_true (sym test))
+adds_known b name key methods number (Some k) place same finds test = record { behind = λ before w. numbering_known before methods number b name k place (ap number (sym same) ∙ sym finds) w }
+
+pub adds_new : (b : Body) (name key : List ℕ) (methods longer : List Body) (old new : Numbers) (o : Option ℕ) (len : ℕ) → b.place ≡ InMethod name → key ≡ name → o ≡ number_in old key → false ≡ is_some o → len ≡ length methods → longer ≡ methods ++ b ∷ [] → PutUnder key len old new → AddsMethod b methods (number_in old) longer (number_in new)
+adds_new b name key methods longer old new (Some k) len place same finds test long more put = absurd (false_true test)
+adds_new b name key methods longer old new None len place same finds test long more put = record {
+  behind = λ before w. numbering_new before methods longer (number_in old) (number_in new) b name place (ap (number_in old) (sym same) ∙ sym finds) more
+    (λ other. put.finds other ∙ ap (λ k. if bytes_eq k other then Some len else number_in old other) same ∙ ap (λ l. if bytes_eq name other then Some l else number_in old other) long) w;
+}
+
+pub map_push : {A B : Type 0} (f : A → B) (xs longer : List A) (x : A) → longer ≡ xs ++ x ∷ [] → map f longer ≡ map f xs ++ f x ∷ []
+map_push f xs longer x e = ap (map f) e ∙ map-append f xs (x ∷ [])
+
+-- one more member, as at a step of a loop
+next_member : (xs : List Member) (i : ℕ) (m : Member) → i < length xs → m ≡ get_or xs i m → take i xs ++ m ∷ [] ≡ take (i + 1) xs
+next_member xs i m within is = ap (λ x. take i xs ++ x ∷ []) is ∙ sym (take_more xs i m within)
+
+pub numbering_step : (xs : List Member) (i : ℕ) (m : Member) (next : List Body) (now : List ℕ → Option ℕ) → i < length xs → m ≡ get_or xs i m → Numbering (filter_map body_in (take i xs ++ m ∷ [])) next now → Numbering (filter_map body_in (take (i + 1) xs)) next now
+numbering_step xs i m next now within is w = subst (λ ms. Numbering (filter_map body_in ms) next now) (next_member xs i m within is) w
