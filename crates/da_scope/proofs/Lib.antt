@@ -6,4 +6,6 @@ pub mod CallNames
 pub mod CallOrder
 pub mod CallReach
 pub mod CallReached
+pub mod CallRows
 pub mod CallSearch
+pub mod CallTranslation

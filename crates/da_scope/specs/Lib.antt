@@ -4,4 +4,5 @@ pub mod CallMethods
 pub mod CallNames
 pub mod CallOrder
 pub mod CallPaths
+pub mod CallRows
 pub mod CallTasks

@@ -4,4 +4,5 @@ mod cycles;
 mod methods;
 mod names;
 mod order;
+mod rows;
 mod search;
