@@ -1,3 +1,4 @@
+pub mod CallAnswers
 pub mod CallBodies
 pub mod CallBounds
 pub mod CallCycles

@@ -1,5 +1,6 @@
 pub mod CallBodies
 pub mod CallCycles
+pub mod CallGraph
 pub mod CallMethods
 pub mod CallNames
 pub mod CallOrder

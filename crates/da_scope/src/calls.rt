@@ -1,6 +1,7 @@
 //! The calls of a class: which method leads to which.
 mod bodies;
 mod cycles;
+mod graph;
 mod methods;
 mod names;
 mod order;
