@@ -1,6 +1,6 @@
 -- The calls and the yield points of each form of statement.
 use Rattle.std.proofs.Common.{◌≡◌, ◌∙◌, ℕ, ◌+◌, ◌<◌, Bool, true, false, ◌||◌, List, [], ◌∷◌, ◌++◌, length, map, take, flat_map, filter_map, get_or, Option, Some, None, zero, suc, subst, sym, refl, ap, append_assoc, arith}
-use Rattle.std.specs.Option.{option_map, option_to_list}
+use Rattle.std.specs.Option.{option_to_list}
 use Rattle.std.specs.List.{cons_option, list_any}
 use Rattle.std.proofs.lemmas.List.{append-nil, take_more}
 use Rattle.std.proofs.lemmas.List.Concat.{flat_map-append}
@@ -12,7 +12,7 @@ use Rattle.da_lang.specs.declared.tree.Stmt.{Stmt}
 use Rattle.da_lang.specs.declared.tree.Stmt.TheVariants as stmt
 use Rattle.da_lang.specs.declared.tree.TimeoutTree.{TimeoutTree, out-TimeoutTree, roll-out-TimeoutTree}
 use Rattle.da_lang.specs.Calls.{called, is_yield}
-use Rattle.da_lang.specs.Deeds.{Deed, deed, deeds, deeds_of, deeds_of_branch, deeds_of_timeout, Other, Labels, Awaits, Loops, Waits}
+use Rattle.da_lang.specs.Deeds.{Deed, deed, deeds_of, deeds_of_branch, deeds_of_timeout, Other, Awaits, Loops, Waits}
 use Rattle.da_lang.proofs.DeedsAt as at
 use Rattle.da_scope.specs.CallBodies.{calls_by, some_yield}
 

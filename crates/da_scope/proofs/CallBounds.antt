@@ -1,14 +1,14 @@
 -- What a method leads to by any number of calls it leads to by as many calls as there are members of the class.
-use Rattle.std.proofs.Common.{◌≡◌, ◌∙◌, ◌↔◌, ℕ, zero, suc, ◌+◌, ◌<◌, ◌≤◌, ◌⊎◌, Bool, true, false, not, ◌||◌, List, [], ◌∷◌, length, filter, filter_map, find, cond, Option, Some, None, Contains, subst, sym, refl, ap, inl, inr, ⊎_elim, arith}
+use Rattle.std.proofs.Common.{◌≡◌, ◌∙◌, ℕ, zero, suc, ◌<◌, ◌≤◌, ◌⊎◌, Bool, true, false, not, ◌||◌, List, [], ◌∷◌, length, filter, filter_map, find, cond, Option, Some, None, Contains, subst, sym, refl, ap, inl, inr, ⊎_elim, arith}
 use Rattle.std.specs.List.{cons_option, list_any}
 use Rattle.std.specs.Str.{bytes_eq}
 use Rattle.std.proofs.lemmas.Bool.{cases_Bool}
 use Rattle.da_lang.specs.declared.tree.ClassTree.{ClassTree}
 use Rattle.da_lang.specs.Calls.{called, is_yield, deeds_in, calls_in, leads_within, leads, yields_within, yields}
 use Rattle.da_lang.specs.ClassParts.{Body, Place, InSetup, InRun, InMethod, InHandler, bodies, body_in, method_of, method_name, is_method, stmts_if}
-use Rattle.da_lang.specs.Deeds.{Deed, deeds}
+use Rattle.da_lang.specs.Deeds.{deeds}
 use Rattle.da_scope.specs.CallPaths.{LeadsTo, here, on}
-use Rattle.da_scope.proofs.CallNames.{same_name, name_same, false_or_true}
+use Rattle.da_scope.proofs.CallNames.{same_name, name_same}
 
 -- members of lists
 pub in_first : {A : Type 0} (x : A) (xs : List A) → Contains (x ∷ xs) x
@@ -148,6 +148,7 @@ without_fewer x (z ∷ zs) has = go (bytes_eq x z) refl (λ h. without_fewer x z
   where
     kept : length (without x zs) ≤ length zs
     kept = length-without x zs
+
     go : (b : Bool) → bytes_eq x z ≡ b → (Contains zs x → length (without x zs) < length zs) → length (cond (not b) (z ∷ without x zs) (without x zs)) < suc (length zs)
     go true e later = omega (arith, kept)
     go false e later = ⊎_elim (λ same. absurd (false_true (sym e ∙ name_same x z (sym same)))) (λ h. let rest : length (without x zs) < length zs = later h in omega (arith, rest)) (in_cases z zs x has)
@@ -158,9 +159,9 @@ cut next goal names x m (arrived n e) = inl (arrived n e)
 cut next goal names x m (goes n k has step way) =
     ⊎_elim
     (λ rest. ⊎_elim
-      (λ same. inr (k, subst (λ y. Contains (next y) k) (sym (same_name x n same)) step, rest))
-      (λ other. inl (goes n k (in_without x names n has other) step rest))
-      (cases_Bool (bytes_eq x n)))
+    (λ same. inr (k, subst (λ y. Contains (next y) k) (sym (same_name x n same)) step, rest))
+    (λ other. inl (goes n k (in_without x names n has other) step rest))
+    (cases_Bool (bytes_eq x n)))
     (λ later. inr later)
     (cut next goal names x k way)
 
@@ -205,7 +206,7 @@ way_within (suc most) c goal m e =
     ⊎_elim
     (λ same. here m (same_name m goal same))
     (λ later. let found : (k : List ℕ) × Contains (calls_in c m) k × (leads_within most c k goal ≡ true) = any_in (λ n. leads_within most c n goal) (calls_in c m) later in
-      on m found.0 found.1 (way_within most c goal found.0 found.2))
+    on m found.0 found.1 (way_within most c goal found.0 found.2))
     (or_cases (bytes_eq m goal) (list_any (λ n. leads_within most c n goal) (calls_in c m)) e)
 
 pub way-leads : (c : ClassTree) (goal m : List ℕ) → leads c m goal ≡ true → LeadsTo (calls_in c) goal m
@@ -222,7 +223,7 @@ yields_by (suc most) c goal m e holds =
     ⊎_elim
     (λ same. true_or (holds_yield c m) _ (subst (λ n. holds_yield c n ≡ true) (sym (same_name m goal same)) holds))
     (λ later. let found : (k : List ℕ) × Contains (calls_in c m) k × (leads_within most c k goal ≡ true) = any_in (λ n. leads_within most c n goal) (calls_in c m) later in
-      or_true (holds_yield c m) _ (in_any (yields_within most c) (calls_in c m) found.0 found.1 (yields_by most c goal found.0 found.2 holds)))
+    or_true (holds_yield c m) _ (in_any (yields_within most c) (calls_in c m) found.0 found.1 (yields_by most c goal found.0 found.2 holds)))
     (or_cases (bytes_eq m goal) (list_any (λ n. leads_within most c n goal) (calls_in c m)) e)
 
 pub yields-way : (c : ClassTree) (goal m : List ℕ) → LeadsTo (calls_in c) goal m → holds_yield c goal ≡ true → yields c m ≡ true
@@ -235,9 +236,9 @@ yields_from (suc most) c m e =
     ⊎_elim
     (λ holds. (m, here m refl, holds))
     (λ later.
-      let found : (k : List ℕ) × Contains (calls_in c m) k × (yields_within most c k ≡ true) = any_in (yields_within most c) (calls_in c m) later in
-      let rest : (goal : List ℕ) × LeadsTo (calls_in c) goal found.0 × (holds_yield c goal ≡ true) = yields_from most c found.0 found.2 in
-      (rest.0, on m found.0 found.1 rest.1, rest.2))
+    let found : (k : List ℕ) × Contains (calls_in c m) k × (yields_within most c k ≡ true) = any_in (yields_within most c) (calls_in c m) later in
+    let rest : (goal : List ℕ) × LeadsTo (calls_in c) goal found.0 × (holds_yield c goal ≡ true) = yields_from most c found.0 found.2 in
+    (rest.0, on m found.0 found.1 rest.1, rest.2))
     (or_cases (holds_yield c m) (list_any (yields_within most c) (calls_in c m)) e)
 
 pub way-yields : (c : ClassTree) (m : List ℕ) → yields c m ≡ true → (goal : List ℕ) × LeadsTo (calls_in c) goal m × (holds_yield c goal ≡ true)

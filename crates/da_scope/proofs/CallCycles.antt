@@ -1,13 +1,13 @@
 -- Marks of cycles, step by step.
-use Rattle.std.proofs.Common.{◌≡◌, ◌∙◌, ◌↔◌, ℕ, zero, suc, ◌+◌, ◌<◌, ◌≤◌, ◌⊎◌, List, [], ◌∷◌, ◌++◌, length, Option, Some, None, take, drop, ◌-◌, replicate, reverse, Contains, get_or, set, subst, sym, refl, ap, inl, inr, ⊎_elim, arith}
+use Rattle.std.proofs.Common.{◌≡◌, ◌∙◌, ◌↔◌, ℕ, ◌+◌, ◌<◌, ◌≤◌, ◌⊎◌, List, [], ◌∷◌, ◌++◌, length, Option, Some, None, take, drop, ◌-◌, replicate, reverse, Contains, get_or, set, subst, sym, refl, ap, inl, inr, ⊎_elim, arith}
 use Rattle.std.proofs.lemmas.Bool.{cases_eq, cases_lt}
-use Rattle.std.proofs.lemmas.List.{length-set, length-replicate, get_or-set_same, get_or-set_other, get_or-replicate, get_or_past, get_or_default, reverse-append, take_more, take_all, drop_all, append-nil}
+use Rattle.std.proofs.lemmas.List.{length-set, length-replicate, get_or-set_same, get_or-set_other, get_or-replicate, get_or_past, reverse-append, take_more, take_all, drop_all, append-nil}
 use Rattle.std.proofs.lemmas.List.Elements.{Contains-append_left, Contains-push, Contains-push_cases}
-use Rattle.da_scope.specs.CallPaths.{LeadsTo, here, on, Graph, next_in, Edge, IsGraph, Leads, mark, IsMarked, MarkedFrom}
-use Rattle.da_scope.specs.CallOrder.{Same, IsSealed, IsLeft, AreLeft, Leaves}
+use Rattle.da_scope.specs.CallPaths.{here, on, Graph, next_in, Edge, IsGraph, Leads, mark, IsMarked, MarkedFrom}
+use Rattle.da_scope.specs.CallOrder.{Same, IsSealed, AreLeft, Leaves}
 use Rattle.da_scope.specs.CallCycles.{IsTurned, AddsSteps, MarksCycles}
 use Rattle.da_scope.proofs.CallReach.{leads_itself, leads_through, leads_once, leads_and, leads_within}
-use Rattle.da_scope.proofs.CallOrder.{has_first, has_later, has_cases, has_none, has_or_not}
+use Rattle.da_scope.proofs.CallOrder.{has_cases, has_none, has_or_not}
 use Rattle.da_scope.proofs.CallSearch.{mark_cases, none_or_some}
 
 -- what has a step is a node
@@ -65,16 +65,16 @@ module _ (g back : Graph) (p : ℕ) (rest : List ℕ) (old new : List (Option �
       let y_within : y < length g = subst (λ size. y < size) t.sized (leads_within back y p (turned_graph g back t) (subst (λ size. p < size) (sym t.sized) node_within) way) in
       ⊎_elim
       (λ inside. let found : (z : ℕ) × (Contains rest z → ⊥) × Same g y z = sealed_rest g rest w.left.1 y p inside w.left.0.fresh to_p in
-        ⊎_elim
-        (λ same. same_back g y p (subst (λ k. Same g y k) same found.2))
-        (λ other. outside_none y found.0 none (same_back g y found.0 found.2) (leads_within g found.0 y is_graph y_within found.2.0)
-          (λ has. ⊎_elim (λ e. other (sym e)) found.1 (has_cases p rest found.0 has)))
-        (cases_eq found.0 p))
+      ⊎_elim
+      (λ same. same_back g y p (subst (λ k. Same g y k) same found.2))
+      (λ other. outside_none y found.0 none (same_back g y found.0 found.2) (leads_within g found.0 y is_graph y_within found.2.0)
+      (λ has. ⊎_elim (λ e. other (sym e)) found.1 (has_cases p rest found.0 has)))
+      (cases_eq found.0 p))
       (λ out. ⊎_elim
-        (λ same. subst (λ k. Same g p k) (sym same) (leads_itself (next_in g) p, leads_itself (next_in g) p))
-        (λ other. outside_none y y none (leads_itself (next_in g) y, leads_itself (next_in g) y) y_within
-          (λ has. ⊎_elim (λ e. other (sym e)) out (has_cases p rest y has)))
-        (cases_eq y p))
+      (λ same. subst (λ k. Same g p k) (sym same) (leads_itself (next_in g) p, leads_itself (next_in g) p))
+      (λ other. outside_none y y none (leads_itself (next_in g) y, leads_itself (next_in g) y) y_within
+      (λ has. ⊎_elim (λ e. other (sym e)) out (has_cases p rest y has)))
+      (cases_eq y p))
       (has_or_not rest y)
 
   newly : (y : ℕ) → mark old y ≡ None → IsMarked new y → Same g p y × (mark new y ≡ Some p)
@@ -103,18 +103,18 @@ module _ (g back : Graph) (p : ℕ) (rest : List ℕ) (old new : List (Option �
   marks_cycle = record {
     sized = s.sized ∙ w.sized;
     outside = λ m within out. ⊎_elim
-      (λ same. subst (IsMarked new) (sym same) s.start)
-      (λ other. let is : IsMarked old m = w.outside m within (λ has. ⊎_elim (λ e. other (sym e)) out (has_cases p rest m has)) in (is.0, s.kept m is.0 is.1))
-      (cases_eq m p);
+        (λ same. subst (IsMarked new) (sym same) s.start)
+        (λ other. let is : IsMarked old m = w.outside m within (λ has. ⊎_elim (λ e. other (sym e)) out (has_cases p rest m has)) in (is.0, s.kept m is.0 is.1))
+        (cases_eq m p);
     whole = λ m k is same. ⊎_elim
-      (λ none. let n : Same g p m × (mark new m ≡ Some p) = newly m none is in
+        (λ none. let n : Same g p m × (mark new m ≡ Some p) = newly m none is in
         cycle_marked k (cycle_none m k none same) (same_through g p m k n.0 same) ∙ sym n.1)
-      (λ was. s.kept k was.0 (w.whole m k was same ∙ was.1) ∙ sym (s.kept m was.0 was.1))
-      (mark_cases (mark old m));
+        (λ was. s.kept k was.0 (w.whole m k was same ∙ was.1) ∙ sym (s.kept m was.0 was.1))
+        (mark_cases (mark old m));
     own = λ m l is. ⊎_elim
-      (λ none. let n : Same g p m × (mark new m ≡ Some p) = newly m none (l, is) in subst (λ k. Same g m k) (some_same p l (sym n.1 ∙ is)) (same_back g p m n.0))
-      (λ was. w.own m l (was.1 ∙ sym (s.kept m was.0 was.1) ∙ is))
-      (mark_cases (mark old m));
+        (λ none. let n : Same g p m × (mark new m ≡ Some p) = newly m none (l, is) in subst (λ k. Same g m k) (some_same p l (sym n.1 ∙ is)) (same_back g p m n.0))
+        (λ was. w.own m l (was.1 ∙ sym (s.kept m was.0 was.1) ∙ is))
+        (mark_cases (mark old m));
     left = w.left.1;
   }
     where
@@ -133,6 +133,7 @@ cycles_begin g order marks none leaves = record {
   where
     unmarked : (m : ℕ) → get_or (replicate {A = Option ℕ} (length g) None) m None ≡ None
     unmarked m = ⊎_elim (λ h. get_or-replicate (length g) m None None h) (λ h. get_or_past (replicate (length g) None) m None (rw length-replicate h)) (cases_lt m (length g))
+
     no_mark : (m l : ℕ) → mark marks m ≡ Some l → ⊥
     no_mark m l is = none_or_some (mark marks m) l (ap (λ ms. mark ms m) none ∙ unmarked m) is
 
@@ -142,7 +143,8 @@ cycles_end g rest marks empty w = record {
   sized = w.sized;
   same = λ m n m_within n_within. (
     (λ e. let is : IsMarked marks m = at m m_within in same_through g m is.0 n (w.own m is.0 is.1) (same_back g n is.0 (w.own n is.0 (sym e ∙ is.1)))),
-    (λ same. sym (w.whole m n (at m m_within) same)));
+    (λ same. sym (w.whole m n (at m m_within) same)),
+  );
 }
   where
     at : (m : ℕ) → m < length g → IsMarked marks m
@@ -187,13 +189,14 @@ turning_more g old new node added was = record {
   sized = added.sized ∙ was.sized;
   turns = λ m n. (
     (λ e. ⊎_elim
-      (λ before. let h : (m < node) × Edge g m n = (was.turns m n).0 before in (omega (arith, h.0), h.1))
-      (λ now. (omega (arith, now.0), subst (λ k. Edge g k n) (sym now.0) now.1))
-      ((added.adds m n).0 e)),
+        (λ before. let h : (m < node) × Edge g m n = (was.turns m n).0 before in (omega (arith, h.0), h.1))
+        (λ now. (omega (arith, now.0), subst (λ k. Edge g k n) (sym now.0) now.1))
+        ((added.adds m n).0 e)),
     (λ h. ⊎_elim
-      (λ same. (added.adds m n).1 (inr (same, subst (λ k. Edge g k n) same h.1)))
-      (λ other. (added.adds m n).1 (inl ((was.turns m n).1 (omega (arith, h.0, other), h.1))))
-      (cases_eq m node)));
+        (λ same. (added.adds m n).1 (inr (same, subst (λ k. Edge g k n) same h.1)))
+        (λ other. (added.adds m n).1 (inl ((was.turns m n).1 (omega (arith, h.0, other), h.1))))
+        (cases_eq m node)),
+  );
 }
 
 pub turning_all : (g back : Graph) → Turning g (length g) back → IsTurned g back
@@ -210,27 +213,31 @@ pub adds_more : (to : ℕ) (nodes longer : List ℕ) (node : ℕ) (old now : Gra
 adds_more to nodes longer node old now row row' is within read more was = record {
   sized = length-set now node row' ∙ was.sized;
   adds = λ m n. ⊎_elim
-    (λ same.
+      (λ same.
       let new_row : next_in (set now node row') n ≡ next_in now n ++ to ∷ [] =
-        ap (next_in (set now node row')) same ∙ get_or-set_same now node row' [] within ∙ more ∙ ap (λ r. r ++ to ∷ []) (read ∙ ap (next_in now) (sym same)) in
-      ((λ e. ⊎_elim
-          (λ before. from_before m n ((was.adds m n).0 before))
-          (λ last. inr (sym last, in_longer n same))
-          (Contains-push_cases (next_in now n) to m (subst (λ r. Contains r m) new_row e))),
+      ap (next_in (set now node row')) same ∙ get_or-set_same now node row' [] within ∙ more ∙ ap (λ r. r ++ to ∷ []) (read ∙ ap (next_in now) (sym same)) in (
+        (λ e. ⊎_elim
+            (λ before. from_before m n ((was.adds m n).0 before))
+            (λ last. inr (sym last, in_longer n same))
+            (Contains-push_cases (next_in now n) to m (subst (λ r. Contains r m) new_row e))),
         (λ h. subst (λ r. Contains r m) (sym new_row) (⊎_elim
-          (λ before. Contains-append_left (next_in now n) (to ∷ []) m ((was.adds m n).1 (inl before)))
-          (λ now_. subst (λ k. Contains (next_in now n ++ to ∷ []) k) (sym now_.0) (Contains-push (next_in now n) to))
-          h))))
-    (λ other.
-      let same_row : next_in (set now node row') n ≡ next_in now n = get_or-set_other now node n row' [] other in
-      ((λ e. from_before m n ((was.adds m n).0 (subst (λ r. Contains r m) same_row e))),
-        (λ h. subst (λ r. Contains r m) (sym same_row) ((was.adds m n).1 (⊎_elim (λ before. inl before) (λ now_. inr (now_.0, still n other now_.1)) h)))))
-    (cases_eq n node);
+            (λ before. Contains-append_left (next_in now n) (to ∷ []) m ((was.adds m n).1 (inl before)))
+            (λ now_. subst (λ k. Contains (next_in now n ++ to ∷ []) k) (sym now_.0) (Contains-push (next_in now n) to))
+            h)),
+      ))
+      (λ other.
+      let same_row : next_in (set now node row') n ≡ next_in now n = get_or-set_other now node n row' [] other in (
+        (λ e. from_before m n ((was.adds m n).0 (subst (λ r. Contains r m) same_row e))),
+        (λ h. subst (λ r. Contains r m) (sym same_row) ((was.adds m n).1 (⊎_elim (λ before. inl before) (λ now_. inr (now_.0, still n other now_.1)) h))),
+      ))
+      (cases_eq n node);
 }
   where
     in_longer : (n : ℕ) → n ≡ node → Contains longer n
     in_longer n same = subst (λ l. Contains l n) (sym is) (subst (λ k. Contains (nodes ++ node ∷ []) k) (sym same) (Contains-push nodes node))
+
     from_before : (m n : ℕ) → (Edge old n m ⊎ ((m ≡ to) × Contains nodes n)) → Edge old n m ⊎ ((m ≡ to) × Contains longer n)
     from_before m n h = ⊎_elim (λ e. inl e) (λ k. inr (k.0, subst (λ l. Contains l n) (sym is) (Contains-append_left nodes (node ∷ []) n k.1))) h
+
     still : (n : ℕ) → (n ≡ node → ⊥) → Contains longer n → Contains nodes n
     still n other has = ⊎_elim (λ h. h) (λ e. absurd (other (sym e))) (Contains-push_cases nodes node n (subst (λ l. Contains l n) is has))

@@ -1,17 +1,16 @@
 -- Numbers of methods, step by step.
-use Rattle.std.proofs.Common.{◌≡◌, ◌∙◌, ℕ, zero, suc, ◌+◌, ◌<◌, ◌≤◌, ◌⊎◌, Bool, true, false, List, [], ◌∷◌, ◌++◌, length, map, take, get_or, find, filter_map, cond, Option, Some, None, subst, sym, refl, ap, inl, inr, ⊎_elim, arith}
+use Rattle.std.proofs.Common.{◌≡◌, ◌∙◌, ℕ, zero, suc, ◌+◌, ◌<◌, true, false, List, [], ◌∷◌, ◌++◌, length, map, take, get_or, find, filter_map, cond, Option, Some, None, subst, sym, refl, ap, ⊎_elim, arith}
 use Rattle.std.specs.Bool.{if◌then◌else◌}
 use Rattle.std.specs.List.{cons_option, slice_get}
-use Rattle.std.specs.Option.{option_and_then, option_or, option_map, is_some}
+use Rattle.std.specs.Option.{option_and_then, option_or, is_some}
 use Rattle.std.specs.Str.{bytes_eq}
 use Rattle.std.proofs.lemmas.Bool.{cases_Bool, cases_eq}
-use Rattle.std.proofs.lemmas.List.{append-nil, length-append, length-map, map-append, take_more}
+use Rattle.std.proofs.lemmas.List.{append-nil, length-append, map-append, take_more}
 use Rattle.std.proofs.lemmas.List.Folds.{find-append}
 use Rattle.std.proofs.lemmas.List.Elements.{filter_map-append}
-use Rattle.da_lang.specs.declared.tree.ClassTree.{ClassTree}
 use Rattle.da_lang.specs.declared.tree.Member.{Member}
 use Rattle.da_lang.specs.declared.tree.Member.TheVariants as member
-use Rattle.da_lang.specs.ClassParts.{Body, Place, InSetup, InRun, InMethod, InHandler, bodies, body_in, is_method}
+use Rattle.da_lang.specs.ClassParts.{Body, InMethod, body_in, is_method}
 use Rattle.da_scope.specs.CallMethods.{Numbering, AddsMethod, method_body}
 use Rattle.da_scope.specs.CallNames.{number_in, PutUnder}
 use Rattle.da_scope.specs.declared.calls.names.Numbers.{Numbers}
@@ -64,12 +63,12 @@ numbering_passes before methods number b other w = record {
 pub numbering_known : (before methods : List Body) (number : List ℕ → Option ℕ) (b : Body) (name : List ℕ) (k : ℕ) → b.place ≡ InMethod name → number name ≡ Some k → Numbering before methods number → Numbering (before ++ b ∷ []) methods number
 numbering_known before methods number b name k place is w = record {
   found = λ other. ⊎_elim
-    (λ same. let first : (x : Body) × (slice_get methods k ≡ Some x) = slice_get-some methods k (w.within name k is) in
+      (λ same. let first : (x : Body) × (slice_get methods k ≡ Some x) = slice_get-some methods k (w.within name k is) in
       let there : find (λ x. is_method other x.place) before ≡ Some first.0 =
-        w.found other ∙ ap (option_and_then (slice_get methods)) (ap number (sym (same_name name other same)) ∙ is) ∙ first.1 in
+      w.found other ∙ ap (option_and_then (slice_get methods)) (ap number (sym (same_name name other same)) ∙ is) ∙ first.1 in
       find-append (λ x. is_method other x.place) before (b ∷ []) ∙ or_some (find (λ x. is_method other x.place) before) _ first.0 there ∙ w.found other)
-    (λ differs. not_found other before b (ap (is_method other) place ∙ differs) ∙ w.found other)
-    (cases_Bool (bytes_eq name other));
+      (λ differs. not_found other before b (ap (is_method other) place ∙ differs) ∙ w.found other)
+      (cases_Bool (bytes_eq name other));
   within = w.within;
   named = w.named;
 }
@@ -96,26 +95,28 @@ module _ (before methods longer : List Body) (number now : List ℕ → Option �
   pub numbering_new : Numbering (before ++ b ∷ []) longer now
   numbering_new = record {
     found = λ other. ⊎_elim
-      (λ same.
+        (λ same.
         let none_there : find (λ x. is_method other x.place) before ≡ None = w.found other ∙ ap (option_and_then (slice_get methods)) (ap number (sym (same_name name other same)) ∙ new) in
         find-append (λ x. is_method other x.place) before (b ∷ [])
         ∙ ap (λ o. option_or o (cond (is_method other b.place) (Some b) None)) none_there
         ∙ ap (λ t. option_or None (cond t (Some b) None)) (ap (is_method other) place ∙ same)
         ∙ sym (ap (option_and_then (slice_get longer)) (put_here other same) ∙ ap (λ l. slice_get l (length methods)) more ∙ slice_get-push methods b))
-      (λ differs. not_found other before b (ap (is_method other) place ∙ differs) ∙ w.found other ∙ sym (ap (option_and_then (slice_get longer)) (put_other other differs) ∙ old_lookup other))
-      (cases_Bool (bytes_eq name other));
+        (λ differs. not_found other before b (ap (is_method other) place ∙ differs) ∙ w.found other ∙ sym (ap (option_and_then (slice_get longer)) (put_other other differs) ∙ old_lookup other))
+        (cases_Bool (bytes_eq name other));
     within = λ other k is. ⊎_elim
-      (λ same. let last : length methods ≡ k = some_same (length methods) k (sym (put_here other same) ∙ is) in omega (arith, last, one_longer))
-      (λ differs. let old : k < length methods = w.within other k (sym (put_other other differs) ∙ is) in omega (arith, old, one_longer))
-      (cases_Bool (bytes_eq name other));
+        (λ same. let last : length methods ≡ k = some_same (length methods) k (sym (put_here other same) ∙ is) in omega (arith, last, one_longer))
+        (λ differs. let old : k < length methods = w.within other k (sym (put_other other differs) ∙ is) in omega (arith, old, one_longer))
+        (cases_Bool (bytes_eq name other));
     named = λ k h. ⊎_elim
-      (λ same. (name, put_here name (name_same name name refl) ∙ ap Some (sym same)))
-      (λ other. let old : (n : List ℕ) × (number n ≡ Some k) = w.named k (omega (arith, h, other, one_longer)) in
-        (old.0, ⊎_elim
-          (λ same. absurd (none_is_some k (sym new ∙ ap number (same_name name old.0 same) ∙ old.1)))
-          (λ differs. put_other old.0 differs ∙ old.1)
-          (cases_Bool (bytes_eq name old.0))))
-      (cases_eq k (length methods));
+        (λ same. (name, put_here name (name_same name name refl) ∙ ap Some (sym same)))
+        (λ other. let old : (n : List ℕ) × (number n ≡ Some k) = w.named k (omega (arith, h, other, one_longer)) in (
+          old.0,
+          ⊎_elim
+              (λ same. absurd (none_is_some k (sym new ∙ ap number (same_name name old.0 same) ∙ old.1)))
+              (λ differs. put_other old.0 differs ∙ old.1)
+              (cases_Bool (bytes_eq name old.0)),
+        ))
+        (cases_eq k (length methods));
   }
 
 -- one more member
@@ -149,7 +150,7 @@ pub adds_new : (b : Body) (name key : List ℕ) (methods longer : List Body) (ol
 adds_new b name key methods longer old new (Some k) len place same finds test long more put = absurd (false_true test)
 adds_new b name key methods longer old new None len place same finds test long more put = record {
   behind = λ before w. numbering_new before methods longer (number_in old) (number_in new) b name place (ap (number_in old) (sym same) ∙ sym finds) more
-    (λ other. put.finds other ∙ ap (λ k. if bytes_eq k other then Some len else number_in old other) same ∙ ap (λ l. if bytes_eq name other then Some l else number_in old other) long) w;
+      (λ other. put.finds other ∙ ap (λ k. if bytes_eq k other then Some len else number_in old other) same ∙ ap (λ l. if bytes_eq name other then Some l else number_in old other) long) w;
 }
 
 pub map_push : {A B : Type 0} (f : A → B) (xs longer : List A) (x : A) → longer ≡ xs ++ x ∷ [] → map f longer ≡ map f xs ++ f x ∷ []

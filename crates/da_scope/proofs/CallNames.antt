@@ -1,5 +1,5 @@
 -- Names and their numbers.
-use Rattle.std.proofs.Common.{◌≡◌, ◌∙◌, ℕ, ◌⊎◌, Bool, true, false, List, Option, Some, None, Result, Ok, Err, OnOk, Vec, Global, rules, subst, sym, refl, ap, ⊎_elim}
+use Rattle.std.proofs.Common.{◌≡◌, ◌∙◌, ℕ, Bool, true, false, List, Some, Result, Ok, Err, OnOk, Vec, Global, rules, subst, sym, refl, ap, ⊎_elim}
 use Rattle.std.specs.Bool.{if◌then◌else◌}
 use Rattle.std.specs.BTreeMap.{BTreeMap, UpdatesBy, get_by, is_at}
 use Rattle.std.specs.Cmp.Lexicographic.{slice_cmp}
@@ -34,9 +34,9 @@ put_finds old new name number h other =
     ⊎_elim
     (λ yes_. subst (λ o. get_by (λ k. slice_cmp nat_cmp o k.items) new ≡ Some number) (same_name name other yes_) h.1 ∙ sym (ap (λ b. if b then Some number else get_by (λ k. slice_cmp nat_cmp other k.items) old) yes_))
     (λ no_. h.3 (name_at other)
-      (λ x y e. let same : other ≡ x.items = at_same other x e in ap (λ o. is_eq (slice_cmp nat_cmp o y.items)) same)
-      (λ k e. false_or_true (name_at other k) (λ both. differ (sym no_ ∙ name_same name other (at_same name k e ∙ sym (at_same other k both)))))
-      ∙ sym (ap (λ b. if b then Some number else get_by (λ k. slice_cmp nat_cmp other k.items) old) no_))
+    (λ x y e. let same : other ≡ x.items = at_same other x e in ap (λ o. is_eq (slice_cmp nat_cmp o y.items)) same)
+    (λ k e. false_or_true (name_at other k) (λ both. differ (sym no_ ∙ name_same name other (at_same name k e ∙ sym (at_same other k both)))))
+    ∙ sym (ap (λ b. if b then Some number else get_by (λ k. slice_cmp nat_cmp other k.items) old) no_))
     (cases_Bool (bytes_eq name other))
   where
     differ : false ≡ true → ⊥

@@ -4,8 +4,8 @@ use Rattle.std.proofs.lemmas.Bool.{cases_eq, cases_lt}
 use Rattle.std.proofs.lemmas.List.{append-nil, get_or_default, length-set, length-append, length-map, length-replicate, get_or-set_same, get_or-set_other, get_or-replicate, get_or_past, reverse-append}
 use Rattle.da_scope.specs.declared.calls.order.Task.{Task}
 use Rattle.da_scope.specs.declared.calls.order.Task.TheVariants.{Enter, Leave}
-use Rattle.da_scope.specs.CallPaths.{LeadsTo, here, on, Graph, next_in, Edge, IsGraph, Leads}
-use Rattle.da_scope.specs.CallOrder.{Same, IsSealed, IsLeft, AreLeft, Leaves}
+use Rattle.da_scope.specs.CallPaths.{here, on, Graph, next_in, Edge, IsGraph, Leads}
+use Rattle.da_scope.specs.CallOrder.{Same, AreLeft, Leaves}
 use Rattle.da_scope.specs.CallTasks.{entering}
 use Rattle.da_scope.proofs.CallReach.{leads_itself, leads_through, leads_once, leads_and}
 use Rattle.da_scope.proofs.CallSearch.{left, left-set, row_read}
@@ -88,7 +88,7 @@ exit_of g nodes y x has none (here m e) = absurd (none (subst (λ k. Contains no
 exit_of g nodes y x has none (on m k s p) =
     ⊎_elim
     (λ inside. let rest : Exit g nodes k y = exit_of g nodes y k inside none p in
-      record { last = rest.last; next = rest.next; inside = rest.inside; outside = rest.outside; before = on m k s rest.before; step = rest.step; behind = rest.behind })
+    record { last = rest.last; next = rest.next; inside = rest.inside; outside = rest.outside; before = on m k s rest.before; step = rest.step; behind = rest.behind })
     (λ outside. record { last = m; next = k; inside = has; outside = outside; before = leads_itself (next_in g) m; step = s; behind = p })
     (has_or_not nodes k)
 
@@ -111,7 +111,7 @@ module _ (g : Graph) (most : ℕ) (entered : List Bool) (tasks : List Task) (don
       let out : Exit g (p ∷ done) p y = exit_of g (p ∷ done) y p (has_first p done) none leads in
       ⊎_elim
       (λ o. ⊎_elim (λ same. absurd (out.outside (subst (λ k. Contains (p ∷ done) k) same (has_first p done))))
-        (λ inner. (out.next, inner, (leads_and out.next out.before out.step, w.chained.1 out.next inner))) o)
+      (λ inner. (out.next, inner, (leads_and out.next out.before out.step, w.chained.1 out.next inner))) o)
       (λ h. absurd (out.outside (has_later p done out.next h)))
       (w.known out.next (left_passed out.last out.next out.inside out.step))
 
@@ -120,14 +120,14 @@ module _ (g : Graph) (most : ℕ) (entered : List Bool) (tasks : List Task) (don
       ⊎_elim
       (λ same. subst (λ k. (z : ℕ) × IsOpen tasks z × Same g k z) same (held_by y none (subst (λ k. Leads g k y) (sym same) leads)))
       (λ h. let found : (z : ℕ) × IsOpen (Leave p ∷ tasks) z × Same g x z = w.held x y h (λ k. none (has_later p done y k)) leads in
-        ⊎_elim
-        (λ same.
-          let to_p : Leads g x p = subst (λ k. Leads g x k) (sym same) found.2.0 in
-          let from_p : Leads g p x = subst (λ k. Leads g k x) (sym same) found.2.1 in
-          let other : (z : ℕ) × IsOpen tasks z × Same g p z = held_by y none (leads_through from_p leads) in
-          (other.0, other.1, (leads_through to_p other.2.0, leads_through other.2.1 from_p)))
-        (λ o. (found.0, o, found.2))
-        found.1)
+      ⊎_elim
+      (λ same.
+      let to_p : Leads g x p = subst (λ k. Leads g x k) (sym same) found.2.0 in
+      let from_p : Leads g p x = subst (λ k. Leads g k x) (sym same) found.2.1 in
+      let other : (z : ℕ) × IsOpen tasks z × Same g p z = held_by y none (leads_through from_p leads) in
+      (other.0, other.1, (leads_through to_p other.2.0, leads_through other.2.1 from_p)))
+      (λ o. (found.0, o, found.2))
+      found.1)
       (has_cases p done x has)
 
   pub leaves_it : Walk g most entered tasks (p ∷ done)
@@ -142,15 +142,18 @@ module _ (g : Graph) (most : ℕ) (entered : List Bool) (tasks : List Task) (don
     covered = λ m n o e. ⊎_elim (λ i. inl i) (λ b. inr b.1) (w.covered m n (inr o) e);
     passed = left_passed;
     held = left_held;
-    left = (record {
-      within = w.chained.0;
-      fresh = λ h. w.apart p (inl refl) h;
-      goes = λ n e. ⊎_elim
-        (λ o. ⊎_elim (λ same. inr (subst (λ k. Leads g k p) same (leads_itself (next_in g) p))) (λ i. inr (w.chained.1 n i)) o)
-        (λ h. inl h)
-        (w.known n (left_passed p n (has_first p done) e));
-      sealed = λ x y has none leads. let found : (z : ℕ) × IsOpen tasks z × Same g x z = left_held x y has none leads in (found.0, left_apart found.0 found.1, found.2);
-    }, w.left);
+    left = (
+      record {
+        within = w.chained.0;
+        fresh = λ h. w.apart p (inl refl) h;
+        goes = λ n e. ⊎_elim
+            (λ o. ⊎_elim (λ same. inr (subst (λ k. Leads g k p) same (leads_itself (next_in g) p))) (λ i. inr (w.chained.1 n i)) o)
+            (λ h. inl h)
+            (w.known n (left_passed p n (has_first p done) e));
+        sealed = λ x y has none leads. let found : (z : ℕ) × IsOpen tasks z × Same g x z = left_held x y has none leads in (found.0, left_apart found.0 found.1, found.2);
+      },
+      w.left,
+    );
   }
 
 -- the node at the front was entered before
@@ -231,22 +234,22 @@ module _ (g : Graph) (most : ℕ) (entered : List Bool) (tasks : List Task) (don
     opened = λ m o. ⊎_elim (λ same. subst (IsEntered (set entered x true)) same now_entered) (λ i. still m (w.opened m i)) (pushed_open (next_in g x) (Leave x ∷ tasks) m o);
     gone = λ m has. still m (w.gone m has);
     known = λ m is. ⊎_elim
-      (λ same. inl (open_pushed (next_in g x) (Leave x ∷ tasks) m (inl (sym same))))
-      (λ other. ⊎_elim (λ o. inl (open_pushed (next_in g x) (Leave x ∷ tasks) m (inr o))) (λ h. inr h) (w.known m (was_entered m other is)))
-      (cases_eq m x);
+        (λ same. inl (open_pushed (next_in g x) (Leave x ∷ tasks) m (inl (sym same))))
+        (λ other. ⊎_elim (λ o. inl (open_pushed (next_in g x) (Leave x ∷ tasks) m (inr o))) (λ h. inr h) (w.known m (was_entered m other is)))
+        (cases_eq m x);
     coming = λ m h. ⊎_elim (λ is. inl (still m is))
-      (λ t. ⊎_elim (λ same. inl (subst (IsEntered (set entered x true)) same now_entered)) (λ u. inr (waits_pushed (next_in g x) (Leave x ∷ tasks) m u)) t)
-      (w.coming m h);
+        (λ t. ⊎_elim (λ same. inl (subst (IsEntered (set entered x true)) same now_entered)) (λ u. inr (waits_pushed (next_in g x) (Leave x ∷ tasks) m u)) t)
+        (w.coming m h);
     apart = λ m o has. ⊎_elim (λ same. not_yet (w.gone x (subst (λ k. Contains done k) (sym same) has))) (λ i. w.apart m i has) (pushed_open (next_in g x) (Leave x ∷ tasks) m o);
     chained = chained_pushed g (next_in g x) (Leave x ∷ tasks)
-      (λ n h. (whole x n h, λ m o. ⊎_elim (λ same. subst (λ k. Leads g k n) same (leads_once (next_in g) x n h)) (λ i. leads_and n (w.chained.1 m i) h) o))
-      (w.chained.0, w.chained.1, λ o. not_yet (w.opened x o), w.chained.2);
+        (λ n h. (whole x n h, λ m o. ⊎_elim (λ same. subst (λ k. Leads g k n) same (leads_once (next_in g) x n h)) (λ i. leads_and n (w.chained.1 m i) h) o))
+        (w.chained.0, w.chained.1, λ o. not_yet (w.opened x o), w.chained.2);
     covered = λ m n o e. ⊎_elim
-      (λ same. inr (pushed_before (next_in g x) (Leave x ∷ tasks) m n (subst (λ k. Contains (next_in g k) n) (sym same) e)))
-      (λ i. ⊎_elim (λ is. inl (still n is))
+        (λ same. inr (pushed_before (next_in g x) (Leave x ∷ tasks) m n (subst (λ k. Contains (next_in g k) n) (sym same) e)))
+        (λ i. ⊎_elim (λ is. inl (still n is))
         (λ b. ⊎_elim (λ same. inl (subst (IsEntered (set entered x true)) same now_entered)) (λ u. inr (before_pushed (next_in g x) (Leave x ∷ tasks) m n (open_other m i, u))) b)
         (w.covered m n i e))
-      (pushed_open (next_in g x) (Leave x ∷ tasks) m o);
+        (pushed_open (next_in g x) (Leave x ∷ tasks) m o);
     passed = λ m n has e. still n (w.passed m n has e);
     held = λ y z has none leads. let found : (k : ℕ) × IsOpen tasks k × Same g y k = w.held y z has none leads in (found.0, open_pushed (next_in g x) (Leave x ∷ tasks) found.0 (inr found.1), found.2);
     left = w.left;
@@ -282,6 +285,7 @@ starts g entered tasks none wait = subst (λ t. Walk g (length g) entered t []) 
   where
     differ : false ≡ true → ⊥
     differ e = cc
+
     not_one : (m : ℕ) → IsEntered entered m → ⊥
     not_one m is = differ (sym (ap (λ e. get_or e m false) none ∙ ⊎_elim (λ h. get_or-replicate (length g) m false false h) (λ h. get_or_past (replicate (length g) false) m false (rw length-replicate h)) (cases_lt m (length g))) ∙ is)
 
@@ -332,7 +336,7 @@ step_enters g most entered work rest longer done last x b row whole s w =
     let within : (x < length g) × (x < length entered) = enter_within g most entered work rest done last x s.taken s.enters w in
     let row_same : row ≡ next_in g x = row_read g x row within.0 s.row_is in
     let stack : reverse longer ≡ pushed (next_in g x) (Leave x ∷ reverse rest) =
-      ap reverse s.becomes ∙ reverse_pushed row (rest ++ Leave x ∷ []) ∙ ap (pushed row) (reverse-append rest (Leave x ∷ [])) ∙ ap (λ r. pushed r (Leave x ∷ reverse rest)) row_same in
+    ap reverse s.becomes ∙ reverse_pushed row (rest ++ Leave x ∷ []) ∙ ap (pushed row) (reverse-append rest (Leave x ∷ [])) ∙ ap (λ r. pushed r (Leave x ∷ reverse rest)) row_same in
     subst (λ t. Walk g most (set entered x true) t done) (sym stack)
     (enters_it g most entered (reverse rest) done x whole (entered_read entered x b false within.1 s.read s.new) (at_front g most entered work rest done last (Enter x) s.taken s.enters w))
 

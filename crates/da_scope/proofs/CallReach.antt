@@ -1,6 +1,6 @@
 -- What leads to what.
-use Rattle.std.proofs.Common.{◌≡◌, ℕ, ◌<◌, List, length, Contains, subst, sym, refl}
-use Rattle.da_scope.specs.CallPaths.{LeadsTo, here, on, Graph, next_in, Edge, IsGraph, Leads}
+use Rattle.std.proofs.Common.{ℕ, ◌<◌, List, length, Contains, subst, sym, refl}
+use Rattle.da_scope.specs.CallPaths.{LeadsTo, here, on, Graph, IsGraph, Leads}
 
 pub leads_itself : {A : Type 0} (next : A → List A) (m : A) → LeadsTo next m m
 leads_itself next m = here m refl

@@ -1,9 +1,9 @@
 -- Searches from several nodes, step by step.
-use Rattle.std.proofs.Common.{◌≡◌, ◌∙◌, ℕ, ◌<◌, ◌⊎◌, List, [], ◌∷◌, ◌++◌, length, Option, Some, None, replicate, Contains, get_or, subst, sym, refl, ap, ⊎_elim}
+use Rattle.std.proofs.Common.{◌≡◌, ◌∙◌, ℕ, List, [], ◌∷◌, ◌++◌, length, Option, None, replicate, Contains, subst, sym, ap, ⊎_elim}
 use Rattle.std.proofs.lemmas.Bool.{cases_lt}
 use Rattle.std.proofs.lemmas.List.{length-replicate, get_or-replicate, get_or_past}
 use Rattle.std.proofs.lemmas.List.Elements.{Contains-append_left, Contains-push, Contains-push_cases}
-use Rattle.da_scope.specs.CallPaths.{here, on, Graph, next_in, Edge, Leads, mark, IsMarked, MarkedFrom, MarksReached}
+use Rattle.da_scope.specs.CallPaths.{here, on, Graph, Edge, Leads, mark, IsMarked, MarkedFrom, MarksReached}
 use Rattle.da_scope.proofs.CallSearch.{mark_cases, none_or_some}
 use Rattle.da_scope.proofs.CallOrder.{has_none}
 
@@ -32,18 +32,19 @@ pub reaching_more : (g : Graph) (starts longer : List ℕ) (start : ℕ) (old ne
 reaching_more g starts longer start old new is s w = record {
   sized = s.sized ∙ w.sized;
   sound = λ m has. ⊎_elim
-    (λ none. (start, subst (λ l. Contains l start) (sym is) (Contains-push starts start), (s.found m has.0 none has.1).1))
-    (λ was. let from : (k : ℕ) × Contains starts k × Leads g k m = w.sound m was in (from.0, earlier from.0 from.1, from.2))
-    (mark_cases (mark old m));
+      (λ none. (start, subst (λ l. Contains l start) (sym is) (Contains-push starts start), (s.found m has.0 none has.1).1))
+      (λ was. let from : (k : ℕ) × Contains starts k × Leads g k m = w.sound m was in (from.0, earlier from.0 from.1, from.2))
+      (mark_cases (mark old m));
   closed = λ m n has e. ⊎_elim
-    (λ none. s.closed m n none has e)
-    (λ was. keeps n (w.closed m n was e))
-    (mark_cases (mark old m));
+      (λ none. s.closed m n none has e)
+      (λ was. keeps n (w.closed m n was e))
+      (mark_cases (mark old m));
   begun = λ k has. ⊎_elim (λ h. keeps k (w.begun k h)) (λ e. subst (IsMarked new) e s.start) (Contains-push_cases starts start k (subst (λ l. Contains l k) is has));
 }
   where
     keeps : (n : ℕ) → IsMarked old n → IsMarked new n
     keeps n was = (was.0, s.kept n was.0 was.1)
+
     earlier : (k : ℕ) → Contains starts k → Contains longer k
     earlier k has = subst (λ l. Contains l k) (sym is) (Contains-append_left starts (start ∷ []) k has)
 

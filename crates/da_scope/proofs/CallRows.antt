@@ -1,9 +1,9 @@
 -- The calls and the yield points of methods, step by step.
-use Rattle.std.proofs.Common.{◌≡◌, ◌∙◌, ◌↔◌, ℕ, zero, suc, ◌+◌, ◌<◌, ◌≤◌, ◌⊎◌, Bool, true, false, List, [], ◌∷◌, ◌++◌, length, map, take, get_or, filter, filter_map, flat_map, cond, Option, Some, None, Contains, subst, sym, refl, ap, inl, inr, ⊎_elim, arith}
+use Rattle.std.proofs.Common.{◌≡◌, ◌∙◌, ◌↔◌, ℕ, ◌+◌, ◌<◌, ◌≤◌, true, false, List, [], ◌∷◌, ◌++◌, length, map, take, get_or, filter, filter_map, flat_map, Option, Some, None, Contains, subst, sym, refl, ap, ⊎_elim, arith}
 use Rattle.std.specs.List.{cons_option, slice_get}
 use Rattle.std.specs.Option.{option_map}
 use Rattle.std.proofs.lemmas.Bool.{cases_eq}
-use Rattle.std.proofs.lemmas.List.{append-nil, length-map, map-append, take_more}
+use Rattle.std.proofs.lemmas.List.{append-nil, map-append, take_more}
 use Rattle.std.proofs.lemmas.List.Concat.{flat_map-append}
 use Rattle.std.proofs.lemmas.List.Elements.{filter_map-append, filter-append, Contains-append_left, Contains-push, Contains-push_cases}
 use Rattle.std.proofs.lemmas.Option.{slice_get_within, slice_get-map, slice_get-get_or}
@@ -15,8 +15,8 @@ use Rattle.da_lang.specs.Deeds.{Deed, deeds}
 use Rattle.da_lang.specs.Limits.{is_root}
 use Rattle.da_scope.specs.CallBodies.{calls_by, some_yield}
 use Rattle.da_scope.specs.CallRows.{call_rows, HoldsYield, AreYieldPoints, outside_deeds, outside_stmts}
-use Rattle.da_scope.proofs.CallBodies.{calls_by-append, calls_by-none}
-use Rattle.da_scope.proofs.CallBounds.{false_true, none_is_some, some_same, in_none}
+use Rattle.da_scope.proofs.CallBodies.{calls_by-append}
+use Rattle.da_scope.proofs.CallBounds.{false_true, some_same, in_none}
 
 -- the methods before a number that have a yield point
 pub record YieldsBelow (count : ℕ) (methods : List Body) (points : List ℕ) : Type 0 where
@@ -29,13 +29,14 @@ pub yields_here : (count : ℕ) (methods : List Body) (points more : List ℕ) (
 yields_here count methods points more b there holds is w = record {
   below = λ k. (
     (λ has. ⊎_elim
-      (λ before. let h : (k < count) × HoldsYield methods k = (w.below k).0 before in (omega (arith, h.0), h.1))
-      (λ last. (omega (arith, last), (b, ap (slice_get methods) (sym last) ∙ there, holds)))
-      (Contains-push_cases points count k (subst (λ p. Contains p k) is has))),
+        (λ before. let h : (k < count) × HoldsYield methods k = (w.below k).0 before in (omega (arith, h.0), h.1))
+        (λ last. (omega (arith, last), (b, ap (slice_get methods) (sym last) ∙ there, holds)))
+        (Contains-push_cases points count k (subst (λ p. Contains p k) is has))),
     (λ h. ⊎_elim
-      (λ same. subst (λ p. Contains p k) (sym is) (subst (λ n. Contains (points ++ count ∷ []) n) (sym same) (Contains-push points count)))
-      (λ other. subst (λ p. Contains p k) (sym is) (Contains-append_left points (count ∷ []) k ((w.below k).1 (omega (arith, h.0, other), h.1))))
-      (cases_eq k count)));
+        (λ same. subst (λ p. Contains p k) (sym is) (subst (λ n. Contains (points ++ count ∷ []) n) (sym same) (Contains-push points count)))
+        (λ other. subst (λ p. Contains p k) (sym is) (Contains-append_left points (count ∷ []) k ((w.below k).1 (omega (arith, h.0, other), h.1))))
+        (cases_eq k count)),
+  );
 }
 
 pub yields_not : (count : ℕ) (methods : List Body) (points : List ℕ) (b : Body) → slice_get methods count ≡ Some b → some_yield (deeds b.stmts) ≡ false → YieldsBelow count methods points → YieldsBelow (count + 1) methods points
@@ -43,9 +44,10 @@ yields_not count methods points b there holds w = record {
   below = λ k. (
     (λ has. let h : (k < count) × HoldsYield methods k = (w.below k).0 has in (omega (arith, h.0), h.1)),
     (λ h. ⊎_elim
-      (λ same. absurd (false_true (sym holds ∙ ap (λ x. some_yield (deeds x.stmts)) (some_same b h.1.0 (sym there ∙ ap (slice_get methods) (sym same) ∙ h.1.1)) ∙ h.1.2)))
-      (λ other. (w.below k).1 (omega (arith, h.0, other), h.1))
-      (cases_eq k count)));
+        (λ same. absurd (false_true (sym holds ∙ ap (λ x. some_yield (deeds x.stmts)) (some_same b h.1.0 (sym there ∙ ap (slice_get methods) (sym same) ∙ h.1.1)) ∙ h.1.2)))
+        (λ other. (w.below k).1 (omega (arith, h.0, other), h.1))
+        (cases_eq k count)),
+  );
 }
 
 pub yields_all : (count : ℕ) (methods : List Body) (points : List ℕ) → length methods ≤ count → YieldsBelow count methods points → AreYieldPoints methods points
@@ -62,7 +64,7 @@ pub rows_more : {A : Type 0} (number : List ℕ → Option ℕ) (f : A → Body)
 rows_more number f xs i x rows more row within is was row_is is_more =
     is_more ∙ ap (λ r. rows ++ r ∷ []) row_is ∙ ap (λ rs. rs ++ calls_by number (deeds (f x).stmts) ∷ []) was
     ∙ sym (ap (λ ys. call_rows number (map f ys)) (take_more xs i x within ∙ ap (λ y. take i xs ++ y ∷ []) (sym is))
-      ∙ ap (call_rows number) (map-append f (take i xs) (x ∷ [])) ∙ map-append (λ b. calls_by number (deeds b.stmts)) (map f (take i xs)) (f x ∷ []))
+    ∙ ap (call_rows number) (map-append f (take i xs) (x ∷ [])) ∙ map-append (λ b. calls_by number (deeds b.stmts)) (map f (take i xs)) (f x ∷ []))
 
 -- one more member
 outside_more : (xs : List Member) (m : Member) → outside_deeds (filter_map body_in (xs ++ m ∷ [])) ≡ outside_deeds (filter_map body_in xs) ++ outside_deeds (cons_option (body_in m) [])

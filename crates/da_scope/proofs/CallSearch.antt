@@ -1,10 +1,10 @@
 -- A search in a graph, step by step.
-use Rattle.std.proofs.Common.{◌≡◌, ◌∙◌, ℕ, zero, suc, ◌+◌, ◌<◌, ◌⊎◌, Bool, true, false, if◌then◌else◌, List, [], ◌∷◌, ◌++◌, length, Option, Some, None, Contains, get_or, set, take, subst, sym, refl, ap, inl, inr, ⊎_elim, arith}
+use Rattle.std.proofs.Common.{◌≡◌, ◌∙◌, ℕ, zero, suc, ◌+◌, ◌<◌, ◌⊎◌, Bool, true, false, if◌then◌else◌, List, [], ◌∷◌, ◌++◌, length, Option, Some, None, Contains, get_or, set, subst, sym, refl, ap, inl, inr, ⊎_elim, arith}
 use Rattle.std.specs.Option.{is_none, is_some}
 use Rattle.std.proofs.lemmas.Bool.{cases_eq}
 use Rattle.std.proofs.lemmas.List.{get_or_default, length-set, length-append, get_or-set_same, get_or-set_other}
 use Rattle.std.proofs.lemmas.List.Elements.{Contains-append_left, Contains-append_right, Contains-push, Contains-push_cases, Contains-append_cases}
-use Rattle.da_scope.specs.CallPaths.{LeadsTo, here, on, Graph, next_in, Edge, IsGraph, Leads, mark, IsMarked, MarkedFrom}
+use Rattle.da_scope.specs.CallPaths.{Graph, next_in, Edge, IsGraph, Leads, mark, IsMarked, MarkedFrom}
 use Rattle.da_scope.proofs.CallReach.{leads_itself, leads_and}
 
 -- the steps that are left, where nodes that pass a test are still to be marked
@@ -71,6 +71,7 @@ skips g from old now work rest x is marked was = record {
   where
     before : (n : ℕ) → Contains rest n → Contains work n
     before n has = subst (λ w. Contains w n) (sym is) (Contains-append_left rest (x ∷ []) n has)
+
     seen : (n : ℕ) → Contains work n → IsMarked now n ⊎ Contains rest n
     seen n has = ⊎_elim (λ h. inr h) (λ e. inl (subst (IsMarked now) e marked)) (Contains-push_cases rest x n (subst (λ w. Contains w n) is has))
 
@@ -87,29 +88,35 @@ marks_it g from old now work rest x whole size is none was = record {
   kept = λ m l e. ⊎_elim (λ same. absurd (none_or_some (mark now x) l none (ap (mark now) (sym same) ∙ was.kept m l e))) (λ other. mark_other now x from m other ∙ was.kept m l e) (cases_eq m x);
   start = ⊎_elim (λ s. inl (stays from s)) (later from) was.start;
   found = λ m l was_none e. ⊎_elim
-    (λ same. (some_same l from (sym e ∙ ap (mark (set now x (Some from))) same ∙ mark_same now x from x_lt), subst (λ n. Leads g from n) (sym same) to_x))
-    (λ other. was.found m l was_none (sym (mark_other now x from m other) ∙ e))
-    (cases_eq m x);
+      (λ same. (some_same l from (sym e ∙ ap (mark (set now x (Some from))) same ∙ mark_same now x from x_lt), subst (λ n. Leads g from n) (sym same) to_x))
+      (λ other. was.found m l was_none (sym (mark_other now x from m other) ∙ e))
+      (cases_eq m x);
   closed = λ m n was_none has e. ⊎_elim
-    (λ same. inr (Contains-append_right rest (next_in g x) n (subst (λ k. Contains (next_in g k) n) same e)))
-    (λ other. ⊎_elim (λ s. inl (stays n s)) (later n) (was.closed m n was_none (has.0, sym (mark_other now x from m other) ∙ has.1) e))
-    (cases_eq m x);
+      (λ same. inr (Contains-append_right rest (next_in g x) n (subst (λ k. Contains (next_in g k) n) same e)))
+      (λ other. ⊎_elim (λ s. inl (stays n s)) (later n) (was.closed m n was_none (has.0, sym (mark_other now x from m other) ∙ has.1) e))
+      (cases_eq m x);
   reached = λ n has. ⊎_elim (λ h. was.reached n (before n h)) (λ h. leads_and n to_x h) (Contains-append_cases rest (next_in g x) n has);
   within = λ n has. ⊎_elim (λ h. was.within n (before n h)) (λ h. whole x n h) (Contains-append_cases rest (next_in g x) n has);
 }
   where
     some_same : (a b : ℕ) → Some a ≡ Some b → a ≡ b
     some_same a b e = cc
+
     at_end : Contains work x
     at_end = subst (λ w. Contains w x) (sym is) (Contains-push rest x)
+
     to_x : Leads g from x
     to_x = was.reached x at_end
+
     x_lt : x < length now
     x_lt = let h : x < length g = was.within x at_end in omega (arith, h, size, was.sized)
+
     before : (n : ℕ) → Contains rest n → Contains work n
     before n has = subst (λ w. Contains w n) (sym is) (Contains-append_left rest (x ∷ []) n has)
+
     stays : (n : ℕ) → IsMarked now n → IsMarked (set now x (Some from)) n
     stays n s = ⊎_elim (λ same. absurd (none_or_some (mark now x) s.0 none (ap (mark now) (sym same) ∙ s.1))) (λ other. (s.0, mark_other now x from n other ∙ s.1)) (cases_eq n x)
+
     later : (n : ℕ) → Contains work n → IsMarked (set now x (Some from)) n ⊎ Contains (rest ++ next_in g x) n
     later n has = ⊎_elim (λ h. inr (Contains-append_left rest (next_in g x) n h)) (λ e. inl (subst (IsMarked (set now x (Some from))) e (from, mark_same now x from x_lt))) (Contains-push_cases rest x n (subst (λ w. Contains w n) is has))
 

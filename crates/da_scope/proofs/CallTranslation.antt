@@ -1,13 +1,13 @@
 -- What the graph of numbers says of the names of a class.
-use Rattle.std.proofs.Common.{◌≡◌, ◌∙◌, ◌↔◌, ℕ, ◌+◌, ◌<◌, ◌≤◌, ◌⊎◌, Bool, true, false, List, [], ◌∷◌, ◌++◌, length, map, take, drop, reverse, get_or, find, filter_map, Option, Some, None, Contains, subst, sym, refl, ap, inl, inr, ⊎_elim, arith}
+use Rattle.std.proofs.Common.{◌≡◌, ◌∙◌, ◌↔◌, ℕ, ◌+◌, ◌<◌, true, List, [], ◌∷◌, ◌++◌, length, take, drop, reverse, get_or, filter_map, Option, Some, None, Contains, subst, sym, refl, ap, ⊎_elim, arith}
 use Rattle.std.specs.List.{slice_get, list_any}
 use Rattle.std.specs.Option.{option_and_then, option_map}
 use Rattle.std.proofs.lemmas.List.{length-map, reverse-append, reverse-reverse, take-append-drop, take_more}
 use Rattle.std.proofs.lemmas.List.Elements.{Contains-append_left, Contains-push}
 use Rattle.std.proofs.lemmas.Option.{slice_get-map, slice_get_within, get_or_from_slice_get}
 use Rattle.da_lang.specs.declared.tree.ClassTree.{ClassTree}
-use Rattle.da_lang.specs.Calls.{called, is_yield, deeds_in, calls_in, leads, yields}
-use Rattle.da_lang.specs.ClassParts.{Body, Place, InMethod, bodies, method_of, method_name, is_method, stmts_if}
+use Rattle.da_lang.specs.Calls.{called, is_yield, calls_in, leads, yields}
+use Rattle.da_lang.specs.ClassParts.{Body, InMethod, bodies, method_of, method_name, is_method, stmts_if}
 use Rattle.da_lang.specs.Deeds.{Deed, deeds}
 use Rattle.da_lang.specs.Limits.{root_calls, is_reached}
 use Rattle.da_scope.specs.CallBodies.{calls_by, some_yield}
@@ -54,7 +54,7 @@ module _ (c : ClassTree) (methods : List Body) (number : List ℕ → Option ℕ
   next_row name k is =
       let m : (b : Body) × (slice_get methods k ≡ Some b) × (method_of c name ≡ Some b) = method_at name k is in
       get_or_from_slice_get (call_rows number methods) k (calls_by number (deeds m.0.stmts)) []
-        (slice_get-map (λ b. calls_by number (deeds b.stmts)) methods k ∙ ap (option_map (λ b. calls_by number (deeds b.stmts))) m.1)
+      (slice_get-map (λ b. calls_by number (deeds b.stmts)) methods k ∙ ap (option_map (λ b. calls_by number (deeds b.stmts))) m.1)
       ∙ sym (ap (λ o. filter_map number (filter_map (λ d. called d.does) (deeds (stmts_if o)))) m.2)
 
   pub rows_graph : IsGraph (call_rows number methods)
@@ -101,9 +101,10 @@ module _ (c : ClassTree) (methods : List Body) (number : List ℕ → Option ℕ
       let size : length (call_rows number methods) ≡ length methods = length-map methods _ in
       let k_in : k < length methods = n.within x k x_is in
       let j_in : j < length methods = n.within y j y_is in
-      let same : (mark cycles k ≡ mark cycles j) ↔ Same (call_rows number methods) k j = marks.same k j (omega (arith, size, k_in)) (omega (arith, size, j_in)) in
-      ((λ e. let s : Same (call_rows number methods) k j = same.0 e in ((leads_iff x y k j x_is y_is).1 s.0, (leads_iff y x j k y_is x_is).1 s.1)),
-       (λ both. same.1 ((leads_iff x y k j x_is y_is).0 both.0, (leads_iff y x j k y_is x_is).0 both.1)))
+      let same : (mark cycles k ≡ mark cycles j) ↔ Same (call_rows number methods) k j = marks.same k j (omega (arith, size, k_in)) (omega (arith, size, j_in)) in (
+        (λ e. let s : Same (call_rows number methods) k j = same.0 e in ((leads_iff x y k j x_is y_is).1 s.0, (leads_iff y x j k y_is x_is).1 s.1)),
+        (λ both. same.1 ((leads_iff x y k j x_is y_is).0 both.0, (leads_iff y x j k y_is x_is).0 both.1)),
+      )
 
   -- a name with a number, by the method of that place
   holds_at : (name : List ℕ) (k : ℕ) (b : Body) → number name ≡ Some k → slice_get methods k ≡ Some b → holds_yield c name ≡ some_yield (deeds b.stmts)
@@ -123,32 +124,37 @@ module _ (c : ClassTree) (methods : List Body) (number : List ℕ → Option ℕ
   pub yields_law : (back : Graph) (points : List ℕ) (marks : List (Option ℕ)) → IsTurned (call_rows number methods) back → AreYieldPoints methods points → MarksReached back points marks → (x : List ℕ) (k : ℕ) → number x ≡ Some k
       → IsMarked marks k ↔ (yields c x ≡ true)
   yields_law back points marks t y r x k x_is = (
-      (λ is.
+    (λ is.
         let from : (s : ℕ) × Contains points s × Leads back s k = (r.reached k).0 is in
         let holds : HoldsYield methods from.0 = (y.all from.0).0 from.1 in
         let name : (z : List ℕ) × (number z ≡ Some from.0) = n.named from.0 (slice_get_within methods from.0 holds.0 holds.1) in
         yields-way c name.0 x (to_names from.0 k x name.0 name.1 x_is (turned_way (call_rows number methods) back k from.0 t from.2))
-          (holds_at name.0 from.0 holds.0 name.1 holds.1 ∙ holds.2)),
-      (λ e.
+        (holds_at name.0 from.0 holds.0 name.1 holds.1 ∙ holds.2)),
+    (λ e.
         let found : (goal : List ℕ) × LeadsTo (calls_in c) goal x × (holds_yield c goal ≡ true) = way-yields c x e in
         let s : (i : ℕ) × (number found.0 ≡ Some i) = holder_numbered found.0 found.2 in
         let m : (b : Body) × (slice_get methods s.0 ≡ Some b) × (method_of c found.0 ≡ Some b) = method_at found.0 s.0 s.1 in
-        (r.reached k).1 (s.0, (y.all s.0).1 (m.0, m.1, sym (holds_at found.0 s.0 m.0 s.1 m.1) ∙ found.2),
-          way_turned (call_rows number methods) back s.0 k t (to_numbers s.0 found.0 k x s.1 x_is found.1))))
+        (r.reached k).1 (
+          s.0,
+          (y.all s.0).1 (m.0, m.1, sym (holds_at found.0 s.0 m.0 s.1 m.1) ∙ found.2),
+          way_turned (call_rows number methods) back s.0 k t (to_numbers s.0 found.0 k x s.1 x_is found.1),
+        )),
+  )
 
   -- marks of methods that are reached
   pub reached_law : (starts : List ℕ) (marks : List (Option ℕ)) → starts ≡ calls_by number (outside_deeds (bodies c)) → MarksReached (call_rows number methods) starts marks → (x : List ℕ) (k : ℕ) → number x ≡ Some k
       → IsMarked marks k ↔ (is_reached c (InMethod x) ≡ true)
   unfolding calls_by
   reached_law starts marks is r x k x_is = (
-      (λ marked.
+    (λ marked.
         let from : (s : ℕ) × Contains starts s × Leads (call_rows number methods) s k = (r.reached k).0 marked in
         let call : (z : List ℕ) × Contains (root_calls c) z × (number z ≡ Some from.0) = filter_map_in number (root_calls c) from.0 (subst (λ l. Contains l from.0) is from.1) in
         in_any (λ z. leads c z x) (root_calls c) call.0 call.1 ((leads_iff call.0 x from.0 k call.2 x_is).1 from.2)),
-      (λ e.
+    (λ e.
         let call : (z : List ℕ) × Contains (root_calls c) z × (leads c z x ≡ true) = any_in (λ z. leads c z x) (root_calls c) e in
         let s : (i : ℕ) × (number call.0 ≡ Some i) = leader_numbered x k call.0 x_is (way-leads c x call.0 call.2) in
-        (r.reached k).1 (s.0, subst (λ l. Contains l s.0) (sym is) (in_filter_map number (root_calls c) call.0 s.0 call.1 s.1), (leads_iff call.0 x s.0 k s.1 x_is).0 call.2)))
+        (r.reached k).1 (s.0, subst (λ l. Contains l s.0) (sym is) (in_filter_map number (root_calls c) call.0 s.0 call.1 s.1), (leads_iff call.0 x s.0 k s.1 x_is).0 call.2)),
+  )
 
   -- a call in the order of leaving
   left_part : (g : Graph) (xs ys : List ℕ) → AreLeft g (xs ++ ys) → AreLeft g ys
@@ -167,11 +173,11 @@ module _ (c : ClassTree) (methods : List Body) (number : List ℕ → Option ℕ
     within = λ i h. subst (λ size. get_or order i 0 < size) (length-map methods _) (left_at (call_rows number methods) order i h leaves.left).within;
     once = λ i h has. (left_at (call_rows number methods) order i h leaves.left).fresh (reverse_has (take i order) (get_or order i 0) has);
     behind = λ i name next k h name_is next_is calls back.
-      let step : Edge (call_rows number methods) (get_or order i 0) k = subst (λ row. Contains row k) (sym (next_row name (get_or order i 0) name_is)) (in_filter_map number (calls_in c name) next k calls next_is) in
-      ⊎_elim
-      (λ has. has_reverse (take i order) k has)
-      (λ way. absurd (false_true (sym back ∙ (leads_iff next name k (get_or order i 0) next_is name_is).1 way)))
-      ((left_at (call_rows number methods) order i h leaves.left).goes k step);
+        let step : Edge (call_rows number methods) (get_or order i 0) k = subst (λ row. Contains row k) (sym (next_row name (get_or order i 0) name_is)) (in_filter_map number (calls_in c name) next k calls next_is) in
+        ⊎_elim
+        (λ has. has_reverse (take i order) k has)
+        (λ way. absurd (false_true (sym back ∙ (leads_iff next name k (get_or order i 0) next_is name_is).1 way)))
+        ((left_at (call_rows number methods) order i h leaves.left).goes k step);
   }
 
   -- what starts searches

@@ -15,7 +15,7 @@ pub record IsOrdered (c : ClassTree) (methods : List Body) (number : List ℕ �
   pub within : (i : ℕ) → i < length order → slice_index order i < length methods
   pub once : (i : ℕ) → i < length order → Contains (take i order) (slice_index order i) → ⊥
   pub behind : (i : ℕ) (name next : List ℕ) (k : ℕ) → i < length order → number name ≡ Some (slice_index order i) → number next ≡ Some k
-    → Contains (calls_in c name) next → leads c next name ≡ false → Contains (take i order) k
+      → Contains (calls_in c name) next → leads c next name ≡ false → Contains (take i order) k
 
 -- the methods of a graph, and their numbers
 abbrev pub methods_in : CallGraph → List Body

@@ -1,5 +1,5 @@
 -- The calls of methods by their numbers, their yield points, and what is done outside of methods.
-use Rattle.std.specs.Prelude.{◌≡◌, ◌↔◌, ℕ, Bool, true, List, map, filter, flat_map, Option, Some, None, slice_get, Contains}
+use Rattle.std.specs.Prelude.{◌≡◌, ◌↔◌, ℕ, true, List, map, filter, flat_map, Option, Some, None, slice_get, Contains}
 use Rattle.da_lang.specs.declared.tree.Member.{Member}
 use Rattle.da_lang.specs.declared.tree.Member.TheVariants as member
 use Rattle.da_lang.specs.declared.tree.Stmt.{Stmt}

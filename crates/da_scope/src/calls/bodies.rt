@@ -31,14 +31,22 @@ fn put_calls_in(stmt: &Stmt, numbers: &Numbers, out: &mut List<usize>) -> Result
             Some(number) => out.push(number),
             None => Ok(()),
         },
-        Stmt::If { branches, otherwise, .. } => {
+        Stmt::If {
+            branches,
+            otherwise,
+            ..
+        } => {
             put_calls_of(branches.as_slice(), numbers, out)?;
             match otherwise {
                 None => Ok(()),
                 Some(body) => put_calls(body.as_slice(), numbers, out),
             }
         }
-        Stmt::While { body, .. } | Stmt::For { body, .. } => put_calls(body.as_slice(), numbers, out),
+        Stmt::While { body, .. } | Stmt::For { body, .. } => put_calls(
+            body.as_slice(),
+            numbers,
+            out,
+        ),
         Stmt::Await { alts, timeout, .. } => {
             put_calls_of(alts.as_slice(), numbers, out)?;
             match timeout {
@@ -95,7 +103,11 @@ fn has_yield_in(stmt: &Stmt) -> bool
 {
     match stmt {
         Stmt::Label { .. } | Stmt::AwaitOne { .. } | Stmt::Await { .. } => true,
-        Stmt::If { branches, otherwise, .. } => {
+        Stmt::If {
+            branches,
+            otherwise,
+            ..
+        } => {
             has_yield_of(branches.as_slice())
                 || match otherwise {
                     None => false,

@@ -61,10 +61,8 @@ fn method_in<'t>(member: &'t Member) -> Option<Method<'t>>
             body,
             line: *line,
         }),
-        Member::Var { .. }
-        | Member::Setup { .. }
-        | Member::Run { .. }
-        | Member::Receive { .. } => None,
+        Member::Var { .. } | Member::Setup { .. } | Member::Run { .. } | Member::Receive { .. } =>
+            None,
     }
 }
 

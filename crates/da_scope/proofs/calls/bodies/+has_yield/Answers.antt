@@ -1,4 +1,4 @@
-use Rattle.std.proofs.Common.{◌≡◌, ap, sym, ◌∙◌}
+use Rattle.std.proofs.Common.{ap, sym, ◌∙◌}
 use Rattle.da_lang.specs.Deeds.{deeds, deeds_of, deeds_of_branch}
 use Rattle.da_scope.specs.CallBodies.{some_yield}
 use Rattle.da_scope.proofs.CallBodies.{yields_step, yields_at, yields-branch}

@@ -1,4 +1,4 @@
-use Rattle.std.proofs.Common.{◌≡◌, ◌++◌, ℕ, List, Option, ap, sym, ◌∙◌}
+use Rattle.std.proofs.Common.{◌++◌, ℕ, List, Option, ap, sym, ◌∙◌}
 use Rattle.da_lang.specs.Deeds.{deeds, deeds_of, deeds_of_branch}
 use Rattle.da_scope.specs.CallBodies.{calls_by}
 use Rattle.da_scope.specs.CallNames.{number_in}

@@ -1,4 +1,4 @@
-use Rattle.std.proofs.Common.{◌≡◌, ◌<◌, length, get_or, refl, arith}
+use Rattle.std.proofs.Common.{◌<◌, length, get_or, arith}
 use Rattle.std.proofs.lemmas.List.{get_or_default, take_more}
 use Rattle.std.proofs.lemmas.List.Elements.{Contains-get_or}
 use Rattle.da_scope.proofs.CallCycles.{adds_more}

@@ -17,7 +17,7 @@ loop-node-preserved c =
     let row : c.as_slice.result.now ≡ next_in c.args.graph.now c.loop-node.node = c.as_slice.ensures ∙ row_read _ _ _ c.loop-node-test.true c.index-graph-node.is in
     let to_new : List (List ℕ) → Type 0 = λ old. AddsSteps c.loop-node.node (next_in c.args.graph.now c.loop-node.node) old c.add_steps.new.graph in
     let added : to_new c.loop-node.back.items =
-      subst to_new c.as_mut_slice.ensures.value (subst (λ r. AddsSteps c.loop-node.node r c.as_mut_slice.result.now c.add_steps.new.graph) row c.in_ok-add_steps.ensures) in
+    subst to_new c.as_mut_slice.ensures.value (subst (λ r. AddsSteps c.loop-node.node r c.as_mut_slice.result.now c.add_steps.new.graph) row c.in_ok-add_steps.ensures) in
     subst (λ back. Turning c.args.graph.now (c.loop-node.node + 1) back)
     (sym (written_back _ _ _ c.loop-node.back.ok.0 added.sized))
     (turning_more _ _ _ _ added c.loop-node.invariant)

@@ -1,4 +1,4 @@
-use Rattle.std.proofs.Common.{◌≡◌, length, refl, ap, sym, ◌∙◌}
+use Rattle.std.proofs.Common.{refl, sym, ◌∙◌}
 use Rattle.std.proofs.lemmas.List.{length-map}
 use Rattle.da_scope.specs.CallMethods.{body_of}
 use Rattle.da_scope.proofs.CallMethods.{adds_known, adds_new, map_push}

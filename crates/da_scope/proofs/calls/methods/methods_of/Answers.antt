@@ -1,4 +1,4 @@
-use Rattle.std.proofs.Common.{◌≡◌, List, [], ◌∷◌, ◌++◌, map, take, filter_map, subst, ap, sym, ◌∙◌}
+use Rattle.std.proofs.Common.{List, [], ◌∷◌, ◌++◌, map, take, filter_map, subst, ap, sym, ◌∙◌}
 use Rattle.std.proofs.lemmas.List.{take_all}
 use Rattle.da_lang.specs.declared.tree.Member.{Member}
 use Rattle.da_lang.specs.ClassParts.{body_in}
@@ -24,6 +24,6 @@ loop-member-preserved c =
     let met : Methods → Type 0 = λ methods. Numbering (filter_map body_in (before ++ c.member-item.result ∷ [])) (numbered methods) (number_in methods.numbers) in
     numbering_step c.as_slice-member-items.result.now c.loop-member.member-index c.member-item.result _ _ c.loop-member-test.true c.member-item.is
     (elim c.match-method_in.branch [
-      in-Some+in_ok-add_method w ↦ subst met (sym w.methods-is) (numbering_method before c.member-item.result (body_of w.in-Some.method) _ _ _ _ (sym w.in-Some.ensures) w.in_ok-add_method.ensures c.loop-member.invariant)
-    | in_default w ↦ subst met (sym w.methods-is) (numbering_member before c.member-item.result _ _ (sym w.in_default.ensures) c.loop-member.invariant)
+      | in-Some+in_ok-add_method w ↦ subst met (sym w.methods-is) (numbering_method before c.member-item.result (body_of w.in-Some.method) _ _ _ _ (sym w.in-Some.ensures) w.in_ok-add_method.ensures c.loop-member.invariant)
+      | in_default w ↦ subst met (sym w.methods-is) (numbering_member before c.member-item.result _ _ (sym w.in_default.ensures) c.loop-member.invariant)
     ])

@@ -1,4 +1,4 @@
-use Rattle.std.proofs.Common.{◌≡◌, ◌<◌, ◌≤◌, ◌+◌, List, ℕ, length, map, subst, ap, sym, ◌∙◌, arith}
+use Rattle.std.proofs.Common.{◌≤◌, ◌+◌, List, ℕ, length, map, subst, ap, sym, ◌∙◌, arith}
 use Rattle.std.proofs.lemmas.List.{length-map}
 use Rattle.da_lang.specs.Deeds.{deeds}
 use Rattle.da_scope.specs.CallBodies.{some_yield}
@@ -14,11 +14,11 @@ pub loop-number-preserved : goal.loop-number-preserved
 loop-number-preserved c =
     let to_next : List ℕ → Type 0 = λ points. YieldsBelow (c.loop-number.number + 1) (map body_of c.args.methods.now) points in
     elim c.if-has_yield.branch [
-      then-has_yield+in_ok-push w ↦ subst to_next (sym w.points-is)
-        (yields_here _ _ _ _ (body_of c.index-methods-number.result) (method_read body_of _ _ _ c.loop-number-test.true c.index-methods-number.is)
+      | then-has_yield+in_ok-push w ↦ subst to_next (sym w.points-is)
+          (yields_here _ _ _ _ (body_of c.index-methods-number.result) (method_read body_of _ _ _ c.loop-number-test.true c.index-methods-number.is)
           (ap (λ ss. some_yield (deeds ss)) (sym c.as_slice.ensures) ∙ sym w.if-has_yield.ensures) w.in_ok-push.ensures.ok c.loop-number.invariant)
-    | else-has_yield w ↦ subst to_next (sym w.points-is)
-        (yields_not _ _ _ (body_of c.index-methods-number.result) (method_read body_of _ _ _ c.loop-number-test.true c.index-methods-number.is)
+      | else-has_yield w ↦ subst to_next (sym w.points-is)
+          (yields_not _ _ _ (body_of c.index-methods-number.result) (method_read body_of _ _ _ c.loop-number-test.true c.index-methods-number.is)
           (ap (λ ss. some_yield (deeds ss)) (sym c.as_slice.ensures) ∙ sym w.if-has_yield.ensures) c.loop-number.invariant)
     ]
 

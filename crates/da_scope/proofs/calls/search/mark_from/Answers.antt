@@ -3,7 +3,6 @@ use Rattle.std.specs.Option.{is_none}
 use Rattle.da_scope.proofs.CallSearch.{begins, skips, marks_it, ends, taken_within, fewer_left, left, row_read, none_from_test, mark_from_test, Marking}
 use Rattle.da_scope.proofs.calls.search.mark_from.Goals as goal
 
-
 pub loop-node-init : goal.loop-node-init
 loop-node-init c = subst (λ w. Marking c.args.graph.now c.args.from c.args.marks.now c.args.marks.now w) (sym (c.in_ok-push.ensures.ok ∙ ap (λ w. w ++ c.args.from ∷ []) c.new-work.ensures)) (begins _ _ _ c.requires.from)
 

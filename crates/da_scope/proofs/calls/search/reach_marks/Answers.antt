@@ -1,4 +1,4 @@
-use Rattle.std.proofs.Common.{◌≡◌, ◌<◌, ◌+◌, List, Option, ℕ, length, get_or, take, subst, ap, sym, ◌∙◌, arith}
+use Rattle.std.proofs.Common.{◌+◌, List, Option, ℕ, length, get_or, take, subst, ap, sym, ◌∙◌}
 use Rattle.std.proofs.lemmas.List.{take_more, take_all}
 use Rattle.std.proofs.lemmas.List.Elements.{Contains-get_or}
 use Rattle.da_scope.specs.CallPaths.{MarkedFrom}
