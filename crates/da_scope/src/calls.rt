@@ -7,3 +7,5 @@ mod names;
 mod order;
 mod rows;
 mod search;
+#[cfg(test)]
+mod tests;
