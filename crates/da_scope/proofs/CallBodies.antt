@@ -12,7 +12,7 @@ use Rattle.da_lang.specs.declared.tree.Stmt.{Stmt}
 use Rattle.da_lang.specs.declared.tree.Stmt.TheVariants as stmt
 use Rattle.da_lang.specs.declared.tree.TimeoutTree.{TimeoutTree, out-TimeoutTree, roll-out-TimeoutTree}
 use Rattle.da_lang.specs.Calls.{called, is_yield}
-use Rattle.da_lang.specs.Deeds.{Deed, deed, deeds_of, deeds_of_branch, deeds_of_timeout, Other, Awaits, Loops, Waits}
+use Rattle.da_lang.specs.Deeds.{Deed, deed, deeds_of, deeds_of_branch, deeds_of_timeout, Other, Awaits, Loops, TimesOut}
 use Rattle.da_lang.proofs.DeedsAt as at
 use Rattle.da_scope.specs.CallBodies.{calls_by, some_yield}
 
@@ -110,10 +110,10 @@ if_deeds branches (Some body) line =
     at.deeds_of-If branches (Some body) line ∙ ap (λ ds. deed line Other [] ∷ ds ++ flat_map (λ es. es) (map deeds_of body)) (map_all deeds_of_branch branches)
     ∙ ap (λ ds. deed line Other [] ∷ flat_map deeds_of_branch branches ++ ds) (map_all deeds_of body)
 
-pub timeout_deeds_are : (tree : TimeoutTree) → deeds_of_timeout tree ≡ deed (out-TimeoutTree tree).line Waits [] ∷ flat_map deeds_of (out-TimeoutTree tree).body
+pub timeout_deeds_are : (tree : TimeoutTree) → deeds_of_timeout tree ≡ deed (out-TimeoutTree tree).line TimesOut [] ∷ flat_map deeds_of (out-TimeoutTree tree).body
 timeout_deeds_are tree =
     let v = out-TimeoutTree tree in
-    ap deeds_of_timeout (sym (roll-out-TimeoutTree tree)) ∙ at.deeds_of_timeout-of v.body v.line ∙ ap (λ ds. deed v.line Waits [] ∷ ds) (map_all deeds_of v.body)
+    ap deeds_of_timeout (sym (roll-out-TimeoutTree tree)) ∙ at.deeds_of_timeout-of v.body v.line ∙ ap (λ ds. deed v.line TimesOut [] ∷ ds) (map_all deeds_of v.body)
 
 pub branch_deeds_are : (branch : Branch) → deeds_of_branch branch ≡ deed (out-Branch branch).line Other ((out-Branch branch).cond ∷ []) ∷ flat_map deeds_of (out-Branch branch).body
 branch_deeds_are branch =

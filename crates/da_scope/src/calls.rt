@@ -1,4 +1,5 @@
 //! The calls of a class: which method leads to which.
+
 mod bodies;
 mod cycles;
 mod graph;
@@ -9,3 +10,6 @@ mod rows;
 mod search;
 #[cfg(test)]
 mod tests;
+
+pub use graph::CallGraph;
+pub use methods::Method;
