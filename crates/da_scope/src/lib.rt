@@ -1,0 +1,4 @@
+//! Names and limits: from the tree of a program to the program.
+#![tactic(auto)]
+
+mod calls;
