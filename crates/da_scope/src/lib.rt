@@ -1,0 +1,5 @@
+//! Names, calls and limits of a program: from its tree to its resolved form, or to the rule that refuses it.
+#![tactic(auto)]
+
+mod least;
+mod names;
