@@ -1,1 +1,2 @@
+pub mod ScopeView
 pub mod Telling

@@ -1,1 +1,3 @@
 //! The refusals by names.
+
+mod scope;
