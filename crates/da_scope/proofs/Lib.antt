@@ -1,2 +1,4 @@
+pub mod PartLaws
+pub mod SameLook
 pub mod ScopeLaws
 pub mod TellingLaws

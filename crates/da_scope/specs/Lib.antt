@@ -1,2 +1,3 @@
 pub mod ScopeView
 pub mod Telling
+pub mod Told

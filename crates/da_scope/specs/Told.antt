@@ -1,0 +1,30 @@
+-- The names in scope and the refusal that is told, as a text is read on.
+use Rattle.std.specs.Prelude.{ℕ, List, [], ◌∷◌, Option}
+use Rattle.da_lang.specs.declared.refusal.ScopeKind.{ScopeKind}
+use Rattle.da_lang.specs.declared.tree.Expr.{Expr}
+use Rattle.da_lang.specs.ExprNames.{Role, Local, Part, in_order, names_of}
+use Rattle.da_lang.specs.Scopes.{Scope, at_line}
+use Rattle.da_scope.specs.Telling.{Refusal, telling}
+
+-- these names come into scope one after the other, each as the same
+abbrev pub entered_each : Role → List (List ℕ) → Scope Role → Scope Role
+entered_each role [] scope = scope
+entered_each role (name ∷ names) scope = entered_each role names ((name, role) ∷ scope)
+
+-- the names in scope behind a part
+unfoldable pub behind : Role → Scope Role → Part → Scope Role
+behind role scope part = entered_each role part.binds scope
+
+-- these kinds are found at a line
+unfoldable pub told_kinds : ℕ → Option Refusal → List ScopeKind → Option Refusal
+told_kinds line found kinds = telling found (at_line line kinds)
+
+-- a part at a line, and parts in the order of the text
+unfoldable pub told_part : ℕ → Role → Scope Role → Option Refusal → Part → Option Refusal
+told_part line role scope found part = told_kinds line found (part.kinds role scope)
+
+unfoldable pub told_parts : ℕ → Role → Scope Role → Option Refusal → List Part → Option Refusal
+told_parts line role scope found parts = told_kinds line found (in_order parts role scope)
+
+unfoldable pub told_expr : ℕ → Scope Role → Option Refusal → Expr → Option Refusal
+told_expr line scope found x = told_part line Local scope found (names_of x)
