@@ -2,3 +2,4 @@ pub mod PartLaws
 pub mod SameLook
 pub mod ScopeLaws
 pub mod TellingLaws
+pub mod ToldParts

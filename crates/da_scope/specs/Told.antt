@@ -1,8 +1,10 @@
 -- The names in scope and the refusal that is told, as a text is read on.
-use Rattle.std.specs.Prelude.{ℕ, List, [], ◌∷◌, Option}
+use Rattle.std.specs.Prelude.{ℕ, List, [], ◌∷◌, map, flat_map, Option}
 use Rattle.da_lang.specs.declared.refusal.ScopeKind.{ScopeKind}
+use Rattle.da_lang.specs.declared.refusal.ScopeKind.TheVariants as refusal
+use Rattle.da_lang.specs.declared.tree.ChainTree.{ChainTree, out-ChainTree}
 use Rattle.da_lang.specs.declared.tree.Expr.{Expr}
-use Rattle.da_lang.specs.ExprNames.{Role, Local, Part, in_order, names_of}
+use Rattle.da_lang.specs.ExprNames.{Role, Part, in_order, unless, names_of, refused_in}
 use Rattle.da_lang.specs.Scopes.{Scope, at_line}
 use Rattle.da_scope.specs.Telling.{Refusal, telling}
 
@@ -26,5 +28,20 @@ told_part line role scope found part = told_kinds line found (part.kinds role sc
 unfoldable pub told_parts : ℕ → Role → Scope Role → Option Refusal → List Part → Option Refusal
 told_parts line role scope found parts = told_kinds line found (in_order parts role scope)
 
+-- the same of things that are parts
+unfoldable pub behind_all : {A : Type 0} → (A → Part) → Role → Scope Role → List A → Scope Role
+behind_all part role scope xs = entered_each role (flat_map (λ x. (part x).binds) xs) scope
+
+unfoldable pub told_all : {A : Type 0} → (A → Part) → ℕ → Role → Scope Role → Option Refusal → List A → Option Refusal
+told_all part line role scope found xs = told_parts line role scope found (map part xs)
+
+-- an expression; one of which a source or an aggregate asks more
 unfoldable pub told_expr : ℕ → Scope Role → Option Refusal → Expr → Option Refusal
-told_expr line scope found x = told_part line Local scope found (names_of x)
+told_expr line scope found x = told_kinds line found (refused_in scope x)
+
+unfoldable pub told_argument : ℕ → Scope Role → Option Refusal → Expr → Option Refusal
+told_argument line scope found x = told_expr line scope (told_kinds line found (unless ((names_of x).ranges scope) refusal.Unknown)) x
+
+-- the further operand of a chain
+unfoldable pub told_link : ℕ → Scope Role → Option Refusal → ChainTree → Option Refusal
+told_link line scope found c = told_expr line scope found (out-ChainTree c).operand
