@@ -2,4 +2,5 @@ pub mod PartLaws
 pub mod SameLook
 pub mod ScopeLaws
 pub mod TellingLaws
+pub mod ToldExprs
 pub mod ToldParts

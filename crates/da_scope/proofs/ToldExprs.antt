@@ -1,0 +1,267 @@
+-- What is told of an expression, a pattern and a generator, by what is told of their parts.
+use Rattle.std.specs.Prelude.{◌≡◌, refl, ℕ, ℤ, Bool, true, false, List, [], ◌∷◌, ◌++◌, map, flat_map, Option, Some, None, option_map, option_to_list}
+use Rattle.std.specs.List.{AllByRecursion, fold}
+use Rattle.std.proofs.Common.{◌∙◌, sym, ap, append_assoc}
+use Rattle.std.proofs.lemmas.List.{map-append}
+use Rattle.std.proofs.lemmas.List.Sums.{fold-append}
+use Rattle.da_lang.specs.declared.refusal.ScopeKind.{ScopeKind}
+use Rattle.da_lang.specs.declared.refusal.ScopeKind.TheVariants as refusal
+use Rattle.da_lang.specs.declared.tree.ChainTree.{ChainTree, out-ChainTree, roll-out-ChainTree}
+use Rattle.da_lang.specs.declared.tree.CmpOp.{CmpOp}
+use Rattle.da_lang.specs.declared.tree.Expr.{Expr}
+use Rattle.da_lang.specs.declared.tree.Expr.TheVariants as ex
+use Rattle.da_lang.specs.declared.tree.GenTree.{GenTree, out-GenTree, roll-out-GenTree}
+use Rattle.da_lang.specs.declared.tree.PatternTree.{PatternTree}
+use Rattle.da_lang.specs.declared.tree.PatternTree.TheVariants as pattern
+use Rattle.da_lang.specs.declared.tree.PeerTree.{PeerTree}
+use Rattle.da_lang.specs.declared.tree.PeerTree.TheVariants as peer
+use Rattle.da_lang.specs.declared.tree.SourceTree.{SourceTree}
+use Rattle.da_lang.specs.declared.tree.SourceTree.TheVariants as source_tree
+use Rattle.da_lang.specs.ExprNames.{Role, Local, QueryVariable, Part, in_order, inside, asked, together, comprehension, aggregate, unless, used, used_as_slot, is_slot, taken, source_part, names_of, pattern_part, peer_part, chain_part, gen_part}
+use Rattle.da_lang.specs.Scopes.{Scope, look}
+use Rattle.da_lang.proofs.NamesAt as at
+use Rattle.da_scope.specs.Telling.{Refusal}
+use Rattle.da_scope.specs.Told.{entered_each, behind, behind_all, told_kinds, told_part, told_parts, told_all, told_expr, told_argument, told_link}
+use Rattle.da_scope.proofs.PartLaws.{Steady, all_append, all_map, all_of, plain_steady, expr_plain, pattern_steady, peer_steady, link_plain, gen_steady, steady_source}
+use Rattle.da_scope.proofs.ToldParts.{told_kinds-nil, told_kinds-append, told_parts-nil, told_parts-cons, told_parts-one, told_all-nil, told_all-cons, behind_all-nil, behind_all-cons, told_part-expr, told_all-exprs}
+
+module _ (line : ℕ) (scope : Scope Role) (found : Option Refusal) where
+  told_parts-exprs : (role : Role) (xs : List Expr) → told_parts line role scope found (map names_of xs) ≡ fold (told_expr line scope) found xs
+  unfolding told_all
+  told_parts-exprs role xs = told_all-exprs line role scope found xs
+
+  told_inside : (x : Expr) (ps : List Part) → names_of x ≡ inside ps → told_expr line scope found x ≡ told_parts line Local scope found ps
+  unfolding told_expr told_parts
+  told_inside x ps is = ap (λ (p : Part). told_kinds line found (p.kinds Local scope)) is
+
+  told_asked : (x : Expr) (ps : List Part) → names_of x ≡ asked ps → told_expr line scope found x ≡ told_parts line QueryVariable scope found ps
+  unfolding told_expr told_parts
+  told_asked x ps is = ap (λ (p : Part). told_kinds line found (p.kinds Local scope)) is
+
+  told_comprehension : (x : Expr) (ps : List Part) → names_of x ≡ comprehension ps → told_expr line scope found x ≡ told_parts line QueryVariable scope found ps
+  unfolding told_expr told_parts
+  told_comprehension x ps is = ap (λ (p : Part). told_kinds line found (p.kinds Local scope)) is
+
+  told_nothing : (x : Expr) → names_of x ≡ inside [] → told_expr line scope found x ≡ found
+  told_nothing x is = told_inside x [] is ∙ told_parts-nil line Local scope found
+
+  told_list : (x : Expr) (xs : List Expr) → names_of x ≡ inside (map names_of xs) → told_expr line scope found x ≡ fold (told_expr line scope) found xs
+  told_list x xs is = told_inside x (map names_of xs) is ∙ told_parts-exprs Local xs
+
+  pub told_expr-Or : (xs : List Expr) → told_expr line scope found (ex.Or xs) ≡ fold (told_expr line scope) found xs
+  told_expr-Or xs = told_list (ex.Or xs) xs (at.names_of-Or xs)
+
+  pub told_expr-And : (xs : List Expr) → told_expr line scope found (ex.And xs) ≡ fold (told_expr line scope) found xs
+  told_expr-And xs = told_list (ex.And xs) xs (at.names_of-And xs)
+
+  pub told_expr-Not : (x : Expr) → told_expr line scope found (ex.Not x) ≡ told_expr line scope found x
+  told_expr-Not x = told_list (ex.Not x) (x ∷ []) (at.names_of-Not x)
+
+  pub told_expr-Cmp : (o : CmpOp) (x y : Expr) → told_expr line scope found (ex.Cmp o x y) ≡ told_expr line scope (told_expr line scope found x) y
+  told_expr-Cmp o x y = told_list (ex.Cmp o x y) (x ∷ y ∷ []) (at.names_of-Cmp o x y)
+
+  pub told_expr-Member : (x y : Expr) → told_expr line scope found (ex.Member x y) ≡ told_expr line scope (told_expr line scope found x) y
+  told_expr-Member x y = told_list (ex.Member x y) (x ∷ y ∷ []) (at.names_of-Member x y)
+
+  pub told_expr-Range : (x y : Expr) → told_expr line scope found (ex.Range x y) ≡ told_expr line scope (told_expr line scope found x) y
+  told_expr-Range x y = told_list (ex.Range x y) (x ∷ y ∷ []) (at.names_of-Range x y)
+
+  pub told_expr-Tuple : (xs : List Expr) → told_expr line scope found (ex.Tuple xs) ≡ fold (told_expr line scope) found xs
+  told_expr-Tuple xs = told_list (ex.Tuple xs) xs (at.names_of-Tuple xs)
+
+  pub told_expr-SetOf : (xs : List Expr) → told_expr line scope found (ex.SetOf xs) ≡ fold (told_expr line scope) found xs
+  told_expr-SetOf xs = told_list (ex.SetOf xs) xs (at.names_of-SetOf xs)
+
+  pub told_expr-Int : (n : ℤ) → told_expr line scope found (ex.Int n) ≡ found
+  told_expr-Int n = told_nothing (ex.Int n) (at.names_of-Int n)
+
+  pub told_expr-Text : (bytes : List ℕ) → told_expr line scope found (ex.Text bytes) ≡ found
+  told_expr-Text bytes = told_nothing (ex.Text bytes) (at.names_of-Text bytes)
+
+  pub told_expr-Truth : (b : Bool) → told_expr line scope found (ex.Truth b) ≡ found
+  told_expr-Truth b = told_nothing (ex.Truth b) (at.names_of-Truth b)
+
+  pub told_expr-Me : told_expr line scope found ex.Me ≡ found
+  told_expr-Me = told_nothing ex.Me at.names_of-Me
+
+  pub told_expr-Clock : told_expr line scope found ex.Clock ≡ found
+  told_expr-Clock = told_nothing ex.Clock at.names_of-Clock
+
+  pub told_expr-Name : (name : List ℕ) → told_expr line scope found (ex.Name name) ≡ told_kinds line found (used (look scope name))
+  unfolding told_expr
+  told_expr-Name name = ap (λ (p : Part). told_kinds line found (p.kinds Local scope)) (at.names_of-Name name)
+
+-- a chain
+link_operand : (c : ChainTree) → chain_part c ≡ names_of (out-ChainTree c).operand
+link_operand c = ap chain_part (sym (roll-out-ChainTree c)) ∙ at.chain_part-of (out-ChainTree c).op (out-ChainTree c).operand
+
+link_operands : (more : List ChainTree) → map chain_part more ≡ map names_of (map (λ c. (out-ChainTree c).operand) more)
+link_operands [] = refl
+link_operands (c ∷ more) = ap (λ (p : Part). p ∷ map chain_part more) (link_operand c) ∙ ap (λ (ps : List Part). names_of (out-ChainTree c).operand ∷ ps) (link_operands more)
+
+fold_links : (line : ℕ) (scope : Scope Role) (found : Option Refusal) (more : List ChainTree) → fold (told_expr line scope) found (map (λ c. (out-ChainTree c).operand) more) ≡ fold (told_link line scope) found more
+unfolding told_link
+fold_links line scope found [] = refl
+fold_links line scope found (c ∷ more) = fold_links line scope (told_expr line scope found (out-ChainTree c).operand) more
+
+pub told_expr-Chain : (line : ℕ) (scope : Scope Role) (found : Option Refusal) (x : Expr) (more : List ChainTree) → told_expr line scope found (ex.Chain x more) ≡ fold (told_link line scope) (told_expr line scope found x) more
+told_expr-Chain line scope found x more =
+    told_list line scope found (ex.Chain x more) (x ∷ map (λ c. (out-ChainTree c).operand) more) (at.names_of-Chain x more ∙ ap (λ (ps : List Part). inside (names_of x ∷ ps)) (link_operands more))
+    ∙ fold_links line scope (told_expr line scope found x) more
+
+-- queries
+all_exprs : (xs : List Expr) → AllByRecursion Steady (map names_of xs)
+all_exprs xs = all_map Steady names_of xs (all_of (λ x. Steady (names_of x)) (λ x. plain_steady (names_of x) (expr_plain x)) xs)
+
+all_gens : (gens : List GenTree) (xs : List Expr) → AllByRecursion Steady (map gen_part gens ++ map names_of xs)
+all_gens gens xs = all_append Steady (map gen_part gens) (map names_of xs) (all_map Steady gen_part gens (all_of (λ g. Steady (gen_part g)) gen_steady gens)) (all_exprs xs)
+
+gens_then : (line : ℕ) (role : Role) (scope : Scope Role) (found : Option Refusal) (gens : List GenTree) (xs : List Expr) → told_parts line role scope found (map gen_part gens ++ map names_of xs) ≡ fold (told_expr line (behind_all gen_part role scope gens)) (told_all gen_part line role scope found gens) xs
+gens_then line role scope found [] xs =
+    told_parts-exprs line scope found role xs
+    ∙ ap (λ s. fold (told_expr line s) found xs) (sym (behind_all-nil gen_part gen_steady role scope))
+    ∙ ap (λ f. fold (told_expr line (behind_all gen_part role scope [])) f xs) (sym (told_all-nil gen_part gen_steady line role scope found))
+gens_then line role scope found (g ∷ gens) xs =
+    told_parts-cons line role scope found (gen_part g) (map gen_part gens ++ map names_of xs) (all_gens gens xs)
+    ∙ gens_then line role (behind role scope (gen_part g)) (told_part line role scope found (gen_part g)) gens xs
+    ∙ ap (λ s. fold (told_expr line s) (told_all gen_part line role (behind role scope (gen_part g)) (told_part line role scope found (gen_part g)) gens) xs) (sym (behind_all-cons gen_part gen_steady role scope g gens))
+    ∙ ap (λ f. fold (told_expr line (behind_all gen_part role scope (g ∷ gens))) f xs) (sym (told_all-cons gen_part gen_steady line role scope found g gens))
+
+listed : (cond : Option Expr) → option_to_list (option_map names_of cond) ≡ map names_of (option_to_list cond)
+listed None = refl
+listed (Some x) = refl
+
+pub told_expr-Quant : (line : ℕ) (scope : Scope Role) (found : Option Refusal) (each : Bool) (gens : List GenTree) (cond : Option Expr) → told_expr line scope found (ex.Quant each gens cond) ≡ fold (told_expr line (behind_all gen_part QueryVariable scope gens)) (told_all gen_part line QueryVariable scope found gens) (option_to_list cond)
+told_expr-Quant line scope found each gens cond =
+    told_asked line scope found (ex.Quant each gens cond) (map gen_part gens ++ option_to_list (option_map names_of cond)) (at.names_of-Quant each gens cond)
+    ∙ ap (λ ps. told_parts line QueryVariable scope found (map gen_part gens ++ ps)) (listed cond)
+    ∙ gens_then line QueryVariable scope found gens (option_to_list cond)
+
+comp_parts : (gens : List GenTree) (cond : Option Expr) (term : Expr) → map gen_part gens ++ option_to_list (option_map names_of cond) ++ names_of term ∷ [] ≡ map gen_part gens ++ map names_of (option_to_list cond ++ term ∷ [])
+comp_parts gens cond term =
+    append_assoc (map gen_part gens) (option_to_list (option_map names_of cond)) (names_of term ∷ [])
+    ∙ ap (λ ps. map gen_part gens ++ (ps ++ names_of term ∷ [])) (listed cond)
+    ∙ ap (λ ps. map gen_part gens ++ ps) (sym (map-append names_of (option_to_list cond) (term ∷ [])))
+
+pub told_expr-Comp : (line : ℕ) (scope : Scope Role) (found : Option Refusal) (term : Expr) (gens : List GenTree) (cond : Option Expr) → told_expr line scope found (ex.Comp term gens cond) ≡ told_expr line (behind_all gen_part QueryVariable scope gens) (fold (told_expr line (behind_all gen_part QueryVariable scope gens)) (told_all gen_part line QueryVariable scope found gens) (option_to_list cond)) term
+told_expr-Comp line scope found term gens cond =
+    told_comprehension line scope found (ex.Comp term gens cond) (map gen_part gens ++ option_to_list (option_map names_of cond) ++ names_of term ∷ []) (at.names_of-Comp term gens cond)
+    ∙ ap (told_parts line QueryVariable scope found) (comp_parts gens cond term)
+    ∙ gens_then line QueryVariable scope found gens (option_to_list cond ++ term ∷ [])
+    ∙ fold-append (told_expr line (behind_all gen_part QueryVariable scope gens)) (told_all gen_part line QueryVariable scope found gens) (option_to_list cond) (term ∷ [])
+
+-- aggregates
+told_aggregate : (line : ℕ) (scope : Scope Role) (found : Option Refusal) (x y : Expr) (more : List Expr) → names_of x ≡ aggregate (names_of y) (map names_of more) → told_expr line scope found x ≡ fold (told_expr line scope) (told_argument line scope found y) more
+unfolding told_expr told_argument told_parts
+told_aggregate line scope found x y more is =
+    ap (λ (p : Part). told_kinds line found (p.kinds Local scope)) is
+    ∙ told_kinds-append line found (unless ((names_of y).ranges scope) refusal.Unknown) (in_order (names_of y ∷ map names_of more) Local scope)
+    ∙ told_parts-exprs line scope (told_kinds line found (unless ((names_of y).ranges scope) refusal.Unknown)) Local (y ∷ more)
+
+pub told_expr-Count : (line : ℕ) (scope : Scope Role) (found : Option Refusal) (x : Expr) → told_expr line scope found (ex.Count x) ≡ told_argument line scope found x
+told_expr-Count line scope found x = told_aggregate line scope found (ex.Count x) x [] (at.names_of-Count x)
+
+pub told_expr-Sum : (line : ℕ) (scope : Scope Role) (found : Option Refusal) (x : Expr) → told_expr line scope found (ex.Sum x) ≡ told_argument line scope found x
+told_expr-Sum line scope found x = told_aggregate line scope found (ex.Sum x) x [] (at.names_of-Sum x)
+
+pub told_expr-Min : (line : ℕ) (scope : Scope Role) (found : Option Refusal) (x other : Expr) → told_expr line scope found (ex.Min x other) ≡ told_expr line scope (told_argument line scope found x) other
+told_expr-Min line scope found x other = told_aggregate line scope found (ex.Min x other) x (other ∷ []) (at.names_of-Min x other)
+
+pub told_expr-Max : (line : ℕ) (scope : Scope Role) (found : Option Refusal) (x other : Expr) → told_expr line scope found (ex.Max x other) ≡ told_expr line scope (told_argument line scope found x) other
+told_expr-Max line scope found x other = told_aggregate line scope found (ex.Max x other) x (other ∷ []) (at.names_of-Max x other)
+
+pub ruleset expr_rules = (told_expr-Quant, told_expr-Or, told_expr-And, told_expr-Not, told_expr-Cmp, told_expr-Member, told_expr-Chain, told_expr-Int, told_expr-Text, told_expr-Truth, told_expr-Me, told_expr-Name, told_expr-Clock, told_expr-Range, told_expr-Tuple, told_expr-SetOf, told_expr-Comp, told_expr-Count, told_expr-Sum, told_expr-Min, told_expr-Max)
+
+-- patterns
+module _ (line : ℕ) (role : Role) (scope : Scope Role) (found : Option Refusal) where
+  part_told : (p q : Part) → p ≡ q → told_part line role scope found p ≡ told_part line role scope found q
+  part_told p q is = ap (told_part line role scope found) is
+
+  told_empty : (p : Part) → p ≡ inside [] → told_part line role scope found p ≡ found
+  unfolding told_part
+  told_empty p is = ap (λ (q : Part). told_kinds line found (q.kinds role scope)) is ∙ told_kinds-nil line found
+
+  pub told_pattern-Wild : told_part line role scope found (pattern_part pattern.Wild) ≡ found
+  told_pattern-Wild = told_empty (pattern_part pattern.Wild) at.pattern_part-Wild
+
+  pub told_pattern-Int : (n : ℤ) → told_part line role scope found (pattern_part (pattern.Int n)) ≡ found
+  told_pattern-Int n = told_empty (pattern_part (pattern.Int n)) (at.pattern_part-Int n)
+
+  pub told_pattern-Text : (bytes : List ℕ) → told_part line role scope found (pattern_part (pattern.Text bytes)) ≡ found
+  told_pattern-Text bytes = told_empty (pattern_part (pattern.Text bytes)) (at.pattern_part-Text bytes)
+
+  pub told_pattern-Truth : (b : Bool) → told_part line role scope found (pattern_part (pattern.Truth b)) ≡ found
+  told_pattern-Truth b = told_empty (pattern_part (pattern.Truth b)) (at.pattern_part-Truth b)
+
+  pub told_pattern-Me : told_part line role scope found (pattern_part pattern.Me) ≡ found
+  told_pattern-Me = told_empty (pattern_part pattern.Me) at.pattern_part-Me
+
+  pub told_pattern-Name : (name : List ℕ) → told_part line role scope found (pattern_part (pattern.Name name)) ≡ told_kinds line found (taken role (look scope name))
+  unfolding told_part
+  told_pattern-Name name = ap (λ (q : Part). told_kinds line found (q.kinds role scope)) (at.pattern_part-Name name)
+
+  pub told_pattern-Equal : (x : Expr) → told_part line role scope found (pattern_part (pattern.Equal x)) ≡ told_expr line scope found x
+  unfolding told_part told_parts
+  told_pattern-Equal x = ap (λ (q : Part). told_kinds line found (q.kinds role scope)) (at.pattern_part-Equal x) ∙ told_parts-exprs line scope found role (x ∷ [])
+
+  pub told_pattern-Tuple : (ps : List PatternTree) → told_part line role scope found (pattern_part (pattern.Tuple ps)) ≡ told_all pattern_part line role scope found ps
+  unfolding told_part told_parts told_all
+  told_pattern-Tuple ps = ap (λ (q : Part). told_kinds line found (q.kinds role scope)) (at.pattern_part-Tuple ps)
+
+  pub told_peer-From : (p : PatternTree) → told_part line role scope found (peer_part (peer.From p)) ≡ told_part line role scope found (pattern_part p)
+  told_peer-From p = part_told (peer_part (peer.From p)) (pattern_part p) (at.peer_part-From p)
+
+  pub told_peer-To : (p : PatternTree) → told_part line role scope found (peer_part (peer.To p)) ≡ told_part line role scope found (pattern_part p)
+  told_peer-To p = part_told (peer_part (peer.To p)) (pattern_part p) (at.peer_part-To p)
+
+  pub told_source-Received : told_part line role scope found (source_part source_tree.Received) ≡ found
+  told_source-Received = told_empty (source_part source_tree.Received) refl
+
+  pub told_source-Sent : told_part line role scope found (source_part source_tree.Sent) ≡ found
+  told_source-Sent = told_empty (source_part source_tree.Sent) refl
+
+  pub told_source-Name : (name : List ℕ) → told_part line role scope found (source_part (source_tree.Name name)) ≡ told_kinds line found (used_as_slot (look scope name))
+  unfolding told_part
+  told_source-Name name = refl
+
+binds_of : (ps : List PatternTree) → flat_map (λ (part : Part). part.binds) (map pattern_part ps) ≡ flat_map (λ p. (pattern_part p).binds) ps
+binds_of [] = refl
+binds_of (p ∷ ps) = ap (λ ns. (pattern_part p).binds ++ ns) (binds_of ps)
+
+module _ (role : Role) (scope : Scope Role) where
+  behind_is : (p : Part) (ns : List (List ℕ)) → p.binds ≡ ns → behind role scope p ≡ entered_each role ns scope
+  unfolding behind
+  behind_is p ns is = ap (λ b. entered_each role b scope) is
+
+  pub behind_pattern-Wild : behind role scope (pattern_part pattern.Wild) ≡ scope
+  behind_pattern-Wild = behind_is (pattern_part pattern.Wild) [] (ap (λ (p : Part). p.binds) at.pattern_part-Wild)
+
+  pub behind_pattern-Int : (n : ℤ) → behind role scope (pattern_part (pattern.Int n)) ≡ scope
+  behind_pattern-Int n = behind_is (pattern_part (pattern.Int n)) [] (ap (λ (p : Part). p.binds) (at.pattern_part-Int n))
+
+  pub behind_pattern-Text : (bytes : List ℕ) → behind role scope (pattern_part (pattern.Text bytes)) ≡ scope
+  behind_pattern-Text bytes = behind_is (pattern_part (pattern.Text bytes)) [] (ap (λ (p : Part). p.binds) (at.pattern_part-Text bytes))
+
+  pub behind_pattern-Truth : (b : Bool) → behind role scope (pattern_part (pattern.Truth b)) ≡ scope
+  behind_pattern-Truth b = behind_is (pattern_part (pattern.Truth b)) [] (ap (λ (p : Part). p.binds) (at.pattern_part-Truth b))
+
+  pub behind_pattern-Me : behind role scope (pattern_part pattern.Me) ≡ scope
+  behind_pattern-Me = behind_is (pattern_part pattern.Me) [] (ap (λ (p : Part). p.binds) at.pattern_part-Me)
+
+  pub behind_pattern-Name : (name : List ℕ) → behind role scope (pattern_part (pattern.Name name)) ≡ (name, role) ∷ scope
+  behind_pattern-Name name = behind_is (pattern_part (pattern.Name name)) (name ∷ []) (ap (λ (p : Part). p.binds) (at.pattern_part-Name name))
+
+  pub behind_pattern-Equal : (x : Expr) → behind role scope (pattern_part (pattern.Equal x)) ≡ scope
+  behind_pattern-Equal x = behind_is (pattern_part (pattern.Equal x)) [] (ap (λ (p : Part). p.binds) (at.pattern_part-Equal x))
+
+  pub behind_pattern-Tuple : (ps : List PatternTree) → behind role scope (pattern_part (pattern.Tuple ps)) ≡ behind_all pattern_part role scope ps
+  unfolding behind_all
+  behind_pattern-Tuple ps = behind_is (pattern_part (pattern.Tuple ps)) (flat_map (λ p. (pattern_part p).binds) ps) (ap (λ (p : Part). p.binds) (at.pattern_part-Tuple ps) ∙ binds_of ps)
+
+  pub behind_peer-From : (p : PatternTree) → behind role scope (peer_part (peer.From p)) ≡ behind role scope (pattern_part p)
+  behind_peer-From p = ap (behind role scope) (at.peer_part-From p)
+
+  pub behind_peer-To : (p : PatternTree) → behind role scope (peer_part (peer.To p)) ≡ behind role scope (pattern_part p)
+  behind_peer-To p = ap (behind role scope) (at.peer_part-To p)
+
+pub ruleset pattern_rules = (told_pattern-Wild, told_pattern-Int, told_pattern-Text, told_pattern-Truth, told_pattern-Me, told_pattern-Name, told_pattern-Equal, told_pattern-Tuple, behind_pattern-Wild, behind_pattern-Int, behind_pattern-Text, behind_pattern-Truth, behind_pattern-Me, behind_pattern-Name, behind_pattern-Equal, behind_pattern-Tuple)
