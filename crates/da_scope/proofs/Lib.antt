@@ -1,4 +1,5 @@
 pub mod PartLaws
+pub mod Ranges
 pub mod SameLook
 pub mod ScopeLaws
 pub mod TellingLaws

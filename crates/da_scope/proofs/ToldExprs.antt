@@ -1,7 +1,8 @@
 -- What is told of an expression, a pattern and a generator, by what is told of their parts.
-use Rattle.std.specs.Prelude.{◌≡◌, refl, ℕ, ℤ, Bool, true, false, List, [], ◌∷◌, ◌++◌, map, flat_map, Option, Some, None, option_map, option_to_list}
+use Rattle.std.specs.Prelude.{◌≡◌, refl, ℕ, ◌+◌, ◌-◌, length, drop, ℤ, Bool, true, false, List, [], ◌∷◌, ◌++◌, map, flat_map, Option, Some, None, option_map, option_to_list}
 use Rattle.std.specs.List.{AllByRecursion, fold}
-use Rattle.std.proofs.Common.{◌∙◌, sym, ap, append_assoc}
+use Rattle.std.proofs.Common.{◌∙◌, sym, ap, arith, append_assoc, length-append}
+use Rattle.std.proofs.Math.Seq.{drop-append_seam}
 use Rattle.std.proofs.lemmas.List.{map-append}
 use Rattle.std.proofs.lemmas.List.Sums.{fold-append}
 use Rattle.da_lang.specs.declared.refusal.ScopeKind.{ScopeKind}
@@ -23,7 +24,8 @@ use Rattle.da_lang.proofs.NamesAt as at
 use Rattle.da_scope.specs.Telling.{Refusal}
 use Rattle.da_scope.specs.Told.{entered_each, behind, behind_all, told_kinds, told_part, told_parts, told_all, told_expr, told_argument, told_link}
 use Rattle.da_scope.proofs.PartLaws.{Steady, all_append, all_map, all_of, plain_steady, expr_plain, pattern_steady, peer_steady, link_plain, gen_steady, steady_source}
-use Rattle.da_scope.proofs.ToldParts.{told_kinds-nil, told_kinds-append, told_parts-nil, told_parts-cons, told_parts-one, told_all-nil, told_all-cons, behind_all-nil, behind_all-cons, told_part-expr, told_all-exprs}
+use Rattle.da_scope.proofs.SameLook.{entered_each-append}
+use Rattle.da_scope.proofs.ToldParts.{told_kinds-nil, told_kinds-append, told_parts-nil, told_parts-cons, told_parts-one, told_all-nil, told_all-cons, told_all-one, told_all-snoc, behind_all-nil, behind_all-cons, behind_all-snoc, told_all-exprs}
 
 module _ (line : ℕ) (scope : Scope Role) (found : Option Refusal) where
   told_parts-exprs : (role : Role) (xs : List Expr) → told_parts line role scope found (map names_of xs) ≡ fold (told_expr line scope) found xs
@@ -265,3 +267,118 @@ module _ (role : Role) (scope : Scope Role) where
   behind_peer-To p = ap (behind role scope) (at.peer_part-To p)
 
 pub ruleset pattern_rules = (told_pattern-Wild, told_pattern-Int, told_pattern-Text, told_pattern-Truth, told_pattern-Me, told_pattern-Name, told_pattern-Equal, told_pattern-Tuple, behind_pattern-Wild, behind_pattern-Int, behind_pattern-Text, behind_pattern-Truth, behind_pattern-Me, behind_pattern-Name, behind_pattern-Equal, behind_pattern-Tuple)
+
+-- generators
+gen_parts : PatternTree → Option PeerTree → SourceTree → List Part
+gen_parts message other source = pattern_part message ∷ option_to_list (option_map peer_part other) ++ source_part source ∷ []
+
+gen_at : (g : GenTree) → gen_part g ≡ together (gen_parts (out-GenTree g).message (out-GenTree g).peer (out-GenTree g).source)
+unfolding gen_parts
+gen_at g = ap gen_part (sym (roll-out-GenTree g)) ∙ at.gen_part-of (out-GenTree g).message (out-GenTree g).peer (out-GenTree g).source
+
+module _ (line : ℕ) (role : Role) (scope : Scope Role) (found : Option Refusal) where
+  told_gen_parts : (message : PatternTree) (other : Option PeerTree) (source : SourceTree) → told_parts line role scope found (gen_parts message other source) ≡ told_part line role (behind_all peer_part role (behind role scope (pattern_part message)) (option_to_list other)) (told_all peer_part line role (behind role scope (pattern_part message)) (told_part line role scope found (pattern_part message)) (option_to_list other)) (source_part source)
+  unfolding gen_parts
+  told_gen_parts message None source =
+      let s = behind role scope (pattern_part message) in
+      let f = told_part line role scope found (pattern_part message) in
+      told_parts-cons line role scope found (pattern_part message) (source_part source ∷ []) (steady_source source, tt)
+      ∙ told_parts-one line role s f (source_part source)
+      ∙ ap (λ t. told_part line role t f (source_part source)) (sym (behind_all-nil peer_part peer_steady role s))
+      ∙ ap (λ u. told_part line role (behind_all peer_part role s []) u (source_part source)) (sym (told_all-nil peer_part peer_steady line role s f))
+  told_gen_parts message (Some p) source =
+      let s = behind role scope (pattern_part message) in
+      let f = told_part line role scope found (pattern_part message) in
+      told_parts-cons line role scope found (pattern_part message) (peer_part p ∷ source_part source ∷ []) (peer_steady p, (steady_source source, tt))
+      ∙ told_parts-cons line role s f (peer_part p) (source_part source ∷ []) (steady_source source, tt)
+      ∙ told_parts-one line role (behind role s (peer_part p)) (told_part line role s f (peer_part p)) (source_part source)
+      ∙ ap (λ t. told_part line role t (told_part line role s f (peer_part p)) (source_part source)) (sym (behind_all-cons peer_part peer_steady role s p [] ∙ behind_all-nil peer_part peer_steady role (behind role s (peer_part p))))
+      ∙ ap (λ u. told_part line role (behind_all peer_part role s (p ∷ [])) u (source_part source)) (sym (told_all-one peer_part peer_steady line role s f p))
+
+  pub told_gen : (g : GenTree) → told_part line role scope found (gen_part g) ≡ told_part line role (behind_all peer_part role (behind role scope (pattern_part (out-GenTree g).message)) (option_to_list (out-GenTree g).peer)) (told_all peer_part line role (behind role scope (pattern_part (out-GenTree g).message)) (told_part line role scope found (pattern_part (out-GenTree g).message)) (option_to_list (out-GenTree g).peer)) (source_part (out-GenTree g).source)
+  unfolding told_part told_parts
+  told_gen g = ap (λ (q : Part). told_kinds line found (q.kinds role scope)) (gen_at g) ∙ told_gen_parts (out-GenTree g).message (out-GenTree g).peer (out-GenTree g).source
+
+no_source_binds : (source : SourceTree) → (source_part source).binds ≡ []
+no_source_binds source_tree.Received = refl
+no_source_binds source_tree.Sent = refl
+no_source_binds (source_tree.Name name) = refl
+
+gen_binds : (message : PatternTree) (other : Option PeerTree) (source : SourceTree) → flat_map (λ (part : Part). part.binds) (gen_parts message other source) ≡ (pattern_part message).binds ++ flat_map (λ p. (peer_part p).binds) (option_to_list other)
+unfolding gen_parts
+gen_binds message None source = ap (λ ns. (pattern_part message).binds ++ (ns ++ [])) (no_source_binds source)
+gen_binds message (Some p) source = ap (λ ns. (pattern_part message).binds ++ ((peer_part p).binds ++ (ns ++ []))) (no_source_binds source)
+
+pub behind_gen : (role : Role) (scope : Scope Role) (g : GenTree) → behind role scope (gen_part g) ≡ behind_all peer_part role (behind role scope (pattern_part (out-GenTree g).message)) (option_to_list (out-GenTree g).peer)
+unfolding behind behind_all
+behind_gen role scope g =
+    let v = out-GenTree g in
+    ap (λ b. entered_each role b scope) (ap (λ (p : Part). p.binds) (gen_at g) ∙ gen_binds v.message v.peer v.source)
+    ∙ entered_each-append role (pattern_part v.message).binds (flat_map (λ p. (peer_part p).binds) (option_to_list v.peer)) scope
+
+pub ruleset gen_rules = (told_gen, behind_gen)
+
+-- peers and sources
+pub told_no_peer : (line : ℕ) (role : Role) (scope : Scope Role) (found : Option Refusal) → told_all peer_part line role scope found [] ≡ found
+told_no_peer = told_all-nil peer_part peer_steady
+
+pub told_peer : (line : ℕ) (role : Role) (scope : Scope Role) (found : Option Refusal) (p : PeerTree) → told_all peer_part line role scope found (p ∷ []) ≡ told_part line role scope found (peer_part p)
+told_peer = told_all-one peer_part peer_steady
+
+pub behind_no_peer : (role : Role) (scope : Scope Role) → behind_all peer_part role scope [] ≡ scope
+behind_no_peer = behind_all-nil peer_part peer_steady
+
+pub behind_peer : (role : Role) (scope : Scope Role) (p : PeerTree) → behind_all peer_part role scope (p ∷ []) ≡ behind role scope (peer_part p)
+behind_peer role scope p = behind_all-cons peer_part peer_steady role scope p [] ∙ behind_all-nil peer_part peer_steady role (behind role scope (peer_part p))
+
+pub ruleset peer_rules = (told_no_peer, told_peer, behind_no_peer, behind_peer, told_peer-From, told_peer-To, behind_peer-From, behind_peer-To)
+
+pub ruleset source_rules = (told_source-Received, told_source-Sent, told_source-Name)
+
+-- one more of a list
+pub told_patterns-snoc : (line : ℕ) (role : Role) (scope : Scope Role) (found : Option Refusal) (ps : List PatternTree) (p : PatternTree) → told_all pattern_part line role scope found (ps ++ p ∷ []) ≡ told_part line role (behind_all pattern_part role scope ps) (told_all pattern_part line role scope found ps) (pattern_part p)
+told_patterns-snoc = told_all-snoc pattern_part pattern_steady
+
+pub behind_patterns-snoc : (role : Role) (scope : Scope Role) (ps : List PatternTree) (p : PatternTree) → behind_all pattern_part role scope (ps ++ p ∷ []) ≡ behind role (behind_all pattern_part role scope ps) (pattern_part p)
+behind_patterns-snoc = behind_all-snoc pattern_part pattern_steady
+
+pub told_gens-snoc : (line : ℕ) (role : Role) (scope : Scope Role) (found : Option Refusal) (gs : List GenTree) (g : GenTree) → told_all gen_part line role scope found (gs ++ g ∷ []) ≡ told_part line role (behind_all gen_part role scope gs) (told_all gen_part line role scope found gs) (gen_part g)
+told_gens-snoc = told_all-snoc gen_part gen_steady
+
+pub behind_gens-snoc : (role : Role) (scope : Scope Role) (gs : List GenTree) (g : GenTree) → behind_all gen_part role scope (gs ++ g ∷ []) ≡ behind role (behind_all gen_part role scope gs) (gen_part g)
+behind_gens-snoc = behind_all-snoc gen_part gen_steady
+
+pub told_patterns-nil : (line : ℕ) (role : Role) (scope : Scope Role) (found : Option Refusal) → told_all pattern_part line role scope found [] ≡ found
+told_patterns-nil = told_all-nil pattern_part pattern_steady
+
+pub behind_patterns-nil : (role : Role) (scope : Scope Role) → behind_all pattern_part role scope [] ≡ scope
+behind_patterns-nil = behind_all-nil pattern_part pattern_steady
+
+pub told_gens-nil : (line : ℕ) (role : Role) (scope : Scope Role) (found : Option Refusal) → told_all gen_part line role scope found [] ≡ found
+told_gens-nil = told_all-nil gen_part gen_steady
+
+pub behind_gens-nil : (role : Role) (scope : Scope Role) → behind_all gen_part role scope [] ≡ scope
+behind_gens-nil = behind_all-nil gen_part gen_steady
+
+pub ruleset pattern_steps = (told_patterns-snoc, behind_patterns-snoc, told_patterns-nil, behind_patterns-nil)
+
+pub ruleset gen_steps = (told_gens-snoc, behind_gens-snoc, told_gens-nil, behind_gens-nil)
+
+-- the variables of a query leave it
+sub_back : (a b : ℕ) → (a + b) - b ≡ a
+sub_back a b = omega arith
+
+pushed_by : (role : Role) (names : List (List ℕ)) (before : Scope Role) (scope : Scope Role) → drop (length (entered_each role names (before ++ scope)) - length scope) (entered_each role names (before ++ scope)) ≡ scope
+pushed_by role [] before scope = ap (λ n. drop (n - length scope) (before ++ scope)) (length-append before scope) ∙ ap (λ n. drop n (before ++ scope)) (sub_back (length before) (length scope)) ∙ drop-append_seam before scope
+pushed_by role (n ∷ ns) before scope = pushed_by role ns ((n, role) ∷ before) scope
+
+pub pushed : (role : Role) (names : List (List ℕ)) (scope : Scope Role) → drop (length (entered_each role names scope) - length scope) (entered_each role names scope) ≡ scope
+pushed role names scope = pushed_by role names [] scope
+
+pub left_behind : (role : Role) (scope : Scope Role) (part : Part) → drop (length (behind role scope part) - length scope) (behind role scope part) ≡ scope
+unfolding behind
+left_behind role scope part = pushed role part.binds scope
+
+pub left_behind_gens : (role : Role) (scope : Scope Role) (gens : List GenTree) → drop (length (behind_all gen_part role scope gens) - length scope) (behind_all gen_part role scope gens) ≡ scope
+unfolding behind_all
+left_behind_gens role scope gens = pushed role (flat_map (λ g. (gen_part g).binds) gens) scope

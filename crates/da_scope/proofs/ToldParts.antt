@@ -1,7 +1,8 @@
 -- What is told of parts that stand one behind the other.
-use Rattle.std.specs.Prelude.{◌≡◌, refl, ℕ, List, [], ◌∷◌, ◌++◌, map, flat_map, Option, Some, None, option_map, option_to_list}
+use Rattle.std.specs.Prelude.{◌≡◌, refl, ℕ, ◌+◌, ◌<◌, length, take, List, [], ◌∷◌, ◌++◌, map, flat_map, Option, Some, None, option_map, option_to_list}
 use Rattle.std.specs.List.{AllByRecursion, fold}
-use Rattle.std.proofs.Common.{◌∙◌, sym, ap, append_assoc}
+use Rattle.std.proofs.Common.{◌∙◌, sym, ap, get_or}
+use Rattle.std.proofs.lemmas.List.{take_more}
 use Rattle.std.proofs.lemmas.List.{map-append, append-nil}
 use Rattle.da_lang.specs.declared.refusal.ScopeKind.{ScopeKind}
 use Rattle.da_lang.specs.declared.tree.ChainTree.{ChainTree}
@@ -80,6 +81,18 @@ module _ {A : Type 0} (part : A → Part) (steady : (x : A) → Steady (part x))
 
   pub told_all-snoc : (line : ℕ) (role : Role) (scope : Scope Role) (found : Option Refusal) (xs : List A) (y : A) → told_all part line role scope found (xs ++ y ∷ []) ≡ told_part line role (behind_all part role scope xs) (told_all part line role scope found xs) (part y)
   told_all-snoc line role scope found xs y = told_all-append line role scope found xs (y ∷ []) ∙ told_all-one line role (behind_all part role scope xs) (told_all part line role scope found xs) y
+
+  -- one more turn of a loop over such a list
+  pub told_all-more : (line : ℕ) (role : Role) (old names : Scope Role) (first found last : Option Refusal) (xs : List A) (i : ℕ) (x : A) → i < length xs → x ≡ get_or xs i x → found ≡ told_all part line role old first (take i xs) → names ≡ behind_all part role old (take i xs) → last ≡ told_part line role names found (part x) → last ≡ told_all part line role old first (take (i + 1) xs)
+  told_all-more line role old names first found last xs i x within here told entered step =
+      let more : take (i + 1) xs ≡ take i xs ++ x ∷ [] = take_more xs i x within ∙ ap (λ y. take i xs ++ y ∷ []) (sym here) in
+      step ∙ ap (λ s. told_part line role s found (part x)) entered ∙ ap (λ f. told_part line role (behind_all part role old (take i xs)) f (part x)) told
+      ∙ sym (told_all-snoc line role old first (take i xs) x) ∙ ap (told_all part line role old first) (sym more)
+
+  pub behind_all-more : (role : Role) (old names last : Scope Role) (xs : List A) (i : ℕ) (x : A) → i < length xs → x ≡ get_or xs i x → names ≡ behind_all part role old (take i xs) → last ≡ behind role names (part x) → last ≡ behind_all part role old (take (i + 1) xs)
+  behind_all-more role old names last xs i x within here entered step =
+      let more : take (i + 1) xs ≡ take i xs ++ x ∷ [] = take_more xs i x within ∙ ap (λ y. take i xs ++ y ∷ []) (sym here) in
+      step ∙ ap (λ s. behind role s (part x)) entered ∙ sym (behind_all-snoc role old (take i xs) x) ∙ ap (behind_all part role old) (sym more)
 
 -- expressions
 pub told_part-expr : (line : ℕ) (role : Role) (scope : Scope Role) (found : Option Refusal) (x : Expr) → told_part line role scope found (names_of x) ≡ told_expr line scope found x

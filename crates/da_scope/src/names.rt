@@ -1,3 +1,4 @@
 //! The refusals by names.
 
+mod expressions;
 mod scope;
