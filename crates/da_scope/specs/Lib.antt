@@ -1,3 +1,4 @@
 pub mod ScopeView
 pub mod Telling
 pub mod Told
+pub mod ToldStmts
