@@ -5,4 +5,5 @@ pub mod ScopeLaws
 pub mod StmtLaws
 pub mod TellingLaws
 pub mod ToldExprs
+pub mod ToldLines
 pub mod ToldParts
