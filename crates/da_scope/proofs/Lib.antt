@@ -1,3 +1,4 @@
+pub mod Found
 pub mod PartLaws
 pub mod Ranges
 pub mod SameLook

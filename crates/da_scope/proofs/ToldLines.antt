@@ -1,5 +1,5 @@
 -- What is told of a statement, by what is told of its parts.
-use Rattle.std.specs.Prelude.{◌≡◌, refl, ℕ, ◌+◌, ◌<◌, length, take, Bool, true, false, List, [], ◌∷◌, ◌++◌, map, flat_map, Option, Some, None, option_map, option_to_list}
+use Rattle.std.specs.Prelude.{◌≡◌, refl, ℕ, ◌+◌, ◌-◌, ◌<◌, length, take, drop, Bool, true, false, List, [], ◌∷◌, ◌++◌, map, flat_map, Option, Some, None, option_map, option_to_list}
 use Rattle.std.specs.List.{fold}
 use Rattle.std.proofs.Common.{◌∙◌, sym, ap, get_or}
 use Rattle.std.proofs.lemmas.List.{append-nil, map-append, take_more}
@@ -19,6 +19,7 @@ use Rattle.da_scope.specs.Told.{entered_each, told_kinds, told_expr}
 use Rattle.da_scope.specs.ToldStmts.{told_stmt, told_branch, told_timeout, told_block, behind_stmts}
 use Rattle.da_scope.proofs.SameLook.{SameLook, same_each, entered_each-append}
 use Rattle.da_scope.proofs.StmtLaws.{body_same}
+use Rattle.da_scope.proofs.ToldExprs.{pushed}
 use Rattle.da_scope.proofs.TellingLaws.{telling-nil, telling-append}
 
 at_line-append : (line : ℕ) (xs ys : List ScopeKind) → at_line line (xs ++ ys) ≡ at_line line xs ++ at_line line ys
@@ -139,18 +140,18 @@ told_stmt-Await scope found branches late line =
     ∙ told_beside scope found branches (option_to_list (option_map timeout_of late))
     ∙ late_block scope (fold (told_branch scope) found branches) late
 
-pub told_branch-of : (scope : Scope Role) (found : Option Refusal) (b : Branch) → told_branch scope found b ≡ told_block (entered_each Local (found_names (out-Branch b).cond) scope) (told_expr (out-Branch b).line scope found (out-Branch b).cond) (out-Branch b).body
+pub told_branch_of : (scope : Scope Role) (found : Option Refusal) (b : Branch) → told_branch scope found b ≡ told_block (entered_each Local (found_names (out-Branch b).cond) scope) (told_expr (out-Branch b).line scope found (out-Branch b).cond) (out-Branch b).body
 unfolding told_branch
-told_branch-of scope found b =
+told_branch_of scope found b =
     let v = out-Branch b in
     ap (λ x. telling found (branch_of x scope)) (sym (roll-out-Branch b)) ∙ ap (telling found) (at.branch_at v.cond v.body v.line scope)
     ∙ then_block (entered Local (found_names v.cond) scope) found (says v.line (v.cond ∷ []) scope) v.body
     ∙ ap (λ f. told_block (entered Local (found_names v.cond) scope) f v.body) (telling-says v.line scope found (v.cond ∷ []))
     ∙ told_block-same (entered Local (found_names v.cond) scope) (entered_each Local (found_names v.cond) scope) (told_expr v.line scope found v.cond) v.body (same_each Local (found_names v.cond) scope)
 
-pub told_timeout-of : (scope : Scope Role) (found : Option Refusal) (t : TimeoutTree) → told_timeout scope found t ≡ told_block scope found (out-TimeoutTree t).body
+pub told_timeout_of : (scope : Scope Role) (found : Option Refusal) (t : TimeoutTree) → told_timeout scope found t ≡ told_block scope found (out-TimeoutTree t).body
 unfolding told_timeout told_block
-told_timeout-of scope found t =
+told_timeout_of scope found t =
     let v = out-TimeoutTree t in
     ap (λ x. telling found (timeout_of x scope)) (sym (roll-out-TimeoutTree t)) ∙ ap (telling found) (at.timeout_at v.body v.line scope)
 
@@ -243,3 +244,7 @@ module _ (scope : Scope Role) where
   behind-Await branches late line = behind_by (stmt.Await branches late line) _ (at.line_of-Await branches late line)
 
 pub ruleset stmt_rules = (told_stmt-Assign, told_stmt-Add, told_stmt-Del, told_stmt-Send, told_stmt-Output, told_stmt-Pass, told_stmt-Label, told_stmt-Call, told_stmt-If, told_else-None, told_else-Some, told_stmt-While, told_stmt-For, told_stmt-AwaitOne, told_stmt-Await, behind-Assign, behind-Add, behind-Del, behind-Send, behind-Output, behind-Pass, behind-Label, behind-Call, behind-If, behind-While, behind-For, behind-AwaitOne, behind-Await)
+
+pub left_behind_stmts : (scope : Scope Role) (body : List Stmt) → drop (length (behind_stmts scope body) - length scope) (behind_stmts scope body) ≡ scope
+unfolding behind_stmts
+left_behind_stmts scope body = pushed Local (flat_map (λ s. (line_of s).binds) body) scope

@@ -2,3 +2,5 @@
 
 mod expressions;
 mod scope;
+mod statements;
+mod variables;
