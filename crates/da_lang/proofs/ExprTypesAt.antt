@@ -10,12 +10,12 @@ use Rattle.da_lang.specs.declared.program.RExpr.TheFolds.{map-RExpr, fold-roll-R
 use Rattle.da_lang.specs.declared.query.Query.{Query}
 use Rattle.da_lang.specs.declared.tree.ArithOp.{ArithOp}
 use Rattle.da_lang.specs.declared.tree.CmpOp.{CmpOp}
-use Rattle.da_lang.specs.ExprTypes.{Typing, Operand, typing, part_typing, expr_step, part_step}
+use Rattle.da_lang.specs.ExprTypes.{ExprType, Further, typing, part_typing, expr_step, part_step}
 use Rattle.da_lang.specs.QueryTypes.{Known}
 
-typing_layer : (known : Known) (queries : List Query) (x : RExpr-F RExpr ChainPart) → (typing known queries) (roll-RExpr x) ≡ (expr_step known queries) (map-RExpr RExpr ChainPart Typing Operand (typing known queries) (part_typing known queries) x)
+typing_layer : (known : Known) (queries : List Query) (x : RExpr-F RExpr ChainPart) → (typing known queries) (roll-RExpr x) ≡ (expr_step known queries) (map-RExpr RExpr ChainPart ExprType Further (typing known queries) (part_typing known queries) x)
 unfolding typing part_typing
-typing_layer known queries x = fold-roll-RExpr Typing Operand (expr_step known queries) (part_step known queries) x
+typing_layer known queries x = fold-roll-RExpr ExprType Further (expr_step known queries) (part_step known queries) x
 
 pub typing-Const : (known : Known) (queries : List Query) (value : Value) → (typing known queries) (re.Const value) ≡ (expr_step known queries) (RExpr-F.Const value)
 typing-Const known queries value = ap ((typing known queries)) (sym (re.rolls-Const value)) ∙ typing_layer known queries (RExpr-F.Const value)
@@ -64,6 +64,6 @@ typing-Chain known queries x more = ap ((typing known queries)) (sym (re.rolls-C
 
 pub part_typing-of : (known : Known) (queries : List Query) (op_ : ArithOp) (operand_ : RExpr) → (part_typing known queries) (roll-ChainPart (record { op = op_; operand = operand_ })) ≡ (part_step known queries) (record { op = op_; operand = ((typing known queries) operand_) })
 unfolding typing part_typing
-part_typing-of known queries op_ operand_ = fold-roll-ChainPart Typing Operand (expr_step known queries) (part_step known queries) (record { op = op_; operand = operand_ })
+part_typing-of known queries op_ operand_ = fold-roll-ChainPart ExprType Further (expr_step known queries) (part_step known queries) (record { op = op_; operand = operand_ })
 
 pub ruleset typing_exprs = (typing-Const, typing-Procs, typing-Me, typing-Slot, typing-Clock, typing-Ask, typing-Range, typing-Tuple, typing-SetOf, typing-Or, typing-And, typing-Not, typing-Cmp, typing-Member, typing-Chain, part_typing-of)

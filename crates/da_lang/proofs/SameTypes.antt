@@ -1,16 +1,17 @@
--- Types that are told to be the same are equal.
+-- Types are told to be the same exactly where they are equal.
 use Rattle.std.specs.Prelude.{◌≡◌, refl, true, List, [], ◌∷◌, map}
 use Rattle.std.specs.List.{AllByRecursion}
 use Rattle.std.proofs.Common.{◌∙◌, ap, ap₂, sym, subst}
-use Rattle.std.proofs.lemmas.Bool.{false≢true, and_parts}
+use Rattle.std.proofs.lemmas.Bool.{false≢true, and_parts, and_from}
 use Rattle.da_lang.specs.declared.ty.Ty.{Ty, roll-Ty, out-Ty, roll-out-Ty}
 use Rattle.da_lang.specs.declared.ty.Ty.TheVariants as t
 use Rattle.da_lang.specs.declared.ty.Ty.TheOpen as layer
 use Rattle.da_lang.specs.declared.ty.Ty.TheOpen.{Ty-F}
 use Rattle.da_lang.specs.declared.ty.Ty.TheFolds.{ind-Ty, map-Ty}
-use Rattle.da_lang.specs.Types.{same_type, all_same, tuple_same, set_same, is_int, is_bool, is_text, is_proc, parts_in, element_in}
+use Rattle.da_lang.specs.Types.{same_type, all_same, tuple_same, set_same, int_in, bool_in, text_in, proc_in, parts_in, element_in}
 use Rattle.da_lang.proofs.TermInduction.{bare, all_of-bare}
 use Rattle.da_lang.proofs.TypesAt.{same_type_at-Int, same_type_at-Bool, same_type_at-Text, same_type_at-Proc, same_type_at-Tuple, same_type_at-Set}
+use Rattle.da_lang.proofs.WorldLaws.{ty_induction}
 
 -- same types with this one are equal to it
 abbrev IsTold : Ty → Type 0
@@ -19,19 +20,19 @@ IsTold x = (y : Ty) → same_type x y ≡ true → x ≡ y
 from_layer : (y : Ty) (inner : Ty-F Ty) → out-Ty y ≡ inner → roll-Ty inner ≡ y
 from_layer y inner is = ap roll-Ty (sym is) ∙ roll-out-Ty y
 
-int_layer : (y : Ty-F Ty) → is_int y ≡ true → y ≡ layer.Int
+int_layer : (y : Ty-F Ty) → int_in y ≡ true → y ≡ layer.Int
 int_layer layer.Int e = refl
 int_layer _ e = absurd (false≢true e)
 
-bool_layer : (y : Ty-F Ty) → is_bool y ≡ true → y ≡ layer.Bool
+bool_layer : (y : Ty-F Ty) → bool_in y ≡ true → y ≡ layer.Bool
 bool_layer layer.Bool e = refl
 bool_layer _ e = absurd (false≢true e)
 
-text_layer : (y : Ty-F Ty) → is_text y ≡ true → y ≡ layer.Text
+text_layer : (y : Ty-F Ty) → text_in y ≡ true → y ≡ layer.Text
 text_layer layer.Text e = refl
 text_layer _ e = absurd (false≢true e)
 
-proc_layer : (y : Ty-F Ty) → is_proc y ≡ true → y ≡ layer.Proc
+proc_layer : (y : Ty-F Ty) → proc_in y ≡ true → y ≡ layer.Proc
 proc_layer layer.Proc e = refl
 proc_layer _ e = absurd (false≢true e)
 
@@ -61,3 +62,23 @@ type_case (layer.Set x) = subst IsTold (sym (t.rolls-Set x.0)) (λ y e. sym (t.r
 
 pub same_types_equal : (x y : Ty) → same_type x y ≡ true → x ≡ y
 same_types_equal = ind-Ty IsTold (λ x y is. subst (λ z. IsTold (roll-Ty z)) is (type_case y))
+
+all_same_themselves : (xs : List Ty) → AllByRecursion (λ x. same_type x x ≡ true) xs → all_same (map same_type xs) xs ≡ true
+all_same_themselves [] each = refl
+all_same_themselves (x ∷ xs) each = and_from (same_type x x) (all_same (map same_type xs) xs) each.0 (all_same_themselves xs each.1)
+
+tuple_itself : (xs : List Ty) → AllByRecursion (λ x. same_type x x ≡ true) xs → same_type (t.Tuple xs) (t.Tuple xs) ≡ true
+tuple_itself xs each = same_type_at-Tuple xs (t.Tuple xs) ∙ rw (t.outs-Tuple xs) (all_same_themselves xs each)
+
+set_itself : (x : Ty) → same_type x x ≡ true → same_type (t.Set x) (t.Set x) ≡ true
+set_itself x same = same_type_at-Set x (t.Set x) ∙ rw (t.outs-Set x) same
+
+pub same_itself : (x : Ty) → same_type x x ≡ true
+same_itself =
+    ty_induction (λ x. same_type x x ≡ true)
+    (same_type_at-Int t.Int ∙ rw t.outs-Int refl)
+    (same_type_at-Bool t.Bool ∙ rw t.outs-Bool refl)
+    (same_type_at-Text t.Text ∙ rw t.outs-Text refl)
+    (same_type_at-Proc t.Proc ∙ rw t.outs-Proc refl)
+    tuple_itself
+    set_itself

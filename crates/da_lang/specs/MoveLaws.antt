@@ -6,13 +6,12 @@ use Rattle.da_lang.specs.declared.program.Class.{Class}
 use Rattle.da_lang.specs.declared.program.Item.{Item}
 use Rattle.da_lang.specs.declared.program.ItemKind.TheOpen.{Await, Label}
 use Rattle.da_lang.specs.declared.program.ItemKind.TheViews.{out-Alt}
-use Rattle.da_lang.specs.declared.program.Phase.TheVariants.{New, Waiting}
 use Rattle.da_lang.specs.declared.program.Program.{Program}
 use Rattle.da_lang.specs.Queries.{holds}
 use Rattle.da_lang.specs.Runs.{run_to_yield}
 use Rattle.da_lang.specs.Steps.{Go, Take, Deliver, first_tasks, handle, handled, moved, proc_step, received_at}
 use Rattle.da_lang.specs.Turns.{bind_found, do_all, kind_of}
-use Rattle.da_lang.specs.World.{Task, Do, World, class_of, numbered}
+use Rattle.da_lang.specs.World.{Task, Do, World, class_of, numbered, New, Waiting}
 
 module _ (program : Program) (class : Class) (w : World) (known : class_of program w.data'.me ≡ Some class) where
   pub step_begins : w.phase ≡ New → proc_step program w Go ≡ Some (moved w.data'.me 0 (run_to_yield class 0 w.data' (first_tasks program class w.data'.me)))

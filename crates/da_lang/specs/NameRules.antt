@@ -9,10 +9,10 @@ use Rattle.da_lang.specs.declared.tree.Expr.TheVariants as ex
 use Rattle.da_lang.specs.declared.tree.MainLine.{MainLine}
 use Rattle.da_lang.specs.declared.tree.MainLine.TheVariants as main_line
 use Rattle.da_lang.specs.declared.tree.Tree.{Tree}
-use Rattle.da_lang.specs.Calls.{is_yield, leads, yields}
-use Rattle.da_lang.specs.ClassParts.{Declared, Place, InMethod, InHandler, Body, bodies, bodies_where, variables, is_setup, is_run, is_handler, method_name, labels_at, method_of, class_of, setup_of, params_if}
-use Rattle.da_lang.specs.Deeds.{Doing, Sends, Outputs, Labels, Calls, Loops, Waits, Deed, deeds}
-use Rattle.da_lang.specs.ExprNames.{Role, ClassVariable, Local, Ahead, Made, Part, in_order, taken, refused_in, pattern_part}
+use Rattle.da_lang.specs.Calls.{is_yield, leads, yields, deeds_in}
+use Rattle.da_lang.specs.ClassParts.{Declared, Place, InHandler, Body, bodies, bodies_where, variables, is_setup, is_run, is_handler, method_name, labels_at, method_of, class_of, setup_of, params_if}
+use Rattle.da_lang.specs.Deeds.{Doing, Sends, Outputs, Labels, Calls, Loops, TimesOut, Deed, deeds}
+use Rattle.da_lang.specs.ExprNames.{Role, ClassVariable, Local, Made, Part, in_order, taken, refused_in, pattern_part}
 use Rattle.da_lang.specs.Scopes.{Scope, Refused, look, entered, at_line, at_lines, told}
 use Rattle.da_lang.specs.StmtNames.{refused_in_body}
 use Rattle.da_lang.specs.Written.{asks, reads_clock}
@@ -30,15 +30,15 @@ abbrev pub again : List Declared → List ℕ
 again = again_after []
 
 -- notyet: `timeout`, and `at` in a `receive`
-abbrev pub waits : Doing → Bool
-waits Waits = true
-waits _ = false
+abbrev pub times_out : Doing → Bool
+times_out TimesOut = true
+times_out _ = false
 
 abbrev pub has_labels : Body → Bool
 has_labels b = not (length (labels_at b.place) == 0)
 
 abbrev pub not_yet_in : Body → List ℕ
-not_yet_in b = (if has_labels b then b.line ∷ [] else []) ++ lines_where (λ d. waits d.does) (deeds b.stmts)
+not_yet_in b = (if has_labels b then b.line ∷ [] else []) ++ lines_where (λ d. times_out d.does) (deeds b.stmts)
 
 -- unknown and shadow, by what is in scope: in a class its variables, in a body its parameters or the variables of its
 -- patterns besides
@@ -53,11 +53,15 @@ abbrev pub locals_of : Body → List (List ℕ)
 locals_of b = map (λ p. p.name) b.params ++ flat_map (λ part. part.binds) (patterns_at b.place)
 
 abbrev pub shadowed_params : Scope Role → Body → List ScopeKind
-shadowed_params scope b = flat_map (λ p. taken Local (look scope p.name)) b.params
+shadowed_params scope b = flat_map (λ p. taken (look scope p.name)) b.params
+
+-- a variable of a handler's patterns that has the name of an earlier one in them
+abbrev pub doubled : Body → List ScopeKind
+doubled b = map (λ line. refusal.Shadow) (again (map (λ name. (name, b.line)) (flat_map (λ part. part.binds) (patterns_at b.place))))
 
 abbrev pub scope_refusals : Scope Role → Body → List (Refused ScopeKind)
 scope_refusals scope b =
-    at_line b.line (shadowed_params scope b ++ in_order (patterns_at b.place) Ahead scope) ++ refused_in_body b.stmts (entered Local (locals_of b) scope)
+    at_line b.line (shadowed_params scope b ++ doubled b ++ in_order (patterns_at b.place) Local scope) ++ refused_in_body b.stmts (entered Local (locals_of b) scope)
 
 -- unknown: a call of no method
 abbrev pub calls_none : ClassTree → Doing → Bool
@@ -93,13 +97,16 @@ params_again b = again (map (λ p. (p.name, b.line)) b.params)
 abbrev pub twice_in : ClassTree → List ℕ
 twice_in c = variables_again c ++ methods_again c ++ behind_first is_setup c ++ behind_first is_run c ++ labels_again c ++ flat_map params_again (bodies c)
 
--- recursive: a call whose method leads back to the method that holds it
-abbrev pub leads_back : ClassTree → Place → Doing → Bool
-leads_back c (InMethod holder) (Calls name) = leads c name holder
-leads_back c _ _ = false
+-- recursive: a call in a method that leads back to it
+abbrev pub leads_back : ClassTree → List ℕ → Doing → Bool
+leads_back c holder (Calls name) = leads c name holder
+leads_back c holder _ = false
 
-abbrev pub recursive_in : ClassTree → Body → List ℕ
-recursive_in c b = lines_where (λ d. leads_back c b.place d.does) (deeds b.stmts)
+abbrev pub method_names : ClassTree → List (List ℕ)
+method_names c = filter_map (λ b. method_name b.place) (bodies c)
+
+abbrev pub recursive_in : ClassTree → List ℕ → List ℕ
+recursive_in c name = lines_where (λ d. leads_back c name d.does) (deeds_in c name)
 
 -- yield: in a handler or `setup` a yield point, or a call of a method that yields
 abbrev pub yields_by : ClassTree → Doing → Bool
@@ -138,7 +145,7 @@ class_refusals c =
     ++ at_lines refusal.Unknown (lines_where (λ d. calls_none c d.does) (all_deeds c))
     ++ flat_map (scope_refusals (class_scope c)) (bodies c)
     ++ at_lines refusal.Twice (twice_in c)
-    ++ at_lines refusal.Recursive (flat_map (recursive_in c) (bodies c))
+    ++ at_lines refusal.Recursive (flat_map (recursive_in c) (method_names c))
     ++ at_lines refusal.Yield (flat_map (yield_in c) (bodies c))
     ++ at_lines refusal.Setup (flat_map setup_in (bodies c))
     ++ at_lines refusal.NoRun (no_run_in c)

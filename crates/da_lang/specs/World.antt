@@ -4,8 +4,6 @@ use Rattle.da_values.specs.declared.val.Val.{Val}
 use Rattle.da_values.specs.declared.val.Val.TheVariants as val
 use Rattle.da_lang.specs.declared.program.Class.{Class}
 use Rattle.da_lang.specs.declared.program.Item.{Item}
-use Rattle.da_lang.specs.declared.program.Phase.{Phase}
-use Rattle.da_lang.specs.declared.program.Phase.TheVariants.{New}
 use Rattle.da_lang.specs.declared.program.ProcDecl.{ProcDecl}
 use Rattle.da_lang.specs.declared.program.Program.{Program}
 use Rattle.da_lang.specs.declared.program.SetupCall.{SetupCall}
@@ -32,6 +30,14 @@ pub data Task : Type 0 where
   Do : Item → Task
   Loop : (slot : ℕ) (left : List Val) (body : List Item) (line : ℕ) → Task
   Prepare : SetupCall → Task
+
+-- Where a process stands: it has not begun, it waits at a yield point, it has used up its statements, or a fault has
+-- ended it.
+pub data Phase : Type 0 where
+  New : Phase
+  Waiting : Phase
+  Ended : Phase
+  Faulted : Phase
 
 -- the whole of a process: what it knows, what is still to do, the next first, and where it stands
 pub record World : Type 0 where

@@ -12,7 +12,7 @@ mod ty;
 pub use code::Instr;
 pub use event::{Action, Event, FaultKind};
 pub use program::{
-    Alt, BindArg, ChainPart, Class, Handler, Item, ItemKind, Phase, ProcDecl, Program, RBranch,
+    Alt, BindArg, ChainPart, Class, Handler, Item, ItemKind, ProcDecl, Program, RBranch,
     RExpr, SetupCall,
 };
 pub use query::{

@@ -1,7 +1,7 @@
 //! Resolved programs: what is left of a text once its names are found.
 //!
-//! The slots of a class are numbered from 1: its variables, and then what its parameters, loops, patterns and handlers
-//! name. An expression within another type stands in a `Boxed` or a `List`, as in trees.
+//! The slots of a class are numbered from 1: its variables, and then the parameters and the variables of loops, of what
+//! a `some` binds and of handlers, as the inlined `setup`, `run` and handlers meet them. An expression within another type stands in a `Boxed` or a `List`, as in trees.
 use crate::query::{Cond, Pattern, Query};
 use crate::tree::{ArithOp, CmpOp, MessageDecl};
 use crate::ty::{ChannelKind, Name, Ty};
@@ -87,7 +87,7 @@ pub enum ItemKind {
     If(List<RBranch>, List<Item>),
     /// Goes round while the condition holds.
     While(Boxed<RExpr>, List<Item>),
-    /// Goes round with each element of a set in a slot, ascending.
+    /// Takes each element of a set into a slot, ascending, and goes round with it.
     For(u16, Boxed<RExpr>, List<Item>),
     /// A method's statements in the place of the call, with its arguments.
     Call(List<BindArg>, List<Item>),
@@ -171,14 +171,4 @@ pub enum RExpr {
 pub struct ChainPart {
     pub op: ArithOp,
     pub operand: Boxed<RExpr>,
-}
-
-/// Where a process stands: it has not begun, it waits at a yield point, it has used up its statements, or a fault
-/// has ended it.
-#[derive(Clone, Copy, Debug, PartialEq, Eq)]
-pub enum Phase {
-    New,
-    Waiting,
-    Ended,
-    Faulted,
 }

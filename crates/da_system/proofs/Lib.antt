@@ -1,2 +1,4 @@
 pub mod RunLemmas
+pub mod StepLemmas
+pub mod SystemExamples
 pub mod WorldLemmas

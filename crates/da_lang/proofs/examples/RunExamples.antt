@@ -1,10 +1,12 @@
 -- Runs that end, wait, fault, and go on for too long; and a message that is too large.
-use Rattle.std.specs.Prelude.{◌≡◌, refl, ℕ, zero, suc, ◌+◌, ◌*◌, ◌<◌, pos, true, nat_le, List, [], ◌∷◌, codes}
+use Rattle.std.specs.Prelude.{◌≡◌, refl, ℕ, zero, suc, ◌+◌, ◌*◌, pos, true, nat_le, List, [], ◌∷◌, replicate, None, codes}
 use Rattle.std.proofs.Common.{◌∙◌, ap, sym, arith}
+use Rattle.std.proofs.lemmas.List.{length-replicate}
 use Rattle.da_values.specs.declared.val.Val.{Val}
 use Rattle.da_values.specs.declared.val.Val.TheVariants as val
 use Rattle.da_values.specs.declared.value.Value.TheVariants as literal
-use Rattle.da_lang.specs.declared.event.Action.TheVariants.{Out}
+use Rattle.da_values.specs.Value.{value_of}
+use Rattle.da_lang.specs.declared.event.Action.TheVariants.{Sent, Out}
 use Rattle.da_lang.specs.declared.event.FaultKind.TheVariants.{Divide, Message, TooLong}
 use Rattle.da_lang.specs.declared.program.ChainPart.{roll-ChainPart}
 use Rattle.da_lang.specs.declared.program.Class.{Class}
@@ -17,10 +19,10 @@ use Rattle.da_lang.specs.declared.tree.ArithOp.TheVariants.{Div}
 use Rattle.da_lang.specs.Arithmetic.{numbers_from}
 use Rattle.da_lang.specs.RunLaws.{run_fails, run_goes, run_to_yield_end, run_to_yield_late, run_to_yield_yield}
 use Rattle.da_lang.specs.Runs.{behind, AtYield, UsedUp, Faults, max_turns, run, run_to_yield, stopped}
-use Rattle.da_lang.specs.Turns.{failed, max_packet, packet_len, send, send_if}
+use Rattle.da_lang.specs.Turns.{failed, last_time, max_packet, packet_len, send, send_if}
 use Rattle.da_lang.specs.World.{Data, Task, Do, put_slot}
+use Rattle.da_lang.proofs.Computing.{early, turning}
 use Rattle.da_lang.proofs.LengthLaws.{sum-numbers_from, encoded_len-Tuple, encoded_len-Set, encoded_len-Text}
-use Rattle.da_lang.proofs.TurnExamples.{turning}
 
 abbrev num : ℕ → Val
 num n = val.Int (pos n)
@@ -39,10 +41,6 @@ int n = ex.Const (literal.Int (pos n))
 
 abbrev zero_divisor : RExpr
 zero_divisor = ex.Chain (int 1) (roll-ChainPart (record { op = Div; operand = int 0 }) ∷ [])
-
-pub early : (n : ℕ) → n < 9 → n < max_turns
-unfolding max_turns
-early n few = omega (arith, few)
 
 -- `output(7)`
 prints : run_to_yield class 0 here (on 3 (it.Output (int 7)) ∷ []) ≡ record { data' = here; todo = []; actions = Out 1 (literal.Int (pos 7)) ∷ []; turns = 1; halt = UsedUp }
@@ -106,3 +104,18 @@ too_large = ap (λ len. send_if class 4 here [] (nat_le len max_packet) (big 666
 
 small_enough : packet_len (big 6663) ≡ 59993
 small_enough = big_len 6663
+
+-- a message of one text: with 59978 bytes it makes a packet of exactly 60000, which is sent; one byte more is too many
+abbrev note : ℕ → Val
+note n = val.Tuple (val.Text (codes "t") ∷ val.Text (replicate n 97) ∷ [])
+
+note_len : (n : ℕ) → packet_len (note n) ≡ 22 + n
+note_len n = simp (encoded_len-Tuple, encoded_len-Text) (rw (length-replicate {A = ℕ} n 97) (omega arith))
+
+largest : send class 4 here [] (note 59978) (1 ∷ []) ≡ record { data' = record here { clock = 1; sent = record { message = note 59978; peer = 1; time = 1 } ∷ [] }; todo = []; actions = Sent 1 1 1 (value_of (note 59978)) ∷ []; fault = None }
+unfolding max_packet last_time
+largest = ap (λ len. send_if class 4 here [] (nat_le len max_packet) (note 59978) (1 ∷ [])) (note_len 59978)
+
+one_byte_more : send class 4 here [] (note 59979) (1 ∷ []) ≡ failed class 4 here [] Message
+unfolding max_packet
+one_byte_more = ap (λ len. send_if class 4 here [] (nat_le len max_packet) (note 59979) (1 ∷ [])) (note_len 59979)

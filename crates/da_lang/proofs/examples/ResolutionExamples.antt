@@ -9,10 +9,13 @@ use Rattle.da_lang.specs.declared.program.ItemKind.{ItemKind}
 use Rattle.da_lang.specs.declared.program.ItemKind.TheVariants as it
 use Rattle.da_lang.specs.declared.program.RExpr.TheVariants as re
 use Rattle.da_lang.specs.declared.program.Program.{Program}
+use Rattle.da_lang.specs.declared.program.SetupCall.{SetupCall}
 use Rattle.da_lang.specs.declared.query.Cond.{Cond}
 use Rattle.da_lang.specs.declared.query.Cond.TheVariants as co
 use Rattle.da_lang.specs.declared.query.Operand.TheVariants as od
+use Rattle.da_lang.specs.declared.query.Pattern.{Pattern}
 use Rattle.da_lang.specs.declared.query.Pattern.TheVariants as pa
+use Rattle.da_lang.specs.declared.query.Query.{Query}
 use Rattle.da_lang.specs.declared.query.Query.TheVariants as qu
 use Rattle.da_lang.specs.declared.query.RGen.{RGen}
 use Rattle.da_lang.specs.declared.query.Source.TheVariants as so
@@ -21,29 +24,27 @@ use Rattle.da_lang.specs.declared.tree.ArithOp.TheVariants as op
 use Rattle.da_lang.specs.declared.tree.ChainTree.{roll-ChainTree}
 use Rattle.da_lang.specs.declared.tree.ClassTree.{ClassTree}
 use Rattle.da_lang.specs.declared.tree.CmpOp.TheVariants as cmp
+use Rattle.da_lang.specs.declared.tree.Expr.{Expr}
 use Rattle.da_lang.specs.declared.tree.Expr.TheVariants as ex
 use Rattle.da_lang.specs.declared.tree.Expr.TheVariants.{outs-Quant, outs-Name, outs-Int, outs-Truth}
 use Rattle.da_lang.specs.declared.tree.GenTree.{roll-GenTree}
 use Rattle.da_lang.specs.declared.tree.MainLine.TheVariants as main_line
+use Rattle.da_lang.specs.declared.tree.Member.{Member}
 use Rattle.da_lang.specs.declared.tree.Member.TheVariants as member
 use Rattle.da_lang.specs.declared.tree.PatternTree.TheVariants as pattern
+use Rattle.da_lang.specs.declared.tree.PeerTree.{PeerTree}
+use Rattle.da_lang.specs.declared.tree.PeerTree.TheVariants as peer
 use Rattle.da_lang.specs.declared.tree.SourceTree.TheVariants as source
 use Rattle.da_lang.specs.declared.tree.Stmt.TheVariants as stmt
 use Rattle.da_lang.specs.declared.tree.Tree.{Tree}
 use Rattle.da_lang.specs.declared.ty.ChannelKind.TheVariants as kind
 use Rattle.da_lang.specs.declared.ty.Ty.{Ty}
 use Rattle.da_lang.specs.declared.ty.Ty.TheVariants as ty
-use Rattle.da_lang.specs.BodyMeaning.{copies, body_of, body_with, block, states, calling, changing, with_expr, with_exprs, copy_of, as_alt, as_branch, bound, await_one}
-use Rattle.da_lang.specs.ExprMeaning.{all_outside}
-use Rattle.da_lang.specs.ExprNames.{found_names}
-use Rattle.da_lang.specs.Resolution.{resolved, resolved_args, procs_of, setup_call, message_matching, sender_matching, from_matching, handler_binds, resolved_class, setup_items, run_items, handlers, handler}
+use Rattle.da_lang.specs.BodyMeaning.{copies}
+use Rattle.da_lang.specs.ExprMeaning.{InSlot, meant}
+use Rattle.da_lang.specs.Resolution.{resolved, resolved_class}
 use Rattle.da_lang.specs.NameRules.{name_refusals}
-use Rattle.da_lang.proofs.MeantAt.{meaning}
-use Rattle.da_lang.proofs.NameExamples.{finding}
-use Rattle.da_lang.proofs.NamesAt.{naming}
-use Rattle.da_lang.proofs.StatingAt.{stating_at, stating_in, guarding-of}
-
-pub ruleset resolving = (meaning, naming, resolved_args, procs_of, setup_call, message_matching, sender_matching, from_matching, handler_binds, stating_at, stating_in, guarding-of, body_of, body_with, block, states, calling, changing, with_expr, with_exprs, copy_of, as_alt, as_branch, bound, await_one, setup_items, run_items, handlers, handler, all_outside, outs-Quant, outs-Name, outs-Int, outs-Truth, found_names)
+use Rattle.da_lang.proofs.Computing.{finding, resolving}
 
 -- a call inlined twice, each with a slot of its own: `f(1)` and `f(2)` where `f(k)` is `x = k`
 twice : ClassTree
@@ -145,3 +146,55 @@ ping_resolved = simp resolving refl
 ping_named : name_refusals ping_tree ≡ []
 unfolding name_refusals
 ping_named = simp finding refl
+
+-- PROCESSES: `a = new(C)`, `ps = new(C, 2)`, `n = new(C, 0)`, `b = new(C)`, and `setup(ps, a, ps - {self}, n)` for a class
+-- with three parameters. a is process 1, ps are 2 and 3, n is nobody, and b is 4; only ps are set up.
+
+abbrev three_params : Member
+three_params = member.Setup (record { name = codes "x"; ty = ty.Proc } ∷ record { name = codes "y"; ty = ty.Set ty.Proc } ∷ record { name = codes "z"; ty = ty.Set ty.Proc } ∷ []) (stmt.Pass 3 ∷ []) 2
+
+abbrev ps : Expr
+ps = ex.Name (codes "ps")
+
+abbrev many_processes : Tree
+many_processes = record {
+  kind = kind.UnorderedUnreliable;
+  messages = [];
+  classes = record { name = codes "C"; members = three_params ∷ member.Run (stmt.Pass 5 ∷ []) 4 ∷ []; line = 1 } ∷ [];
+  main = main_line.New (codes "a") (codes "C") None 7 ∷ main_line.New (codes "ps") (codes "C") (Some 2) 8 ∷ main_line.New (codes "n") (codes "C") (Some 0) 9 ∷ main_line.New (codes "b") (codes "C") None 10
+    ∷ main_line.Setup (codes "ps") (ex.Name (codes "a") ∷ ex.Chain ps (roll-ChainTree (record { op = op.Minus; operand = ex.SetOf (ex.Me ∷ []) }) ∷ []) ∷ ex.Name (codes "n") ∷ []) 11 ∷ [];
+}
+
+abbrev set_up : Option SetupCall
+set_up = Some (record {
+    args = re.Const (kept.Proc 1) ∷ re.Chain (re.Procs (2 ∷ 3 ∷ [])) (roll-ChainPart (record { op = op.Minus; operand = re.SetOf (re.Me ∷ []) }) ∷ []) ∷ re.Procs [] ∷ [];
+    line = 11;
+  })
+
+four_processes : (resolved many_processes).procs ≡ record { class = 0; setup = None } ∷ record { class = 0; setup = set_up } ∷ record { class = 0; setup = set_up } ∷ record { class = 0; setup = None } ∷ []
+unfolding resolved
+four_processes = simp resolving refl
+
+-- WHAT BREAKS A RULE OF TYPES is kept as what equals no value; s is in slot 1
+
+abbrev asked : Expr → List Query
+asked x = ((meant x).outside ((codes "s", InSlot 1) ∷ []) (record { slots = []; queries = [] })).1.queries
+
+-- `some x in s | x * 2 > 3`
+product_in_query : asked (ex.Quant false (roll-GenTree (record { message = pattern.Name (codes "x"); peer = None; source = source.Name (codes "s") }) ∷ [])
+    (Some (ex.Cmp cmp.Gt (ex.Chain (ex.Name (codes "x")) (roll-ChainTree (record { op = op.Times; operand = ex.Int (pos 2) }) ∷ [])) (ex.Int (pos 3)))))
+    ≡ qu.Quant false (record { source = so.Slot 1; message = pa.Bind; peer = pa.Any } ∷ []) (Some (co.Cmp cmp.Gt (od.Term te.Foreign) (od.Term (te.Const (kept.Int (pos 3)))))) ∷ []
+product_in_query = simp (asked, resolving) refl
+
+-- `some ('m', k) from w in sent`, and the same with `to`
+abbrev over_sent : PeerTree → Expr
+over_sent p = ex.Quant false (roll-GenTree (record { message = pattern.Tuple (pattern.Text (codes "m") ∷ pattern.Name (codes "k") ∷ []); peer = Some p; source = source.Sent }) ∷ []) None
+
+abbrev sent_with : Pattern → List Query
+sent_with p = qu.Quant false (record { source = so.Sent; message = pa.Tuple (pa.Const (kept.Text (codes "m")) ∷ pa.Bind ∷ []); peer = p } ∷ []) None ∷ []
+
+from_over_sent : asked (over_sent (peer.From (pattern.Name (codes "w")))) ≡ sent_with (pa.Tuple (pa.Equal te.Foreign ∷ pa.Bind ∷ []))
+from_over_sent = simp (asked, over_sent, resolving) refl
+
+to_over_sent : asked (over_sent (peer.To (pattern.Name (codes "w")))) ≡ sent_with pa.Bind
+to_over_sent = simp (asked, over_sent, resolving) refl

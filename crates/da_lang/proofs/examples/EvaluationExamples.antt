@@ -1,6 +1,9 @@
 -- Each form of expression, and each fault, in process 3 at the time 5. Its slots are 7, {1, 2}, {2, 4}, true, and the
 -- set of 1 and the greatest integer.
-use Rattle.std.specs.Prelude.{◌≡◌, ℕ, ℤ, pos, negsuc, Bool, true, false, List, [], ◌∷◌, Some, None, Ok, Err, codes}
+use Rattle.std.specs.Prelude.{◌≡◌, refl, ℕ, ◌<◌, ◌≤◌, ℤ, pos, negsuc, Bool, true, false, List, [], ◌∷◌, Some, None, Ok, Err, codes}
+use Rattle.std.specs.Int.{int_gap}
+use Rattle.std.proofs.Common.{ap, arith}
+use Rattle.std.proofs.lemmas.Bool.{le-leb, lt-leb}
 use Rattle.da_values.specs.declared.val.Val.{Val}
 use Rattle.da_values.specs.declared.val.Val.TheVariants as val
 use Rattle.da_values.specs.declared.value.Value.TheVariants as literal
@@ -19,7 +22,7 @@ use Rattle.da_lang.specs.declared.query.Term.TheVariants as term
 use Rattle.da_lang.specs.declared.tree.ArithOp.{ArithOp}
 use Rattle.da_lang.specs.declared.tree.ArithOp.TheVariants.{Plus, Minus, Times, Div, Mod}
 use Rattle.da_lang.specs.declared.tree.CmpOp.TheVariants.{Eq, Ne, Lt, Le, Gt, Ge}
-use Rattle.da_lang.specs.Arithmetic.{Outcome, max_range}
+use Rattle.da_lang.specs.Arithmetic.{Outcome, max_range, numbers_from, range as ranges, range_if}
 use Rattle.da_lang.specs.Evaluation.{eval}
 use Rattle.da_lang.specs.EvaluationLaws.{evaluating}
 use Rattle.da_lang.specs.World.{Data}
@@ -181,6 +184,21 @@ backward_range = simp (evaluating, asking)
 long_range : gives (ex.Range (int (pos 0)) (int (pos 100001))) ≡ Err Range
 unfolding max_range
 long_range = simp (evaluating, asking)
+
+-- by how many numbers lie between: 100000 are the most
+gives_range : (a b : ℤ) (n : ℕ) → int_gap a b ≡ n → n ≤ max_range → ranges a b ≡ Ok (val.Set (numbers_from a n))
+gives_range a b n gap few = rw gap (ap (λ fits. range_if fits a n) (le-leb n max_range few))
+
+gives_no_range : (a b : ℤ) (n : ℕ) → int_gap a b ≡ n → max_range < n → ranges a b ≡ Err Range
+gives_no_range a b n gap many = rw gap (ap (λ fits. range_if fits a n) (lt-leb n max_range many))
+
+longest_range : ranges (pos 5) (pos 100005) ≡ Ok (val.Set (numbers_from (pos 5) 100000))
+unfolding max_range
+longest_range = gives_range (pos 5) (pos 100005) 100000 refl (omega arith)
+
+one_number_more : ranges (pos 5) (pos 100006) ≡ Err Range
+unfolding max_range
+one_number_more = gives_no_range (pos 5) (pos 100006) 100001 refl (omega arith)
 
 -- TRUTH
 

@@ -1,6 +1,6 @@
--- The types of PING, and programs that break a rule of types.
-use Rattle.std.specs.Prelude.{◌≡◌, refl, ℕ, pos, true, false, List, [], ◌∷◌, codes, Some, None}
-use Rattle.std.proofs.Common.{ap}
+-- The types of PING; statements and conditions that break a rule of types, and others that do not.
+use Rattle.std.specs.Prelude.{◌≡◌, refl, ℕ, zero, suc, pos, true, false, List, [], ◌∷◌, codes, Some, None}
+use Rattle.std.proofs.Common.{◌∙◌, ap}
 use Rattle.da_values.specs.declared.value.Value.TheVariants as kept
 use Rattle.da_lang.specs.declared.program.ItemKind.{ItemKind}
 use Rattle.da_lang.specs.declared.program.ItemKind.TheVariants as it
@@ -12,30 +12,34 @@ use Rattle.da_lang.specs.declared.program.RExpr.{RExpr, out-RExpr}
 use Rattle.da_lang.specs.declared.query.Agg.{roll-Agg}
 use Rattle.da_lang.specs.declared.query.AggOp.TheVariants as agg
 use Rattle.da_lang.specs.declared.query.Cond.TheVariants as co
+use Rattle.da_lang.specs.declared.query.Operand.{Operand}
 use Rattle.da_lang.specs.declared.query.Operand.TheVariants as od
 use Rattle.da_lang.specs.declared.query.Pattern.TheVariants as pa
 use Rattle.da_lang.specs.declared.query.SignedOperand.{roll-SignedOperand}
 use Rattle.da_lang.specs.declared.query.Source.TheVariants as so
+use Rattle.da_lang.specs.declared.query.Term.{Term}
 use Rattle.da_lang.specs.declared.query.Term.TheVariants as te
 use Rattle.da_lang.specs.declared.tree.ArithOp.{ArithOp}
 use Rattle.da_lang.specs.declared.tree.ArithOp.TheVariants as op
 use Rattle.da_lang.specs.declared.tree.CmpOp.TheVariants as cmp
+use Rattle.da_lang.specs.declared.tree.MessageDecl.{MessageDecl}
+use Rattle.da_lang.specs.declared.ty.Ty.{Ty}
 use Rattle.da_lang.specs.declared.ty.Ty.TheVariants as ty
 use Rattle.da_lang.specs.declared.ty.Ty.TheVariants.{outs-Int, outs-Bool, outs-Text, outs-Proc, outs-Tuple, outs-Set}
-use Rattle.da_lang.specs.Types.{most_levels, is_flat, is_set, parts_of, element_of}
+use Rattle.da_lang.specs.Types.{levels, most_levels, is_flat, is_int, is_bool, is_text, is_proc, is_set, parts_of, element_of}
 use Rattle.da_lang.specs.QueryTypes.{Known, flat, cond_holds}
-use Rattle.da_lang.specs.Typing.{Slots, tag_in, tag_first, item_breaks, type_breaks, filled, class_slots}
+use Rattle.da_lang.specs.Typing.{Slots, message_tag, text_part, item_breaks, breaks_in, type_breaks, filled, filled_slots}
 use Rattle.da_lang.proofs.ExprTypesAt.{typing_exprs}
 use Rattle.da_lang.proofs.QueryTypesAt.{typing_terms, typing_patterns, typing_conds}
-use Rattle.da_lang.proofs.ResolutionExamples.{at, ping, ping_tree, ping_class}
-use Rattle.da_lang.proofs.TypesAt.{same_types, ordering, levelling}
+use Rattle.da_lang.proofs.examples.ResolutionExamples.{at, ping, ping_tree, ping_class}
+use Rattle.da_lang.proofs.TypesAt.{same_types, ordering, levelling, levels-Set}
 use Rattle.da_lang.proofs.TypingAt.{flowing, breaking}
 
 -- the tag of a written message, and of an expression that is none
-pub written_tag : (tag : List ℕ) (xs : List RExpr) → tag_in (out-RExpr (re.Tuple (re.Const (kept.Text tag) ∷ xs))) ≡ Some tag
-written_tag tag xs = rw (re_outs-Tuple (re.Const (kept.Text tag) ∷ xs)) (ap tag_first (re_outs-Const (kept.Text tag)))
+pub written_tag : (tag : List ℕ) (xs : List RExpr) → message_tag (out-RExpr (re.Tuple (re.Const (kept.Text tag) ∷ xs))) ≡ Some tag
+written_tag tag xs = rw (re_outs-Tuple (re.Const (kept.Text tag) ∷ xs)) (ap text_part (re_outs-Const (kept.Text tag)))
 
-pub unwritten_tag : (slot : ℕ) → tag_in (out-RExpr (re.Slot slot)) ≡ None
+pub unwritten_tag : (slot : ℕ) → message_tag (out-RExpr (re.Slot slot)) ≡ None
 unwritten_tag slot = rw (re_outs-Slot slot) refl
 
 -- types of at most 32 levels
@@ -67,26 +71,47 @@ pub flat_message : flat (ty.Tuple (ty.Text ∷ ty.Int ∷ [])) ≡ Some (ty.Tupl
 unfolding most_levels
 flat_message = simp (flat, is_flat, levelling) refl
 
-pub ruleset levels_at = (flat_int, flat_bool, flat_text, flat_proc, flat_set, flat_set_of_sets, flat_message)
+pub flat_all : flat (ty.Tuple (ty.Text ∷ ty.Set ty.Int ∷ [])) ≡ Some (ty.Tuple (ty.Text ∷ ty.Set ty.Int ∷ []))
+unfolding most_levels
+flat_all = simp (flat, is_flat, levelling) refl
 
-pub ruleset judging = (typing_exprs, typing_terms, typing_patterns, typing_conds, same_types, ordering, levels_at, flowing, breaking, outs-Int, outs-Bool, outs-Text, outs-Proc, outs-Tuple, outs-Set, pa_outs-Tuple, pa_outs-Const, pa_outs-Bind, pa_outs-Any, is_set, parts_of, element_of, is_flat, levelling, written_tag, unwritten_tag)
+pub ruleset levels_at = (flat_all, flat_int, flat_bool, flat_text, flat_proc, flat_set, flat_set_of_sets, flat_message)
 
-ping_slots : class_slots ping_tree.messages (ping_class (None ∷ None ∷ None ∷ [])) ≡ Some ty.Proc ∷ Some ty.Proc ∷ Some ty.Int ∷ Some ty.Int ∷ Some ty.Proc ∷ []
-unfolding class_slots most_levels
+pub ruleset judging = (typing_exprs, typing_terms, typing_patterns, typing_conds, same_types, ordering, levels_at, flowing, breaking, outs-Int, outs-Bool, outs-Text, outs-Proc, outs-Tuple, outs-Set, pa_outs-Tuple, pa_outs-Const, pa_outs-Bind, pa_outs-Any, is_int, is_bool, is_text, is_proc, is_set, parts_of, element_of, is_flat, levelling, written_tag, unwritten_tag)
+
+ping_slots : filled_slots ping_tree.messages (ping_class (None ∷ None ∷ None ∷ [])) ≡ Some ty.Proc ∷ Some ty.Proc ∷ Some ty.Int ∷ Some ty.Int ∷ Some ty.Proc ∷ []
+unfolding filled_slots most_levels
 ping_slots = simp judging refl
 
-ping_typed : type_breaks (ping (None ∷ None ∷ None ∷ [])) ≡ []
-unfolding type_breaks most_levels
-ping_typed = simp (judging, ping_slots) refl
-
-ping_filled : filled (ping (None ∷ None ∷ None ∷ [])) ≡ ping (Some ty.Int ∷ Some ty.Int ∷ Some ty.Proc ∷ [])
+pub ping_filled : filled (ping (None ∷ None ∷ None ∷ [])) ≡ ping (Some ty.Int ∷ Some ty.Int ∷ Some ty.Proc ∷ [])
 unfolding filled
 ping_filled = simp ping_slots refl
 
--- Statements on line 6 where slot 1 is an `int`, slot 2 a `set[int]`, slot 3 a `str` and slot 4 a `set[set[int]]`, and
--- `ping(int)` is declared; the lines that break a rule.
+pub filled_ping_keeps : breaks_in (ping (Some ty.Int ∷ Some ty.Int ∷ Some ty.Proc ∷ [])) ≡ []
+unfolding breaks_in most_levels
+filled_ping_keeps = simp judging refl
+
+ping_typed : type_breaks (ping (None ∷ None ∷ None ∷ [])) ≡ []
+unfolding type_breaks
+ping_typed = simp ping_filled filled_ping_keeps
+
+-- a type of so many levels
+nested : ℕ → Ty
+nested zero = ty.Int
+nested (suc most) = ty.Set (nested most)
+
+levels_nested : (most : ℕ) → levels (nested most) ≡ most
+unfolding nested
+levels_nested zero = simp levelling refl
+levels_nested (suc most) = levels-Set (nested most) ∙ ap suc (levels_nested most)
+
+abbrev pair : Ty
+pair = ty.Tuple (ty.Int ∷ ty.Set ty.Int ∷ [])
+
+-- Statements on line 6 where slot 1 is an `int`, slot 2 a `set[int]`, slot 3 a `str`, slot 4 a `set[set[int]]`, slot 5 an
+-- `(int, set[int])` and slot 6 of a type of 32 levels, and `ping(int)` is declared; the lines that break a rule.
 abbrev slots : Slots
-slots = Some ty.Int ∷ Some (ty.Set ty.Int) ∷ Some ty.Text ∷ Some (ty.Set (ty.Set ty.Int)) ∷ []
+slots = Some ty.Int ∷ Some (ty.Set ty.Int) ∷ Some ty.Text ∷ Some (ty.Set (ty.Set ty.Int)) ∷ Some pair ∷ Some (nested 32) ∷ []
 
 abbrev breaking_lines : ItemKind → List ℕ
 breaking_lines kind = item_breaks ping_tree.messages [] slots (at 6 kind)
@@ -129,6 +154,40 @@ deleted_empty = simp judging refl
 printed_empty : breaking_lines (it.Output (re.SetOf [])) ≡ 6 ∷ []
 unfolding most_levels
 printed_empty = simp judging refl
+
+-- `z = {{1}, {}}`
+assigned_nested : breaking_lines (it.Assign 4 (re.SetOf (re.SetOf (one ∷ []) ∷ re.SetOf [] ∷ []))) ≡ []
+unfolding most_levels
+assigned_nested = simp judging refl
+
+-- `output({{1}, {}})`
+printed_nested : breaking_lines (it.Output (re.SetOf (re.SetOf (one ∷ []) ∷ re.SetOf [] ∷ []))) ≡ 6 ∷ []
+unfolding most_levels
+printed_nested = simp judging refl
+
+-- `output(w == (1, {}))`
+compared_pair : breaking_lines (it.Output (re.Cmp cmp.Eq (re.Slot 5) (re.Tuple (one ∷ re.SetOf [] ∷ [])))) ≡ []
+unfolding most_levels
+compared_pair = simp judging refl
+
+-- `output({} == s)`
+empty_on_the_left : breaking_lines (it.Output (re.Cmp cmp.Eq (re.SetOf []) (re.Slot 2))) ≡ 6 ∷ []
+unfolding most_levels
+empty_on_the_left = simp judging refl
+
+-- `output(s + {})`
+added_to_empty : breaking_lines (it.Output (with_op op.Plus (re.Slot 2) (re.SetOf []))) ≡ 6 ∷ []
+unfolding most_levels
+added_to_empty = simp judging refl
+
+-- `output(d)`, of 32 levels, and `output({d})`, of 33
+printed_deep : breaking_lines (it.Output (re.Slot 6)) ≡ []
+unfolding most_levels
+printed_deep = simp (judging, levels_nested) refl
+
+printed_deeper : breaking_lines (it.Output (re.SetOf (re.Slot 6 ∷ []))) ≡ 6 ∷ []
+unfolding most_levels
+printed_deeper = simp (judging, levels_nested) refl
 
 -- `output(s == {})`
 compared_empty : breaking_lines (it.Output (re.Cmp cmp.Eq (re.Slot 2) (re.SetOf []))) ≡ []
@@ -200,6 +259,19 @@ sent_to_number : breaking_lines (it.Send (re.Tuple (re.Const (kept.Text (codes "
 unfolding most_levels
 sent_to_number = simp judging refl
 
+-- `send ('all', {}) to self`, where `all(set[int])` is declared
+abbrev with_set : List MessageDecl
+with_set = record { tag = codes "all"; parts = ty.Set ty.Int ∷ []; line = 1 } ∷ []
+
+sent_empty : item_breaks with_set [] slots (at 6 (it.Send (re.Tuple (re.Const (kept.Text (codes "all")) ∷ re.SetOf [] ∷ [])) re.Me)) ≡ []
+unfolding most_levels
+sent_empty = simp judging refl
+
+-- `output(9223372036854775808)`, which no text has
+printed_wide : breaking_lines (it.Output (re.Const (kept.Int (pos 9223372036854775808)))) ≡ 6 ∷ []
+unfolding most_levels
+printed_wide = simp judging refl
+
 -- `send x to self`
 sent_unwritten : breaking_lines (it.Send (re.Slot 1) re.Me) ≡ 6 ∷ []
 unfolding most_levels
@@ -219,6 +291,11 @@ set_as_term : cond_holds slots_known (co.Cmp cmp.Eq (od.Term (te.Slot 2)) (od.Te
 unfolding most_levels
 set_as_term = simp judging refl
 
+-- `w == w`, a tuple with a set inside
+pair_as_term : cond_holds slots_known (co.Cmp cmp.Eq (od.Term (te.Slot 5)) (od.Term (te.Slot 5))) [] ≡ true
+unfolding most_levels
+pair_as_term = simp judging refl
+
 -- an expression of no form of queries
 foreign_condition : cond_holds slots_known (co.Truth te.Foreign) [] ≡ false
 unfolding most_levels
@@ -228,6 +305,18 @@ foreign_condition = simp judging refl
 sum_compared : cond_holds slots_known (co.Cmp cmp.Eq (od.Agg (roll-Agg (record { op = agg.Sum; gens = record { source = so.Slot 2; message = pa.Bind; peer = pa.Any } ∷ []; cond = None; term = te.Part 1; other = None }))) (od.Term (te.Slot 1))) [] ≡ true
 unfolding most_levels
 sum_compared = simp judging refl
+
+-- `min(s, x) == x`, and `min(s, x + 1) == x`, whose other value is no term
+abbrev least_or : Term → Operand
+least_or other = od.Agg (roll-Agg (record { op = agg.Min; gens = record { source = so.Slot 2; message = pa.Bind; peer = pa.Any } ∷ []; cond = None; term = te.Part 1; other = Some other }))
+
+least_compared : cond_holds slots_known (co.Cmp cmp.Eq (least_or (te.Slot 1)) (od.Term (te.Slot 1))) [] ≡ true
+unfolding most_levels
+least_compared = simp judging refl
+
+least_or_no_term : cond_holds slots_known (co.Cmp cmp.Eq (least_or te.Foreign) (od.Term (te.Slot 1))) [] ≡ false
+unfolding most_levels
+least_or_no_term = simp judging refl
 
 -- `count(s) + x == x`
 count_in_chain : cond_holds slots_known (co.Cmp cmp.Eq (od.Chain (od.Agg (roll-Agg (record { op = agg.Count; gens = record { source = so.Slot 2; message = pa.Bind; peer = pa.Any } ∷ []; cond = None; term = te.Part 1; other = None }))) (roll-SignedOperand (record { minus = false; operand = od.Term (te.Slot 1) }) ∷ [])) (od.Term (te.Slot 1))) [] ≡ true
@@ -254,3 +343,16 @@ misplaced_peer : cond_holds slots_known (co.Quant false (record { source = so.Re
 unfolding most_levels
 misplaced_peer = simp judging refl
 
+-- `some ('ping', k) from q in sent`
+misplaced_sender : cond_holds slots_known (co.Quant false (record { source = so.Sent; message = pa.Tuple (pa.Const (kept.Text (codes "ping")) ∷ pa.Bind ∷ []); peer = pa.Tuple (pa.Equal te.Foreign ∷ pa.Bind ∷ []) } ∷ []) None) [] ≡ false
+unfolding most_levels
+misplaced_sender = simp judging refl
+
+-- `some k in s`, and `some k from q in s`
+element_matched : cond_holds slots_known (co.Quant false (record { source = so.Slot 2; message = pa.Bind; peer = pa.Any } ∷ []) None) [] ≡ true
+unfolding most_levels
+element_matched = simp judging refl
+
+element_with_sender : cond_holds slots_known (co.Quant false (record { source = so.Slot 2; message = pa.Bind; peer = pa.Tuple (pa.Equal te.Foreign ∷ pa.Bind ∷ []) } ∷ []) None) [] ≡ false
+unfolding most_levels
+element_with_sender = simp judging refl

@@ -11,9 +11,10 @@ use Rattle.da_lang.specs.BodyMeaning.{copies}
 use Rattle.da_lang.specs.Calls.{leads_within}
 use Rattle.da_lang.specs.Limits.{limit_fault, limit_refusals, most_classes, most_processes, most_items, most_blocks, most_variables, most_parts, most_generators}
 use Rattle.da_lang.specs.Resolution.{resolved_class}
+use Rattle.da_lang.proofs.Computing.{finding, resolving}
 use Rattle.da_lang.proofs.CountsAt.{counting, measuring_depth}
-use Rattle.da_lang.proofs.NameExamples.{finding, tree_of, run}
-use Rattle.da_lang.proofs.ResolutionExamples.{resolving, ping_tree, ping_class_resolved}
+use Rattle.da_lang.proofs.examples.NameExamples.{tree_of, run}
+use Rattle.da_lang.proofs.examples.ResolutionExamples.{ping_tree, ping_class_resolved}
 use Rattle.da_lang.proofs.TypesAt.{widening}
 
 -- a class whose `run` does nothing

@@ -1,5 +1,5 @@
 -- Messages that arrive at process 2, which waits: handlers that match, that do not, and that fail.
-use Rattle.std.specs.Prelude.{◌≡◌, ℕ, pos, List, [], ◌∷◌, Option, Some, None, codes}
+use Rattle.std.specs.Prelude.{◌≡◌, refl, ℕ, pos, List, [], ◌∷◌, Option, Some, None, codes}
 use Rattle.std.proofs.Common.{◌∙◌, ap, arith}
 use Rattle.da_values.specs.declared.val.Val.{Val}
 use Rattle.da_values.specs.declared.val.Val.TheVariants as val
@@ -14,7 +14,6 @@ use Rattle.da_lang.specs.declared.program.Handler.{Handler}
 use Rattle.da_lang.specs.declared.program.Item.{Item, roll-Item}
 use Rattle.da_lang.specs.declared.program.ItemKind.{ItemKind}
 use Rattle.da_lang.specs.declared.program.ItemKind.TheVariants as it
-use Rattle.da_lang.specs.declared.program.Phase.TheVariants.{Waiting, Faulted}
 use Rattle.da_lang.specs.declared.program.Program.{Program}
 use Rattle.da_lang.specs.declared.program.RExpr.TheVariants as ex
 use Rattle.da_lang.specs.declared.query.Pattern.TheVariants.{Any, Bind, Const, Equal, Tuple}
@@ -26,9 +25,8 @@ use Rattle.da_lang.specs.RunLaws.{run_fails, run_goes, run_to_yield_end}
 use Rattle.da_lang.specs.Runs.{Ran, Faults, UsedUp, behind, max_turns, run_to_yield, stopped}
 use Rattle.da_lang.specs.Steps.{Deliver, Stepped, handle, handled, proc_step}
 use Rattle.da_lang.specs.Turns.{last_time, max_packet}
-use Rattle.da_lang.specs.World.{Entry, Data, Task, Do, put_slot}
-use Rattle.da_lang.proofs.RunExamples.{early}
-use Rattle.da_lang.proofs.TurnExamples.{turning}
+use Rattle.da_lang.specs.World.{Entry, Data, Task, Do, put_slot, Waiting, Faulted}
+use Rattle.da_lang.proofs.Computing.{early, turning}
 
 abbrev num : ℕ → Val
 num n = val.Int (pos n)
@@ -144,3 +142,35 @@ fails = step_is greatest go _ (handle_runs class go 1 at_go (at_x ∷ []) 0 (cam
 -- a handler that can no longer be tried
 no_turn_left : (d : Data) → handle class go 1 (at_x ∷ []) max_turns d ≡ stopped d [] max_turns (Faults TooLong 16)
 no_turn_left d = handle_late class go 1 at_x [] max_turns d (omega arith)
+
+-- THE CLOCK rises above its own and the carried time, and stays at the greatest; here no handler is there
+abbrev class_deaf : Class
+class_deaf = record class { handlers = [] }
+
+abbrev program_deaf : Program
+program_deaf = record program { classes = class_deaf ∷ [] }
+
+abbrev with_clock : ℕ → Data
+with_clock time = record (before 0) { clock = time }
+
+abbrev gets : ℕ → ℕ → Option Stepped
+gets own carried = proc_step program_deaf (record { data' = with_clock own; todo = todo; phase = Waiting }) (Deliver go 1 carried)
+
+abbrev got : ℕ → ℕ → Option Stepped
+got carried own = Some (record { world = record { data' = record (with_clock own) { received = entry go carried ∷ [] }; todo = todo; phase = Waiting }; actions = Got 2 1 carried (value_of go) ∷ [] })
+
+own_above_carried : gets 5 3 ≡ got 3 6
+unfolding last_time
+own_above_carried = refl
+
+carried_above_own : gets 3 5 ≡ got 5 6
+unfolding last_time
+carried_above_own = refl
+
+own_at_greatest : gets last_time 3 ≡ got 3 last_time
+unfolding last_time
+own_at_greatest = refl
+
+carried_at_greatest : gets 3 last_time ≡ got last_time last_time
+unfolding last_time
+carried_at_greatest = refl

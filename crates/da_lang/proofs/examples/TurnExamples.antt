@@ -1,12 +1,12 @@
 -- Each row of the table of statements, on line 9 of process 3 at the time 5. Its slots are 7, {1, 2}, the processes 1 and
 -- 2, true, and 0.
-use Rattle.std.specs.Prelude.{◌≡◌, refl, ℕ, pos, Bool, true, false, List, [], ◌∷◌, Some, None}
+use Rattle.std.specs.Prelude.{◌≡◌, refl, ℕ, pos, nat_le, Bool, true, false, List, [], ◌∷◌, Some, None}
 use Rattle.da_values.specs.declared.val.Val.{Val}
 use Rattle.da_values.specs.declared.val.Val.TheVariants as val
 use Rattle.da_values.specs.declared.value.Value.TheVariants as literal
 use Rattle.da_lang.specs.declared.event.Action.TheVariants.{Sent, Out}
 use Rattle.da_lang.specs.declared.event.FaultKind.{FaultKind}
-use Rattle.da_lang.specs.declared.event.FaultKind.TheVariants.{Overflow, Divide}
+use Rattle.da_lang.specs.declared.event.FaultKind.TheVariants.{Overflow, Divide, Message}
 use Rattle.da_lang.specs.declared.program.Alt.{Alt}
 use Rattle.da_lang.specs.declared.program.ChainPart.{roll-ChainPart}
 use Rattle.da_lang.specs.declared.program.Class.{Class}
@@ -14,7 +14,6 @@ use Rattle.da_lang.specs.declared.program.Item.{Item, roll-Item}
 use Rattle.da_lang.specs.declared.program.ItemKind.{ItemKind}
 use Rattle.da_lang.specs.declared.program.ItemKind.TheVariants as it
 use Rattle.da_lang.specs.declared.program.ItemKind.TheVariants.{outs-Assign, outs-Add, outs-Del, outs-Send, outs-Output, outs-If, outs-While, outs-For, outs-Call, outs-Await, outs-Label, outs-Pass}
-use Rattle.da_lang.specs.declared.program.ItemKind.TheViews.{out-roll-Item, out-roll-RBranch}
 use Rattle.da_lang.specs.declared.program.RBranch.{RBranch, roll-RBranch}
 use Rattle.da_lang.specs.declared.program.RExpr.{RExpr}
 use Rattle.da_lang.specs.declared.program.RExpr.TheVariants as ex
@@ -23,14 +22,10 @@ use Rattle.da_lang.specs.declared.query.Query.{Query}
 use Rattle.da_lang.specs.declared.query.Query.TheVariants as query
 use Rattle.da_lang.specs.declared.query.Source.TheVariants as source
 use Rattle.da_lang.specs.declared.tree.ArithOp.TheVariants.{Plus, Div}
-use Rattle.da_lang.specs.EvaluationLaws.{evaluating}
 use Rattle.da_lang.specs.Runs.{yields}
-use Rattle.da_lang.specs.Turns.{After, last_time, max_packet, quiet, turn}
+use Rattle.da_lang.specs.Turns.{After, last_time, max_packet, packet_len, quiet, turn}
 use Rattle.da_lang.specs.World.{Entry, Data, Task, Do, Loop, Prepare, put_slot}
-use Rattle.da_lang.proofs.LengthLaws.{measuring, sum-numbers_from}
-use Rattle.da_lang.proofs.QueryLaws.{asking}
-
-pub ruleset turning = (evaluating, asking, measuring, out-roll-Item, out-roll-RBranch, outs-Assign, outs-Add, outs-Del, outs-Send, outs-Output, outs-If, outs-While, outs-For, outs-Call, outs-Await, outs-Label, outs-Pass)
+use Rattle.da_lang.proofs.Computing.{turning}
 
 abbrev num : ℕ → Val
 num n = val.Int (pos n)
@@ -115,6 +110,10 @@ module _ (todo : List Task) where
   sends_to_none : takes (it.Send (int 8) (ex.SetOf [])) ≡ quiet here todo
   unfolding max_packet
   sends_to_none = simp turning
+
+  -- a message that is too large is a fault, even if nobody is to get it
+  too_large_for_none : (m : Val) → nat_le (packet_len m) max_packet ≡ false → turn class (Do (on (it.Send (ex.Slot 1) (ex.SetOf [])))) (put_slot here 1 m) todo ≡ record (fails Message 9) { data' = put_slot here 1 m }
+  too_large_for_none m large = simp turning (rw large refl)
 
   -- the message is evaluated first, and the clock stays at its greatest value
   sending_fails : takes (it.Send zero_divisor too_large) ≡ fails Divide 9

@@ -13,7 +13,6 @@ use Rattle.da_lang.specs.declared.program.Handler.{Handler}
 use Rattle.da_lang.specs.declared.program.Item.{Item, roll-Item}
 use Rattle.da_lang.specs.declared.program.ItemKind.{ItemKind}
 use Rattle.da_lang.specs.declared.program.ItemKind.TheVariants as it
-use Rattle.da_lang.specs.declared.program.Phase.TheVariants.{New, Waiting, Ended}
 use Rattle.da_lang.specs.declared.program.Program.{Program}
 use Rattle.da_lang.specs.declared.program.RExpr.{RExpr}
 use Rattle.da_lang.specs.declared.program.RExpr.TheVariants as ex
@@ -34,9 +33,8 @@ use Rattle.da_lang.specs.RunLaws.{run_goes, run_to_yield_end, run_to_yield_yield
 use Rattle.da_lang.specs.Runs.{behind}
 use Rattle.da_lang.specs.Steps.{Go, Take, Deliver, handled, moved, proc_step}
 use Rattle.da_lang.specs.Turns.{last_time, max_packet}
-use Rattle.da_lang.specs.World.{Entry, Data, Task, Do, Prepare, put_slot}
-use Rattle.da_lang.proofs.RunExamples.{early}
-use Rattle.da_lang.proofs.StepExamples.{stepping}
+use Rattle.da_lang.specs.World.{Entry, Data, Task, Do, Prepare, put_slot, New, Waiting, Ended}
+use Rattle.da_lang.proofs.Computing.{early, stepping}
 
 abbrev num : ℕ → Val
 num n = val.Int (pos n)

@@ -4,16 +4,15 @@ use Rattle.std.proofs.Common.{◌∙◌, ap, arith}
 use Rattle.da_values.specs.declared.val.Val.{Val}
 use Rattle.da_values.specs.declared.val.Val.TheVariants as val
 use Rattle.da_values.specs.declared.value.Value.TheVariants as literal
-use Rattle.da_lang.specs.declared.event.Action.TheVariants.{Took, Out, End}
+use Rattle.da_lang.specs.declared.event.Action.TheVariants.{Took, Out, End, Fault}
+use Rattle.da_lang.specs.declared.event.FaultKind.TheVariants.{Divide}
 use Rattle.da_lang.specs.declared.program.Alt.{Alt, roll-Alt}
+use Rattle.da_lang.specs.declared.program.ChainPart.{roll-ChainPart}
 use Rattle.da_lang.specs.declared.program.Class.{Class}
 use Rattle.da_lang.specs.declared.program.Handler.{Handler}
 use Rattle.da_lang.specs.declared.program.Item.{Item, roll-Item}
 use Rattle.da_lang.specs.declared.program.ItemKind.{ItemKind}
 use Rattle.da_lang.specs.declared.program.ItemKind.TheVariants as it
-use Rattle.da_lang.specs.declared.program.ItemKind.TheViews.{out-roll-Alt}
-use Rattle.da_lang.specs.declared.program.Phase.{Phase}
-use Rattle.da_lang.specs.declared.program.Phase.TheVariants.{New, Waiting, Ended, Faulted}
 use Rattle.da_lang.specs.declared.program.Program.{Program}
 use Rattle.da_lang.specs.declared.program.RExpr.{RExpr}
 use Rattle.da_lang.specs.declared.program.RExpr.TheVariants as ex
@@ -24,15 +23,13 @@ use Rattle.da_lang.specs.declared.query.RGen.{RGen}
 use Rattle.da_lang.specs.declared.query.Query.TheVariants as query
 use Rattle.da_lang.specs.declared.query.Source.TheVariants as source
 use Rattle.da_lang.specs.declared.query.Term.TheVariants as term
+use Rattle.da_lang.specs.declared.tree.ArithOp.TheVariants.{Div}
 use Rattle.da_lang.specs.declared.ty.ChannelKind.TheVariants.{UnorderedUnreliable}
-use Rattle.da_lang.specs.RunLaws.{run_goes, run_to_yield_end, run_to_yield_yield}
+use Rattle.da_lang.specs.RunLaws.{run_fails, run_goes, run_to_yield_end, run_to_yield_yield}
 use Rattle.da_lang.specs.Runs.{behind}
 use Rattle.da_lang.specs.Steps.{Step, Go, Take, Deliver, Stepped, moved, proc_step}
-use Rattle.da_lang.specs.World.{Data, Task, Do, Prepare, World}
-use Rattle.da_lang.proofs.RunExamples.{early}
-use Rattle.da_lang.proofs.TurnExamples.{turning}
-
-pub ruleset stepping = (turning, out-roll-Alt)
+use Rattle.da_lang.specs.World.{Data, Task, Do, Prepare, World, Phase, New, Waiting, Ended, Faulted}
+use Rattle.da_lang.proofs.Computing.{early, stepping}
 
 abbrev num : ℕ → Val
 num n = val.Int (pos n)
@@ -46,12 +43,18 @@ int n = ex.Const (literal.Int (pos n))
 abbrev constant : Bool → Cond
 constant b = cond.Truth (term.Const (literal.Bool b))
 
-abbrev alt : Bool → Alt
-alt b = roll-Alt (record { cond = constant b; found = None; binds = []; body = on 5 (it.Output (int 7)) ∷ []; line = 4 })
+abbrev way : Bool → ℕ → Alt
+way b n = roll-Alt (record { cond = constant b; found = None; binds = []; body = on 5 (it.Output (int n)) ∷ []; line = 4 })
 
--- an `await` with a true and a false alternative
+abbrev alt : Bool → Alt
+alt b = way b 7
+
+-- an `await` with a true and a false alternative, and one with three
 abbrev two_ways : Item
 two_ways = on 4 (it.Await (alt true ∷ alt false ∷ []))
+
+abbrev three_ways : Item
+three_ways = on 4 (it.Await (way true 7 ∷ way false 8 ∷ way true 9 ∷ []))
 
 -- `('ping', k)` from `who`: both are bound, and k goes back to the sender
 abbrev answers : Handler
@@ -108,6 +111,13 @@ takes_no_false_one = simp stepping
 takes_no_third_one : steps (at Waiting (Do two_ways ∷ [])) (Take 3) ≡ None
 takes_no_third_one = simp stepping
 
+-- of three, the third one is taken although the first one is true too
+takes_third : steps (at Waiting (Do three_ways ∷ [])) (Take 3) ≡ Some (record { world = at Ended []; actions = Took 1 3 ∷ Out 1 (literal.Int (pos 9)) ∷ End 1 ∷ [] })
+takes_third = simp stepping (ap (λ ran. Some (moved 1 3 ran)) (run_goes class 1 here here (Do (on 5 (it.Output (int 9)))) [] [] (Out 1 (literal.Int (pos 9)) ∷ []) (early 1 (omega arith)) (simp stepping) (simp stepping) ∙ ap (behind (Out 1 (literal.Int (pos 9)) ∷ [])) (run_to_yield_end class 2 here)))
+
+takes_no_second_of_three : steps (at Waiting (Do three_ways ∷ [])) (Take 2) ≡ None
+takes_no_second_of_three = simp stepping
+
 takes_no_0 : steps (at Waiting (Do two_ways ∷ [])) (Take 0) ≡ None
 takes_no_0 = simp stepping
 
@@ -130,6 +140,20 @@ faulted_takes_none todo k = refl
 
 faulted_gets_none : (todo : List Task) (m : Val) (p time : ℕ) → steps (at Faulted todo) (Deliver m p time) ≡ None
 faulted_gets_none todo m p time = refl
+
+-- A FAULT OF THE FIRST TURN of a move: `output(1 // 0)` on line 3 is gone, and what stands behind it is kept
+
+abbrev divides : Item
+divides = on 3 (it.Output (ex.Chain (int 1) (roll-ChainPart (record { op = Div; operand = int 0 }) ∷ [])))
+
+abbrev class_divides : Class
+class_divides = record class { run = divides ∷ two_ways ∷ [] }
+
+abbrev program_divides : Program
+program_divides = record program { classes = class_divides ∷ [] }
+
+fails_at_once : proc_step program_divides (at New []) Go ≡ Some (record { world = at Faulted (Do two_ways ∷ []); actions = Took 1 0 ∷ Fault 1 Divide 3 ∷ [] })
+fails_at_once = ap (λ ran. Some (moved 1 0 ran)) (run_fails class_divides 0 here here (Do divides) (Do two_ways ∷ []) (Do two_ways ∷ []) [] Divide 3 (early 0 (omega arith)) (simp stepping) (simp stepping))
 
 -- A PROCESS THAT IS SET UP, and an `await` that binds: its line of `setup` gives 5 to slot 1; the `some` is over slot 2
 -- and binds slot 3
