@@ -8,28 +8,23 @@ use Rattle.da_lang.specs.declared.tree.Expr.TheOpen.{Expr-F}
 use Rattle.da_lang.specs.declared.tree.GenTree.{GenTree}
 use Rattle.da_lang.specs.declared.tree.PatternTree.{PatternTree}
 use Rattle.da_lang.specs.declared.tree.PeerTree.{PeerTree}
-use Rattle.da_lang.specs.ExprNames.{Role, Local, found_in, found_names, gen_part}
-use Rattle.da_lang.specs.Scopes.{Scope}
-use Rattle.da_scope.specs.Told.{entered_each, behind_all}
+use Rattle.da_lang.specs.ExprNames.{found_in, found_names, gen_part}
 
 found-Quant : (x : Expr) (each : Bool) (gens : List GenTree) (cond : Option Expr) → x ≡ ex.Quant each gens cond → found_names x ≡ found_in (Expr-F.Quant each gens cond)
 found-Quant x each gens cond is = ap found_names is ∙ ap found_in (ex.outs-Quant each gens cond)
 
 -- of a `some`
-pub found_some : (scope : Scope Role) (x : Expr) (gens : List GenTree) (cond : Option Expr) → x ≡ ex.Quant false gens cond → entered_each Local (found_names x) scope ≡ behind_all gen_part Local scope gens
-unfolding behind_all
-found_some scope x gens cond is = ap (λ ns. entered_each Local ns scope) (found-Quant x false gens cond is)
+pub found_some : (x : Expr) (gens : List GenTree) (cond : Option Expr) → x ≡ ex.Quant false gens cond → found_names x ≡ flat_map (λ g. (gen_part g).binds) gens
+found_some x gens cond is = found-Quant x false gens cond is
 
 -- of an `each`
-pub found_each : (scope : Scope Role) (x : Expr) (gens : List GenTree) (cond : Option Expr) → x ≡ ex.Quant true gens cond → entered_each Local (found_names x) scope ≡ scope
-found_each scope x gens cond is = ap (λ ns. entered_each Local ns scope) (found-Quant x true gens cond is)
+pub found_each : (x : Expr) (gens : List GenTree) (cond : Option Expr) → x ≡ ex.Quant true gens cond → found_names x ≡ []
+found_each x gens cond is = found-Quant x true gens cond is
 
 others : (x : Expr) (y : Expr-F Expr PatternTree PeerTree ChainTree GenTree) → x ≡ roll-Expr y → ((each : Bool) (gens : List GenTree) (cond : Option Expr) → x ≡ ex.Quant each gens cond → ⊥) → found_in y ≡ []
 others x (Expr-F.Quant each gens cond) is none = absurd (none each gens cond (is ∙ ex.rolls-Quant each gens cond))
 others x _ is none = refl
 
 -- of no quantification
-pub found_none : (scope : Scope Role) (x : Expr) → ((each : Bool) (gens : List GenTree) (cond : Option Expr) → x ≡ ex.Quant each gens cond → ⊥) → entered_each Local (found_names x) scope ≡ scope
-found_none scope x none = ap (λ ns. entered_each Local ns scope) (others x (out-Expr x) (sym (roll-out-Expr x)) none)
-
-pub ruleset found_rules = (found_some, found_each, found_none)
+pub found_none : (x : Expr) → ((each : Bool) (gens : List GenTree) (cond : Option Expr) → x ≡ ex.Quant each gens cond → ⊥) → found_names x ≡ []
+found_none x none = others x (out-Expr x) (sym (roll-out-Expr x)) none

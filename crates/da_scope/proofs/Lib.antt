@@ -1,4 +1,5 @@
 pub mod Found
+pub mod ListSteps
 pub mod PartLaws
 pub mod Ranges
 pub mod SameLook
@@ -8,3 +9,4 @@ pub mod TellingLaws
 pub mod ToldExprs
 pub mod ToldLines
 pub mod ToldParts
+pub mod VariablesAt

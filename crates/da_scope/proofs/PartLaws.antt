@@ -12,12 +12,12 @@ use Rattle.da_lang.specs.declared.tree.PeerTree.{PeerTree}
 use Rattle.da_lang.specs.declared.tree.ChainTree.{ChainTree}
 use Rattle.da_lang.specs.declared.tree.SourceTree.{SourceTree}
 use Rattle.da_lang.specs.declared.tree.SourceTree.TheVariants as source_tree
-use Rattle.da_lang.specs.ExprNames.{Role, QueryVariable, Part, in_order, together, inside, asked, named, comprehension, aggregate, variable, source_part, unless, is_slot, used, used_as_slot, taken, names_of, pattern_part, peer_part, chain_part, gen_part}
-use Rattle.da_lang.specs.Scopes.{Scope, look, entered}
+use Rattle.da_lang.specs.ExprNames.{Role, QueryVariable, Part, in_order, together, inside, asked, named, comprehension, aggregate, variable, source_part, unless, is_slot, used, used_as_slot, taken, brought, names_of, pattern_part, peer_part, chain_part, gen_part}
+use Rattle.da_lang.specs.Scopes.{Scope, look}
 use Rattle.da_lang.proofs.CondInduction.{Where}
 use Rattle.da_lang.proofs.NamesAt as at
 use Rattle.da_lang.proofs.TreeInduction.{Cases, expr_induction, pattern_induction, peer_induction, link_induction, gen_induction}
-use Rattle.da_scope.proofs.SameLook.{SameLook, same_here, same_entered}
+use Rattle.da_scope.proofs.SameLook.{SameLook, same_brought, brought-nil}
 
 pub record Steady (p : Part) : Type 0 where
   pub kinds : (role : Role) (s t : Scope Role) → SameLook s t → p.kinds role s ≡ p.kinds role t
@@ -50,16 +50,16 @@ all_weaker P Q f (x ∷ xs) h = (f x h.0, all_weaker P Q f xs h.1)
 pub in_order-same : (ps : List Part) → AllByRecursion Steady ps → (role : Role) (s t : Scope Role) → SameLook s t → in_order ps role s ≡ in_order ps role t
 in_order-same [] h role s t same = refl
 in_order-same (p ∷ ps) h role s t same =
-    ap (λ k. k ++ in_order ps role (entered role p.binds s)) (h.0.kinds role s t same)
-    ∙ ap (λ k. p.kinds role t ++ k) (in_order-same ps h.1 role (entered role p.binds s) (entered role p.binds t) (same_entered role p.binds s t same))
+    ap (λ k. k ++ in_order ps role (brought role p.binds s)) (h.0.kinds role s t same)
+    ∙ ap (λ k. p.kinds role t ++ k) (in_order-same ps h.1 role (brought role p.binds s) (brought role p.binds t) (same_brought role p.binds s t same))
 
-no_binds : (p : Part) → Plain p → (role : Role) (s : Scope Role) → entered role p.binds s ≡ s
-no_binds p h role s = ap (λ b. entered role b s) h.binds
+no_binds : (p : Part) → Plain p → (role : Role) (s : Scope Role) → brought role p.binds s ≡ s
+no_binds p h role s = ap (λ b. brought role b s) h.binds ∙ brought-nil role s
 
 pub in_order-plain : (ps : List Part) → AllByRecursion Plain ps → (role other : Role) (s t : Scope Role) → SameLook s t → in_order ps role s ≡ in_order ps other t
 in_order-plain [] h role other s t same = refl
 in_order-plain (p ∷ ps) h role other s t same =
-    ap (λ k. k ++ in_order ps role (entered role p.binds s)) (h.0.kinds role other s t same)
+    ap (λ k. k ++ in_order ps role (brought role p.binds s)) (h.0.kinds role other s t same)
     ∙ ap (λ k. p.kinds other t ++ k) (ap (in_order ps role) (no_binds p h.0 role s) ∙ in_order-plain ps h.1 role other s t same ∙ sym (ap (in_order ps other) (no_binds p h.0 other t)))
 
 -- of parts that are made of others
@@ -86,7 +86,7 @@ plain_aggregate p ps h k = record {
 }
 
 steady_variable : (name : List ℕ) → Steady (variable name)
-steady_variable name = record { kinds = λ role s t same. ap (taken role) (same.at name) }
+steady_variable name = record { kinds = λ role s t same. ap taken (same.at name) }
 
 pub steady_source : (s : SourceTree) → Steady (source_part s)
 steady_source source_tree.Received = plain_steady (inside []) (plain_inside [] tt)

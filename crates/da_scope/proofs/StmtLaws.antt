@@ -57,9 +57,9 @@ while_steady line x ls h = record {
 
 looped_steady : (line : ℕ) (name : List ℕ) (x : Expr) (ls : List Line) → AllByRecursion SteadyLine ls → Steady (looped line name x ls)
 looped_steady line name x ls h = record {
-  at = λ s t same. ap (λ rs. rs ++ at_line line (taken Local (look s name)) ++ block ls (entered Local (name ∷ []) s)) ((says_steady line (x ∷ [])).at s t same)
-    ∙ ap (λ k. says line (x ∷ []) t ++ at_line line (taken Local k) ++ block ls (entered Local (name ∷ []) s)) (same.at name)
-    ∙ ap (λ rs. says line (x ∷ []) t ++ at_line line (taken Local (look t name)) ++ rs) (block_same ls h (entered Local (name ∷ []) s) (entered Local (name ∷ []) t) (same_entered Local (name ∷ []) s t same));
+  at = λ s t same. ap (λ rs. rs ++ at_line line (taken (look s name)) ++ block ls (entered Local (name ∷ []) s)) ((says_steady line (x ∷ [])).at s t same)
+    ∙ ap (λ k. says line (x ∷ []) t ++ at_line line (taken k) ++ block ls (entered Local (name ∷ []) s)) (same.at name)
+    ∙ ap (λ rs. says line (x ∷ []) t ++ at_line line (taken (look t name)) ++ rs) (block_same ls h (entered Local (name ∷ []) s) (entered Local (name ∷ []) t) (same_entered Local (name ∷ []) s t same));
 }
 
 all_lines : (body : List Stmt) → AllByRecursion (λ s. SteadyLine (line_of s)) body → AllByRecursion SteadyLine (map line_of body)

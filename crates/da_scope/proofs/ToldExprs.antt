@@ -22,9 +22,9 @@ use Rattle.da_lang.specs.ExprNames.{Role, Local, QueryVariable, Part, in_order, 
 use Rattle.da_lang.specs.Scopes.{Scope, look}
 use Rattle.da_lang.proofs.NamesAt as at
 use Rattle.da_scope.specs.Telling.{Refusal}
-use Rattle.da_scope.specs.Told.{entered_each, behind, behind_all, told_kinds, told_part, told_parts, told_all, told_expr, told_argument, told_link}
+use Rattle.da_scope.specs.Told.{entered_each, brought_each, behind, behind_all, told_kinds, told_part, told_parts, told_all, told_expr, told_argument, told_link}
 use Rattle.da_scope.proofs.PartLaws.{Steady, all_append, all_map, all_of, plain_steady, expr_plain, pattern_steady, peer_steady, link_plain, gen_steady, steady_source}
-use Rattle.da_scope.proofs.SameLook.{entered_each-append}
+use Rattle.da_scope.proofs.SameLook.{brought_each-nil, brought_each-append}
 use Rattle.da_scope.proofs.ToldParts.{told_kinds-nil, told_kinds-append, told_parts-nil, told_parts-cons, told_parts-one, told_all-nil, told_all-cons, told_all-one, told_all-snoc, behind_all-nil, behind_all-cons, behind_all-snoc, told_all-exprs}
 
 module _ (line : ℕ) (scope : Scope Role) (found : Option Refusal) where
@@ -198,7 +198,7 @@ module _ (line : ℕ) (role : Role) (scope : Scope Role) (found : Option Refusal
   pub told_pattern-Me : told_part line role scope found (pattern_part pattern.Me) ≡ found
   told_pattern-Me = told_empty (pattern_part pattern.Me) at.pattern_part-Me
 
-  pub told_pattern-Name : (name : List ℕ) → told_part line role scope found (pattern_part (pattern.Name name)) ≡ told_kinds line found (taken role (look scope name))
+  pub told_pattern-Name : (name : List ℕ) → told_part line role scope found (pattern_part (pattern.Name name)) ≡ told_kinds line found (taken (look scope name))
   unfolding told_part
   told_pattern-Name name = ap (λ (q : Part). told_kinds line found (q.kinds role scope)) (at.pattern_part-Name name)
 
@@ -231,30 +231,30 @@ binds_of [] = refl
 binds_of (p ∷ ps) = ap (λ ns. (pattern_part p).binds ++ ns) (binds_of ps)
 
 module _ (role : Role) (scope : Scope Role) where
-  behind_is : (p : Part) (ns : List (List ℕ)) → p.binds ≡ ns → behind role scope p ≡ entered_each role ns scope
+  behind_is : (p : Part) (ns : List (List ℕ)) → p.binds ≡ ns → behind role scope p ≡ brought_each role ns scope
   unfolding behind
-  behind_is p ns is = ap (λ b. entered_each role b scope) is
+  behind_is p ns is = ap (λ b. brought_each role b scope) is
+
+  behind_nothing : (p : Part) → p.binds ≡ [] → behind role scope p ≡ scope
+  behind_nothing p is = behind_is p [] is ∙ brought_each-nil role scope
 
   pub behind_pattern-Wild : behind role scope (pattern_part pattern.Wild) ≡ scope
-  behind_pattern-Wild = behind_is (pattern_part pattern.Wild) [] (ap (λ (p : Part). p.binds) at.pattern_part-Wild)
+  behind_pattern-Wild = behind_nothing (pattern_part pattern.Wild) (ap (λ (p : Part). p.binds) at.pattern_part-Wild)
 
   pub behind_pattern-Int : (n : ℤ) → behind role scope (pattern_part (pattern.Int n)) ≡ scope
-  behind_pattern-Int n = behind_is (pattern_part (pattern.Int n)) [] (ap (λ (p : Part). p.binds) (at.pattern_part-Int n))
+  behind_pattern-Int n = behind_nothing (pattern_part (pattern.Int n)) (ap (λ (p : Part). p.binds) (at.pattern_part-Int n))
 
   pub behind_pattern-Text : (bytes : List ℕ) → behind role scope (pattern_part (pattern.Text bytes)) ≡ scope
-  behind_pattern-Text bytes = behind_is (pattern_part (pattern.Text bytes)) [] (ap (λ (p : Part). p.binds) (at.pattern_part-Text bytes))
+  behind_pattern-Text bytes = behind_nothing (pattern_part (pattern.Text bytes)) (ap (λ (p : Part). p.binds) (at.pattern_part-Text bytes))
 
   pub behind_pattern-Truth : (b : Bool) → behind role scope (pattern_part (pattern.Truth b)) ≡ scope
-  behind_pattern-Truth b = behind_is (pattern_part (pattern.Truth b)) [] (ap (λ (p : Part). p.binds) (at.pattern_part-Truth b))
+  behind_pattern-Truth b = behind_nothing (pattern_part (pattern.Truth b)) (ap (λ (p : Part). p.binds) (at.pattern_part-Truth b))
 
   pub behind_pattern-Me : behind role scope (pattern_part pattern.Me) ≡ scope
-  behind_pattern-Me = behind_is (pattern_part pattern.Me) [] (ap (λ (p : Part). p.binds) at.pattern_part-Me)
-
-  pub behind_pattern-Name : (name : List ℕ) → behind role scope (pattern_part (pattern.Name name)) ≡ (name, role) ∷ scope
-  behind_pattern-Name name = behind_is (pattern_part (pattern.Name name)) (name ∷ []) (ap (λ (p : Part). p.binds) (at.pattern_part-Name name))
+  behind_pattern-Me = behind_nothing (pattern_part pattern.Me) (ap (λ (p : Part). p.binds) at.pattern_part-Me)
 
   pub behind_pattern-Equal : (x : Expr) → behind role scope (pattern_part (pattern.Equal x)) ≡ scope
-  behind_pattern-Equal x = behind_is (pattern_part (pattern.Equal x)) [] (ap (λ (p : Part). p.binds) (at.pattern_part-Equal x))
+  behind_pattern-Equal x = behind_nothing (pattern_part (pattern.Equal x)) (ap (λ (p : Part). p.binds) (at.pattern_part-Equal x))
 
   pub behind_pattern-Tuple : (ps : List PatternTree) → behind role scope (pattern_part (pattern.Tuple ps)) ≡ behind_all pattern_part role scope ps
   unfolding behind_all
@@ -265,6 +265,9 @@ module _ (role : Role) (scope : Scope Role) where
 
   pub behind_peer-To : (p : PatternTree) → behind role scope (peer_part (peer.To p)) ≡ behind role scope (pattern_part p)
   behind_peer-To p = ap (behind role scope) (at.peer_part-To p)
+
+pub behind_pattern-Name : (scope : Scope Role) (name : List ℕ) → behind QueryVariable scope (pattern_part (pattern.Name name)) ≡ (name, QueryVariable) ∷ scope
+behind_pattern-Name scope name = behind_is QueryVariable scope (pattern_part (pattern.Name name)) (name ∷ []) (ap (λ (p : Part). p.binds) (at.pattern_part-Name name))
 
 pub ruleset pattern_rules = (told_pattern-Wild, told_pattern-Int, told_pattern-Text, told_pattern-Truth, told_pattern-Me, told_pattern-Name, told_pattern-Equal, told_pattern-Tuple, behind_pattern-Wild, behind_pattern-Int, behind_pattern-Text, behind_pattern-Truth, behind_pattern-Me, behind_pattern-Name, behind_pattern-Equal, behind_pattern-Tuple)
 
@@ -309,12 +312,15 @@ unfolding gen_parts
 gen_binds message None source = ap (λ ns. (pattern_part message).binds ++ (ns ++ [])) (no_source_binds source)
 gen_binds message (Some p) source = ap (λ ns. (pattern_part message).binds ++ ((peer_part p).binds ++ (ns ++ []))) (no_source_binds source)
 
+pub gen_binds_at : (g : GenTree) → (gen_part g).binds ≡ (pattern_part (out-GenTree g).message).binds ++ flat_map (λ p. (peer_part p).binds) (option_to_list (out-GenTree g).peer)
+gen_binds_at g = ap (λ (p : Part). p.binds) (gen_at g) ∙ gen_binds (out-GenTree g).message (out-GenTree g).peer (out-GenTree g).source
+
 pub behind_gen : (role : Role) (scope : Scope Role) (g : GenTree) → behind role scope (gen_part g) ≡ behind_all peer_part role (behind role scope (pattern_part (out-GenTree g).message)) (option_to_list (out-GenTree g).peer)
 unfolding behind behind_all
 behind_gen role scope g =
     let v = out-GenTree g in
-    ap (λ b. entered_each role b scope) (ap (λ (p : Part). p.binds) (gen_at g) ∙ gen_binds v.message v.peer v.source)
-    ∙ entered_each-append role (pattern_part v.message).binds (flat_map (λ p. (peer_part p).binds) (option_to_list v.peer)) scope
+    ap (λ b. brought_each role b scope) (gen_binds_at g)
+    ∙ brought_each-append role (pattern_part v.message).binds (flat_map (λ p. (peer_part p).binds) (option_to_list v.peer)) scope
 
 pub ruleset gen_rules = (told_gen, behind_gen)
 
@@ -375,10 +381,11 @@ pushed_by role (n ∷ ns) before scope = pushed_by role ns ((n, role) ∷ before
 pub pushed : (role : Role) (names : List (List ℕ)) (scope : Scope Role) → drop (length (entered_each role names scope) - length scope) (entered_each role names scope) ≡ scope
 pushed role names scope = pushed_by role names [] scope
 
-pub left_behind : (role : Role) (scope : Scope Role) (part : Part) → drop (length (behind role scope part) - length scope) (behind role scope part) ≡ scope
-unfolding behind
-left_behind role scope part = pushed role part.binds scope
-
-pub left_behind_gens : (role : Role) (scope : Scope Role) (gens : List GenTree) → drop (length (behind_all gen_part role scope gens) - length scope) (behind_all gen_part role scope gens) ≡ scope
+pub left_behind_gens : (scope : Scope Role) (gens : List GenTree) → drop (length (behind_all gen_part QueryVariable scope gens) - length scope) (behind_all gen_part QueryVariable scope gens) ≡ scope
 unfolding behind_all
-left_behind_gens role scope gens = pushed role (flat_map (λ g. (gen_part g).binds) gens) scope
+left_behind_gens scope gens = pushed QueryVariable (flat_map (λ g. (gen_part g).binds) gens) scope
+
+-- the variables of a handler's patterns do not come into scope in them
+pub behind_local : (scope : Scope Role) (ps : List PatternTree) → behind_all pattern_part Local scope ps ≡ scope
+unfolding behind_all
+behind_local scope ps = refl

@@ -81,12 +81,12 @@ module _ (scope : Scope Role) (found : Option Refusal) where
       told_by (stmt.While x body line) _ (at.line_of-While x body line) ∙ then_block scope found (says line (x ∷ []) scope) body
       ∙ ap (λ f. told_block scope f body) (telling-says line scope found (x ∷ []))
 
-  pub told_stmt-For : (name : List ℕ) (x : Expr) (body : List Stmt) (line : ℕ) → told_stmt scope found (stmt.For name x body line) ≡ told_block ((name, Local) ∷ scope) (told_kinds line (told_expr line scope found x) (taken Local (look scope name))) body
+  pub told_stmt-For : (name : List ℕ) (x : Expr) (body : List Stmt) (line : ℕ) → told_stmt scope found (stmt.For name x body line) ≡ told_block ((name, Local) ∷ scope) (told_kinds line (told_expr line scope found x) (taken (look scope name))) body
   unfolding told_kinds
   told_stmt-For name x body line =
       told_by (stmt.For name x body line) _ (at.line_of-For name x body line)
-      ∙ then_block ((name, Local) ∷ scope) found (says line (x ∷ []) scope ++ at_line line (taken Local (look scope name))) body
-      ∙ ap (λ f. told_block ((name, Local) ∷ scope) f body) (telling-append found (says line (x ∷ []) scope) (at_line line (taken Local (look scope name))) ∙ ap (λ f. telling f (at_line line (taken Local (look scope name)))) (telling-says line scope found (x ∷ [])))
+      ∙ then_block ((name, Local) ∷ scope) found (says line (x ∷ []) scope ++ at_line line (taken (look scope name))) body
+      ∙ ap (λ f. told_block ((name, Local) ∷ scope) f body) (telling-append found (says line (x ∷ []) scope) (at_line line (taken (look scope name))) ∙ ap (λ f. telling f (at_line line (taken (look scope name)))) (telling-says line scope found (x ∷ [])))
 
   pub told_stmt-AwaitOne : (x : Expr) (line : ℕ) → told_stmt scope found (stmt.AwaitOne x line) ≡ told_expr line scope found x
   told_stmt-AwaitOne x line = told_by (stmt.AwaitOne x line) _ (at.line_of-AwaitOne x line) ∙ telling-says line scope found (x ∷ [])

@@ -10,12 +10,12 @@ use Rattle.da_lang.specs.declared.tree.Expr.{Expr}
 use Rattle.da_lang.specs.declared.tree.GenTree.{GenTree}
 use Rattle.da_lang.specs.declared.tree.PatternTree.{PatternTree}
 use Rattle.da_lang.specs.declared.tree.PeerTree.{PeerTree}
-use Rattle.da_lang.specs.ExprNames.{Role, Local, Part, in_order, names_of, pattern_part, peer_part, gen_part}
-use Rattle.da_lang.specs.Scopes.{Scope, Refused, at_line, entered}
+use Rattle.da_lang.specs.ExprNames.{Role, Local, Part, in_order, brought, names_of, pattern_part, peer_part, gen_part}
+use Rattle.da_lang.specs.Scopes.{Scope, Refused, at_line}
 use Rattle.da_scope.specs.Telling.{Refusal, telling}
-use Rattle.da_scope.specs.Told.{entered_each, behind, behind_all, told_kinds, told_part, told_parts, told_all, told_expr}
+use Rattle.da_scope.specs.Told.{brought_each, behind, behind_all, told_kinds, told_part, told_parts, told_all, told_expr}
 use Rattle.da_scope.proofs.PartLaws.{Steady, Plain, all_map, all_of, in_order-same, plain_steady, expr_plain, pattern_steady, peer_steady, gen_steady}
-use Rattle.da_scope.proofs.SameLook.{same_here, same_each, entered_each-append}
+use Rattle.da_scope.proofs.SameLook.{same_here, same_brought_each, brought_each-nil, brought_each-append}
 use Rattle.da_scope.proofs.TellingLaws.{telling-nil, telling-append}
 
 pub told_kinds-nil : (line : ℕ) (found : Option Refusal) → told_kinds line found [] ≡ found
@@ -35,8 +35,8 @@ told_parts-nil line role scope found = told_kinds-nil line found
 pub told_parts-cons : (line : ℕ) (role : Role) (scope : Scope Role) (found : Option Refusal) (p : Part) (ps : List Part) → AllByRecursion Steady ps → told_parts line role scope found (p ∷ ps) ≡ told_parts line role (behind role scope p) (told_part line role scope found p) ps
 unfolding told_parts told_part behind
 told_parts-cons line role scope found p ps h =
-    told_kinds-append line found (p.kinds role scope) (in_order ps role (entered role p.binds scope))
-    ∙ ap (told_kinds line (told_kinds line found (p.kinds role scope))) (in_order-same ps h role (entered role p.binds scope) (entered_each role p.binds scope) (same_each role p.binds scope))
+    told_kinds-append line found (p.kinds role scope) (in_order ps role (brought role p.binds scope))
+    ∙ ap (told_kinds line (told_kinds line found (p.kinds role scope))) (in_order-same ps h role (brought role p.binds scope) (brought_each role p.binds scope) (same_brought_each role p.binds scope))
 
 pub told_parts-one : (line : ℕ) (role : Role) (scope : Scope Role) (found : Option Refusal) (p : Part) → told_parts line role scope found (p ∷ []) ≡ told_part line role scope found p
 told_parts-one line role scope found p = told_parts-cons line role scope found p [] tt ∙ told_parts-nil line role (behind role scope p) (told_part line role scope found p)
@@ -55,11 +55,11 @@ module _ {A : Type 0} (part : A → Part) (steady : (x : A) → Steady (part x))
 
   pub behind_all-nil : (role : Role) (scope : Scope Role) → behind_all part role scope [] ≡ scope
   unfolding behind_all
-  behind_all-nil role scope = refl
+  behind_all-nil role scope = brought_each-nil role scope
 
   pub behind_all-cons : (role : Role) (scope : Scope Role) (x : A) (xs : List A) → behind_all part role scope (x ∷ xs) ≡ behind_all part role (behind role scope (part x)) xs
   unfolding behind_all behind
-  behind_all-cons role scope x xs = entered_each-append role (part x).binds (flat_map (λ y. (part y).binds) xs) scope
+  behind_all-cons role scope x xs = brought_each-append role (part x).binds (flat_map (λ y. (part y).binds) xs) scope
 
   pub behind_all-append : (role : Role) (scope : Scope Role) (xs ys : List A) → behind_all part role scope (xs ++ ys) ≡ behind_all part role (behind_all part role scope xs) ys
   behind_all-append role scope [] ys = ap (λ s. behind_all part role s ys) (sym (behind_all-nil role scope))
@@ -101,7 +101,7 @@ told_part-expr line role scope found x = ap (told_kinds line found) ((expr_plain
 
 pub behind-plain : (role : Role) (scope : Scope Role) (p : Part) → Plain p → behind role scope p ≡ scope
 unfolding behind
-behind-plain role scope p h = ap (λ b. entered_each role b scope) h.binds
+behind-plain role scope p h = ap (λ b. brought_each role b scope) h.binds ∙ brought_each-nil role scope
 
 expr_steady : (x : Expr) → Steady (names_of x)
 expr_steady x = plain_steady (names_of x) (expr_plain x)

@@ -14,7 +14,6 @@ abbrev pub role_of : Role → meaning.Role
 role_of role.ClassVariable = meaning.ClassVariable
 role_of role.Local = meaning.Local
 role_of role.QueryVariable = meaning.QueryVariable
-role_of role.Ahead = meaning.Ahead
 role_of role.Made = meaning.Made
 
 -- what the map says of a name

@@ -4,7 +4,7 @@ use Rattle.da_lang.specs.declared.refusal.ScopeKind.{ScopeKind}
 use Rattle.da_lang.specs.declared.refusal.ScopeKind.TheVariants as refusal
 use Rattle.da_lang.specs.declared.tree.ChainTree.{ChainTree, out-ChainTree}
 use Rattle.da_lang.specs.declared.tree.Expr.{Expr}
-use Rattle.da_lang.specs.ExprNames.{Role, Part, in_order, unless, names_of, refused_in}
+use Rattle.da_lang.specs.ExprNames.{Role, QueryVariable, Part, in_order, unless, names_of, refused_in}
 use Rattle.da_lang.specs.Scopes.{Scope, at_line}
 use Rattle.da_scope.specs.Telling.{Refusal, telling}
 
@@ -13,9 +13,14 @@ abbrev pub entered_each : Role → List (List ℕ) → Scope Role → Scope Role
 entered_each role [] scope = scope
 entered_each role (name ∷ names) scope = entered_each role names ((name, role) ∷ scope)
 
+-- the same of the variables of a part: those of a query come into scope
+abbrev pub brought_each : Role → List (List ℕ) → Scope Role → Scope Role
+brought_each QueryVariable names scope = entered_each QueryVariable names scope
+brought_each role names scope = scope
+
 -- the names in scope behind a part
 unfoldable pub behind : Role → Scope Role → Part → Scope Role
-behind role scope part = entered_each role part.binds scope
+behind role scope part = brought_each role part.binds scope
 
 -- these kinds are found at a line
 unfoldable pub told_kinds : ℕ → Option Refusal → List ScopeKind → Option Refusal
@@ -30,7 +35,7 @@ told_parts line role scope found parts = told_kinds line found (in_order parts r
 
 -- the same of things that are parts
 unfoldable pub behind_all : {A : Type 0} → (A → Part) → Role → Scope Role → List A → Scope Role
-behind_all part role scope xs = entered_each role (flat_map (λ x. (part x).binds) xs) scope
+behind_all part role scope xs = brought_each role (flat_map (λ x. (part x).binds) xs) scope
 
 unfoldable pub told_all : {A : Type 0} → (A → Part) → ℕ → Role → Scope Role → Option Refusal → List A → Option Refusal
 told_all part line role scope found xs = told_parts line role scope found (map part xs)

@@ -1,6 +1,7 @@
 //! The refusals by names.
 
 mod expressions;
+mod repeats;
 mod scope;
 mod statements;
 mod variables;

@@ -1,7 +1,7 @@
 //! Names in expressions, patterns and generators.
 ghost use Rattle.da_lang.specs.declared.tree.GenTree.{out-GenTree};
 ghost use Rattle.da_lang.specs.declared.refusal.ScopeKind.TheVariants.{Shadow, Unknown};
-ghost use Rattle.da_lang.specs.ExprNames.{QueryVariable, gen_part, is_slot as slot_of, names_of, pattern_part, peer_part, source_part, taken, unless, used};
+ghost use Rattle.da_lang.specs.ExprNames.{Local, QueryVariable, gen_part, is_slot as slot_of, names_of, pattern_part, peer_part, source_part, taken, unless, used};
 ghost use Rattle.da_lang.specs.Scopes.{look};
 ghost use Rattle.da_scope.specs.ScopeView.{role_of};
 ghost use Rattle.da_scope.specs.Told.{behind, behind_all, told_all, told_argument, told_expr, told_kinds, told_link, told_part};
@@ -28,27 +28,28 @@ pub fn tell_unless(allowed: bool, kind: ScopeKind, line: u32, least: &mut Least)
 fn is_value(found: Option<Role>) -> bool
     ensures { used (option_map role_of found) ≡ unless result Unknown }
 {
+    found.is_some()
+}
+
+/// Whether a name that stands for this may be that of a new variable.
+fn is_free(found: Option<Role>) -> bool
+    ensures { taken (option_map role_of found) ≡ unless result Shadow }
+{
     match found {
-        None => false,
+        None => true,
         Some(role) => match role {
-            Role::Ahead => false,
-            Role::ClassVariable | Role::Local | Role::QueryVariable | Role::Made => true,
+            Role::Made => true,
+            Role::ClassVariable | Role::Local | Role::QueryVariable => false,
         },
     }
 }
 
-/// Whether a name that stands for this may be that of a new variable of this role.
-pub fn is_free(role: Role, found: Option<Role>) -> bool
-    ensures { taken (role_of role) (option_map role_of found) ≡ unless result Shadow }
+/// Tells that a new variable takes the name of one in scope.
+pub fn check_new(name: &[u8], line: u32, names: &Names<'_>, least: &mut Least)
+    ensures { least.new ≡ told_kinds line least.old (taken (look names.now name.now)) }
 {
-    match found {
-        None => true,
-        Some(other) => match other {
-            Role::Made => true,
-            Role::Ahead => role != Role::Ahead,
-            Role::ClassVariable | Role::Local | Role::QueryVariable => false,
-        },
-    }
+    let free = is_free(names.look(name));
+    tell_unless(free, ScopeKind::Shadow, line, least);
 }
 
 /// Whether a name that stands for this is a slot.
@@ -59,7 +60,7 @@ fn is_slot(found: Option<Role>) -> bool
         None => false,
         Some(role) => match role {
             Role::ClassVariable | Role::Local => true,
-            Role::QueryVariable | Role::Ahead | Role::Made => false,
+            Role::QueryVariable | Role::Made => false,
         },
     }
 }
@@ -254,7 +255,7 @@ fn enter_gen<'t>(
     ensures told { OnOk result (least.new ≡ told_part line QueryVariable names.old least.old (gen_part generator.now)) }
     ensures entered { OnOk result (names.new ≡ behind QueryVariable names.old (gen_part generator.now)) }
 {
-    enter_pattern(&generator.message, Role::QueryVariable, line, names, least)?;
+    enter_pattern(&generator.message, line, names, least)?;
     enter_peer(&generator.peer, line, names, least)?;
     check_source(&generator.source, line, names, least);
     Ok(())
@@ -274,12 +275,8 @@ fn enter_peer<'t>(
 {
     match peer {
         None => Ok(()),
-        Some(PeerTree::From(pattern)) => {
-            enter_pattern(pattern, Role::QueryVariable, line, names, least)
-        }
-        Some(PeerTree::To(pattern)) => {
-            enter_pattern(pattern, Role::QueryVariable, line, names, least)
-        }
+        Some(PeerTree::From(pattern)) => enter_pattern(pattern, line, names, least),
+        Some(PeerTree::To(pattern)) => enter_pattern(pattern, line, names, least),
     }
 }
 
@@ -298,29 +295,25 @@ fn check_source(source: &SourceTree, line: u32, names: &Names<'_>, least: &mut L
     }
 }
 
-/// Checks a pattern with new variables of this role; they come into scope.
+/// Checks a pattern of a query; its variables come into scope.
 #[cycle(expressions)]
 #[tactic(auto, using(crate::proofs::ToldExprs::pattern_rules))]
-pub fn enter_pattern<'t>(
+fn enter_pattern<'t>(
     pattern: &'t PatternTree,
-    role: Role,
     line: u32,
     names: &mut Names<'t>,
     least: &mut Least,
 ) -> Result<(), NoMemory>
-    ensures told { OnOk result (least.new ≡ told_part line (role_of role) names.old least.old (pattern_part pattern.now)) }
-    ensures entered { OnOk result (names.new ≡ behind (role_of role) names.old (pattern_part pattern.now)) }
+    ensures told { OnOk result (least.new ≡ told_part line QueryVariable names.old least.old (pattern_part pattern.now)) }
+    ensures entered { OnOk result (names.new ≡ behind QueryVariable names.old (pattern_part pattern.now)) }
 {
     match pattern {
         PatternTree::Name(name) => {
-            let free = is_free(role, names.look(name.as_slice()));
-            tell_unless(free, ScopeKind::Shadow, line, least);
-            names.enter(name.as_slice(), role)
+            check_new(name.as_slice(), line, names, least);
+            names.enter(name.as_slice(), Role::QueryVariable)
         }
         PatternTree::Equal(x) => check_expr(x.get(), line, names, least),
-        PatternTree::Tuple(parts) => {
-            enter_patterns(parts.as_slice(), role, line, names, least)
-        }
+        PatternTree::Tuple(parts) => enter_patterns(parts.as_slice(), line, names, least),
         PatternTree::Wild => Ok(()),
         PatternTree::Int(_) => Ok(()),
         PatternTree::Text(_) => Ok(()),
@@ -329,21 +322,64 @@ pub fn enter_pattern<'t>(
     }
 }
 
-/// Checks patterns in order, with new variables of this role; they come into scope.
+/// Checks patterns of a query in order; their variables come into scope.
 #[cycle(expressions)]
 #[tactic(auto, using(crate::proofs::ToldExprs::pattern_steps))]
 fn enter_patterns<'t>(
     patterns: &'t [PatternTree],
-    role: Role,
     line: u32,
     names: &mut Names<'t>,
     least: &mut Least,
 ) -> Result<(), NoMemory>
-    ensures told { OnOk result (least.new ≡ told_all pattern_part line (role_of role) names.old least.old patterns.now) }
-    ensures entered { OnOk result (names.new ≡ behind_all pattern_part (role_of role) names.old patterns.now) }
+    ensures told { OnOk result (least.new ≡ told_all pattern_part line QueryVariable names.old least.old patterns.now) }
+    ensures entered { OnOk result (names.new ≡ behind_all pattern_part QueryVariable names.old patterns.now) }
 {
     for pattern in patterns {
-        enter_pattern(pattern, role, line, names, least)?;
+        enter_pattern(pattern, line, names, least)?;
+    }
+    Ok(())
+}
+
+/// Checks a pattern of a handler. Its variables come into scope in the body alone.
+#[cycle(handled)]
+#[tactic(auto, using(crate::proofs::ToldExprs::pattern_rules))]
+pub fn check_pattern<'t>(
+    pattern: &'t PatternTree,
+    line: u32,
+    names: &mut Names<'t>,
+    least: &mut Least,
+) -> Result<(), NoMemory>
+    ensures told { OnOk result (least.new ≡ told_part line Local names.old least.old (pattern_part pattern.now)) }
+    ensures same { OnOk result (names.new ≡ names.old) }
+{
+    match pattern {
+        PatternTree::Name(name) => {
+            check_new(name.as_slice(), line, names, least);
+            Ok(())
+        }
+        PatternTree::Equal(x) => check_expr(x.get(), line, names, least),
+        PatternTree::Tuple(parts) => check_patterns(parts.as_slice(), line, names, least),
+        PatternTree::Wild => Ok(()),
+        PatternTree::Int(_) => Ok(()),
+        PatternTree::Text(_) => Ok(()),
+        PatternTree::Truth(_) => Ok(()),
+        PatternTree::Me => Ok(()),
+    }
+}
+
+/// Checks patterns of a handler.
+#[cycle(handled)]
+fn check_patterns<'t>(
+    patterns: &'t [PatternTree],
+    line: u32,
+    names: &mut Names<'t>,
+    least: &mut Least,
+) -> Result<(), NoMemory>
+    ensures told { OnOk result (least.new ≡ told_all pattern_part line Local names.old least.old patterns.now) }
+    ensures same { OnOk result (names.new ≡ names.old) }
+{
+    for pattern in patterns {
+        check_pattern(pattern, line, names, least)?;
     }
     Ok(())
 }

@@ -17,8 +17,6 @@ pub enum Role {
     Local,
     /// A variable of a query.
     QueryVariable,
-    /// A variable of a handler's patterns, in these patterns.
-    Ahead,
     /// A name of `main`.
     Made,
 }

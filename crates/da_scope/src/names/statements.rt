@@ -11,11 +11,12 @@ ghost use Rattle.std.specs.Option.{option_to_list};
 ghost use Rattle.std.specs.Prelude.{◌≡◌, [], ◌∷◌, OnOk, option_map};
 
 use crate::least::Least;
-use crate::names::expressions::{check_expr, check_exprs, is_free, tell_unless};
+use crate::names::expressions::{check_expr, check_exprs, check_new, tell_unless};
 use crate::names::scope::{Names, Role};
-use crate::names::variables::bind_found;
+use crate::names::variables::enter_found;
 use da_lang::{Branch, Expr, ScopeKind, Stmt, TimeoutTree};
 use da_values::NoMemory;
+use std::alloc::Global;
 
 /// Whether a name that stands for this may be changed.
 fn is_changeable(found: Option<Role>) -> bool
@@ -25,7 +26,7 @@ fn is_changeable(found: Option<Role>) -> bool
         None => false,
         Some(role) => match role {
             Role::ClassVariable => true,
-            Role::Local | Role::QueryVariable | Role::Ahead | Role::Made => false,
+            Role::Local | Role::QueryVariable | Role::Made => false,
         },
     }
 }
@@ -50,6 +51,7 @@ fn check_change<'t>(
 #[cycle(statements)]
 #[tactic(auto, using(crate::proofs::ToldLines::stmt_rules))]
 fn check_stmt<'t>(
+    alloc: Global,
     stmt: &'t Stmt,
     names: &mut Names<'t>,
     least: &mut Least,
@@ -84,15 +86,15 @@ fn check_stmt<'t>(
             otherwise,
             line: _,
         } => {
-            check_branches(branches.as_slice(), names, least)?;
+            check_branches(alloc, branches.as_slice(), names, least)?;
             match otherwise {
                 None => Ok(()),
-                Some(body) => check_block(body.as_slice(), names, least),
+                Some(body) => check_block(alloc, body.as_slice(), names, least),
             }
         }
         Stmt::While { cond, body, line } => {
             check_expr(cond.get(), *line, names, least)?;
-            check_block(body.as_slice(), names, least)
+            check_block(alloc, body.as_slice(), names, least)
         }
         Stmt::For {
             name,
@@ -101,25 +103,24 @@ fn check_stmt<'t>(
             line,
         } => {
             check_expr(over.get(), *line, names, least)?;
-            let free = is_free(Role::Local, names.look(name.as_slice()));
-            tell_unless(free, ScopeKind::Shadow, *line, least);
+            check_new(name.as_slice(), *line, names, least);
             let outside = names.len();
             names.enter(name.as_slice(), Role::Local)?;
-            check_block(body.as_slice(), names, least)?;
+            check_block(alloc, body.as_slice(), names, least)?;
             names.leave_to(outside);
             Ok(())
         }
         Stmt::AwaitOne { cond, line } => {
             check_expr(cond.get(), *line, names, least)?;
-            bind_found(cond.get(), names)
+            enter_found(alloc, cond.get(), *line, names)
         }
         Stmt::Await {
             alts,
             timeout,
             line: _,
         } => {
-            check_branches(alts.as_slice(), names, least)?;
-            check_timeout(timeout, names, least)
+            check_branches(alloc, alts.as_slice(), names, least)?;
+            check_timeout(alloc, timeout, names, least)
         }
     }
 }
@@ -127,6 +128,7 @@ fn check_stmt<'t>(
 /// Checks the statements of a block.
 #[cycle(statements)]
 pub fn check_block<'t>(
+    alloc: Global,
     body: &'t [Stmt],
     names: &mut Names<'t>,
     least: &mut Least,
@@ -136,7 +138,7 @@ pub fn check_block<'t>(
 {
     let outside = names.len();
     for stmt in body {
-        check_stmt(stmt, names, least)?;
+        check_stmt(alloc, stmt, names, least)?;
     }
     names.leave_to(outside);
     Ok(())
@@ -145,6 +147,7 @@ pub fn check_block<'t>(
 /// Checks conditions and their blocks.
 #[cycle(statements)]
 fn check_branches<'t>(
+    alloc: Global,
     branches: &'t [Branch],
     names: &mut Names<'t>,
     least: &mut Least,
@@ -153,7 +156,7 @@ fn check_branches<'t>(
     ensures same { OnOk result (names.new ≡ names.old) }
 {
     for branch in branches {
-        check_branch(branch, names, least)?;
+        check_branch(alloc, branch, names, least)?;
     }
     Ok(())
 }
@@ -162,6 +165,7 @@ fn check_branches<'t>(
 #[cycle(statements)]
 #[tactic(auto, using(crate::proofs::ToldLines::told_branch_of))]
 fn check_branch<'t>(
+    alloc: Global,
     branch: &'t Branch,
     names: &mut Names<'t>,
     least: &mut Least,
@@ -171,8 +175,8 @@ fn check_branch<'t>(
 {
     check_expr(branch.cond.get(), branch.line, names, least)?;
     let outside = names.len();
-    bind_found(branch.cond.get(), names)?;
-    check_block(branch.body.as_slice(), names, least)?;
+    enter_found(alloc, branch.cond.get(), branch.line, names)?;
+    check_block(alloc, branch.body.as_slice(), names, least)?;
     names.leave_to(outside);
     Ok(())
 }
@@ -181,6 +185,7 @@ fn check_branch<'t>(
 #[cycle(statements)]
 #[tactic(auto, using(crate::proofs::ToldLines::told_timeout_of))]
 fn check_timeout<'t>(
+    alloc: Global,
     timeout: &'t Option<TimeoutTree>,
     names: &mut Names<'t>,
     least: &mut Least,
@@ -190,6 +195,6 @@ fn check_timeout<'t>(
 {
     match timeout {
         None => Ok(()),
-        Some(tree) => check_block(tree.body.as_slice(), names, least),
+        Some(tree) => check_block(alloc, tree.body.as_slice(), names, least),
     }
 }

@@ -1,22 +1,34 @@
-//! The variables of patterns, where they come into scope with no check.
-ghost use Rattle.da_lang.specs.ExprNames.{Local, found_names, gen_part, pattern_part, peer_part};
-ghost use Rattle.da_scope.specs.Told.{behind, behind_all, entered_each};
-ghost use Rattle.std.specs.Option.{option_to_list};
-ghost use Rattle.std.specs.Prelude.{◌≡◌, OnOk};
+//! The variables of patterns.
+ghost use Rattle.da_lang.specs.ExprNames.{Local, found_names};
+ghost use Rattle.da_scope.specs.Repeats.{declared_in};
+ghost use Rattle.da_scope.specs.ScopeView.{role_of};
+ghost use Rattle.da_scope.specs.Told.{entered_each};
+ghost use Rattle.da_scope.specs.Variables.{found_at, gen_variables_at, peer_variables_at, variables_at};
+ghost use Rattle.std.specs.List.{flat_map};
+ghost use Rattle.std.specs.Prelude.{◌≡◌, ◌++◌, map, OnOk};
 
+use crate::names::repeats::Declared;
 use crate::names::scope::{Names, Role};
 use da_lang::{Expr, GenTree, PatternTree, PeerTree};
-use da_values::NoMemory;
+use da_values::{List, NoMemory};
+use std::alloc::Global;
 
-/// The variables of a pattern come into scope.
-#[tactic(auto, using(crate::proofs::ToldExprs::pattern_rules))]
+/// Appends the variables of a pattern.
 #[cycle(variables)]
-pub fn bind_pattern<'t>(pattern: &'t PatternTree, names: &mut Names<'t>) -> Result<(), NoMemory>
-    ensures { OnOk result (names.new ≡ behind Local names.old (pattern_part pattern.now)) }
+#[tactic(auto, using(crate::proofs::VariablesAt::variable_rules))]
+pub fn put_variables<'t>(
+    pattern: &'t PatternTree,
+    line: u32,
+    out: &mut List<Declared<'t>>,
+) -> Result<(), NoMemory>
+    ensures { OnOk result (declared_in out.new ≡ declared_in out.old ++ variables_at line pattern.now) }
 {
     match pattern {
-        PatternTree::Name(name) => names.enter(name.as_slice(), Role::Local),
-        PatternTree::Tuple(parts) => bind_patterns(parts.as_slice(), names),
+        PatternTree::Name(name) => out.push(Declared {
+            name: name.as_slice(),
+            line,
+        }),
+        PatternTree::Tuple(parts) => put_parts(parts.as_slice(), line, out),
         PatternTree::Equal(_) => Ok(()),
         PatternTree::Wild => Ok(()),
         PatternTree::Int(_) => Ok(()),
@@ -26,21 +38,60 @@ pub fn bind_pattern<'t>(pattern: &'t PatternTree, names: &mut Names<'t>) -> Resu
     }
 }
 
-/// The variables of patterns come into scope.
+/// Appends the variables of the parts of a tuple.
 #[cycle(variables)]
-fn bind_patterns<'t>(patterns: &'t [PatternTree], names: &mut Names<'t>) -> Result<(), NoMemory>
-    ensures { OnOk result (names.new ≡ behind_all pattern_part Local names.old patterns.now) }
+fn put_parts<'t>(
+    parts: &'t [PatternTree],
+    line: u32,
+    out: &mut List<Declared<'t>>,
+) -> Result<(), NoMemory>
+    ensures { OnOk result (declared_in out.new ≡ declared_in out.old ++ flat_map (variables_at line) parts.now) }
 {
-    for pattern in patterns {
-        bind_pattern(pattern, names)?;
+    for part in parts {
+        put_variables(part, line, out)?;
     }
     Ok(())
 }
 
-/// The variables that a condition binds come into scope: those of a whole `some`.
-#[tactic(auto, using(crate::proofs::Found::found_rules))]
-pub fn bind_found<'t>(cond: &'t Expr, names: &mut Names<'t>) -> Result<(), NoMemory>
-    ensures { OnOk result (names.new ≡ entered_each Local (found_names cond.now) names.old) }
+/// Appends the variables of the pattern of the other process, where there is one.
+#[tactic(auto, using(crate::proofs::VariablesAt::peer_variable_rules))]
+fn put_peer<'t>(
+    peer: &'t Option<PeerTree>,
+    line: u32,
+    out: &mut List<Declared<'t>>,
+) -> Result<(), NoMemory>
+    ensures { OnOk result (declared_in out.new ≡ declared_in out.old ++ peer_variables_at line peer.now) }
+{
+    match peer {
+        None => Ok(()),
+        Some(PeerTree::From(pattern)) => put_variables(pattern, line, out),
+        Some(PeerTree::To(pattern)) => put_variables(pattern, line, out),
+    }
+}
+
+/// Appends the variables of generators.
+#[tactic(auto, using(crate::proofs::VariablesAt::gen_variables_of))]
+fn put_gens<'t>(
+    gens: &'t [GenTree],
+    line: u32,
+    out: &mut List<Declared<'t>>,
+) -> Result<(), NoMemory>
+    ensures { OnOk result (declared_in out.new ≡ declared_in out.old ++ flat_map (gen_variables_at line) gens.now) }
+{
+    for generator in gens {
+        put_variables(&generator.message, line, out)?;
+        put_peer(&generator.peer, line, out)?;
+    }
+    Ok(())
+}
+
+/// Appends the variables that a condition binds: those of a whole `some`.
+fn put_found<'t>(
+    cond: &'t Expr,
+    line: u32,
+    out: &mut List<Declared<'t>>,
+) -> Result<(), NoMemory>
+    ensures { OnOk result (declared_in out.new ≡ declared_in out.old ++ found_at line cond.now) }
 {
     match cond {
         Expr::Quant {
@@ -51,40 +102,37 @@ pub fn bind_found<'t>(cond: &'t Expr, names: &mut Names<'t>) -> Result<(), NoMem
             if *each {
                 Ok(())
             } else {
-                bind_gens(gens.as_slice(), names)
+                put_gens(gens.as_slice(), line, out)
             }
         }
         _ => Ok(()),
     }
 }
 
-/// The variables of generators come into scope.
-fn bind_gens<'t>(gens: &'t [GenTree], names: &mut Names<'t>) -> Result<(), NoMemory>
-    ensures { OnOk result (names.new ≡ behind_all gen_part Local names.old gens.now) }
+/// Names come into scope one after the other, each as the same.
+pub fn enter_all<'t>(
+    declared: &[Declared<'t>],
+    role: Role,
+    names: &mut Names<'t>,
+) -> Result<(), NoMemory>
+    ensures { OnOk result (names.new ≡ entered_each (role_of role) (map (λ d. d.name.now) declared.now) names.old) }
 {
-    for generator in gens {
-        bind_gen(generator, names)?;
+    for one in declared {
+        names.enter(one.name, role)?;
     }
     Ok(())
 }
 
-/// The variables of a generator come into scope.
-#[tactic(auto, using(crate::proofs::ToldExprs::gen_rules))]
-fn bind_gen<'t>(generator: &'t GenTree, names: &mut Names<'t>) -> Result<(), NoMemory>
-    ensures { OnOk result (names.new ≡ behind Local names.old (gen_part generator.now)) }
+/// The variables that a condition binds come into scope.
+pub fn enter_found<'t>(
+    alloc: Global,
+    cond: &'t Expr,
+    line: u32,
+    names: &mut Names<'t>,
+) -> Result<(), NoMemory>
+    ensures { OnOk result (names.new ≡ entered_each Local (found_names cond.now) names.old) }
 {
-    bind_pattern(&generator.message, names)?;
-    bind_peer(&generator.peer, names)
-}
-
-/// The variables of the pattern of the other process come into scope, where there is one.
-#[tactic(auto, using(crate::proofs::ToldExprs::peer_rules))]
-fn bind_peer<'t>(peer: &'t Option<PeerTree>, names: &mut Names<'t>) -> Result<(), NoMemory>
-    ensures { OnOk result (names.new ≡ behind_all peer_part Local names.old (option_to_list peer.now)) }
-{
-    match peer {
-        None => Ok(()),
-        Some(PeerTree::From(pattern)) => bind_pattern(pattern, names),
-        Some(PeerTree::To(pattern)) => bind_pattern(pattern, names),
-    }
+    let mut found = List::new(alloc);
+    put_found(cond, line, &mut found)?;
+    enter_all(found.as_slice(), Role::Local, names)
 }

@@ -2,7 +2,6 @@ use Rattle.std.proofs.Common.{◌≡◌, ◌∙◌, sym, ap, ◌-◌, length, dr
 use Rattle.std.specs.List.{fold}
 use Rattle.std.specs.Option.{option_to_list}
 use Rattle.da_lang.specs.ExprNames.{QueryVariable, pattern_part, gen_part}
-use Rattle.da_scope.specs.ScopeView.{role_of}
 use Rattle.da_scope.specs.Told.{behind_all, told_all, told_expr}
 use Rattle.da_scope.proofs.PartLaws.{gen_steady, pattern_steady}
 use Rattle.da_scope.proofs.ToldParts.{told_all-more, behind_all-more}
@@ -16,7 +15,7 @@ check_expr-returns-in_ok-check_condition-in-Quant-clause-same t c =
     let inside : c.check_condition.new.names ≡ behind_all gen_part QueryVariable old c.in-Quant.gens =
       c.in_ok-check_condition-in-Quant.ensures.same ∙ c.in_ok-enter_gens-in-Quant.ensures.entered ∙ ap (behind_all gen_part QueryVariable old) c.as_slice.ensures in
     c.leave_to.ensures ∙ ap (λ n. drop (length c.check_condition.new.names - n) c.check_condition.new.names) c.len-outside.ensures
-    ∙ ap (λ s. drop (length s - length old) s) inside ∙ left_behind_gens QueryVariable old c.in-Quant.gens
+    ∙ ap (λ s. drop (length s - length old) s) inside ∙ left_behind_gens old c.in-Quant.gens
 
 pub check_expr-returns-in_ok-check_expr-in-Comp-clause-told :
     goal.check_expr-returns-in_ok-check_expr-in-Comp-clause-told
@@ -43,7 +42,7 @@ check_expr-returns-in_ok-check_expr-in-Comp-clause-same t c =
     let inside : c.check_expr.new.names ≡ behind_all gen_part QueryVariable old c.in-Comp.gens =
       c.in_ok-check_expr-in-Comp.ensures.same ∙ c.in_ok-check_condition-in-Comp.ensures.same ∙ c.in_ok-enter_gens-in-Comp.ensures.entered ∙ ap (behind_all gen_part QueryVariable old) c.as_slice-in-Comp.ensures in
     c.leave_to-in-Comp.ensures ∙ ap (λ n. drop (length c.check_expr.new.names - n) c.check_expr.new.names) c.len-outside-in-Comp.ensures
-    ∙ ap (λ s. drop (length s - length old) s) inside ∙ left_behind_gens QueryVariable old c.in-Comp.gens
+    ∙ ap (λ s. drop (length s - length old) s) inside ∙ left_behind_gens old c.in-Comp.gens
 
 pub enter_gens-loop-generator-preserved : goal.enter_gens-loop-generator-preserved
 enter_gens-loop-generator-preserved t c =
@@ -56,8 +55,7 @@ enter_gens-loop-generator-preserved t c =
 pub enter_patterns-loop-pattern-preserved : goal.enter_patterns-loop-pattern-preserved
 enter_patterns-loop-pattern-preserved t c =
     let l = c.loop-pattern in
-    let role = role_of c.args.role in
     record {
-      told = told_all-more pattern_part pattern_steady c.args.line role c.args.names.now l.names c.args.least.now l.least c.enter_pattern.new.least c.args.patterns.now l.pattern-index c.pattern-item.result c.loop-pattern-test.true c.pattern-item.is l.invariant.told l.invariant.entered c.in_ok-enter_pattern.ensures.told;
-      entered = behind_all-more pattern_part pattern_steady role c.args.names.now l.names c.enter_pattern.new.names c.args.patterns.now l.pattern-index c.pattern-item.result c.loop-pattern-test.true c.pattern-item.is l.invariant.entered c.in_ok-enter_pattern.ensures.entered;
+      told = told_all-more pattern_part pattern_steady c.args.line QueryVariable c.args.names.now l.names c.args.least.now l.least c.enter_pattern.new.least c.args.patterns.now l.pattern-index c.pattern-item.result c.loop-pattern-test.true c.pattern-item.is l.invariant.told l.invariant.entered c.in_ok-enter_pattern.ensures.told;
+      entered = behind_all-more pattern_part pattern_steady QueryVariable c.args.names.now l.names c.enter_pattern.new.names c.args.patterns.now l.pattern-index c.pattern-item.result c.loop-pattern-test.true c.pattern-item.is l.invariant.entered c.in_ok-enter_pattern.ensures.entered;
     }

@@ -1,7 +1,6 @@
 use Rattle.std.proofs.Common.{◌≡◌, take}
 use Rattle.std.specs.List.{fold}
 use Rattle.da_lang.specs.ExprNames.{QueryVariable, pattern_part, gen_part}
-use Rattle.da_scope.specs.ScopeView.{role_of}
 use Rattle.da_scope.specs.Told.{behind_all, told_all, told_expr, told_link}
 use Rattle.da_scope.proofs.names.expressions.+expressions.Given as goal
 
@@ -25,6 +24,6 @@ invariant-enter_gens-loop-generator l = record {
 
 abbrev pub invariant-enter_patterns-loop-pattern : goal.invariant-enter_patterns-loop-pattern
 invariant-enter_patterns-loop-pattern l = record {
-  told : l.least ≡ told_all pattern_part l.line (role_of l.role) l.initial.names l.initial.least (take l.pattern-index l.patterns);
-  entered : l.names ≡ behind_all pattern_part (role_of l.role) l.initial.names (take l.pattern-index l.patterns);
+  told : l.least ≡ told_all pattern_part l.line QueryVariable l.initial.names l.initial.least (take l.pattern-index l.patterns);
+  entered : l.names ≡ behind_all pattern_part QueryVariable l.initial.names (take l.pattern-index l.patterns);
 }

@@ -31,6 +31,6 @@ pub check_branch-returns-clause-same : goal.check_branch-returns-clause-same
 check_branch-returns-clause-same t c =
     let old = c.args.names.now in
     let outside = c.check_expr.new.names in
-    let inside : c.check_block.new.names ≡ entered_each Local (found_names c.get-2.result.now) outside = c.in_ok-check_block.ensures.same ∙ c.in_ok-bind_found.ensures in
+    let inside : c.check_block.new.names ≡ entered_each Local (found_names c.get-2.result.now) outside = c.in_ok-check_block.ensures.same ∙ c.in_ok-enter_found.ensures in
     c.leave_to.ensures ∙ ap (λ n. drop (length c.check_block.new.names - n) c.check_block.new.names) c.len-outside.ensures
     ∙ ap (λ s. drop (length s - length outside) s) inside ∙ pushed Local (found_names c.get-2.result.now) outside ∙ c.in_ok-check_expr.ensures.same
