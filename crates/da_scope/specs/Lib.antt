@@ -1,3 +1,4 @@
+pub mod DeedView
 pub mod Repeats
 pub mod ScopeView
 pub mod Telling

@@ -1,5 +1,6 @@
 //! The refusals by names.
 
+mod deeds;
 mod expressions;
 mod repeats;
 mod scope;
