@@ -1,3 +1,4 @@
+pub mod AgainLaws
 pub mod DeedRules
 pub mod Found
 pub mod ListSteps
