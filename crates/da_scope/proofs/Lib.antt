@@ -1,5 +1,6 @@
 pub mod AgainLaws
 pub mod DeedRules
+pub mod EarlyAt
 pub mod Found
 pub mod ListSteps
 pub mod PartLaws

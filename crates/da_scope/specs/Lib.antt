@@ -1,4 +1,5 @@
 pub mod DeedView
+pub mod Early
 pub mod Repeats
 pub mod ScopeView
 pub mod Telling

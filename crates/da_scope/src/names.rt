@@ -1,6 +1,7 @@
 //! The refusals by names.
 
 mod deeds;
+mod early;
 mod expressions;
 mod repeats;
 mod scope;
