@@ -1,4 +1,5 @@
 pub mod AgainLaws
+pub mod BodyLaws
 pub mod DeedRules
 pub mod EarlyAt
 pub mod Found

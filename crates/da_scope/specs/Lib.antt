@@ -1,3 +1,4 @@
+pub mod BodyView
 pub mod DeedView
 pub mod Early
 pub mod Repeats

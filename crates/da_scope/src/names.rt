@@ -1,5 +1,6 @@
 //! The refusals by names.
 
+mod bodies;
 mod deeds;
 mod early;
 mod expressions;
