@@ -16,7 +16,7 @@ use Rattle.da_scope.proofs.TellingLaws.{telling-nil, telling-append}
 abbrev pub names_of : List parts.Declared → List (List ℕ)
 names_of ds = map (λ (d : parts.Declared). d.0) ds
 
-abbrev if_any : Bool → ℕ → List ℕ
+abbrev pub if_any : Bool → ℕ → List ℕ
 if_any b line = if b then line ∷ [] else []
 
 or_swap : (a b c : Bool) → ((a || b) || c) ≡ (b || (a || c))
@@ -49,11 +49,11 @@ pub again-snoc : (xs : List parts.Declared) (x : parts.Declared) → again (xs +
 again-snoc xs x = again_after-snoc [] xs x
 
 -- one more declaration
-tells_by : (kind : ScopeKind) (found last : Option Refusal) (line : ℕ) (b : Bool) → last ≡ (if b then telling found (record { kind = kind; line = line } ∷ []) else found) → last ≡ telling found (at_lines kind (if_any b line))
+pub tells_by : (kind : ScopeKind) (found last : Option Refusal) (line : ℕ) (b : Bool) → last ≡ (if b then telling found (record { kind = kind; line = line } ∷ []) else found) → last ≡ telling found (at_lines kind (if_any b line))
 tells_by kind found last line true is = is
 tells_by kind found last line false is = is ∙ sym (telling-nil found)
 
-at_lines-append : (kind : ScopeKind) (xs ys : List ℕ) → at_lines kind (xs ++ ys) ≡ at_lines kind xs ++ at_lines kind ys
+pub at_lines-append : (kind : ScopeKind) (xs ys : List ℕ) → at_lines kind (xs ++ ys) ≡ at_lines kind xs ++ at_lines kind ys
 at_lines-append kind xs ys = let at : ℕ → Refusal = λ line. record { kind = kind; line = line } in map-append at xs ys
 
 pub again_more : (kind : ScopeKind) (first found last : Option Refusal) (ds : List code.Declared) (i : ℕ) (d : code.Declared) (seen : Bool) → i < length ds

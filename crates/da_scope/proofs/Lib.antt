@@ -1,5 +1,6 @@
 pub mod AgainLaws
 pub mod BodyLaws
+pub mod DeedLaws
 pub mod DeedRules
 pub mod EarlyAt
 pub mod Found

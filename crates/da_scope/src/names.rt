@@ -1,6 +1,7 @@
 //! The refusals by names.
 
 mod bodies;
+mod deed_rules;
 mod deeds;
 mod early;
 mod expressions;
