@@ -1,8 +1,8 @@
 -- Names that are declared again, as declarations are read on.
-use Rattle.std.specs.Prelude.{◌≡◌, refl, ℕ, ◌+◌, ◌<◌, length, take, Bool, true, false, ◌||◌, if◌then◌else◌, List, [], ◌∷◌, ◌++◌, map, Option, Some, None, is_some, bytes_eq}
+use Rattle.std.specs.Prelude.{◌≡◌, refl, ℕ, ◌+◌, ◌<◌, length, take, Bool, true, false, ◌||◌, if◌then◌else◌, List, [], ◌∷◌, ◌++◌, map, Option, Some, is_some, bytes_eq}
 use Rattle.std.specs.List.{list_any}
 use Rattle.std.proofs.Common.{◌∙◌, ◌⊎◌, inl, inr, sym, ap, get_or}
-use Rattle.std.proofs.lemmas.List.{append-nil, map-append, take_more}
+use Rattle.std.proofs.lemmas.List.{map-append, take_more}
 use Rattle.std.proofs.lemmas.Slice.Eq.{bytes_eq-Decides}
 use Rattle.da_lang.specs.declared.refusal.ScopeKind.{ScopeKind}
 use Rattle.da_lang.specs.ClassParts as parts
@@ -75,7 +75,7 @@ again_more kind first found last ds i d seen within told is step =
 any-snoc : (q : List ℕ) (xs : List (List ℕ)) (x : List ℕ) → list_any (bytes_eq q) (xs ++ x ∷ []) ≡ (list_any (bytes_eq q) xs || bytes_eq q x)
 any-snoc q [] x = or_nil (bytes_eq q x)
 any-snoc q (y ∷ ys) x = ap (λ b. bytes_eq q y || b) (any-snoc q ys x) ∙ or_assoc (bytes_eq q y) (list_any (bytes_eq q) ys) (bytes_eq q x)
-    where
+  where
     or_assoc : (a b c : Bool) → (a || (b || c)) ≡ ((a || b) || c)
     or_assoc true b c = refl
     or_assoc false b c = refl
@@ -104,7 +104,7 @@ seen_more q ds i d before now within is step =
     let names = names_of (declared_in (take i ds)) in
     let name : code.Declared → List ℕ = λ e. e.name.now in
     let more : names_of (declared_in (take (i + 1) ds)) ≡ names ++ x.name.now ∷ [] =
-      ap (λ es. names_of (declared_in es)) (take_more ds i d within) ∙ ap names_of (map-append declared_of (take i ds) (x ∷ [])) ∙ map-append (λ (e : parts.Declared). e.0) (declared_in (take i ds)) (declared_of x ∷ []) in
+    ap (λ es. names_of (declared_in es)) (take_more ds i d within) ∙ ap names_of (map-append declared_of (take i ds) (x ∷ [])) ∙ map-append (λ (e : parts.Declared). e.0) (declared_in (take i ds)) (declared_of x ∷ []) in
     step ∙ ap (λ b. b || before) (bytes_eq-sym x.name.now q) ∙ ap (λ b. bytes_eq q x.name.now || b) is ∙ or_comm (bytes_eq q x.name.now) (list_any (bytes_eq q) names)
     ∙ sym (ap (list_any (bytes_eq q)) more ∙ any-snoc q names x.name.now)
 

@@ -1,5 +1,5 @@
 -- What is told of the names of a body, by what is told of its parts.
-use Rattle.std.specs.Prelude.{◌≡◌, refl, ℕ, ◌+◌, ◌-◌, ◌<◌, length, take, drop, Bool, true, false, if◌then◌else◌, List, [], ◌∷◌, ◌++◌, map, flat_map, Option, Some, None, option_to_list, bytes_eq}
+use Rattle.std.specs.Prelude.{◌≡◌, refl, ℕ, ◌+◌, ◌-◌, ◌<◌, length, take, drop, Bool, true, false, List, [], ◌∷◌, ◌++◌, map, flat_map, Option, Some, None, option_to_list, bytes_eq}
 use Rattle.std.specs.List.{list_any}
 use Rattle.std.proofs.Common.{◌∙◌, sym, ap, get_or, append_assoc}
 use Rattle.std.proofs.lemmas.List.{append-nil, map-append, take_more}
@@ -8,10 +8,9 @@ use Rattle.da_lang.specs.declared.refusal.ScopeKind.{ScopeKind}
 use Rattle.da_lang.specs.declared.refusal.ScopeKind.TheVariants as refusal
 use Rattle.da_lang.specs.declared.tree.Param.{Param}
 use Rattle.da_lang.specs.declared.tree.PatternTree.{PatternTree}
-use Rattle.da_lang.specs.declared.tree.Stmt.{Stmt}
 use Rattle.da_lang.specs.ClassParts.{Declared, Place, InSetup, InRun, InMethod, InHandler, Body}
 use Rattle.da_lang.specs.ExprNames.{Role, Local, Part, in_order, taken, pattern_part}
-use Rattle.da_lang.specs.NameRules.{again, again_after, patterns_at, locals_of, shadowed_params, doubled, scope_refusals}
+use Rattle.da_lang.specs.NameRules.{again, again_after, patterns_at, shadowed_params, doubled}
 use Rattle.da_lang.specs.Scopes.{Scope, look, entered, at_line, at_lines}
 use Rattle.da_lang.specs.StmtNames.{refused_in_body}
 use Rattle.da_scope.specs.BodyView.{place_variables, sender_variables_at, handler_variables_at, told_params, told_place, told_sender, told_body}
@@ -136,7 +135,7 @@ told_body-parts scope found b =
     let names = map (λ (p : Param). p.name) b.params in
     let rest = refused_in_body b.stmts (entered Local (names ++ binds) scope) in
     let split : at_line b.line (kinds ++ doubled b ++ inner) ≡ at_line b.line kinds ++ at_line b.line (doubled b) ++ at_line b.line inner =
-      map-append at (kinds ++ doubled b) inner ∙ ap (λ rs. rs ++ at_line b.line inner) (map-append at kinds (doubled b)) in
+    map-append at (kinds ++ doubled b) inner ∙ ap (λ rs. rs ++ at_line b.line inner) (map-append at kinds (doubled b)) in
     let first = telling found (at_line b.line kinds) in
     telling-append found (at_line b.line (kinds ++ doubled b ++ inner)) rest
     ∙ ap (λ rs. telling (telling found rs) rest) split

@@ -7,7 +7,7 @@ use Rattle.da_lang.specs.declared.tree.Expr.{Expr}
 use Rattle.da_lang.specs.declared.tree.Stmt.{Stmt}
 use Rattle.da_lang.specs.declared.tree.Stmt.TheVariants as stmt
 use Rattle.da_lang.specs.declared.tree.TimeoutTree.{TimeoutTree, out-TimeoutTree, roll-out-TimeoutTree}
-use Rattle.da_lang.specs.Deeds.{Deed, deed, deeds, deeds_of, deeds_of_branch, deeds_of_timeout, all, all_if, Sends, Outputs, Labels, Calls, Loops, Awaits, TimesOut, Other}
+use Rattle.da_lang.specs.Deeds.{Deed, deed, deeds, deeds_of, deeds_of_branch, deeds_of_timeout, all, all_if, Loops, Awaits, TimesOut, Other}
 use Rattle.da_lang.proofs.DeedsAt as at
 use Rattle.da_scope.specs.DeedView.{deed_of, deeds_in}
 use Rattle.da_scope.specs.declared.names.deeds.Deed as code

@@ -1,9 +1,8 @@
 -- What a part of a text refuses depends on what the names in scope stand for alone; of an expression it is the same for
 -- each role of new variables, and no variable comes out of it.
-use Rattle.std.specs.Prelude.{◌≡◌, refl, ℕ, ℤ, Bool, true, false, List, [], ◌∷◌, ◌++◌, map, flat_map, Option, Some, None, option_map, option_to_list}
+use Rattle.std.specs.Prelude.{◌≡◌, refl, ℕ, List, [], ◌∷◌, ◌++◌, map, Option, Some, None, option_map, option_to_list}
 use Rattle.std.specs.List.{AllByRecursion}
 use Rattle.std.proofs.Common.{◌∙◌, sym, ap, subst}
-use Rattle.da_lang.specs.declared.refusal.ScopeKind.{ScopeKind}
 use Rattle.da_lang.specs.declared.refusal.ScopeKind.TheVariants as refusal
 use Rattle.da_lang.specs.declared.tree.Expr.{Expr}
 use Rattle.da_lang.specs.declared.tree.GenTree.{GenTree}
@@ -13,7 +12,7 @@ use Rattle.da_lang.specs.declared.tree.ChainTree.{ChainTree}
 use Rattle.da_lang.specs.declared.tree.SourceTree.{SourceTree}
 use Rattle.da_lang.specs.declared.tree.SourceTree.TheVariants as source_tree
 use Rattle.da_lang.specs.ExprNames.{Role, QueryVariable, Part, in_order, together, inside, asked, named, comprehension, aggregate, variable, source_part, unless, is_slot, used, used_as_slot, taken, brought, names_of, pattern_part, peer_part, chain_part, gen_part}
-use Rattle.da_lang.specs.Scopes.{Scope, look}
+use Rattle.da_lang.specs.Scopes.{Scope}
 use Rattle.da_lang.proofs.CondInduction.{Where}
 use Rattle.da_lang.proofs.NamesAt as at
 use Rattle.da_lang.proofs.TreeInduction.{Cases, expr_induction, pattern_induction, peer_induction, link_induction, gen_induction}

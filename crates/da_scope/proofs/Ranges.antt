@@ -1,5 +1,5 @@
 -- Which expressions may be the argument of an aggregate.
-use Rattle.std.specs.Prelude.{◌≡◌, refl, ℕ, Bool, true, false, List, Option, Some, None}
+use Rattle.std.specs.Prelude.{◌≡◌, refl, ℕ, Bool, true, false, List, Option}
 use Rattle.std.proofs.Common.{◌∙◌, sym, ap}
 use Rattle.da_lang.specs.declared.tree.ChainTree.{ChainTree}
 use Rattle.da_lang.specs.declared.tree.Expr.{Expr, out-Expr, roll-Expr, roll-out-Expr}

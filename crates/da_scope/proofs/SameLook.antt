@@ -30,14 +30,14 @@ either_way role rest false false = refl
 same_moved : (role : Role) (n : List ℕ) (ns : List (List ℕ)) (s : Scope Role) → SameLook (entered role ns ((n, role) ∷ s)) ((n, role) ∷ entered role ns s)
 same_moved role n [] s = same_here ((n, role) ∷ s)
 same_moved role n (m ∷ ms) s = record {
-  at = λ q. (same_step (m, role) (entered role ms ((n, role) ∷ s)) ((n, role) ∷ entered role ms s) (same_moved role n ms s)).at q ∙ either_way role (look (entered role ms s) q) (bytes_eq m q) (bytes_eq n q)
+  at = λ q. (same_step (m, role) (entered role ms ((n, role) ∷ s)) ((n, role) ∷ entered role ms s) (same_moved role n ms s)).at q ∙ either_way role (look (entered role ms s) q) (bytes_eq m q) (bytes_eq n q);
 }
 
 -- all at once, and one after the other
 pub same_each : (role : Role) (ns : List (List ℕ)) (s : Scope Role) → SameLook (entered role ns s) (entered_each role ns s)
 same_each role [] s = same_here s
 same_each role (n ∷ ns) s = record {
-  at = λ q. sym ((same_moved role n ns s).at q) ∙ (same_each role ns ((n, role) ∷ s)).at q
+  at = λ q. sym ((same_moved role n ns s).at q) ∙ (same_each role ns ((n, role) ∷ s)).at q;
 }
 
 pub entered_each-append : (role : Role) (ns ms : List (List ℕ)) (s : Scope Role) → entered_each role (ns ++ ms) s ≡ entered_each role ms (entered_each role ns s)

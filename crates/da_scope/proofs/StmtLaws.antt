@@ -2,16 +2,15 @@
 use Rattle.std.specs.Prelude.{◌≡◌, refl, ℕ, List, [], ◌∷◌, ◌++◌, map, flat_map, Option, Some, None, option_map, option_to_list}
 use Rattle.std.specs.List.{AllByRecursion}
 use Rattle.std.proofs.Common.{◌∙◌, sym, ap, subst}
-use Rattle.da_lang.specs.declared.refusal.ScopeKind.{ScopeKind}
 use Rattle.da_lang.specs.declared.tree.Branch.{Branch}
 use Rattle.da_lang.specs.declared.tree.Expr.{Expr}
 use Rattle.da_lang.specs.declared.tree.Stmt.{Stmt}
 use Rattle.da_lang.specs.declared.tree.TimeoutTree.{TimeoutTree}
 use Rattle.da_lang.specs.ExprNames.{Role, Local, taken, refused_in, found_names}
-use Rattle.da_lang.specs.Scopes.{Scope, Refused, look, entered, at_line}
-use Rattle.da_lang.specs.StmtNames.{Refusing, Line, block, block_if, beside, says, changed, changes, no_binds, guarded, looped, line_of, branch_of, timeout_of}
+use Rattle.da_lang.specs.Scopes.{Scope, look, entered, at_line}
+use Rattle.da_lang.specs.StmtNames.{Refusing, Line, block, block_if, beside, says, changed, changes, guarded, looped, line_of, branch_of, timeout_of}
 use Rattle.da_lang.proofs.CondInduction.{Where}
-use Rattle.da_lang.proofs.StmtInduction.{StmtCases, stmt_induction, branch_induction, timeout_induction}
+use Rattle.da_lang.proofs.StmtInduction.{StmtCases, stmt_induction}
 use Rattle.da_lang.proofs.StmtNamesAt as at
 use Rattle.da_scope.proofs.PartLaws.{all_append, all_map, all_option, all_of, expr_plain}
 use Rattle.da_scope.proofs.SameLook.{SameLook, same_entered}
@@ -47,7 +46,7 @@ changes_steady line name x = record {
 guarded_steady : (line : ℕ) (x : Expr) (ls : List Line) → AllByRecursion SteadyLine ls → Steady (guarded line x ls)
 guarded_steady line x ls h = record {
   at = λ s t same. ap (λ rs. rs ++ block ls (entered Local (found_names x) s)) ((says_steady line (x ∷ [])).at s t same)
-    ∙ ap (λ rs. says line (x ∷ []) t ++ rs) (block_same ls h (entered Local (found_names x) s) (entered Local (found_names x) t) (same_entered Local (found_names x) s t same));
+      ∙ ap (λ rs. says line (x ∷ []) t ++ rs) (block_same ls h (entered Local (found_names x) s) (entered Local (found_names x) t) (same_entered Local (found_names x) s t same));
 }
 
 while_steady : (line : ℕ) (x : Expr) (ls : List Line) → AllByRecursion SteadyLine ls → Steady (λ scope. says line (x ∷ []) scope ++ block ls scope)
@@ -58,8 +57,8 @@ while_steady line x ls h = record {
 looped_steady : (line : ℕ) (name : List ℕ) (x : Expr) (ls : List Line) → AllByRecursion SteadyLine ls → Steady (looped line name x ls)
 looped_steady line name x ls h = record {
   at = λ s t same. ap (λ rs. rs ++ at_line line (taken (look s name)) ++ block ls (entered Local (name ∷ []) s)) ((says_steady line (x ∷ [])).at s t same)
-    ∙ ap (λ k. says line (x ∷ []) t ++ at_line line (taken k) ++ block ls (entered Local (name ∷ []) s)) (same.at name)
-    ∙ ap (λ rs. says line (x ∷ []) t ++ at_line line (taken (look t name)) ++ rs) (block_same ls h (entered Local (name ∷ []) s) (entered Local (name ∷ []) t) (same_entered Local (name ∷ []) s t same));
+      ∙ ap (λ k. says line (x ∷ []) t ++ at_line line (taken k) ++ block ls (entered Local (name ∷ []) s)) (same.at name)
+      ∙ ap (λ rs. says line (x ∷ []) t ++ at_line line (taken (look t name)) ++ rs) (block_same ls h (entered Local (name ∷ []) s) (entered Local (name ∷ []) t) (same_entered Local (name ∷ []) s t same));
 }
 
 all_lines : (body : List Stmt) → AllByRecursion (λ s. SteadyLine (line_of s)) body → AllByRecursion SteadyLine (map line_of body)

@@ -1,11 +1,10 @@
 -- What is told of an expression, a pattern and a generator, by what is told of their parts.
-use Rattle.std.specs.Prelude.{◌≡◌, refl, ℕ, ◌+◌, ◌-◌, length, drop, ℤ, Bool, true, false, List, [], ◌∷◌, ◌++◌, map, flat_map, Option, Some, None, option_map, option_to_list}
+use Rattle.std.specs.Prelude.{◌≡◌, refl, ℕ, ◌+◌, ◌-◌, length, drop, ℤ, Bool, List, [], ◌∷◌, ◌++◌, map, flat_map, Option, Some, None, option_map, option_to_list}
 use Rattle.std.specs.List.{AllByRecursion, fold}
 use Rattle.std.proofs.Common.{◌∙◌, sym, ap, arith, append_assoc, length-append}
 use Rattle.std.proofs.Math.Seq.{drop-append_seam}
 use Rattle.std.proofs.lemmas.List.{map-append}
 use Rattle.std.proofs.lemmas.List.Sums.{fold-append}
-use Rattle.da_lang.specs.declared.refusal.ScopeKind.{ScopeKind}
 use Rattle.da_lang.specs.declared.refusal.ScopeKind.TheVariants as refusal
 use Rattle.da_lang.specs.declared.tree.ChainTree.{ChainTree, out-ChainTree, roll-out-ChainTree}
 use Rattle.da_lang.specs.declared.tree.CmpOp.{CmpOp}
@@ -18,12 +17,12 @@ use Rattle.da_lang.specs.declared.tree.PeerTree.{PeerTree}
 use Rattle.da_lang.specs.declared.tree.PeerTree.TheVariants as peer
 use Rattle.da_lang.specs.declared.tree.SourceTree.{SourceTree}
 use Rattle.da_lang.specs.declared.tree.SourceTree.TheVariants as source_tree
-use Rattle.da_lang.specs.ExprNames.{Role, Local, QueryVariable, Part, in_order, inside, asked, together, comprehension, aggregate, unless, used, used_as_slot, is_slot, taken, source_part, names_of, pattern_part, peer_part, chain_part, gen_part}
+use Rattle.da_lang.specs.ExprNames.{Role, Local, QueryVariable, Part, in_order, inside, asked, together, comprehension, aggregate, unless, used, used_as_slot, taken, source_part, names_of, pattern_part, peer_part, chain_part, gen_part}
 use Rattle.da_lang.specs.Scopes.{Scope, look}
 use Rattle.da_lang.proofs.NamesAt as at
 use Rattle.da_scope.specs.Telling.{Refusal}
 use Rattle.da_scope.specs.Told.{entered_each, brought_each, behind, behind_all, told_kinds, told_part, told_parts, told_all, told_expr, told_argument, told_link}
-use Rattle.da_scope.proofs.PartLaws.{Steady, all_append, all_map, all_of, plain_steady, expr_plain, pattern_steady, peer_steady, link_plain, gen_steady, steady_source}
+use Rattle.da_scope.proofs.PartLaws.{Steady, all_append, all_map, all_of, plain_steady, expr_plain, pattern_steady, peer_steady, gen_steady, steady_source}
 use Rattle.da_scope.proofs.SameLook.{brought_each-nil, brought_each-append}
 use Rattle.da_scope.proofs.ToldParts.{told_kinds-nil, told_kinds-append, told_parts-nil, told_parts-cons, told_parts-one, told_all-nil, told_all-cons, told_all-one, told_all-snoc, behind_all-nil, behind_all-cons, behind_all-snoc, told_all-exprs}
 

@@ -1,5 +1,5 @@
 -- What is told of a statement, by what is told of its parts.
-use Rattle.std.specs.Prelude.{◌≡◌, refl, ℕ, ◌+◌, ◌-◌, ◌<◌, length, take, drop, Bool, true, false, List, [], ◌∷◌, ◌++◌, map, flat_map, Option, Some, None, option_map, option_to_list}
+use Rattle.std.specs.Prelude.{◌≡◌, refl, ℕ, ◌+◌, ◌-◌, ◌<◌, length, take, drop, List, [], ◌∷◌, ◌++◌, map, flat_map, Option, Some, None, option_map, option_to_list}
 use Rattle.std.specs.List.{fold}
 use Rattle.std.proofs.Common.{◌∙◌, sym, ap, get_or}
 use Rattle.std.proofs.lemmas.List.{append-nil, map-append, take_more}
@@ -11,8 +11,8 @@ use Rattle.da_lang.specs.declared.tree.Stmt.{Stmt}
 use Rattle.da_lang.specs.declared.tree.Stmt.TheVariants as stmt
 use Rattle.da_lang.specs.declared.tree.TimeoutTree.{TimeoutTree, out-TimeoutTree, roll-out-TimeoutTree}
 use Rattle.da_lang.specs.ExprNames.{Role, Local, taken, refused_in, found_names}
-use Rattle.da_lang.specs.Scopes.{Scope, Refused, look, entered, at_line}
-use Rattle.da_lang.specs.StmtNames.{Refusing, Line, block, block_if, beside, says, changed, changes, guarded, looped, line_of, branch_of, timeout_of, refused_in_body}
+use Rattle.da_lang.specs.Scopes.{Scope, look, entered, at_line}
+use Rattle.da_lang.specs.StmtNames.{Refusing, Line, block, block_if, beside, says, changed, changes, line_of, branch_of, timeout_of}
 use Rattle.da_lang.proofs.StmtNamesAt as at
 use Rattle.da_scope.specs.Telling.{Refusal, telling}
 use Rattle.da_scope.specs.Told.{entered_each, told_kinds, told_expr}

@@ -1,20 +1,16 @@
 -- What is told of parts that stand one behind the other.
-use Rattle.std.specs.Prelude.{◌≡◌, refl, ℕ, ◌+◌, ◌<◌, length, take, List, [], ◌∷◌, ◌++◌, map, flat_map, Option, Some, None, option_map, option_to_list}
+use Rattle.std.specs.Prelude.{◌≡◌, ℕ, ◌+◌, ◌<◌, length, take, List, [], ◌∷◌, ◌++◌, map, flat_map, Option}
 use Rattle.std.specs.List.{AllByRecursion, fold}
 use Rattle.std.proofs.Common.{◌∙◌, sym, ap, get_or}
 use Rattle.std.proofs.lemmas.List.{take_more}
-use Rattle.std.proofs.lemmas.List.{map-append, append-nil}
+use Rattle.std.proofs.lemmas.List.{map-append}
 use Rattle.da_lang.specs.declared.refusal.ScopeKind.{ScopeKind}
-use Rattle.da_lang.specs.declared.tree.ChainTree.{ChainTree}
 use Rattle.da_lang.specs.declared.tree.Expr.{Expr}
-use Rattle.da_lang.specs.declared.tree.GenTree.{GenTree}
-use Rattle.da_lang.specs.declared.tree.PatternTree.{PatternTree}
-use Rattle.da_lang.specs.declared.tree.PeerTree.{PeerTree}
-use Rattle.da_lang.specs.ExprNames.{Role, Local, Part, in_order, brought, names_of, pattern_part, peer_part, gen_part}
-use Rattle.da_lang.specs.Scopes.{Scope, Refused, at_line}
+use Rattle.da_lang.specs.ExprNames.{Role, Local, Part, in_order, brought, names_of}
+use Rattle.da_lang.specs.Scopes.{Scope, at_line}
 use Rattle.da_scope.specs.Telling.{Refusal, telling}
 use Rattle.da_scope.specs.Told.{brought_each, behind, behind_all, told_kinds, told_part, told_parts, told_all, told_expr}
-use Rattle.da_scope.proofs.PartLaws.{Steady, Plain, all_map, all_of, in_order-same, plain_steady, expr_plain, pattern_steady, peer_steady, gen_steady}
+use Rattle.da_scope.proofs.PartLaws.{Steady, Plain, all_map, all_of, in_order-same, plain_steady, expr_plain}
 use Rattle.da_scope.proofs.SameLook.{same_here, same_brought_each, brought_each-nil, brought_each-append}
 use Rattle.da_scope.proofs.TellingLaws.{telling-nil, telling-append}
 

@@ -1,5 +1,5 @@
 -- The names in scope and the refusal that is told, as statements are read on.
-use Rattle.std.specs.Prelude.{List, map, flat_map, Option}
+use Rattle.std.specs.Prelude.{List, flat_map, Option}
 use Rattle.da_lang.specs.declared.tree.Branch.{Branch}
 use Rattle.da_lang.specs.declared.tree.Stmt.{Stmt}
 use Rattle.da_lang.specs.declared.tree.TimeoutTree.{TimeoutTree}

@@ -166,12 +166,7 @@ fn put_branches<'t>(branches: &'t [Branch], out: &mut List<Deed<'t>>) -> Result<
 fn put_branch<'t>(branch: &'t Branch, out: &mut List<Deed<'t>>) -> Result<(), NoMemory>
     ensures { OnOk result (deeds_in out.new ≡ deeds_in out.old ++ deeds_of_branch branch.now) }
 {
-    put_deed(
-        branch.line,
-        Doing::Other,
-        Said::One(branch.cond.get()),
-        out,
-    )?;
+    put_deed(branch.line, Doing::Other, Said::One(branch.cond.get()), out)?;
     put_body(branch.body.as_slice(), out)
 }
 

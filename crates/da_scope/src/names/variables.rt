@@ -86,11 +86,7 @@ fn put_gens<'t>(
 }
 
 /// Appends the variables that a condition binds: those of a whole `some`.
-fn put_found<'t>(
-    cond: &'t Expr,
-    line: u32,
-    out: &mut List<Declared<'t>>,
-) -> Result<(), NoMemory>
+fn put_found<'t>(cond: &'t Expr, line: u32, out: &mut List<Declared<'t>>) -> Result<(), NoMemory>
     ensures { OnOk result (declared_in out.new ≡ declared_in out.old ++ found_at line cond.now) }
 {
     match cond {

@@ -1,4 +1,4 @@
-use Rattle.std.proofs.Common.{◌≡◌, ◌∙◌, sym, ap, ◌-◌, length, drop, map, List, ℕ}
+use Rattle.std.proofs.Common.{◌≡◌, ◌∙◌, sym, ap, ◌-◌, length, drop, map}
 use Rattle.da_lang.specs.declared.refusal.ScopeKind.TheVariants.{Shadow}
 use Rattle.da_lang.specs.ClassParts as parts
 use Rattle.da_lang.specs.ExprNames.{Local}
@@ -22,10 +22,10 @@ returns-clause-told c =
     let variables : declared_in c.as_slice.result.now ≡ place_variables b.line b.place = ap declared_in c.as_slice.ensures ∙ c.in_ok-variables.ensures in
     let variables-2 : declared_in c.as_slice-2.result.now ≡ place_variables b.line b.place = ap declared_in c.as_slice-2.ensures ∙ c.in_ok-variables.ensures in
     let doubled : c.tell_again.new.least ≡ telling (told_params b.line old first b.params) (at_lines Shadow (again (place_variables b.line b.place))) =
-      c.in_ok-tell_again.ensures ∙ ap (λ f. telling f (at_lines Shadow (again (declared_in c.as_slice.result.now)))) c.check_params.ensures ∙ ap (λ ds. telling (told_params b.line old first b.params) (at_lines Shadow (again ds))) variables in
+    c.in_ok-tell_again.ensures ∙ ap (λ f. telling f (at_lines Shadow (again (declared_in c.as_slice.result.now)))) c.check_params.ensures ∙ ap (λ ds. telling (told_params b.line old first b.params) (at_lines Shadow (again ds))) variables in
     let inside : c.enter_all.new.names ≡ entered_each Local (map (λ (d : parts.Declared). d.0) (place_variables b.line b.place)) (entered_each Local (map (λ p. p.name) b.params) old) =
-      c.in_ok-enter_all.ensures ∙ ap (λ ns. entered_each Local ns c.enter_params.new.names) (names_declared c.as_slice-2.result.now ∙ ap (map (λ (d : parts.Declared). d.0)) variables-2)
-      ∙ ap (entered_each Local (map (λ (d : parts.Declared). d.0) (place_variables b.line b.place))) (c.in_ok-enter_params.ensures ∙ ap (entered_each Local (map (λ p. p.name) b.params)) c.in_ok-check_place.ensures.same) in
+    c.in_ok-enter_all.ensures ∙ ap (λ ns. entered_each Local ns c.enter_params.new.names) (names_declared c.as_slice-2.result.now ∙ ap (map (λ (d : parts.Declared). d.0)) variables-2)
+    ∙ ap (entered_each Local (map (λ (d : parts.Declared). d.0) (place_variables b.line b.place))) (c.in_ok-enter_params.ensures ∙ ap (entered_each Local (map (λ p. p.name) b.params)) c.in_ok-check_place.ensures.same) in
     c.in_ok-check_block.ensures.told
     ∙ ap (λ s. told_block s c.check_place.new.least b.stmts) inside
     ∙ ap (λ f. told_block (entered_each Local (map (λ (d : parts.Declared). d.0) (place_variables b.line b.place)) (entered_each Local (map (λ p. p.name) b.params) old)) f b.stmts) (c.in_ok-check_place.ensures.told ∙ ap (λ f. told_place b.line old f b.place) doubled)
@@ -37,7 +37,7 @@ returns-clause-same c =
     let outside = c.check_place.new.names in
     let b = body_view c.args.body in
     let inside : c.check_block.new.names ≡ entered_each Local (map (λ (d : Declared). d.name.now) c.as_slice-2.result.now) (entered_each Local (map (λ p. p.name) b.params) outside) =
-      c.in_ok-check_block.ensures.same ∙ c.in_ok-enter_all.ensures ∙ ap (entered_each Local (map (λ (d : Declared). d.name.now) c.as_slice-2.result.now)) c.in_ok-enter_params.ensures in
+    c.in_ok-check_block.ensures.same ∙ c.in_ok-enter_all.ensures ∙ ap (entered_each Local (map (λ (d : Declared). d.name.now) c.as_slice-2.result.now)) c.in_ok-enter_params.ensures in
     c.leave_to.ensures ∙ ap (λ n. drop (length c.check_block.new.names - n) c.check_block.new.names) c.len-outside.ensures
     ∙ ap (λ s. drop (length s - length outside) s) inside
     ∙ left_body outside (map (λ p. p.name) b.params) (map (λ (d : Declared). d.name.now) c.as_slice-2.result.now) ∙ c.in_ok-check_place.ensures.same

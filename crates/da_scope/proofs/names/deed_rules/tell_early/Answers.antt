@@ -17,6 +17,6 @@ loop-deed-preserved c =
     let l = c.loop-deed in
     where_more Setup (λ (d : Deed). acts d.does || list_any asks d.says) c.args.least.now l.least c.if-is_early.least c.args.deeds.now l.deed-index c.deed-item.result c.is_early.result c.loop-deed-test.true c.deed-item.is l.invariant c.is_early.ensures
     (elim c.if-is_early.branch [
-      then-is_early w ↦ inl (w.if-is_early.true, w.least-is ∙ w.tell.ensures)
-    | else-is_early w ↦ inr (w.if-is_early.false, w.least-is)
+      | then-is_early w ↦ inl (w.if-is_early.true, w.least-is ∙ w.tell.ensures)
+      | else-is_early w ↦ inr (w.if-is_early.false, w.least-is)
     ])

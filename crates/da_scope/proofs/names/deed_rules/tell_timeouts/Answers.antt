@@ -14,6 +14,6 @@ loop-deed-preserved c =
     let l = c.loop-deed in
     where_more NotYet (λ (d : Deed). times_out d.does) c.args.least.now l.least c.if-is_timeout.least c.args.deeds.now l.deed-index c.deed-item.result c.is_timeout.result c.loop-deed-test.true c.deed-item.is l.invariant c.is_timeout.ensures
     (elim c.if-is_timeout.branch [
-      then-is_timeout w ↦ inl (w.if-is_timeout.true, w.least-is ∙ w.tell.ensures)
-    | else-is_timeout w ↦ inr (w.if-is_timeout.false, w.least-is)
+      | then-is_timeout w ↦ inl (w.if-is_timeout.true, w.least-is ∙ w.tell.ensures)
+      | else-is_timeout w ↦ inr (w.if-is_timeout.false, w.least-is)
     ])

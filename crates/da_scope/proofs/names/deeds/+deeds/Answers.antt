@@ -3,7 +3,6 @@ use Rattle.std.specs.List.{flat_map}
 use Rattle.std.specs.Option.{option_to_list}
 use Rattle.std.proofs.lemmas.List.{append-nil}
 use Rattle.da_lang.specs.declared.tree.Branch.{out-Branch}
-use Rattle.da_lang.specs.declared.tree.TimeoutTree.{TimeoutTree, out-TimeoutTree}
 use Rattle.da_lang.specs.Deeds.{Deed, deed, deeds, deeds_of_branch, deeds_of_timeout, Other, TimesOut}
 use Rattle.da_scope.specs.DeedView.{deeds_in}
 use Rattle.da_scope.proofs.DeedRules.{branch_deeds_of, timeout_deeds_of}

@@ -13,7 +13,7 @@ pub check_expr-returns-in_ok-check_condition-in-Quant-clause-same :
 check_expr-returns-in_ok-check_condition-in-Quant-clause-same t c =
     let old = c.args.names.now in
     let inside : c.check_condition.new.names ≡ behind_all gen_part QueryVariable old c.in-Quant.gens =
-      c.in_ok-check_condition-in-Quant.ensures.same ∙ c.in_ok-enter_gens-in-Quant.ensures.entered ∙ ap (behind_all gen_part QueryVariable old) c.as_slice.ensures in
+    c.in_ok-check_condition-in-Quant.ensures.same ∙ c.in_ok-enter_gens-in-Quant.ensures.entered ∙ ap (behind_all gen_part QueryVariable old) c.as_slice.ensures in
     c.leave_to.ensures ∙ ap (λ n. drop (length c.check_condition.new.names - n) c.check_condition.new.names) c.len-outside.ensures
     ∙ ap (λ s. drop (length s - length old) s) inside ∙ left_behind_gens old c.in-Quant.gens
 
@@ -28,7 +28,7 @@ check_expr-returns-in_ok-check_expr-in-Comp-clause-told t c =
     let entered : c.enter_gens-in-Comp.new.names ≡ within = c.in_ok-enter_gens-in-Comp.ensures.entered ∙ ap (behind_all gen_part QueryVariable old) c.as_slice-in-Comp.ensures in
     let gens : c.enter_gens-in-Comp.new.least ≡ told_all gen_part line QueryVariable old first q.gens = c.in_ok-enter_gens-in-Comp.ensures.told ∙ ap (told_all gen_part line QueryVariable old first) c.as_slice-in-Comp.ensures in
     let conditioned : c.check_condition-in-Comp.new.least ≡ fold (told_expr line within) (told_all gen_part line QueryVariable old first q.gens) (option_to_list q.cond) =
-      c.in_ok-check_condition-in-Comp.ensures.told ∙ ap (λ s. fold (told_expr line s) c.enter_gens-in-Comp.new.least (option_to_list q.cond)) entered ∙ ap (λ f. fold (told_expr line within) f (option_to_list q.cond)) gens in
+    c.in_ok-check_condition-in-Comp.ensures.told ∙ ap (λ s. fold (told_expr line s) c.enter_gens-in-Comp.new.least (option_to_list q.cond)) entered ∙ ap (λ f. fold (told_expr line within) f (option_to_list q.cond)) gens in
     c.in_ok-check_expr-in-Comp.ensures.told
     ∙ ap (λ s. told_expr line s c.check_condition-in-Comp.new.least c.get.result.now) (c.in_ok-check_condition-in-Comp.ensures.same ∙ entered)
     ∙ ap (λ f. told_expr line within f c.get.result.now) conditioned
@@ -40,7 +40,7 @@ pub check_expr-returns-in_ok-check_expr-in-Comp-clause-same :
 check_expr-returns-in_ok-check_expr-in-Comp-clause-same t c =
     let old = c.args.names.now in
     let inside : c.check_expr.new.names ≡ behind_all gen_part QueryVariable old c.in-Comp.gens =
-      c.in_ok-check_expr-in-Comp.ensures.same ∙ c.in_ok-check_condition-in-Comp.ensures.same ∙ c.in_ok-enter_gens-in-Comp.ensures.entered ∙ ap (behind_all gen_part QueryVariable old) c.as_slice-in-Comp.ensures in
+    c.in_ok-check_expr-in-Comp.ensures.same ∙ c.in_ok-check_condition-in-Comp.ensures.same ∙ c.in_ok-enter_gens-in-Comp.ensures.entered ∙ ap (behind_all gen_part QueryVariable old) c.as_slice-in-Comp.ensures in
     c.leave_to-in-Comp.ensures ∙ ap (λ n. drop (length c.check_expr.new.names - n) c.check_expr.new.names) c.len-outside-in-Comp.ensures
     ∙ ap (λ s. drop (length s - length old) s) inside ∙ left_behind_gens old c.in-Comp.gens
 

@@ -1,7 +1,6 @@
 use Rattle.std.proofs.Common.{◌∙◌, ap}
 use Rattle.std.specs.Prelude.{is_some}
 use Rattle.std.proofs.lemmas.Map.Text.{btree_map_updates_str}
-use Rattle.da_scope.specs.Repeats.{is_seen}
 use Rattle.da_scope.proofs.AgainLaws.{some_if}
 use Rattle.da_scope.proofs.names.repeats.see.Goals as goal
 

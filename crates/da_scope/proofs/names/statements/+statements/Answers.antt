@@ -1,7 +1,6 @@
 use Rattle.std.proofs.Common.{◌≡◌, ◌∙◌, sym, ap, ◌-◌, length, drop, take}
 use Rattle.da_lang.specs.ExprNames.{Local, found_names}
 use Rattle.da_scope.specs.Told.{entered_each}
-use Rattle.da_scope.specs.ToldStmts.{behind_stmts}
 use Rattle.da_scope.proofs.ToldExprs.{pushed}
 use Rattle.da_scope.proofs.ToldLines.{told_block-nil, behind_stmts-nil, told_block-more, behind_stmts-more, left_behind_stmts}
 use Rattle.da_scope.proofs.names.statements.+statements.Goals as goal

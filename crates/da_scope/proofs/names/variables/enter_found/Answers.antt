@@ -1,6 +1,6 @@
-use Rattle.std.proofs.Common.{◌≡◌, ◌∙◌, ap, map, ◌++◌, List, ℕ}
+use Rattle.std.proofs.Common.{◌≡◌, ◌∙◌, ap, map, ◌++◌, List}
 use Rattle.da_lang.specs.ClassParts as parts
-use Rattle.da_lang.specs.ExprNames.{Local, found_names}
+use Rattle.da_lang.specs.ExprNames.{Local}
 use Rattle.da_scope.specs.Repeats.{declared_in}
 use Rattle.da_scope.specs.declared.names.repeats.Declared.{Declared}
 use Rattle.da_scope.specs.Told.{entered_each}

@@ -1,8 +1,8 @@
-use Rattle.std.proofs.Common.{◌≡◌, ◌∙◌, sym, ap, ◌++◌, [], flat_map, rules}
+use Rattle.std.proofs.Common.{◌∙◌, sym, ap, ◌++◌, flat_map}
 use Rattle.std.proofs.lemmas.List.{append-nil}
 use Rattle.da_lang.specs.declared.tree.Expr.TheVariants as ex
 use Rattle.da_scope.specs.Repeats.{declared_in}
-use Rattle.da_scope.specs.Variables.{found_at, gen_variables_at}
+use Rattle.da_scope.specs.Variables.{gen_variables_at}
 use Rattle.da_scope.proofs.ListSteps.{on_same}
 use Rattle.da_scope.proofs.VariablesAt.{found_at-some, found_at-each, found_at-none}
 use Rattle.da_scope.proofs.names.variables.put_found.Goals as goal

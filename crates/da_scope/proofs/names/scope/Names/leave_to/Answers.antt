@@ -1,4 +1,4 @@
-use Rattle.std.proofs.Common.{arith, subst, length, length-append, ◌++◌, ◌∷◌, [], ap, ◌∙◌, ◌≡◌, ◌+◌}
+use Rattle.std.proofs.Common.{arith, subst, length, length-append, ◌∷◌, [], ap, ◌∙◌, ◌≡◌, ◌+◌}
 use Rattle.da_scope.specs.ScopeView.{IsIndexed}
 use Rattle.da_scope.proofs.ScopeLaws.{indexed_shrunk, last_present, left_on}
 use Rattle.da_scope.proofs.names.scope.Names.leave_to.Goals as goal
