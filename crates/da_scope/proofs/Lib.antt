@@ -1,3 +1,5 @@
+pub mod AgainLaws
+pub mod BodyLaws
 pub mod CallAnswers
 pub mod CallBodies
 pub mod CallBounds
@@ -10,3 +12,18 @@ pub mod CallReached
 pub mod CallRows
 pub mod CallSearch
 pub mod CallTranslation
+pub mod DeedLaws
+pub mod DeedRules
+pub mod EarlyAt
+pub mod Found
+pub mod ListSteps
+pub mod PartLaws
+pub mod Ranges
+pub mod SameLook
+pub mod ScopeLaws
+pub mod StmtLaws
+pub mod TellingLaws
+pub mod ToldExprs
+pub mod ToldLines
+pub mod ToldParts
+pub mod VariablesAt

@@ -1,3 +1,4 @@
+pub mod BodyView
 pub mod CallBodies
 pub mod CallCycles
 pub mod CallGraph
@@ -7,3 +8,11 @@ pub mod CallOrder
 pub mod CallPaths
 pub mod CallRows
 pub mod CallTasks
+pub mod DeedView
+pub mod Early
+pub mod Repeats
+pub mod ScopeView
+pub mod Telling
+pub mod Told
+pub mod ToldStmts
+pub mod Variables
