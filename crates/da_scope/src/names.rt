@@ -1,6 +1,9 @@
 //! The refusals by names.
 
 mod bodies;
+mod call_rules;
+mod classes;
+mod declared;
 mod deed_rules;
 mod deeds;
 mod early;
