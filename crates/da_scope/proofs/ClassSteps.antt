@@ -1,19 +1,19 @@
 -- Steps of the loops over the parts of a class.
-use Rattle.std.specs.Prelude.{◌≡◌, refl, ℕ, ◌+◌, ◌<◌, length, take, drop, Bool, true, false, not, ◌==◌, ◌&&◌, ◌||◌, if◌then◌else◌, List, [], ◌∷◌, ◌++◌, map, filter, filter_map, flat_map, Option, Some, None, option_map}
+use Rattle.std.specs.Prelude.{◌≡◌, refl, ℕ, suc, ◌+◌, ◌<◌, length, take, drop, Bool, true, false, not, ◌==◌, ◌&&◌, ◌||◌, if◌then◌else◌, List, [], ◌∷◌, ◌++◌, map, filter, filter_map, flat_map, Option, Some, None, option_map}
 use Rattle.std.specs.List.{cons_option}
-use Rattle.std.proofs.Common.{◌∙◌, sym, ap, get_or}
+use Rattle.std.proofs.Common.{◌∙◌, sym, ap, arith, eqb-true, get_or}
 use Rattle.std.proofs.lemmas.List.{append-nil, map-append, take_more}
 use Rattle.std.proofs.lemmas.List.Elements.{filter-append, filter_map-append}
 use Rattle.std.proofs.lemmas.Grind.{flat_map-append}
 use Rattle.da_lang.specs.declared.refusal.ScopeKind.{ScopeKind}
-use Rattle.da_lang.specs.declared.refusal.ScopeKind.TheVariants.{Twice}
+use Rattle.da_lang.specs.declared.refusal.ScopeKind.TheVariants.{NoRun, Twice}
 use Rattle.da_lang.specs.declared.tree.Member.{Member}
 use Rattle.da_lang.specs.declared.tree.Member.TheVariants as member
-use Rattle.da_lang.specs.ClassParts.{Declared, Place, Body, Variable, variable_in}
+use Rattle.da_lang.specs.ClassParts.{Declared, Place, Body, Variable, is_run, variable_in}
 use Rattle.da_lang.specs.Scopes.{at_lines}
 use Rattle.da_scope.specs.declared.names.bodies.Body as code
 use Rattle.da_scope.specs.BodyView.{body_view, place_view}
-use Rattle.da_scope.specs.ClassRules.{bodies_in, has_some, lines_behind, those, variable_name}
+use Rattle.da_scope.specs.ClassRules.{bodies_in, has_some, lines_behind, no_run_line, those, variable_name}
 use Rattle.da_scope.specs.Telling.{Refusal, telling}
 use Rattle.da_scope.proofs.AgainLaws.{if_any, at_lines-append, tells_by}
 use Rattle.da_scope.proofs.TellingLaws.{telling-append, telling-nil}
@@ -68,9 +68,16 @@ told_more p first found last xs i x within is told step =
     ∙ ap (telling first) (sym (ap (flat_map p) (one_more xs i x within is) ∙ flat_map-append p (take i xs) (x ∷ [])))
 
 -- a loop that tells of those behind the first
+zero_by : (n : ℕ) (b : Bool) → (suc n == 0) ≡ b → (suc n == 0) ≡ false
+zero_by n true e = absurd (omega (arith, eqb-true (suc n) 0 e))
+zero_by n false e = e
+
+not_zero : (n : ℕ) → (suc n == 0) ≡ false
+not_zero n = zero_by n (suc n == 0) refl
+
 behind_by : (b : Body) (bs : List Body) → map (λ (x : Body). x.line) (drop 1 (bs ++ b ∷ [])) ≡ map (λ (x : Body). x.line) (drop 1 bs) ++ if_any (not (length bs == 0)) b.line
 behind_by b [] = refl
-behind_by b (x ∷ xs) = map-append (λ (y : Body). y.line) xs (b ∷ [])
+behind_by b (x ∷ xs) = map-append (λ (y : Body). y.line) xs (b ∷ []) ∙ ap (λ c. map (λ (y : Body). y.line) xs ++ if_any (not c) b.line) (sym (not_zero (length xs)))
 
 last_of : (test : Place → Bool) (bs : List Body) (b : Body) (t : Bool) → t ≡ test b.place → those test (bs ++ b ∷ []) ≡ those test bs ++ (if t then b ∷ [] else [])
 last_of test bs b t is = filter-append (λ x. test x.place) bs (b ∷ []) ∙ ap (λ u. those test bs ++ (if u then b ∷ [] else [])) (sym is)
@@ -82,7 +89,7 @@ behind_last test bs b false is =
 
 some_by : (b : Body) (bs : List Body) → not (length (bs ++ b ∷ []) == 0) ≡ true
 some_by b [] = refl
-some_by b (x ∷ xs) = refl
+some_by b (x ∷ xs) = ap not (not_zero (length (xs ++ b ∷ [])))
 
 some_last : (test : Place → Bool) (bs : List Body) (b : Body) (t : Bool) → t ≡ test b.place → has_some test (bs ++ b ∷ []) ≡ (t || has_some test bs)
 some_last test bs b true is = ap (λ (xs : List Body). not (length xs == 0)) (last_of test bs b true is) ∙ some_by b (those test bs)
@@ -115,3 +122,40 @@ some_more test bs i x t s now within is some tests step =
 -- a rule that says nothing here
 pub told_nothing : (kind : ScopeKind) (found : Option Refusal) (t : Bool) (lines : List ℕ) → t ≡ false → found ≡ telling found (at_lines kind (if t then lines else []))
 told_nothing kind found t lines is = sym (ap (λ u. telling found (at_lines kind (if u then lines else []))) is ∙ telling-nil found)
+
+-- rules one after the other
+pub four_steps : (f g h i : Option Refusal) (a b c d : List Refusal) → g ≡ telling f a → h ≡ telling g b → i ≡ telling h c → telling i d ≡ telling f (a ++ b ++ c ++ d)
+four_steps f g h i a b c d first second third =
+    ap (λ x. telling x d) (third ∙ ap (λ x. telling x c) (second ∙ ap (λ x. telling x b) first ∙ sym (telling-append f a b)) ∙ sym (telling-append f (a ++ b) c))
+    ∙ sym (telling-append f (a ++ b ++ c) d)
+
+pub five_steps : (f g h i j : Option Refusal) (a b c d e : List Refusal) → g ≡ telling f a → h ≡ telling g b → i ≡ telling h c → j ≡ telling i d → telling j e ≡ telling f (a ++ b ++ c ++ d ++ e)
+five_steps f g h i j a b c d e first second third fourth =
+    ap (λ x. telling x e) (fourth ∙ four_steps f g h i a b c d first second third) ∙ sym (telling-append f (a ++ b ++ c ++ d) e)
+
+-- a class with no `run`
+none_by : (b z : Bool) (line : ℕ) → z ≡ not b → if_any (not z) line ≡ (if b then line ∷ [] else [])
+none_by true z line is = ap (λ y. if_any (not y) line) is
+none_by false z line is = ap (λ y. if_any (not y) line) is
+
+pub no_run_told : (line : ℕ) (bs : List Body) (found last : Option Refusal) (z : Bool) → z ≡ has_some is_run bs → last ≡ (if not z then telling found (record { kind = NoRun; line = line } ∷ []) else found) → last ≡ telling found (at_lines NoRun (no_run_line line bs))
+no_run_told line bs found last z is step =
+    tells_by NoRun found last line (not z) step ∙ ap (λ ls. telling found (at_lines NoRun ls)) (none_by (length (those is_run bs) == 0) z line is)
+
+pub behind_none : (test : Place → Bool) (found : Option Refusal) → found ≡ telling found (at_lines Twice (lines_behind test (bodies_in [])))
+unfolding bodies_in
+behind_none test found = sym (telling-nil found)
+
+pub some_none : (test : Place → Bool) → false ≡ has_some test (bodies_in [])
+unfolding bodies_in
+some_none test = refl
+
+-- what is told by two tests
+pub when_both : {A : Type 0} (t s : Bool) (x y last : A) → t ≡ true → s ≡ true → last ≡ x → last ≡ (if t && s then x else y)
+when_both t s x y last p q is = is ∙ sym (ap (λ u. if u && s then x else y) p ∙ ap (λ u. if u then x else y) q)
+
+pub when_first : {A : Type 0} (t s : Bool) (x y last : A) → t ≡ true → s ≡ false → last ≡ y → last ≡ (if t && s then x else y)
+when_first t s x y last p q is = is ∙ sym (ap (λ u. if u && s then x else y) p ∙ ap (λ u. if u then x else y) q)
+
+pub when_not : {A : Type 0} (t s : Bool) (x y last : A) → t ≡ false → last ≡ y → last ≡ (if t && s then x else y)
+when_not t s x y last p is = is ∙ sym (ap (λ u. if u && s then x else y) p)

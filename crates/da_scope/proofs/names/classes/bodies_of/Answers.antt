@@ -15,6 +15,6 @@ unfolding bodies_in
 loop-member-preserved c =
     let l = c.loop-member in
     elim c.match-body_of.branch [
-      | in-Some+in_ok-push w ↦ kept_some body_view body_in l.list _ _ l.member-index c.member-item.result w.in-Some.body c.loop-member-test.true c.member-item.is l.invariant w.in-Some.ensures (w.list-is ∙ w.in_ok-push.ensures)
+      | in-Some+in_ok-push w ↦ kept_some body_view body_in l.list _ _ l.member-index c.member-item.result w.in-Some.body c.loop-member-test.true c.member-item.is l.invariant w.in-Some.ensures (w.list-is ∙ w.in_ok-push.ensures.ok)
       | in_default w ↦ kept_none body_view body_in l.list _ _ l.member-index c.member-item.result c.loop-member-test.true c.member-item.is l.invariant w.in_default.ensures w.list-is
     ]

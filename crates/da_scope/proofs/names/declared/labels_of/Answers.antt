@@ -13,7 +13,7 @@ pub loop-deed-preserved : goal.loop-deed-preserved
 loop-deed-preserved c =
     let l = c.loop-deed in
     elim c.match-label_in.branch [
-      | in-Some+in_ok-push w ↦ kept_some declared_of (λ (d : Deed). labelled d.line (doing_of d.does)) l.list _ _ l.deed-index c.deed-item.result w.in-Some.label c.loop-deed-test.true c.deed-item.is l.invariant w.in-Some.ensures (w.list-is ∙ w.in_ok-push.ensures)
+      | in-Some+in_ok-push w ↦ kept_some declared_of (λ (d : Deed). labelled d.line (doing_of d.does)) l.list _ _ l.deed-index c.deed-item.result w.in-Some.label c.loop-deed-test.true c.deed-item.is l.invariant w.in-Some.ensures (w.list-is ∙ w.in_ok-push.ensures.ok)
       | in_default w ↦ kept_none declared_of (λ (d : Deed). labelled d.line (doing_of d.does)) l.list _ _ l.deed-index c.deed-item.result c.loop-deed-test.true c.deed-item.is l.invariant w.in_default.ensures w.list-is
     ]
 

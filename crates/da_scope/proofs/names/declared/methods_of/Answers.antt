@@ -13,7 +13,7 @@ pub loop-body-preserved : goal.loop-body-preserved
 loop-body-preserved c =
     let l = c.loop-body in
     elim c.match-method_in.branch [
-      | in-Some+in_ok-push w ↦ kept_some declared_of (λ (b : Body). named_body (body_view b)) l.list _ _ l.body-index c.body-item.result w.in-Some.method c.loop-body-test.true c.body-item.is l.invariant w.in-Some.ensures (w.list-is ∙ w.in_ok-push.ensures)
+      | in-Some+in_ok-push w ↦ kept_some declared_of (λ (b : Body). named_body (body_view b)) l.list _ _ l.body-index c.body-item.result w.in-Some.method c.loop-body-test.true c.body-item.is l.invariant w.in-Some.ensures (w.list-is ∙ w.in_ok-push.ensures.ok)
       | in_default w ↦ kept_none declared_of (λ (b : Body). named_body (body_view b)) l.list _ _ l.body-index c.body-item.result c.loop-body-test.true c.body-item.is l.invariant w.in_default.ensures w.list-is
     ]
 

@@ -10,7 +10,7 @@ pub loop-member-preserved : goal.loop-member-preserved
 loop-member-preserved c =
     let l = c.loop-member in
     elim c.match-variable_in.branch [
-      | in-Some+in_ok-push w ↦ kept_some declared_of variable_name l.list _ _ l.member-index c.member-item.result w.in-Some.variable c.loop-member-test.true c.member-item.is l.invariant w.in-Some.ensures (w.list-is ∙ w.in_ok-push.ensures)
+      | in-Some+in_ok-push w ↦ kept_some declared_of variable_name l.list _ _ l.member-index c.member-item.result w.in-Some.variable c.loop-member-test.true c.member-item.is l.invariant w.in-Some.ensures (w.list-is ∙ w.in_ok-push.ensures.ok)
       | in_default w ↦ kept_none declared_of variable_name l.list _ _ l.member-index c.member-item.result c.loop-member-test.true c.member-item.is l.invariant w.in_default.ensures w.list-is
     ]
 
