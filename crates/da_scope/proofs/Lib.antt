@@ -17,6 +17,8 @@ pub mod DeedRules
 pub mod EarlyAt
 pub mod Found
 pub mod ListSteps
+pub mod MainLaws
+pub mod MainMaps
 pub mod PartLaws
 pub mod Ranges
 pub mod SameLook

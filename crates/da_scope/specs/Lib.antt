@@ -10,6 +10,7 @@ pub mod CallRows
 pub mod CallTasks
 pub mod DeedView
 pub mod Early
+pub mod MainView
 pub mod Repeats
 pub mod ScopeView
 pub mod Telling

@@ -1,10 +1,13 @@
 //! The refusals by names.
 
+mod arities;
 mod bodies;
+mod declarations;
 mod deed_rules;
 mod deeds;
 mod early;
 mod expressions;
+mod main_lines;
 mod repeats;
 mod scope;
 mod statements;
