@@ -2,6 +2,7 @@
 
 mod arities;
 mod bodies;
+mod classes;
 mod declarations;
 mod deed_rules;
 mod deeds;
