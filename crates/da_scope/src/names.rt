@@ -12,4 +12,5 @@ mod main_lines;
 mod repeats;
 mod scope;
 mod statements;
+mod tree;
 mod variables;
