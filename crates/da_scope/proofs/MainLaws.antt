@@ -16,9 +16,9 @@ use Rattle.da_lang.specs.declared.tree.MainLine.TheVariants as main_line
 use Rattle.da_lang.specs.declared.tree.Tree.{Tree}
 use Rattle.da_lang.specs.ClassParts.{class_of}
 use Rattle.da_lang.specs.ClassParts as parts
-use Rattle.da_lang.specs.ExprNames.{Role, Local, Made, names_of, refused_in, unless, used}
-use Rattle.da_lang.specs.NameRules.{rank, again, class_refusals, name_refusals, twice_of, made_at, set_up_at, made_class, made_name, first_class, class_made, made_scope, setup_misfits, setup_kinds, main_refusals_at, main_refusals}
-use Rattle.da_lang.specs.Scopes.{Scope, look, entered, at_line, at_lines, told}
+use Rattle.da_lang.specs.ExprNames.{Role, Local, Made, refused_in, unless, used}
+use Rattle.da_lang.specs.NameRules.{rank, again, class_refusals, name_refusals, twice_of, made_at, set_up_at, made_class, made_name, first_class, made_scope, setup_misfits, setup_kinds, main_refusals_at, main_refusals}
+use Rattle.da_lang.specs.Scopes.{Scope, look, at_line, at_lines, told}
 use Rattle.da_lang.specs.Written.{asks, reads_clock}
 use Rattle.da_scope.specs.Early.{asks_early}
 use Rattle.da_scope.specs.MainView.{setup_arity, setup_kinds_by, told_line}
@@ -29,7 +29,7 @@ use Rattle.da_scope.specs.Told.{entered_each, told_kinds, told_expr}
 use Rattle.da_scope.proofs.AgainLaws.{at_lines-append}
 use Rattle.da_scope.proofs.PartLaws.{expr_plain}
 use Rattle.da_scope.proofs.SameLook.{SameLook, same_each, entered_each-append}
-use Rattle.da_scope.proofs.TellingLaws.{telling-nil, telling-append, told-telling}
+use Rattle.da_scope.proofs.TellingLaws.{telling-append, told-telling}
 use Rattle.da_scope.proofs.ToldExprs.{told_expr-Name}
 use Rattle.da_scope.proofs.ToldParts.{told_kinds-nil, told_kinds-append}
 

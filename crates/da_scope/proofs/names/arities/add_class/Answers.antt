@@ -1,6 +1,6 @@
 use Rattle.std.proofs.Common.{Some, None, ◌∙◌, ap, sym, bytes_eq, if◌then◌else◌}
 use Rattle.std.specs.Option.{option_or}
-use Rattle.da_scope.specs.MainView.{at_name, setup_arity}
+use Rattle.da_scope.specs.MainView.{at_name}
 use Rattle.da_scope.proofs.MainMaps.{put_first}
 use Rattle.da_scope.proofs.names.arities.add_class.Goals as goal
 

@@ -1,4 +1,4 @@
-use Rattle.std.proofs.Common.{◌≡◌, ◌∙◌, ap, refl, map, filter_map, List, Option}
+use Rattle.std.proofs.Common.{◌∙◌, ap, refl, map, filter_map, List, Option}
 use Rattle.da_lang.specs.declared.refusal.ScopeKind.TheVariants.{Twice}
 use Rattle.da_lang.specs.declared.tree.ClassTree.{ClassTree}
 use Rattle.da_lang.specs.declared.tree.MessageDecl.{MessageDecl}

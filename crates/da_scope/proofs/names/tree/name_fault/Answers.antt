@@ -1,7 +1,5 @@
 use Rattle.std.proofs.Common.{◌∙◌, ap, flat_map}
-use Rattle.da_lang.specs.declared.refusal.ScopeKind.TheVariants.{Twice}
-use Rattle.da_lang.specs.NameRules.{class_refusals, twice_of}
-use Rattle.da_lang.specs.Scopes.{at_lines}
+use Rattle.da_lang.specs.NameRules.{class_refusals}
 use Rattle.da_scope.specs.Telling.{telling}
 use Rattle.da_scope.proofs.MainLaws.{told_whole}
 use Rattle.da_scope.proofs.names.tree.name_fault.Goals as goal
