@@ -3,7 +3,6 @@
 mod arities;
 mod bodies;
 mod classes;
-mod declarations;
 mod deed_rules;
 mod deeds;
 mod early;
@@ -12,5 +11,6 @@ mod main_lines;
 mod repeats;
 mod scope;
 mod statements;
+mod top_names;
 mod tree;
 mod variables;

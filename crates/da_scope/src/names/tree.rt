@@ -5,8 +5,8 @@ ghost use Rattle.std.specs.Prelude.{◌≡◌, IfOk, OnOk, flat_map, option_map}
 
 use crate::least::{Least, NameFault};
 use crate::names::classes::check_class;
-use crate::names::declarations::tell_twice;
 use crate::names::main_lines::check_main;
+use crate::names::top_names::tell_twice;
 use da_lang::{ClassTree, Tree};
 use da_values::NoMemory;
 use std::alloc::Global;

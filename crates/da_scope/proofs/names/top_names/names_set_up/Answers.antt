@@ -1,8 +1,8 @@
 use Rattle.std.proofs.Common.{◌∙◌, inl, inr, sym}
 use Rattle.da_lang.specs.NameRules.{set_up_at}
 use Rattle.da_scope.proofs.MainLaws.{declared_step}
-use Rattle.da_scope.proofs.names.declarations.names_set_up.Goals as goal
-use Rattle.da_scope.proofs.names.declarations.names_set_up.Goals.{in-Some+in_ok-push, in_default}
+use Rattle.da_scope.proofs.names.top_names.names_set_up.Goals as goal
+use Rattle.da_scope.proofs.names.top_names.names_set_up.Goals.{in-Some+in_ok-push, in_default}
 
 pub loop-line-preserved : goal.loop-line-preserved
 loop-line-preserved c =

@@ -1,4 +1,4 @@
-//! The declarations of a program outside its classes, and those that are made twice.
+//! The names that a program declares outside its classes, and those that it declares twice.
 ghost use Rattle.da_lang.specs.declared.refusal.ScopeKind.TheVariants.{Twice};
 ghost use Rattle.da_lang.specs.NameRules.{made_at as made_in, set_up_at as set_up_in, twice_of};
 ghost use Rattle.da_lang.specs.Scopes.{at_lines};

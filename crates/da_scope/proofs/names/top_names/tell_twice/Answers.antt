@@ -7,7 +7,7 @@ use Rattle.da_lang.specs.Scopes.{at_lines}
 use Rattle.da_scope.specs.Telling.{Refusal, telling}
 use Rattle.da_scope.proofs.ListSteps.{on_same}
 use Rattle.da_scope.proofs.MainLaws.{told_twice, twice_by}
-use Rattle.da_scope.proofs.names.declarations.tell_twice.Goals as goal
+use Rattle.da_scope.proofs.names.top_names.tell_twice.Goals as goal
 
 pub returns : goal.returns
 returns c =
