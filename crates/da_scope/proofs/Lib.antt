@@ -12,6 +12,8 @@ pub mod CallReached
 pub mod CallRows
 pub mod CallSearch
 pub mod CallTranslation
+pub mod ClassLaws
+pub mod ClassSteps
 pub mod DeedLaws
 pub mod DeedRules
 pub mod EarlyAt
@@ -21,6 +23,8 @@ pub mod MainLaws
 pub mod MainMaps
 pub mod PartLaws
 pub mod Ranges
+pub mod RecursiveLaws
+pub mod SameBody
 pub mod SameLook
 pub mod ScopeLaws
 pub mod StmtLaws

@@ -8,6 +8,7 @@ pub mod CallOrder
 pub mod CallPaths
 pub mod CallRows
 pub mod CallTasks
+pub mod ClassRules
 pub mod DeedView
 pub mod Early
 pub mod MainView

@@ -2,7 +2,9 @@
 
 mod arities;
 mod bodies;
+mod call_rules;
 mod classes;
+mod declared;
 mod deed_rules;
 mod deeds;
 mod early;
