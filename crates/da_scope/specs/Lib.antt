@@ -1,0 +1,2 @@
+pub mod MeaningView
+pub mod ScopeView
