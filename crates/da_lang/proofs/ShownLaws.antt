@@ -1,4 +1,4 @@
--- What `show` tells of a query is a set, and what an accepted program asks has a value of its kind.
+-- What `show` tells of a query is a set.
 use Rattle.std.specs.Prelude.{◌≡◌, ℕ, true, false, not, List, [], ◌∷◌, map, Option, Some, None, refl}
 use Rattle.std.specs.List.{filter}
 use Rattle.std.specs.Ordering.{ordering_then}

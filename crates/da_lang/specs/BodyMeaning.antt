@@ -46,7 +46,7 @@ abbrev pub untyped : List (List ℕ) → Tables → Tables
 untyped names = with_slots (map (λ name. None) names)
 
 abbrev pub named_slots : List (List ℕ) → Tables → Scope Meaning → Scope Meaning
-named_slots names tables scope = numbered InSlot (next tables) names ++ scope
+named_slots names tables scope = numbered InSlot (next tables) names scope
 
 -- new slots for parameters
 abbrev pub with_params : List Param → Tables → Tables
@@ -57,7 +57,7 @@ param_slots params = named_slots (map (λ p. p.name) params)
 
 -- the variables of a class in its slots, which are the first
 abbrev pub class_slots : ClassTree → Scope Meaning
-class_slots c = numbered InSlot 1 (map (λ v. v.name) (variables c))
+class_slots c = numbered InSlot 1 (map (λ v. v.name) (variables c)) []
 
 -- the number of the query of a condition that is a `some`
 abbrev pub finds_in : Expr-F Expr PatternTree PeerTree ChainTree GenTree → Bool

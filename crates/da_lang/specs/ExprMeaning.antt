@@ -48,9 +48,10 @@ pub record Tables : Type 0 where
   pub slots : List (Option Ty)
   pub queries : List Query
 
--- names with the numbers from here on
-abbrev pub numbered : (ℕ → Meaning) → ℕ → List (List ℕ) → Scope Meaning
-numbered means first names = map (λ pair. (pair.0, means pair.1)) (zip names (range_with_len first (length names)))
+-- these names come into scope one after the other, with the numbers from here on
+abbrev pub numbered : (ℕ → Meaning) → ℕ → List (List ℕ) → Scope Meaning → Scope Meaning
+numbered means first [] scope = scope
+numbered means first (name ∷ names) scope = numbered means (suc first) names ((name, means first) ∷ scope)
 
 abbrev pub in_row : Meaning → ℕ
 in_row (InRow part) = 1
@@ -61,7 +62,7 @@ abbrev pub width : Scope Meaning → ℕ
 width scope = sum (map (λ entry. in_row entry.1) scope)
 
 abbrev pub with_row : List (List ℕ) → Scope Meaning → Scope Meaning
-with_row names scope = numbered InRow (suc (width scope)) names ++ scope
+with_row names scope = numbered InRow (suc (width scope)) names scope
 
 -- generators, a condition, and a term
 pub record Range : Type 0 where

@@ -9,7 +9,7 @@ use Rattle.da_lang.specs.declared.tree.Expr.TheVariants as ex
 use Rattle.da_lang.specs.declared.tree.MainLine.{MainLine}
 use Rattle.da_lang.specs.declared.tree.MainLine.TheVariants as main_line
 use Rattle.da_lang.specs.declared.tree.Tree.{Tree}
-use Rattle.da_lang.specs.Calls.{is_yield, leads, yields}
+use Rattle.da_lang.specs.Calls.{is_yield, leads, yields, deeds_in}
 use Rattle.da_lang.specs.ClassParts.{Declared, Place, InMethod, InHandler, Body, bodies, bodies_where, variables, is_setup, is_run, is_handler, method_name, labels_at, method_of, class_of, setup_of, params_if}
 use Rattle.da_lang.specs.Deeds.{Doing, Sends, Outputs, Labels, Calls, Loops, Waits, Deed, deeds}
 use Rattle.da_lang.specs.ExprNames.{Role, ClassVariable, Local, Ahead, Made, Part, in_order, taken, refused_in, pattern_part}
@@ -93,13 +93,16 @@ params_again b = again (map (λ p. (p.name, b.line)) b.params)
 abbrev pub twice_in : ClassTree → List ℕ
 twice_in c = variables_again c ++ methods_again c ++ behind_first is_setup c ++ behind_first is_run c ++ labels_again c ++ flat_map params_again (bodies c)
 
--- recursive: a call whose method leads back to the method that holds it
-abbrev pub leads_back : ClassTree → Place → Doing → Bool
-leads_back c (InMethod holder) (Calls name) = leads c name holder
-leads_back c _ _ = false
+-- recursive: a call in a method that leads back to it
+abbrev pub leads_back : ClassTree → List ℕ → Doing → Bool
+leads_back c holder (Calls name) = leads c name holder
+leads_back c holder _ = false
 
-abbrev pub recursive_in : ClassTree → Body → List ℕ
-recursive_in c b = lines_where (λ d. leads_back c b.place d.does) (deeds b.stmts)
+abbrev pub method_names : ClassTree → List (List ℕ)
+method_names c = filter_map (λ b. method_name b.place) (bodies c)
+
+abbrev pub recursive_in : ClassTree → List ℕ → List ℕ
+recursive_in c name = lines_where (λ d. leads_back c name d.does) (deeds_in c name)
 
 -- yield: in a handler or `setup` a yield point, or a call of a method that yields
 abbrev pub yields_by : ClassTree → Doing → Bool
@@ -138,7 +141,7 @@ class_refusals c =
     ++ at_lines refusal.Unknown (lines_where (λ d. calls_none c d.does) (all_deeds c))
     ++ flat_map (scope_refusals (class_scope c)) (bodies c)
     ++ at_lines refusal.Twice (twice_in c)
-    ++ at_lines refusal.Recursive (flat_map (recursive_in c) (bodies c))
+    ++ at_lines refusal.Recursive (flat_map (recursive_in c) (method_names c))
     ++ at_lines refusal.Yield (flat_map (yield_in c) (bodies c))
     ++ at_lines refusal.Setup (flat_map setup_in (bodies c))
     ++ at_lines refusal.NoRun (no_run_in c)

@@ -52,9 +52,9 @@ abbrev pub message_in : List MessageDecl → vo.Val-F Val → Bool
 message_in messages (vo.Tuple parts) = tagged_parts messages parts
 message_in messages _ = false
 
--- a message that may be sent and delivered
+-- a message that may be sent and delivered: a declared one, whose integers lie in an i64 and whose processes are there
 abbrev pub well_typed : Program → Val → Bool
-well_typed p v = message_in p.messages (out-Val v) && has_processes (length p.procs) v
+well_typed p v = message_in p.messages (out-Val v) && is_narrow v && has_processes (length p.procs) v
 
 abbrev pub IsProcess : Program → ℕ → Type 0
 IsProcess p process = (0 < process) × (process ≤ length p.procs)
@@ -68,7 +68,6 @@ pub record IsOf (p : Program) (ty : Ty) (v : Val) : Type 0 where
 
 pub record IsEntry (p : Program) (e : Entry) : Type 0 where
   pub proper : IsValue e.message
-  pub narrow : is_narrow e.message ≡ true
   pub typed : well_typed p e.message ≡ true
   pub peer : IsProcess p e.peer
 

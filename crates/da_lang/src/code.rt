@@ -2,10 +2,10 @@
 use crate::tree::{ArithOp, CmpOp};
 use da_values::{List, Value};
 
-/// An instruction. Places in code are counted from 0, and the numbers of `Turn` and `Yield` are lines.
+/// An instruction. Places in code and yield points are counted from 0.
 #[derive(Debug, Drop)]
 pub enum Instr {
-    /// Begins a turn at a line.
+    /// Begins a turn, which counts for this line.
     Turn(u32),
     /// Puts a value on the stack.
     Push(Value),
@@ -49,11 +49,11 @@ pub enum Instr {
     Output,
     /// Begins a loop over the elements of a set.
     Take,
-    /// Takes the next element of the innermost loop into the slot, or leaves it.
+    /// Takes the next element of the innermost loop into the slot, or leaves the loop.
     Next { slot: u16, done: u64 },
     /// Binds the least row of a query.
     Found { query: u32, slots: List<u16> },
-    /// A yield point at a line.
+    /// The yield point of this number.
     Yield(u32),
     /// The end of the statements.
     End,

@@ -29,7 +29,7 @@ pub enum FaultKind {
     Divide,
     /// A range of more than 100,000 numbers.
     Range,
-    /// A message of more than 60,000 bytes.
+    /// A message whose packet has more than 60,000 bytes.
     Message,
     /// More than 1,000,000 turns in one event.
     TooLong,

@@ -87,7 +87,7 @@ pub enum ItemKind {
     If(List<RBranch>, List<Item>),
     /// Goes round while the condition holds.
     While(Boxed<RExpr>, List<Item>),
-    /// Goes round with each element of a set in a slot, ascending.
+    /// Takes each element of a set into a slot, ascending, and goes round with it.
     For(u16, Boxed<RExpr>, List<Item>),
     /// A method's statements in the place of the call, with its arguments.
     Call(List<BindArg>, List<Item>),

@@ -50,7 +50,9 @@ pub enum Source {
     Slot(u16),
 }
 
-/// A generator. Where no pattern of the other process is written, and for sets, the second pattern is `Any`.
+/// A generator: each element of the source that matches. `peer` is matched against the other process of a message, and
+/// is `Any` where none is written. One that is written where it cannot stand (`from` over `sent`, `to` over `received`,
+/// either over a set) is a tuple of `Equal(Foreign)` and that pattern.
 #[derive(Debug, Drop)]
 pub struct RGen {
     pub source: Source,

@@ -5,32 +5,41 @@
 pub enum ScopeKind {
     /// A form that is not built yet.
     NotYet,
-    /// A name that is not in scope for this use.
+    /// A name that is not in scope for its use, a class or method that is not there, or an argument of an aggregate that
+    /// is neither a comprehension nor a name.
     Unknown,
-    /// A second declaration.
+    /// A second declaration of a name, a second `setup` or `run` of a class, or a second line of `setup` for a name of
+    /// `main`.
     Twice,
-    /// A name of a variable in scope is taken again.
+    /// A parameter or another variable with the name of a variable in scope.
     Shadow,
-    /// A method that leads back to itself.
+    /// A call in a method that leads back to that method.
     Recursive,
-    /// A yield point in a handler or in `setup`.
+    /// A label or an `await` in a handler or in `setup`, or a call that leads to one.
     Yield,
-    /// A form that is not allowed in `setup`.
+    /// A form that is not allowed in the body of `setup`, or in the arguments of `setup` in `main`.
     Setup,
     /// A class without `run`.
     NoRun,
-    /// A wrong number of arguments.
+    /// A wrong number of arguments of a call or of a line of `setup`.
     Arity,
 }
 
-/// A limit that a program passes.
+/// A limit that a program passes, in the order in which one is told before another on one line.
 #[derive(Clone, Copy, Debug, PartialEq, Eq)]
 pub enum LimitKind {
+    /// 32 classes.
     Classes,
+    /// 64 processes.
     Processes,
+    /// 16,384 statements of a class, with its calls inlined.
     Items,
+    /// 64 blocks within one another, with the calls inlined.
     Blocks,
+    /// 1,024 slots of a class, or 1,024 variables of a numbered query.
     Variables,
+    /// 255 parts of a tuple, or of a message with its tag.
     Parts,
+    /// 8 generators of a numbered query.
     Generators,
 }
