@@ -1,1 +1,5 @@
+pub mod GensAt
+pub mod PatternsAt
+pub mod ScopeLaws
+pub mod Taken
 pub mod TermsAt

@@ -1,4 +1,6 @@
 //! From tree to program: names become slots, calls become copies of bodies, and queries get numbers.
 
+mod generator;
+mod pattern;
 mod scope;
 mod term;

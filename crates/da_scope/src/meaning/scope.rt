@@ -1,5 +1,5 @@
 //! The names in scope.
-ghost use Rattle.da_lang.specs.ExprMeaning.{InRow, InSlot, in_row, width};
+ghost use Rattle.da_lang.specs.ExprMeaning.{InSlot, with_row};
 ghost use Rattle.da_lang.specs.Scopes.{look};
 ghost use Rattle.da_scope.specs.MeaningView.{meaning_of};
 ghost use Rattle.std.specs.Option.{option_map};
@@ -29,21 +29,26 @@ pub struct Named<'t> {
     means: Meaning,
 }
 
-/// The names in scope. Contracts see the list of them, the innermost first.
+/// The names in scope, with the number of parts of the row so far. Contracts see the list of the names, the innermost
+/// first.
 #[derive(Debug, Drop)]
 pub struct Scope<'t> {
     names: List<Named<'t>>,
+    parts: u16,
 }
 
 impl<'t> Model for Scope<'t> {
-    ghost use Rattle.da_lang.specs.ExprMeaning.{Meaning};
+    ghost use Rattle.da_lang.specs.ExprMeaning.{Meaning, width};
     ghost use Rattle.da_lang.specs.Scopes.{Scope};
+    ghost use Rattle.std.specs.Prelude.{◌≡◌};
 
     ghost Value = { Scope Meaning };
 
     ghost use Rattle.da_scope.specs.ScopeView.{shown};
 
     ghost view = { λ scope. shown scope.names };
+
+    ghost invariant = { λ scope. scope.parts ≡ width (shown scope.names) };
 }
 
 impl<'t> Scope<'t> {
@@ -53,6 +58,7 @@ impl<'t> Scope<'t> {
     {
         Scope {
             names: List::new(alloc),
+            parts: 0,
         }
     }
 
@@ -69,11 +75,26 @@ impl<'t> Scope<'t> {
         found
     }
 
-    /// A name comes into scope.
-    pub fn enter(&mut self, name: &'t [u8], means: Meaning) -> Result<(), NoMemory>
-        ensures { OnOk result (self.new ≡ (name.now, meaning_of means) ∷ self.old) }
+    /// A name of a slot comes into scope.
+    pub fn enter_slot(&mut self, name: &'t [u8], slot: u16) -> Result<(), NoMemory>
+        ensures { OnOk result (self.new ≡ (name.now, InSlot slot) ∷ self.old) }
     {
+        let means = Meaning::InSlot(slot);
         self.names.push(Named { name, means })
+    }
+
+    /// A variable of a query comes into scope, as the next part of the row. More parts than a number has place for are
+    /// refused as memory is: the limits of programs leave none.
+    pub fn enter_part(&mut self, name: &'t [u8]) -> Result<(), NoMemory>
+        ensures { OnOk result (self.new ≡ with_row (name.now ∷ []) self.old) }
+    {
+        let Some(part) = self.parts.checked_add(1) else {
+            return Err(NoMemory);
+        };
+        let means = Meaning::InRow(part);
+        self.names.push(Named { name, means })?;
+        self.parts = part;
+        Ok(())
     }
 
     /// A copy, for names that come into scope for a while.
@@ -84,6 +105,9 @@ impl<'t> Scope<'t> {
         for named in self.names.as_slice() {
             names.push(*named)?;
         }
-        Ok(Scope { names })
+        Ok(Scope {
+            names,
+            parts: self.parts,
+        })
     }
 }
