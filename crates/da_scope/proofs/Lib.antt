@@ -1,3 +1,4 @@
+pub mod CondsAt
 pub mod GensAt
 pub mod PatternsAt
 pub mod ScopeLaws

@@ -1,9 +1,9 @@
 //! The names in scope.
-ghost use Rattle.da_lang.specs.ExprMeaning.{InSlot, with_row};
+ghost use Rattle.da_lang.specs.ExprMeaning.{InSlot, width, with_row};
 ghost use Rattle.da_lang.specs.Scopes.{look};
 ghost use Rattle.da_scope.specs.MeaningView.{meaning_of};
 ghost use Rattle.std.specs.Option.{option_map};
-ghost use Rattle.std.specs.Prelude.{◌≡◌, [], ◌∷◌, IfOk, OnOk};
+ghost use Rattle.std.specs.Prelude.{◌≡◌, [], ◌∷◌, IfOk, OnOk, suc};
 
 use da_values::{List, NoMemory};
 use std::alloc::Global;
@@ -83,14 +83,22 @@ impl<'t> Scope<'t> {
         self.names.push(Named { name, means })
     }
 
-    /// A variable of a query comes into scope, as the next part of the row. More parts than a number has place for are
-    /// refused as memory is: the limits of programs leave none.
+    /// The next part of the row. More parts than a number has place for are refused as memory is: the limits of
+    /// programs leave none.
+    pub fn next_part(&self) -> Result<u16, NoMemory>
+        ensures { IfOk result (λ part. part ≡ suc (width self.now)) }
+    {
+        match self.parts.checked_add(1) {
+            Some(part) => Ok(part),
+            None => Err(NoMemory),
+        }
+    }
+
+    /// A variable of a query comes into scope, as the next part of the row.
     pub fn enter_part(&mut self, name: &'t [u8]) -> Result<(), NoMemory>
         ensures { OnOk result (self.new ≡ with_row (name.now ∷ []) self.old) }
     {
-        let Some(part) = self.parts.checked_add(1) else {
-            return Err(NoMemory);
-        };
+        let part = self.next_part()?;
         let means = Meaning::InRow(part);
         self.names.push(Named { name, means })?;
         self.parts = part;
