@@ -1,5 +1,6 @@
 //! Conditions of queries, the sides of their comparisons, and aggregates.
 ghost use Rattle.da_lang.specs.ExprMeaning.{Meant, agg_of, is_minus, is_sum, meant, signed_of, signed_operand};
+ghost use Rattle.da_lang.specs.declared.tree.ChainTree.{out-ChainTree};
 ghost use Rattle.std.specs.List.{list_all};
 ghost use Rattle.std.specs.Option.{option_copied, option_map};
 ghost use Rattle.std.specs.Prelude.{◌≡◌, IfOk, map};
@@ -175,14 +176,9 @@ fn boxed_operand<'t>(
 
 // Whether each sign is `+` or `-`.
 fn are_sums(links: &[ChainTree]) -> bool
-    ensures { result ≡ list_all (λ y. is_sum y.op) (map signed_of links.now) }
+    ensures { result ≡ list_all (λ link. is_sum (out-ChainTree link).op) links.now }
 {
-    for link in links {
-        if !is_sum(link.op) {
-            return false;
-        }
-    }
-    true
+    links.iter().all(|link| is_sum(link.op))
 }
 
 // Whether a sign is `+` or `-`.
@@ -231,12 +227,12 @@ fn signed_operands<'t>(
     Ok(found)
 }
 
-/// Generators, a condition, and a term.
+// What an aggregate goes over: generators, a condition, and a term.
 #[derive(Debug, Drop)]
-pub struct Range {
-    pub gens: List<RGen>,
-    pub cond: Option<Boxed<Cond>>,
-    pub term: Term,
+struct Rows {
+    gens: List<RGen>,
+    cond: Option<Boxed<Cond>>,
+    term: Term,
 }
 
 /// An aggregate over its argument, with the term of its other value.
@@ -250,14 +246,14 @@ pub fn aggregate<'t>(
 ) -> Result<Boxed<Agg>, NoMemory>
     ensures { IfOk result (λ found. found ≡ agg_of op ((meant x.now).range scope.now) other) }
 {
-    let range = range(alloc, x, scope)?;
+    let rows = range(alloc, x, scope)?;
     Boxed::new(
         alloc,
         Agg {
             op,
-            gens: range.gens,
-            cond: range.cond,
-            term: range.term,
+            gens: rows.gens,
+            cond: rows.cond,
+            term: rows.term,
             other,
         },
     )
@@ -266,10 +262,10 @@ pub fn aggregate<'t>(
 // An expression as the argument of an aggregate.
 #[cycle(conditions)]
 #[tactic(auto, using(crate::proofs::CondsAt::ranges_at))]
-fn range<'t>(alloc: Global, x: &'t Expr, scope: &Scope<'t>) -> Result<Range, NoMemory>
-    ensures gens { IfOk result (λ range. range.gens ≡ ((meant x.now).range scope.now).gens) }
-    ensures cond { IfOk result (λ range. range.cond ≡ ((meant x.now).range scope.now).cond) }
-    ensures term { IfOk result (λ range. range.term ≡ ((meant x.now).range scope.now).term) }
+fn range<'t>(alloc: Global, x: &'t Expr, scope: &Scope<'t>) -> Result<Rows, NoMemory>
+    ensures gens { IfOk result (λ rows. rows.gens ≡ ((meant x.now).range scope.now).gens) }
+    ensures cond { IfOk result (λ rows. rows.cond ≡ ((meant x.now).range scope.now).cond) }
+    ensures term { IfOk result (λ rows. rows.term ≡ ((meant x.now).range scope.now).term) }
 {
     match x {
         Expr::Comp {
@@ -281,7 +277,7 @@ fn range<'t>(alloc: Global, x: &'t Expr, scope: &Scope<'t>) -> Result<Range, NoM
             let gens = generators(alloc, gens.as_slice(), &mut inner)?;
             let cond = guard(alloc, cond, &inner)?;
             let term = term(alloc, x.get(), &inner)?;
-            Ok(Range { gens, cond, term })
+            Ok(Rows { gens, cond, term })
         }
         Expr::Name(name) => {
             let mut gens = List::new(alloc);
@@ -291,7 +287,7 @@ fn range<'t>(alloc: Global, x: &'t Expr, scope: &Scope<'t>) -> Result<Range, NoM
                 peer: Pattern::Any,
             })?;
             let term = Term::Part(scope.next_part()?);
-            Ok(Range {
+            Ok(Rows {
                 gens,
                 cond: None,
                 term,
@@ -315,7 +311,7 @@ fn range<'t>(alloc: Global, x: &'t Expr, scope: &Scope<'t>) -> Result<Range, NoM
         | Expr::Count(_)
         | Expr::Sum(_)
         | Expr::Min(_, _)
-        | Expr::Max(_, _) => Ok(Range {
+        | Expr::Max(_, _) => Ok(Rows {
             gens: List::new(alloc),
             cond: None,
             term: Term::Foreign,
