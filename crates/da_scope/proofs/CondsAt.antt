@@ -24,7 +24,7 @@ use Rattle.da_lang.proofs.MeantAt.{signed_of-of}
 use Rattle.da_scope.proofs.Taken.{taken}
 
 -- a link of a chain
-signed_is : (c : ChainTree) → signed_of c ≡ record { op = (out-ChainTree c).op; meant = meant (out-ChainTree c).operand }
+pub signed_is : (c : ChainTree) → signed_of c ≡ record { op = (out-ChainTree c).op; meant = meant (out-ChainTree c).operand }
 signed_is c = let v = out-ChainTree c in signed_of-of v.op v.operand
 
 signed-at : (c : ChainTree) (scope : Scope Meaning) → signed_operand scope (signed_of c) ≡ roll-SignedOperand (record { minus = is_minus (out-ChainTree c).op; operand = (meant (out-ChainTree c).operand).operand scope })

@@ -1,7 +1,10 @@
 //! From tree to program: names become slots, calls become copies of bodies, and queries get numbers.
 
 mod condition;
+mod expr;
 mod generator;
+mod numbers;
 mod pattern;
 mod scope;
+mod tables;
 mod term;
