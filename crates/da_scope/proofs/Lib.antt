@@ -1,3 +1,4 @@
+pub mod FoundAt
 pub mod CondsAt
 pub mod GensAt
 pub mod NumbersOn

@@ -1,2 +1,3 @@
 pub mod MeaningView
+pub mod NamesView
 pub mod ScopeView

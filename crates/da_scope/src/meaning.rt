@@ -8,3 +8,4 @@ mod pattern;
 mod scope;
 mod tables;
 mod term;
+mod variables;
