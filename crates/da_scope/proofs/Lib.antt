@@ -5,5 +5,6 @@ pub mod NumbersOn
 pub mod OutsideAt
 pub mod PatternsAt
 pub mod ScopeLaws
+pub mod SlotLaws
 pub mod Taken
 pub mod TermsAt

@@ -4,7 +4,7 @@ use Rattle.std.proofs.lemmas.List.Sums.{sum_by-cons}
 use Rattle.da_lang.specs.ExprMeaning.{Meaning, InRow, numbered, in_row, width, with_row}
 use Rattle.da_lang.specs.Scopes.{Scope}
 
-numbered-append : (means : ℕ → Meaning) (first : ℕ) (xs ys : List (List ℕ)) (scope : Scope Meaning)
+pub numbered-append : (means : ℕ → Meaning) (first : ℕ) (xs ys : List (List ℕ)) (scope : Scope Meaning)
     → numbered means first (xs ++ ys) scope ≡ numbered means (first + length xs) ys (numbered means first xs scope)
 numbered-append means first [] ys scope =
     let same : first ≡ first + 0 = omega arith in

@@ -6,6 +6,8 @@ mod generator;
 mod numbers;
 mod pattern;
 mod scope;
+mod slots;
 mod tables;
 mod term;
+mod types;
 mod variables;
