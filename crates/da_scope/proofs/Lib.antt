@@ -1,3 +1,4 @@
+pub mod BodiesAt
 pub mod FoundAt
 pub mod CondsAt
 pub mod GensAt

@@ -1,3 +1,4 @@
+pub mod HomeView
 pub mod MeaningView
 pub mod NamesView
 pub mod ScopeView

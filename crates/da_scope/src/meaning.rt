@@ -1,5 +1,6 @@
 //! From tree to program: names become slots, calls become copies of bodies, and queries get numbers.
 
+mod bodies;
 mod condition;
 mod expr;
 mod generator;
