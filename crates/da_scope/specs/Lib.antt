@@ -1,4 +1,5 @@
 pub mod HomeView
+pub mod Inlining
 pub mod MeaningView
 pub mod NamesView
 pub mod ScopeView

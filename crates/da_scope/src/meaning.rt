@@ -1,9 +1,12 @@
 //! From tree to program: names become slots, calls become copies of bodies, and queries get numbers.
 
+mod awaiting;
 mod bodies;
 mod condition;
 mod expr;
 mod generator;
+mod home;
+mod inliner;
 mod numbers;
 mod pattern;
 mod scope;

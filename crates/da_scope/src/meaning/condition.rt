@@ -58,9 +58,9 @@ pub fn condition<'t>(alloc: Global, x: &'t Expr, scope: &Scope<'t>) -> Result<Co
     }
 }
 
-// A condition on the heap.
+/// A condition on the heap.
 #[cycle(conditions)]
-fn boxed_condition<'t>(
+pub fn boxed_condition<'t>(
     alloc: Global,
     x: &'t Expr,
     scope: &Scope<'t>,
