@@ -7,5 +7,6 @@ pub mod OutsideAt
 pub mod PatternsAt
 pub mod ScopeLaws
 pub mod SlotLaws
+pub mod StatementsAt
 pub mod Taken
 pub mod TermsAt

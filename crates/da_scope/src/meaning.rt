@@ -3,6 +3,7 @@
 mod awaiting;
 mod bodies;
 mod condition;
+mod copying;
 mod expr;
 mod generator;
 mod home;
