@@ -1,4 +1,6 @@
+pub mod Arguments
 pub mod BodiesAt
+pub mod CopiesAt
 pub mod FoundAt
 pub mod CondsAt
 pub mod GensAt

@@ -1,18 +1,19 @@
 //! From tree to program: names become slots, calls become copies of bodies, and queries get numbers.
 
-mod awaiting;
-mod bodies;
-mod condition;
-mod copying;
-mod expr;
-mod generator;
-mod home;
-mod inliner;
-mod numbers;
-mod pattern;
-mod scope;
-mod slots;
-mod tables;
-mod term;
-mod types;
-mod variables;
+pub mod arguments;
+pub mod awaiting;
+pub mod bodies;
+pub mod condition;
+pub mod copying;
+pub mod expr;
+pub mod generator;
+pub mod home;
+pub mod inliner;
+pub mod numbers;
+pub mod pattern;
+pub mod scope;
+pub mod slots;
+pub mod tables;
+pub mod term;
+pub mod types;
+pub mod variables;

@@ -1,16 +1,16 @@
 //! Copies of the bodies of methods.
-ghost use Rattle.da_lang.specs.BodyMeaning.{bind_arg, body_of, copies};
-ghost use Rattle.std.specs.List.{zip};
-ghost use Rattle.std.specs.Prelude.{◌≡◌, IfOk, OnOk, length, map};
+ghost use Rattle.da_lang.specs.BodyMeaning.{body_of, copies};
+ghost use Rattle.std.specs.Prelude.{◌≡◌, IfOk, OnOk};
 
+use crate::meaning::arguments::bind_args;
 use crate::meaning::bodies::{Wanted, first_body};
 use crate::meaning::home::Home;
 use crate::meaning::inliner::Inliner;
 use crate::meaning::scope::Scope;
 use crate::meaning::slots::declare_params;
 use crate::meaning::tables::Tables;
-use da_lang::{BindArg, Item, ItemKind, RExpr, Stmt};
-use da_values::{Boxed, List, NoMemory};
+use da_lang::{Item, ItemKind, RExpr, Stmt};
+use da_values::{List, NoMemory};
 use std::alloc::Global;
 
 /// The statements of a body of a class. No chain of calls is longer than the number of its members.
@@ -59,22 +59,4 @@ pub fn copy_body(
     };
     let items = inner.block(method.stmts, &scope, tables)?;
     Ok(ItemKind::Call(bind_args(alloc, slots.as_slice(), args)?, items))
-}
-
-// The arguments with the slots of their parameters. One by one they are taken from the front, as there are few.
-fn bind_args(
-    alloc: Global,
-    slots: &[u16],
-    mut args: List<RExpr>,
-) -> Result<List<BindArg>, NoMemory>
-    ensures { IfOk result (λ binds. binds ≡ map bind_arg (zip slots.now args)) }
-{
-    let mut binds = List::new(alloc);
-    for slot in slots {
-        if args.len() > 0 {
-            let value = Boxed::new(alloc, args.remove(0))?;
-            binds.push(BindArg { slot: *slot, value })?;
-        }
-    }
-    Ok(binds)
 }
