@@ -1,3 +1,4 @@
+pub mod BlockScope
 pub mod HomeView
 pub mod Inlining
 pub mod MeaningView

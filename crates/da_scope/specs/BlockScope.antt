@@ -1,0 +1,10 @@
+-- The names in scope behind statements.
+use Rattle.std.specs.Prelude.{List, [], ◌∷◌}
+use Rattle.da_lang.specs.declared.tree.Stmt.{Stmt}
+use Rattle.da_lang.specs.BodyMeaning.{Copy, stating}
+use Rattle.da_lang.specs.ExprMeaning.{Meaning, Tables}
+use Rattle.da_lang.specs.Scopes.{Scope}
+
+abbrev pub scope_behind : Copy → List Stmt → Scope Meaning → Tables → Scope Meaning
+scope_behind copy [] scope tables = scope
+scope_behind copy (s ∷ stmts) scope tables = let first = stating copy s scope tables in scope_behind copy stmts first.scope first.tables
