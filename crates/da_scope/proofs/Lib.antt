@@ -2,6 +2,7 @@ pub mod Arguments
 pub mod BodiesAt
 pub mod CopiesAt
 pub mod FoundAt
+pub mod ClassAt
 pub mod CondsAt
 pub mod GensAt
 pub mod NumbersOn

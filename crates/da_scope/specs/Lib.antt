@@ -1,4 +1,5 @@
 pub mod BlockScope
+pub mod ClassView
 pub mod HomeView
 pub mod Inlining
 pub mod MeaningView

@@ -3,10 +3,12 @@
 pub mod arguments;
 pub mod awaiting;
 pub mod bodies;
+pub mod class;
 pub mod condition;
 pub mod copying;
 pub mod expr;
 pub mod generator;
+pub mod handler;
 pub mod home;
 pub mod inliner;
 pub mod numbers;

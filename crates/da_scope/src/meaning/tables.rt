@@ -74,4 +74,12 @@ impl Tables {
     {
         self.queries.push(query)
     }
+
+    /// The slots and the queries.
+    pub fn into_parts(self) -> (List<Option<Ty>>, List<Query>)
+        ensures slots { result.0 ≡ self.slots }
+        ensures queries { result.1 ≡ self.queries }
+    {
+        (self.slots, self.queries)
+    }
 }
