@@ -5,6 +5,7 @@ pub mod FoundAt
 pub mod ClassAt
 pub mod CondsAt
 pub mod GensAt
+pub mod MakingAt
 pub mod NumbersOn
 pub mod OutsideAt
 pub mod PatternsAt

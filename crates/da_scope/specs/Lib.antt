@@ -2,6 +2,7 @@ pub mod BlockScope
 pub mod ClassView
 pub mod HomeView
 pub mod Inlining
+pub mod MakingView
 pub mod MeaningView
 pub mod NamesView
 pub mod ScopeView

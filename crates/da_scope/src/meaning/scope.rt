@@ -1,10 +1,12 @@
 //! The names in scope.
 ghost use Rattle.da_lang.specs.ExprMeaning.{InSlot, width, with_row};
+ghost use Rattle.da_lang.specs.Resolution.{made_as};
 ghost use Rattle.da_lang.specs.Scopes.{look};
 ghost use Rattle.da_scope.specs.MeaningView.{meaning_of};
 ghost use Rattle.std.specs.Option.{option_map};
 ghost use Rattle.std.specs.Prelude.{◌≡◌, [], ◌∷◌, IfOk, OnOk, suc};
 
+use crate::meaning::numbers::number_at;
 use da_values::{List, NoMemory};
 use std::alloc::Global;
 use std::marker::Model;
@@ -103,6 +105,28 @@ impl<'t> Scope<'t> {
         self.names.push(Named { name, means })?;
         self.parts = part;
         Ok(())
+    }
+
+    /// What a line of `main` makes comes into scope, behind so many processes: one, or with a count so many. More than a
+    /// number has place for are refused as memory is: the limits of programs leave none.
+    pub fn enter_made(
+        &mut self,
+        name: &'t [u8],
+        count: Option<u64>,
+        before: usize,
+    ) -> Result<(), NoMemory>
+        ensures { OnOk result (self.new ≡ (name.now, made_as count before) ∷ self.old) }
+    {
+        let first = number_at(1, before)?;
+        let Some(count) = count else {
+            let means = Meaning::OneProcess(first);
+            return self.names.push(Named { name, means });
+        };
+        let Ok(count) = u16::try_from(count) else {
+            return Err(NoMemory);
+        };
+        let means = Meaning::Processes { first, count };
+        self.names.push(Named { name, means })
     }
 
     /// A copy, for names that come into scope for a while.
