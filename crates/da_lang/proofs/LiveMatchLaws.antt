@@ -163,8 +163,8 @@ module _ (me : ℕ) where
       (λ slots x row r e. wider_as pattern.Me pattern.Me live-Me x [] (match-Me me [] x [] ∙ found_where _ row r (sym (match-Me me slots x row) ∙ e)))
       (λ t slots x row r e. let (l, f) = equal_wider t (varies t) refl slots x row r e in wider_as (pattern.Equal t) (if varies t then pattern.Bind else pattern.Equal t) (live-Equal t) x l f)
       (λ ps each slots x row r e.
-          let (l, f) = tuple_wider ps each slots (out-Val x) row r (sym (match-Tuple me slots x row ps) ∙ e) in
-          wider_as (pattern.Tuple ps) (pattern.Tuple (map live_pattern ps)) (live-Tuple ps) x l (match-Tuple me [] x [] (map live_pattern ps) ∙ f))
+      let (l, f) = tuple_wider ps each slots (out-Val x) row r (sym (match-Tuple me slots x row ps) ∙ e) in
+      wider_as (pattern.Tuple ps) (pattern.Tuple (map live_pattern ps)) (live-Tuple ps) x l (match-Tuple me [] x [] (map live_pattern ps) ∙ f))
 
 -- The same of a message and the other process, which is what a generator over a history matches.
 

@@ -10,8 +10,6 @@ use Rattle.da_lang.specs.declared.program.Item.{Item}
 use Rattle.da_lang.specs.declared.program.ItemKind.{ItemKind}
 use Rattle.da_lang.specs.declared.program.ItemKind.TheOpen.{ItemKind-F, Await, Label}
 use Rattle.da_lang.specs.declared.program.ItemKind.TheViews.{out-Alt}
-use Rattle.da_lang.specs.declared.program.Phase.{Phase}
-use Rattle.da_lang.specs.declared.program.Phase.TheVariants.{New, Waiting}
 use Rattle.da_lang.specs.declared.program.Program.{Program}
 use Rattle.da_lang.specs.declared.program.RBranch.{RBranch}
 use Rattle.da_lang.specs.Allowed.{IsAllowed, begins, at_label, at_await, arrives}
@@ -21,7 +19,7 @@ use Rattle.da_lang.specs.Queries.{holds}
 use Rattle.da_lang.specs.Runs.{Halt, AtYield, UsedUp, Faults, Ran, max_turns, run_to_yield}
 use Rattle.da_lang.specs.Steps.{Step, Go, Take, Deliver, Stepped, after_halt, class_step, first_tasks, go_waiting, handle, past_await, past_label, proc_step, received_at, step_in, take_alternative, take_waiting, try_handler}
 use Rattle.da_lang.specs.Turns.{bind_all, bind_found, do_all, kind_of}
-use Rattle.da_lang.specs.World.{Data, Task, Do, Loop, Prepare, World, numbered, class_of}
+use Rattle.da_lang.specs.World.{Data, Task, Do, Loop, Prepare, World, numbered, class_of, Phase, New, Waiting}
 use Rattle.da_lang.proofs.ChangeLaws.{changes-me, changes_then}
 use Rattle.da_lang.proofs.RunBounds.{by_truth, run_changes}
 use Rattle.da_lang.proofs.TurnLaws.{bind_all_changes, bind_found_changes}

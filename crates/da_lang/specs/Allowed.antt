@@ -1,15 +1,14 @@
--- Which steps a process may take.
+-- Which steps a process of the program may take.
 use Rattle.std.specs.Prelude.{◌≡◌, ℕ, true, List, [], ◌∷◌, Some}
 use Rattle.da_values.specs.declared.val.Val.{Val}
 use Rattle.da_lang.specs.declared.program.Alt.{Alt}
 use Rattle.da_lang.specs.declared.program.Item.{Item}
 use Rattle.da_lang.specs.declared.program.ItemKind.TheOpen.{Await, Label}
 use Rattle.da_lang.specs.declared.program.ItemKind.TheViews.{out-Alt}
-use Rattle.da_lang.specs.declared.program.Phase.TheVariants.{New, Waiting}
 use Rattle.da_lang.specs.Queries.{holds}
 use Rattle.da_lang.specs.Steps.{Step, Go, Take, Deliver}
 use Rattle.da_lang.specs.Turns.{kind_of}
-use Rattle.da_lang.specs.World.{Task, Do, World, numbered}
+use Rattle.da_lang.specs.World.{Task, Do, World, numbered, New, Waiting}
 
 -- a new process may begin, and one that waits at a label may go on; one that waits at an `await` may take an
 -- alternative that is there and whose condition holds; a message may arrive at a process that waits

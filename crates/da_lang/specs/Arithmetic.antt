@@ -49,7 +49,7 @@ of_sets Minus xs ys = set_difference val_cmp xs ys
 of_sets Times xs ys = set_intersection val_cmp xs ys
 of_sets _ xs ys = []
 
--- by what the operands are; what is neither two numbers nor two sets counts as the number 0
+-- of two sets, or else of two numbers, where an operand that is no number counts as 0
 abbrev pub of_layers : ArithOp → Val-F Val → Val-F Val → Outcome
 of_layers op (Set xs) (Set ys) = Ok (val.Set (of_sets op xs ys))
 of_layers op a b = of_numbers op (int_in a) (int_in b)

@@ -88,7 +88,7 @@ abbrev pub block_if : Option (List Stating) → Becomes (List Item)
 block_if None scope tables = ([], tables)
 block_if (Some ss) scope tables = block ss scope tables
 
--- parts in order, of which none is in scope of another
+-- parts in order, none of which sees the variables of another
 abbrev pub each : {A : Type 0} → List (Becomes A) → Becomes (List A)
 each [] scope tables = ([], tables)
 each (part ∷ parts) scope tables = let first = part scope tables in let others = each parts scope first.1 in (first.0 ∷ others.0, others.1)
@@ -115,7 +115,7 @@ pub record Guarded : Type 0 where
   pub branch : Becomes RBranch
   pub alt : Becomes Alt
 
--- the block of a header whose condition binds these names
+-- the block of a header that binds these names
 abbrev pub bound : List (List ℕ) → List Stating → Becomes (List Item)
 bound names body scope tables = block body (named_slots names tables scope) (untyped names tables)
 
@@ -148,8 +148,7 @@ for_each name x body scope tables =
 abbrev pub await_one : ℕ → Expr → Stating
 await_one line x scope tables =
     let alt = as_alt line x [] scope tables in
-    let asked = (meant x).outside scope tables in
-    record { item = item_at line (it.Await (alt.0 ∷ [])); scope = named_slots (found_names x) asked.1 scope; tables = alt.1 }
+    record { item = item_at line (it.Await (alt.0 ∷ [])); scope = named_slots (found_names x) tables scope; tables = alt.1 }
 
 abbrev pub awaits : List Guarded → Becomes ItemKind
 awaits alts scope tables = let all = each (map (λ b. b.alt) alts) scope tables in (it.Await all.0, all.1)
@@ -199,12 +198,13 @@ body_with copy stmts = block (map (stating copy) stmts)
 abbrev pub bind_arg : ℕ × RExpr → BindArg
 bind_arg pair = record { slot = pair.0; value = pair.1 }
 
--- A copy of the body of a method, with new slots for its parameters, in which at most so many calls are within calls.
+-- a copy of the body of a method, with new slots for its parameters
 abbrev pub copy_of : Copy → ClassTree → Option Body → List RExpr → Tables → ItemKind × Tables
 copy_of inner c method args tables =
     let items = body_with inner (stmts_if method) (param_slots (params_if method) tables (class_slots c)) (with_params (params_if method) tables) in
     (it.Call (map bind_arg (zip (fresh tables (length (params_if method))) args)) items.0, items.1)
 
+-- the same, where at most so many calls are within calls
 unfoldable pub copies : ℕ → ClassTree → Copy
 copies zero c name args tables = (it.Pass, tables)
 copies (suc most) c name args tables = copy_of (copies most c) c (method_of c name) args tables

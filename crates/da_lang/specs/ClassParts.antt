@@ -77,7 +77,7 @@ is_method name _ = false
 abbrev pub bodies_where : (Place → Bool) → ClassTree → List Body
 bodies_where test c = filter (λ b. test b.place) (bodies c)
 
--- the first method of a name, the first class of a name, the first `setup` of a class
+-- the first method of a name, the first class of a name, the first `setup` and `run` of a class
 abbrev pub method_of : ClassTree → List ℕ → Option Body
 method_of c name = find (λ b. is_method name b.place) (bodies c)
 
@@ -86,6 +86,9 @@ class_of t name = find (λ c. bytes_eq c.name name) t.classes
 
 abbrev pub setup_of : ClassTree → Option Body
 setup_of c = find (λ b. is_setup b.place) (bodies c)
+
+abbrev pub run_of : ClassTree → Option Body
+run_of c = find (λ b. is_run b.place) (bodies c)
 
 -- the parameters and the statements of a body that may be missing
 abbrev pub params_if : Option Body → List Param

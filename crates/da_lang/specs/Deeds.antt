@@ -9,14 +9,13 @@ use Rattle.da_lang.specs.declared.tree.TimeoutTree.{TimeoutTree}
 
 -- What a statement or header does, as far as a rule names it.
 pub data Doing : Type 0 where
-  Changes : List ℕ → Doing
   Sends : Doing
   Outputs : Doing
   Labels : List ℕ → Doing
   Calls : List ℕ → Doing
   Loops : Doing
   Awaits : Doing
-  Waits : Doing
+  TimesOut : Doing
   Other : Doing
 
 pub record Deed : Type 0 where
@@ -36,9 +35,9 @@ all_if None = []
 all_if (Some parts) = all parts
 
 abbrev pub stmt_deeds : Stmt-F (List Deed) (List Deed) (List Deed) → List Deed
-stmt_deeds (Stmt-F.Assign name x line) = deed line (Changes name) (x ∷ []) ∷ []
-stmt_deeds (Stmt-F.Add name x line) = deed line (Changes name) (x ∷ []) ∷ []
-stmt_deeds (Stmt-F.Del name x line) = deed line (Changes name) (x ∷ []) ∷ []
+stmt_deeds (Stmt-F.Assign name x line) = deed line Other (x ∷ []) ∷ []
+stmt_deeds (Stmt-F.Add name x line) = deed line Other (x ∷ []) ∷ []
+stmt_deeds (Stmt-F.Del name x line) = deed line Other (x ∷ []) ∷ []
 stmt_deeds (Stmt-F.Send x to line) = deed line Sends (x ∷ to ∷ []) ∷ []
 stmt_deeds (Stmt-F.Output x line) = deed line Outputs (x ∷ []) ∷ []
 stmt_deeds (Stmt-F.Pass line) = deed line Other [] ∷ []
@@ -55,7 +54,7 @@ abbrev pub branch_deeds : Branch-F (List Deed) (List Deed) (List Deed) → List 
 branch_deeds b = deed b.line Other (b.cond ∷ []) ∷ all b.body
 
 abbrev pub timeout_deeds : TimeoutTree-F (List Deed) (List Deed) (List Deed) → List Deed
-timeout_deeds t = deed t.line Waits [] ∷ all t.body
+timeout_deeds t = deed t.line TimesOut [] ∷ all t.body
 
 unfoldable pub deeds_of : Stmt → List Deed
 deeds_of = fold-Stmt (List Deed) (List Deed) (List Deed) stmt_deeds branch_deeds timeout_deeds

@@ -2,7 +2,7 @@
 use Rattle.std.specs.Prelude.{pos, true, false, not, if◌then◌else◌, List, [], ◌∷◌, map, Result, Ok, Err}
 use Rattle.da_values.specs.declared.val.Val.{Val, out-Val}
 use Rattle.da_values.specs.declared.val.Val.TheVariants as val
-use Rattle.da_values.specs.declared.val.Val.TheOpen.{Val-F, Int, Bool as Truth, Text, Proc, Tuple as Parts, Set}
+use Rattle.da_values.specs.declared.val.Val.TheOpen.{Val-F, Int}
 use Rattle.da_values.specs.Order.{val_cmp}
 use Rattle.da_values.specs.Sets.{canon, set_has, set_image}
 use Rattle.da_values.specs.Value.{val_of}
@@ -54,11 +54,7 @@ some_true (Ok v ∷ outcomes) = if truth_of v then Ok (val.Bool true) else some_
 -- the value of a query, whose number has to fit
 abbrev pub asked_layer : Val-F Val → Val → Outcome
 asked_layer (Int z) v = fitted z
-asked_layer (Truth b) v = Ok v
-asked_layer (Text t) v = Ok v
-asked_layer (Proc p) v = Ok v
-asked_layer (Parts vs) v = Ok v
-asked_layer (Set vs) v = Ok v
+asked_layer _ v = Ok v
 
 abbrev pub asked : Val → Outcome
 asked v = asked_layer (out-Val v) v

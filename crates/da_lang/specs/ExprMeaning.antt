@@ -1,6 +1,6 @@
 -- What expressions and patterns become once their names are found.
-use Rattle.std.specs.Prelude.{ℕ, suc, Bool, true, false, if◌then◌else◌, List, [], ◌∷◌, ◌++◌, map, length, sum, zip, Option, Some, None, option_map, flat_map}
-use Rattle.std.specs.List.{list_all, range_with_len}
+use Rattle.std.specs.Prelude.{ℕ, suc, Bool, true, false, if◌then◌else◌, List, [], ◌∷◌, ◌++◌, map, length, sum, Option, Some, None, option_map, flat_map}
+use Rattle.std.specs.List.{list_all}
 use Rattle.da_values.specs.declared.value.Value.TheVariants as kept
 use Rattle.da_lang.specs.declared.program.RExpr.{RExpr}
 use Rattle.da_lang.specs.declared.program.RExpr.TheVariants as re
@@ -36,7 +36,7 @@ use Rattle.da_lang.specs.declared.tree.SourceTree.TheVariants as source_tree
 use Rattle.da_lang.specs.declared.ty.Ty.{Ty}
 use Rattle.da_lang.specs.Scopes.{Scope, look}
 
--- What a name stands for: a slot, a part of the row of a query, a process that `main` made, or a set of them.
+-- What a name stands for: a slot, a part of the row of a query or of a handler's patterns, a process that `main` made, or a set of them.
 pub data Meaning : Type 0 where
   InSlot : ℕ → Meaning
   InRow : ℕ → Meaning
@@ -57,7 +57,7 @@ abbrev pub in_row : Meaning → ℕ
 in_row (InRow part) = 1
 in_row _ = 0
 
--- the parts of the row so far, and the row with these variables besides
+-- how many parts the row has so far; the row with these variables besides
 abbrev pub width : Scope Meaning → ℕ
 width scope = sum (map (λ entry. in_row entry.1) scope)
 
@@ -299,7 +299,7 @@ source_meant scope (source_tree.Name name) = slot_source (look scope name)
 abbrev pub gen_meant : GenTree-F Meant Matching Peer Signed Generator → Generator
 gen_meant g = record {
   binds = g.message.binds ++ peer_binds g.peer;
-  gen_ = λ scope. record { source = source_meant scope g.source; message = g.message.pattern scope; peer = peer_pattern g.source (with_row g.message.binds scope) g.peer };
+  gen_ = λ scope. record { source = source_meant (with_row (g.message.binds ++ peer_binds g.peer) scope) g.source; message = g.message.pattern scope; peer = peer_pattern g.source (with_row g.message.binds scope) g.peer };
 }
 
 unfoldable pub meant : Expr → Meant

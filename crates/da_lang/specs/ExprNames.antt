@@ -14,12 +14,11 @@ use Rattle.da_lang.specs.declared.tree.SourceTree.TheVariants as source_tree
 use Rattle.da_lang.specs.Scopes.{Scope, look, entered}
 
 -- What a name stands for: a variable of the class; a parameter, or a variable of a loop, of a handler in its body, or
--- that a `some` has bound; a variable of a query; a variable of a handler's patterns, in these patterns; a name of `main`.
+-- that a `some` has bound; a variable of a query; a name of `main`.
 pub data Role : Type 0 where
   ClassVariable : Role
   Local : Role
   QueryVariable : Role
-  Ahead : Role
   Made : Role
 
 -- a slot has a value outside queries
@@ -27,15 +26,12 @@ abbrev pub is_slot : Option Role → Bool
 is_slot None = false
 is_slot (Some ClassVariable) = true
 is_slot (Some Local) = true
-is_slot (Some QueryVariable) = false
-is_slot (Some Ahead) = false
-is_slot (Some Made) = false
+is_slot (Some _) = false
 
 -- what a use of a name as a value, and as a slot, breaks
 abbrev pub used : Option Role → List ScopeKind
 used None = refusal.Unknown ∷ []
-used (Some Ahead) = refusal.Unknown ∷ []
-used (Some _) = []
+used (Some role) = []
 
 abbrev pub unless : Bool → ScopeKind → List ScopeKind
 unless allowed kind = if allowed then [] else kind ∷ []
@@ -43,13 +39,16 @@ unless allowed kind = if allowed then [] else kind ∷ []
 abbrev pub used_as_slot : Option Role → List ScopeKind
 used_as_slot role = unless (is_slot role) refusal.Unknown
 
--- what a new variable of this role breaks where its name stands for that already
-abbrev pub taken : Role → Option Role → List ScopeKind
-taken role None = []
-taken role (Some Made) = []
-taken Ahead (Some Ahead) = refusal.Shadow ∷ []
-taken _ (Some Ahead) = []
-taken role (Some _) = refusal.Shadow ∷ []
+-- what a new variable breaks where its name stands for that already
+abbrev pub taken : Option Role → List ScopeKind
+taken None = []
+taken (Some Made) = []
+taken (Some _) = refusal.Shadow ∷ []
+
+-- the variables of a query come into scope behind their place, those of a handler's patterns in its body alone
+abbrev pub brought : Role → List (List ℕ) → Scope Role → Scope Role
+brought QueryVariable names scope = entered QueryVariable names scope
+brought role names scope = scope
 
 -- The variables that a part of a text brings; the kinds of refusal in it, by the role of these variables and the names
 -- in scope where the part begins; and whether it may be the argument of an aggregate.
@@ -61,7 +60,7 @@ pub record Part : Type 0 where
 -- parts in the order of the text, each with the variables of those before it in scope
 abbrev pub in_order : List Part → Role → Scope Role → List ScopeKind
 in_order [] role scope = []
-in_order (part ∷ parts) role scope = part.kinds role scope ++ in_order parts role (entered role part.binds scope)
+in_order (part ∷ parts) role scope = part.kinds role scope ++ in_order parts role (brought role part.binds scope)
 
 -- of a pattern or generator; of an expression, from which no variable comes out; of a query, whose variables are its own
 abbrev pub together : List Part → Part
@@ -88,7 +87,7 @@ aggregate argument other = record {
 }
 
 abbrev pub variable : List ℕ → Part
-variable name = record { binds = name ∷ []; kinds = λ role scope. taken role (look scope name); ranges = λ scope. false }
+variable name = record { binds = name ∷ []; kinds = λ role scope. taken (look scope name); ranges = λ scope. false }
 
 abbrev pub source_part : SourceTree → Part
 source_part source_tree.Received = inside []

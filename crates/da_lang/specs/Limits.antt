@@ -120,7 +120,8 @@ class_items c = sum (map (λ items. sum (map item_count items)) (item_lists c))
 abbrev pub class_blocks : Class → ℕ
 class_blocks c = greatest (map (λ items. block_depth (map item_depth items)) (item_lists c))
 
--- the bodies that are in the inlined text: all but those of methods to which no call leads from `run` or a handler
+-- the bodies that are in the inlined text: all but those of methods to which no call leads from `setup`, `run` or a
+-- handler
 abbrev pub is_root : Place → Bool
 is_root (InMethod name) = false
 is_root _ = true
@@ -150,14 +151,14 @@ line_if holds line = if holds then line ∷ [] else []
 abbrev pub classes_over : Tree → List ℕ
 classes_over t = map (λ c. c.line) (drop most_classes t.classes)
 
--- the lines with which there are too many processes, where so many were made before
 abbrev pub line_of_main : MainLine → ℕ
 line_of_main (main_line.New name class count line) = line
 line_of_main (main_line.Setup name args line) = line
 
+-- the line of `main` that passes the limit, where so many were made before
 abbrev pub processes_over : ℕ → List MainLine → List ℕ
 processes_over before [] = []
-processes_over before (l ∷ ls) = line_if (nat_lt most_processes (before + made_count l)) (line_of_main l) ++ processes_over (before + made_count l) ls
+processes_over before (l ∷ ls) = if nat_lt most_processes (before + made_count l) then line_of_main l ∷ [] else processes_over (before + made_count l) ls
 
 abbrev pub items_over : ClassTree → List ℕ
 items_over c = line_if (nat_lt most_items (class_items (resolved_class c))) c.line

@@ -10,9 +10,9 @@ use Rattle.da_lang.specs.declared.tree.MainLine.{MainLine}
 use Rattle.da_lang.specs.declared.tree.MainLine.TheVariants as main_line
 use Rattle.da_lang.specs.declared.tree.Tree.{Tree}
 use Rattle.da_lang.specs.Calls.{is_yield, leads, yields, deeds_in}
-use Rattle.da_lang.specs.ClassParts.{Declared, Place, InMethod, InHandler, Body, bodies, bodies_where, variables, is_setup, is_run, is_handler, method_name, labels_at, method_of, class_of, setup_of, params_if}
-use Rattle.da_lang.specs.Deeds.{Doing, Sends, Outputs, Labels, Calls, Loops, Waits, Deed, deeds}
-use Rattle.da_lang.specs.ExprNames.{Role, ClassVariable, Local, Ahead, Made, Part, in_order, taken, refused_in, pattern_part}
+use Rattle.da_lang.specs.ClassParts.{Declared, Place, InHandler, Body, bodies, bodies_where, variables, is_setup, is_run, is_handler, method_name, labels_at, method_of, class_of, setup_of, params_if}
+use Rattle.da_lang.specs.Deeds.{Doing, Sends, Outputs, Labels, Calls, Loops, TimesOut, Deed, deeds}
+use Rattle.da_lang.specs.ExprNames.{Role, ClassVariable, Local, Made, Part, in_order, taken, refused_in, pattern_part}
 use Rattle.da_lang.specs.Scopes.{Scope, Refused, look, entered, at_line, at_lines, told}
 use Rattle.da_lang.specs.StmtNames.{refused_in_body}
 use Rattle.da_lang.specs.Written.{asks, reads_clock}
@@ -30,15 +30,15 @@ abbrev pub again : List Declared → List ℕ
 again = again_after []
 
 -- notyet: `timeout`, and `at` in a `receive`
-abbrev pub waits : Doing → Bool
-waits Waits = true
-waits _ = false
+abbrev pub times_out : Doing → Bool
+times_out TimesOut = true
+times_out _ = false
 
 abbrev pub has_labels : Body → Bool
 has_labels b = not (length (labels_at b.place) == 0)
 
 abbrev pub not_yet_in : Body → List ℕ
-not_yet_in b = (if has_labels b then b.line ∷ [] else []) ++ lines_where (λ d. waits d.does) (deeds b.stmts)
+not_yet_in b = (if has_labels b then b.line ∷ [] else []) ++ lines_where (λ d. times_out d.does) (deeds b.stmts)
 
 -- unknown and shadow, by what is in scope: in a class its variables, in a body its parameters or the variables of its
 -- patterns besides
@@ -53,11 +53,15 @@ abbrev pub locals_of : Body → List (List ℕ)
 locals_of b = map (λ p. p.name) b.params ++ flat_map (λ part. part.binds) (patterns_at b.place)
 
 abbrev pub shadowed_params : Scope Role → Body → List ScopeKind
-shadowed_params scope b = flat_map (λ p. taken Local (look scope p.name)) b.params
+shadowed_params scope b = flat_map (λ p. taken (look scope p.name)) b.params
+
+-- a variable of a handler's patterns that has the name of an earlier one in them
+abbrev pub doubled : Body → List ScopeKind
+doubled b = map (λ line. refusal.Shadow) (again (map (λ name. (name, b.line)) (flat_map (λ part. part.binds) (patterns_at b.place))))
 
 abbrev pub scope_refusals : Scope Role → Body → List (Refused ScopeKind)
 scope_refusals scope b =
-    at_line b.line (shadowed_params scope b ++ in_order (patterns_at b.place) Ahead scope) ++ refused_in_body b.stmts (entered Local (locals_of b) scope)
+    at_line b.line (shadowed_params scope b ++ doubled b ++ in_order (patterns_at b.place) Local scope) ++ refused_in_body b.stmts (entered Local (locals_of b) scope)
 
 -- unknown: a call of no method
 abbrev pub calls_none : ClassTree → Doing → Bool

@@ -3,6 +3,7 @@ use Rattle.std.specs.Prelude.{ℕ, Bool, true, false, ◌&&◌, if◌then◌else
 use Rattle.std.specs.List.{list_all}
 use Rattle.da_values.specs.declared.value.Value.{Value}
 use Rattle.da_values.specs.declared.value.Value.TheVariants as kept
+use Rattle.da_values.specs.Narrow.{is_i64}
 use Rattle.da_lang.specs.declared.query.Agg.{Agg}
 use Rattle.da_lang.specs.declared.query.AggOp.{AggOp}
 use Rattle.da_lang.specs.declared.query.AggOp.TheVariants as agg
@@ -25,7 +26,7 @@ use Rattle.da_lang.specs.declared.query.Term.TheOpen as term
 use Rattle.da_lang.specs.declared.tree.CmpOp.{CmpOp}
 use Rattle.da_lang.specs.declared.tree.CmpOp.TheVariants as op
 use Rattle.da_lang.specs.declared.tree.MessageDecl.{MessageDecl}
-use Rattle.da_lang.specs.declared.ty.Ty.{Ty, out-Ty}
+use Rattle.da_lang.specs.declared.ty.Ty.{Ty}
 use Rattle.da_lang.specs.declared.ty.Ty.TheVariants as t
 use Rattle.da_lang.specs.Types.{same_type, ordered, is_flat, is_int, is_bool, is_set, parts_of, element_of}
 use Rattle.da_lang.specs.World.{numbered}
@@ -51,18 +52,21 @@ when holds x = if holds then Some x else None
 abbrev pub flat : Ty → Option Ty
 flat x = when (is_flat x) x
 
--- the type of a slot
+-- the type of a slot, where it is known
+abbrev pub type_at : List (Option Ty) → ℕ → Option Ty
+type_at slots slot = given (numbered slots slot) (λ ty. ty)
+
 abbrev pub slot_type : Known → ℕ → Option Ty
-slot_type known slot = given (numbered known.slots slot) (λ ty. ty)
+slot_type known slot = type_at known.slots slot
 
 -- the types of all, where each has one
 abbrev pub all_types : List (Option Ty) → Option (List Ty)
 all_types [] = Some []
 all_types (x ∷ xs) = given x (λ first. given (all_types xs) (λ others. Some (first ∷ others)))
 
--- a literal
+-- a literal, whose integer lies in an i64
 abbrev pub literal_type : Value → Option Ty
-literal_type (kept.Int number) = Some t.Int
+literal_type (kept.Int number) = when (is_i64 number) t.Int
 literal_type (kept.Bool truth) = Some t.Bool
 literal_type (kept.Text bytes) = Some t.Text
 literal_type (kept.Proc process) = Some t.Proc
@@ -110,31 +114,31 @@ pattern_row known = fold-Pattern Extends (pattern_step known)
 
 -- a pattern over a type of at most 32 levels
 abbrev pub matched_row : Known → Pattern → Extends
-matched_row known p ty row = given (flat ty) (λ same. pattern_row known p same row)
+matched_row known p ty row = if is_flat ty then pattern_row known p ty row else None
 
--- the types of the parts of a declared message behind its tag
-abbrev pub declared : Known → List ℕ → Option (List Ty)
-declared known tag = given (find (λ m. bytes_eq m.tag tag) known.messages) (λ m. Some m.parts)
+-- a declared message, by its tag: a tuple of a text and its parts
+abbrev pub declared : List MessageDecl → List ℕ → Option Ty
+declared messages tag = given (find (λ m. bytes_eq m.tag tag) messages) (λ m. Some (t.Tuple (t.Text ∷ m.parts)))
 
--- a message, by its tag: a tuple of a text and its parts
+-- the same of at most 32 levels
 abbrev pub message_type : Known → List ℕ → Option Ty
-message_type known tag = given (declared known tag) (λ parts. flat (t.Tuple (t.Text ∷ parts)))
+message_type known tag = given (declared known.messages tag) flat
 
 -- the tag of a pattern over a history: a tuple pattern whose first part is a written text
-abbrev pub tag_first : pattern.Pattern-F Pattern → Option (List ℕ)
-tag_first (pattern.Const (kept.Text tag)) = Some tag
-tag_first _ = None
+abbrev pub text_pattern : pattern.Pattern-F Pattern → Option (List ℕ)
+text_pattern (pattern.Const (kept.Text tag)) = Some tag
+text_pattern _ = None
 
-abbrev pub tag_of_parts : List Pattern → Option (List ℕ)
-tag_of_parts [] = None
-tag_of_parts (p ∷ ps) = tag_first (out-Pattern p)
+abbrev pub first_pattern : List Pattern → Option (List ℕ)
+first_pattern [] = None
+first_pattern (p ∷ ps) = text_pattern (out-Pattern p)
 
-abbrev pub tag_in : pattern.Pattern-F Pattern → Option (List ℕ)
-tag_in (pattern.Tuple ps) = tag_of_parts ps
-tag_in _ = None
+abbrev pub pattern_tag : pattern.Pattern-F Pattern → Option (List ℕ)
+pattern_tag (pattern.Tuple ps) = first_pattern ps
+pattern_tag _ = None
 
 abbrev pub message_row : Known → Pattern → List Ty → Option (List Ty)
-message_row known p row = given (given (tag_in (out-Pattern p)) (message_type known)) (λ ty. pattern_row known p ty row)
+message_row known p row = given (given (pattern_tag (out-Pattern p)) (message_type known)) (λ ty. pattern_row known p ty row)
 
 -- what a generator goes through: messages, or the elements of a slot of a set type; the other pattern is over processes
 abbrev pub source_row : Known → Source → Pattern → List Ty → Option (List Ty)
@@ -159,7 +163,7 @@ plain ty = Some (record { ty = ty; sum = false })
 
 -- an operand of a chain is an integer, and no `sum`
 abbrev pub is_operand : Option Side → Bool
-is_operand side = holds_of side (λ s. is_int (out-Ty s.ty) && (if s.sum then false else true))
+is_operand side = holds_of side (λ s. is_int s.ty && (if s.sum then false else true))
 
 -- a comparison of two of one type, ordered but for `==` and `!=`
 abbrev pub asks_order : CmpOp → Bool
@@ -194,7 +198,7 @@ abbrev pub has_rows : Known → List RGen → Option Holds → List Ty → Bool
 has_rows known gens cond row = holds_of (rows_where known gens cond row) (λ found. true)
 
 abbrev pub cond_step : Known → Cond-F Holds Sided Sided Sided → Holds
-cond_step known (Cond-F.Truth x) row = holds_of (term_type known x row) (λ ty. is_bool (out-Ty ty))
+cond_step known (Cond-F.Truth x) row = holds_of (term_type known x row) is_bool
 cond_step known (Cond-F.Cmp o x y) row = comparable o (x row) (y row)
 cond_step known (Cond-F.Not x) row = x row
 cond_step known (Cond-F.And xs) row = list_all (λ x. x row) xs
@@ -206,14 +210,15 @@ operand_step known (Operand-F.Term x) row = given (term_type known x row) plain
 operand_step known (Operand-F.Agg a) row = a row
 operand_step known (Operand-F.Chain x more) row = if is_operand (x row) && list_all (λ y. is_operand (y row)) more then plain t.Int else None
 
--- an aggregate over the set of a term
+-- the type of the value that `min` and `max` give of the empty set
 abbrev pub other_type : Known → Option Term → List Ty → Option Ty
 other_type known None row = None
 other_type known (Some x) row = term_type known x row
 
+-- an aggregate over a set with elements of this type
 abbrev pub agg_type : AggOp → Ty → Option Ty → Option Side
 agg_type agg.Count ty other = plain t.Int
-agg_type agg.Sum ty other = when (is_int (out-Ty ty)) (record { ty = t.Int; sum = true })
+agg_type agg.Sum ty other = when (is_int ty) (record { ty = t.Int; sum = true })
 agg_type agg.Min ty other = if ordered ty && is_typed other ty then plain ty else None
 agg_type agg.Max ty other = if ordered ty && is_typed other ty then plain ty else None
 
@@ -240,10 +245,10 @@ abbrev pub written_cond : Known → Option Cond → Option Holds
 written_cond known None = None
 written_cond known (Some cond) = Some (cond_holds known cond)
 
--- the row of the generators of a query, where its condition keeps the rules too
+-- the row of the generators of a `some`, where its condition keeps the rules too
 abbrev pub query_row : Known → Query → Option (List Ty)
 query_row known (qu.Quant each gens cond) = rows_where known gens (written_cond known cond) []
-query_row known (qu.Comp x gens cond) = rows_where known gens (written_cond known cond) []
+query_row known (qu.Comp x gens cond) = None
 query_row known (qu.Agg a) = None
 
 -- the type of a query

@@ -16,7 +16,7 @@ use Rattle.da_lang.specs.declared.tree.MainLine.TheVariants as main_line
 use Rattle.da_lang.specs.declared.tree.PatternTree.{PatternTree}
 use Rattle.da_lang.specs.declared.tree.Tree.{Tree}
 use Rattle.da_lang.specs.BodyMeaning.{fresh, named_slots, untyped, with_params, param_slots, class_slots, body_of}
-use Rattle.da_lang.specs.ClassParts.{Place, InHandler, Body, bodies_where, variables, is_run, is_handler, setup_of, params_if, stmts_if}
+use Rattle.da_lang.specs.ClassParts.{Place, InHandler, Body, bodies_where, variables, is_handler, setup_of, params_if, stmts_if, run_of}
 use Rattle.da_lang.specs.ExprMeaning.{Meaning, OneProcess, Processes, Tables, Matching, with_row, matching, meant}
 use Rattle.da_lang.specs.Scopes.{Scope}
 
@@ -39,14 +39,16 @@ handler_binds place = (message_matching place).binds ++ (sender_matching place).
 abbrev pub handler : ClassTree → Body → Tables → Handler × Tables
 handler c b tables =
     let binds = handler_binds b.place in
-    let items = body_of c b.stmts (named_slots binds tables (class_slots c)) (untyped binds tables) in
-    (record {
-      message = (message_matching b.place).pattern (class_slots c);
-      from = (sender_matching b.place).pattern (with_row (message_matching b.place).binds (class_slots c));
-      binds = fresh tables (length binds);
-      body = items.0;
-      line = b.line;
-    }, items.1)
+    let items = body_of c b.stmts (named_slots binds tables (class_slots c)) (untyped binds tables) in (
+      record {
+        message = (message_matching b.place).pattern (class_slots c);
+        from = (sender_matching b.place).pattern (with_row (message_matching b.place).binds (class_slots c));
+        binds = fresh tables (length binds);
+        body = items.0;
+        line = b.line;
+      },
+      items.1,
+    )
 
 abbrev pub handlers : ClassTree → List Body → Tables → List Handler × Tables
 handlers c [] tables = ([], tables)
@@ -61,7 +63,7 @@ setup_items c =
     body_of c (stmts_if (setup_of c)) (param_slots (params_if (setup_of c)) (class_tables c) (class_slots c)) (with_params (params_if (setup_of c)) (class_tables c))
 
 abbrev pub run_items : ClassTree → Tables → List Item × Tables
-run_items c = body_of c (flat_map (λ b. b.stmts) (bodies_where is_run c)) (class_slots c)
+run_items c = body_of c (stmts_if (run_of c)) (class_slots c)
 
 unfoldable pub resolved_class : ClassTree → Class
 resolved_class c =
@@ -92,13 +94,13 @@ abbrev pub made_count : MainLine → ℕ
 made_count (main_line.New name class count line) = many count
 made_count (main_line.Setup name args line) = 0
 
-abbrev pub made_name : ℕ → MainLine → Scope Meaning
-made_name before (main_line.New name class count line) = (name, made_as count before) ∷ []
-made_name before (main_line.Setup name args line) = []
+abbrev pub made_entry : ℕ → MainLine → Scope Meaning
+made_entry before (main_line.New name class count line) = (name, made_as count before) ∷ []
+made_entry before (main_line.Setup name args line) = []
 
 abbrev pub made : ℕ → List MainLine → Scope Meaning
 made before [] = []
-made before (l ∷ ls) = made_name before l ++ made (before + made_count l) ls
+made before (l ∷ ls) = made_entry before l ++ made (before + made_count l) ls
 
 -- the arguments of the line of `setup` for a name
 abbrev pub resolved_args : Scope Meaning → List Expr → List RExpr

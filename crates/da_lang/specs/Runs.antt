@@ -55,7 +55,7 @@ go_after after n go = go_on after.data' after.todo after.actions n go after.faul
 unfoldable pub max_turns : ℕ
 max_turns = 1000000
 
--- the run that may take so many turns more, where n were taken
+-- the run that may take so many turns more, where n were taken; together they are the greatest number
 unfoldable pub run : Class → ℕ → ℕ → Data → List Task → Ran
 run class left n d [] = stopped d [] n UsedUp
 run class zero n d (t ∷ todo) = stopped d (t ∷ todo) n (if yields t then AtYield else Faults TooLong (line_of_task t))

@@ -12,8 +12,6 @@ use Rattle.da_lang.specs.declared.program.Item.{Item}
 use Rattle.da_lang.specs.declared.program.ItemKind.{ItemKind}
 use Rattle.da_lang.specs.declared.program.ItemKind.TheOpen.{ItemKind-F, Await, Label}
 use Rattle.da_lang.specs.declared.program.ItemKind.TheViews.{out-Alt}
-use Rattle.da_lang.specs.declared.program.Phase.{Phase}
-use Rattle.da_lang.specs.declared.program.Phase.TheVariants.{New, Waiting, Ended, Faulted}
 use Rattle.da_lang.specs.declared.program.ProcDecl.{ProcDecl}
 use Rattle.da_lang.specs.declared.program.Program.{Program}
 use Rattle.da_lang.specs.declared.program.RBranch.{RBranch}
@@ -22,7 +20,7 @@ use Rattle.da_lang.specs.Matching.{Row, matched_entry}
 use Rattle.da_lang.specs.Queries.{holds}
 use Rattle.da_lang.specs.Runs.{Halt, AtYield, UsedUp, Faults, Ran, stopped, behind, max_turns, run_to_yield}
 use Rattle.da_lang.specs.Turns.{bind_all, bind_found, do_all, later, kind_of}
-use Rattle.da_lang.specs.World.{Data, Task, Do, Prepare, World, numbered, class_of}
+use Rattle.da_lang.specs.World.{Data, Task, Do, Prepare, World, numbered, class_of, Phase, New, Waiting, Ended, Faulted}
 
 -- a move from the opening or a label; one that takes the alternative of this number; a message with its sender and its
 -- time that arrives

@@ -54,7 +54,7 @@ guarded line x body scope = says line (x ∷ []) scope ++ block body (entered Lo
 
 abbrev pub looped : ℕ → List ℕ → Expr → List Line → Refusing
 looped line name x body scope =
-    says line (x ∷ []) scope ++ at_line line (taken Local (look scope name)) ++ block body (entered Local (name ∷ []) scope)
+    says line (x ∷ []) scope ++ at_line line (taken (look scope name)) ++ block body (entered Local (name ∷ []) scope)
 
 abbrev pub stmt_names : Stmt-F Line Refusing Refusing → Line
 stmt_names (Stmt-F.Assign name x line) = no_binds (changes line name x)

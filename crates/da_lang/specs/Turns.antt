@@ -170,6 +170,7 @@ module _ (class : Class) (line : ℕ) (d : Data) (todo : List Task) where
   kind_turn itself (While e body) = with_value e (λ v. quiet d (if truth_of v then do_all body (itself ∷ todo) else todo))
   kind_turn itself (For s e body) = with_value e (λ v. quiet d (Loop s (elements_of v) body line ∷ todo))
   kind_turn itself (Call args body) = enter (map value_of_arg args) (map slot_of_arg args) body
+  -- a run stops in front of these, and never takes them by a turn
   kind_turn itself (Await alts) = quiet d todo
   kind_turn itself Label = quiet d todo
   kind_turn itself Pass = quiet d todo

@@ -3,10 +3,10 @@ use Rattle.std.specs.Prelude.{ℕ, suc, nat_le, Bool, true, false, ◌&&◌, Lis
 use Rattle.std.specs.List.{list_all}
 use Rattle.da_values.specs.declared.val.Val.{Val, out-Val}
 use Rattle.da_values.specs.declared.val.Val.TheOpen as vo
+use Rattle.da_values.specs.Nesting.{deepest}
 use Rattle.da_lang.specs.declared.ty.Ty.{Ty, out-Ty}
 use Rattle.da_lang.specs.declared.ty.Ty.TheFolds.{fold-Ty}
 use Rattle.da_lang.specs.declared.ty.Ty.TheOpen as ty
-use Rattle.da_lang.specs.Written.{greatest}
 
 -- the same type
 abbrev pub all_same : List (Ty → Bool) → List Ty → Bool
@@ -15,21 +15,21 @@ all_same [] (y ∷ ys) = false
 all_same (same ∷ sames) [] = false
 all_same (same ∷ sames) (y ∷ ys) = same y && all_same sames ys
 
-abbrev pub is_int : ty.Ty-F Ty → Bool
-is_int ty.Int = true
-is_int _ = false
+abbrev pub int_in : ty.Ty-F Ty → Bool
+int_in ty.Int = true
+int_in _ = false
 
-abbrev pub is_bool : ty.Ty-F Ty → Bool
-is_bool ty.Bool = true
-is_bool _ = false
+abbrev pub bool_in : ty.Ty-F Ty → Bool
+bool_in ty.Bool = true
+bool_in _ = false
 
-abbrev pub is_text : ty.Ty-F Ty → Bool
-is_text ty.Text = true
-is_text _ = false
+abbrev pub text_in : ty.Ty-F Ty → Bool
+text_in ty.Text = true
+text_in _ = false
 
-abbrev pub is_proc : ty.Ty-F Ty → Bool
-is_proc ty.Proc = true
-is_proc _ = false
+abbrev pub proc_in : ty.Ty-F Ty → Bool
+proc_in ty.Proc = true
+proc_in _ = false
 
 abbrev pub parts_in : ty.Ty-F Ty → Option (List Ty)
 parts_in (ty.Tuple parts) = Some parts
@@ -38,6 +38,19 @@ parts_in _ = None
 abbrev pub element_in : ty.Ty-F Ty → Option Ty
 element_in (ty.Set element) = Some element
 element_in _ = None
+
+-- the types by their forms
+abbrev pub is_int : Ty → Bool
+is_int x = int_in (out-Ty x)
+
+abbrev pub is_bool : Ty → Bool
+is_bool x = bool_in (out-Ty x)
+
+abbrev pub is_text : Ty → Bool
+is_text x = text_in (out-Ty x)
+
+abbrev pub is_proc : Ty → Bool
+is_proc x = proc_in (out-Ty x)
 
 -- the types of the parts of a tuple, of the elements of a set
 abbrev pub parts_of : Ty → Option (List Ty)
@@ -58,10 +71,10 @@ set_same same None = false
 set_same same (Some element) = same element
 
 abbrev pub same_step : ty.Ty-F (Ty → Bool) → Ty → Bool
-same_step ty.Int y = is_int (out-Ty y)
-same_step ty.Bool y = is_bool (out-Ty y)
-same_step ty.Text y = is_text (out-Ty y)
-same_step ty.Proc y = is_proc (out-Ty y)
+same_step ty.Int y = is_int y
+same_step ty.Bool y = is_bool y
+same_step ty.Text y = is_text y
+same_step ty.Proc y = is_proc y
 same_step (ty.Tuple sames) y = tuple_same sames (parts_of y)
 same_step (ty.Set same) y = set_same same (element_of y)
 
@@ -86,7 +99,7 @@ levels_step ty.Int = 0
 levels_step ty.Bool = 0
 levels_step ty.Text = 0
 levels_step ty.Proc = 0
-levels_step (ty.Tuple parts) = suc (greatest parts)
+levels_step (ty.Tuple parts) = suc (deepest parts)
 levels_step (ty.Set element) = suc element
 
 unfoldable pub levels : Ty → ℕ

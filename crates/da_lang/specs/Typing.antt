@@ -1,5 +1,5 @@
 -- The types of the slots of a program, and the lines that break a rule of types.
-use Rattle.std.specs.Prelude.{◌≡◌, ℕ, zero, suc, nat_lt, Bool, true, ◌&&◌, ◌||◌, if◌then◌else◌, List, [], ◌∷◌, ◌++◌, map, Option, Some, None, is_some, flat_map, slice_get, slice_set}
+use Rattle.std.specs.Prelude.{◌≡◌, ℕ, zero, suc, nat_lt, Bool, true, false, ◌&&◌, ◌||◌, if◌then◌else◌, List, [], ◌∷◌, ◌++◌, map, Option, Some, None, is_some, flat_map, slice_get, slice_set}
 use Rattle.std.specs.List.{list_all}
 use Rattle.da_values.specs.declared.value.Value.TheVariants as kept
 use Rattle.da_lang.specs.declared.program.Alt.{Alt}
@@ -18,10 +18,10 @@ use Rattle.da_lang.specs.declared.program.SetupCall.{SetupCall}
 use Rattle.da_lang.specs.declared.program.ChainPart.{ChainPart}
 use Rattle.da_lang.specs.declared.query.Query.{Query}
 use Rattle.da_lang.specs.declared.tree.MessageDecl.{MessageDecl}
-use Rattle.da_lang.specs.declared.ty.Ty.{Ty, out-Ty}
+use Rattle.da_lang.specs.declared.ty.Ty.{Ty}
 use Rattle.da_lang.specs.declared.ty.Ty.TheVariants as t
-use Rattle.da_lang.specs.ExprTypes.{Typing, typing, truth}
-use Rattle.da_lang.specs.QueryTypes.{Known, given, slot_type, holds_of, is_typed, message_row, message_type, pattern_row, query_row, cond_holds}
+use Rattle.da_lang.specs.ExprTypes.{ExprType, typing, truth}
+use Rattle.da_lang.specs.QueryTypes.{Known, given, type_at, slot_type, holds_of, is_typed, message_row, message_type, pattern_row, query_row, query_type, cond_holds}
 use Rattle.da_lang.specs.Types.{is_proc, element_of}
 use Rattle.da_lang.specs.World.{numbered}
 
@@ -29,18 +29,24 @@ use Rattle.da_lang.specs.World.{numbered}
 abbrev pub Slots : Type 0
 Slots = List (Option Ty)
 
+-- the type that is known, or else the other
+abbrev pub known_or : Option Ty → Option Ty → Option Ty
+known_or None other = other
+known_or (Some ty) other = Some ty
+
+-- a slot takes a type, where none is known
 abbrev pub with_type : ℕ → Option Ty → Slots → Slots
 with_type zero ty slots = slots
-with_type (suc place) ty slots = slice_set slots place ty
+with_type (suc place) ty slots = slice_set slots place (known_or (type_at slots (suc place)) ty)
 
 abbrev pub with_types : List ℕ → List Ty → Slots → Slots
 with_types [] types slots = slots
 with_types (b ∷ bs) [] slots = slots
 with_types (b ∷ bs) (ty ∷ types) slots = with_types bs types (with_type b (Some ty) slots)
 
-abbrev pub with_row : List ℕ → Option (List Ty) → Slots → Slots
-with_row binds None slots = slots
-with_row binds (Some row) slots = with_types binds row slots
+abbrev pub with_row_types : List ℕ → Option (List Ty) → Slots → Slots
+with_row_types binds None slots = slots
+with_row_types binds (Some row) slots = with_types binds row slots
 
 -- one after the other
 abbrev pub in_turn : List (Slots → Slots) → Slots → Slots
@@ -48,17 +54,17 @@ in_turn [] slots = slots
 in_turn (step ∷ steps) slots = in_turn steps (step slots)
 
 -- the tag of a message that is written as a tuple whose first part is a text
-abbrev pub tag_first : expr.RExpr-F RExpr ChainPart → Option (List ℕ)
-tag_first (expr.Const (kept.Text tag)) = Some tag
-tag_first _ = None
+abbrev pub text_part : expr.RExpr-F RExpr ChainPart → Option (List ℕ)
+text_part (expr.Const (kept.Text tag)) = Some tag
+text_part _ = None
 
-abbrev pub tag_of_parts : List RExpr → Option (List ℕ)
-tag_of_parts [] = None
-tag_of_parts (x ∷ xs) = tag_first (out-RExpr x)
+abbrev pub first_part : List RExpr → Option (List ℕ)
+first_part [] = None
+first_part (x ∷ xs) = text_part (out-RExpr x)
 
-abbrev pub tag_in : expr.RExpr-F RExpr ChainPart → Option (List ℕ)
-tag_in (expr.Tuple xs) = tag_of_parts xs
-tag_in _ = None
+abbrev pub message_tag : expr.RExpr-F RExpr ChainPart → Option (List ℕ)
+message_tag (expr.Tuple xs) = first_part xs
+message_tag _ = None
 
 -- the line of a rule that is broken; the lines of all parts
 abbrev pub unless : ℕ → Bool → List ℕ
@@ -79,10 +85,10 @@ module _ (messages : List MessageDecl) (queries : List Query) where
   abbrev pub known : Slots → Known
   known slots = record { messages = messages; slots = slots }
 
-  abbrev pub typed : Slots → RExpr → Typing
+  abbrev pub typed : Slots → RExpr → ExprType
   typed slots = typing (known slots) queries
 
-  -- The slots of loops and of what a `some` binds get their types on the way.
+  -- The slots of loops, and those that a `some` binds, take their types on the way.
   abbrev pub found_row : Option ℕ → Slots → Option (List Ty)
   found_row found slots = given (given found (numbered queries)) (query_row (known slots))
 
@@ -95,13 +101,13 @@ module _ (messages : List MessageDecl) (queries : List Query) where
   kind_types _ slots = slots
 
   abbrev pub alt_types : Alt-F (Slots → Slots) (Slots → Slots) (Slots → Slots) (Slots → Slots) → Slots → Slots
-  alt_types a slots = in_turn a.body (with_row a.binds (found_row a.found slots) slots)
+  alt_types a slots = in_turn a.body (with_row_types a.binds (found_row a.found slots) slots)
 
   abbrev pub item_types_step : Item-F (Slots → Slots) (Slots → Slots) (Slots → Slots) (Slots → Slots) → Slots → Slots
   item_types_step i = i.kind
 
   abbrev pub branch_types : RBranch-F (Slots → Slots) (Slots → Slots) (Slots → Slots) (Slots → Slots) → Slots → Slots
-  branch_types b slots = in_turn b.body (with_row b.binds (found_row b.found slots) slots)
+  branch_types b slots = in_turn b.body (with_row_types b.binds (found_row b.found slots) slots)
 
   unfoldable pub item_types : Item → Slots → Slots
   item_types = fold-Item (Slots → Slots) (Slots → Slots) (Slots → Slots) (Slots → Slots) kind_types alt_types item_types_step branch_types
@@ -120,10 +126,26 @@ module _ (messages : List MessageDecl) (queries : List Query) where
   handler_row h slots = given (message_row (known slots) h.message []) (pattern_row (known slots) h.from t.Proc)
 
   abbrev pub handler_types : Handler → Slots → Slots
-  handler_types h slots = in_turn (map item_types h.body) (with_row h.binds (handler_row h slots) slots)
+  handler_types h slots = in_turn (map item_types h.body) (with_row_types h.binds (handler_row h slots) slots)
 
   -- The lines that break a rule, where the slots have these types.
   module _ (slots : Slots) where
+    -- a slot has this type
+    abbrev pub has_type : ℕ → Ty → Bool
+    has_type slot ty = is_typed (slot_type (known slots) slot) ty
+
+    -- slots have the types of a row, one each
+    abbrev pub have_types : List ℕ → List Ty → Bool
+    have_types [] [] = true
+    have_types [] (ty ∷ types) = false
+    have_types (b ∷ bs) [] = false
+    have_types (b ∷ bs) (ty ∷ types) = has_type b ty && have_types bs types
+
+    -- of the row that a numbered `some` finds, if there is one to bind
+    abbrev pub have_found : Option ℕ → List ℕ → Bool
+    have_found None binds = true
+    have_found (Some query) binds = holds_of (found_row (Some query) slots) (have_types binds)
+
     -- an expression fits the type of a slot; fits the elements of a slot; is one of them
     abbrev pub fits_slot : ℕ → RExpr → Bool
     fits_slot slot x = holds_of (slot_type (known slots) slot) (typed slots x).fits
@@ -135,11 +157,15 @@ module _ (messages : List MessageDecl) (queries : List Query) where
     is_element slot x = holds_of (given (slot_type (known slots) slot) element_of) (is_typed (typed slots x).type_)
 
     abbrev pub is_message : RExpr → Bool
-    is_message x = holds_of (given (tag_in (out-RExpr x)) (message_type (known slots))) (typed slots x).fits
+    is_message x = holds_of (given (message_tag (out-RExpr x)) (message_type (known slots))) (typed slots x).fits
 
     -- a process, or a set of them
     abbrev pub is_recipient : Ty → Bool
-    is_recipient ty = is_proc (out-Ty ty) || holds_of (element_of ty) (λ element. is_proc (out-Ty element))
+    is_recipient ty = is_proc ty || holds_of (element_of ty) is_proc
+
+    -- the slot of a loop has the type of the elements
+    abbrev pub takes_elements : ℕ → RExpr → Bool
+    takes_elements slot x = holds_of (given (typed slots x).type_ element_of) (has_type slot)
 
     abbrev pub fits_params : List BindArg → Bool
     fits_params args = list_all (λ a. fits_slot a.slot a.value) args
@@ -152,20 +178,20 @@ module _ (messages : List MessageDecl) (queries : List Query) where
     kind_breaks (ItemKind-F.Output x) = breaks (is_some (typed slots x).type_) []
     kind_breaks (ItemKind-F.If branches other) = breaks true (branches ++ other)
     kind_breaks (ItemKind-F.While x body) = breaks (truth (typed slots x)) body
-    kind_breaks (ItemKind-F.For slot x body) = breaks (is_some (given (typed slots x).type_ element_of)) body
+    kind_breaks (ItemKind-F.For slot x body) = breaks (takes_elements slot x) body
     kind_breaks (ItemKind-F.Call args body) = breaks (fits_params args) body
     kind_breaks (ItemKind-F.Await alts) = breaks true alts
     kind_breaks ItemKind-F.Label = breaks true []
     kind_breaks ItemKind-F.Pass = breaks true []
 
     abbrev pub alt_breaks : Alt-F Breaks (List ℕ) (List ℕ) (List ℕ) → List ℕ
-    alt_breaks a = unless a.line (cond_holds (known slots) a.cond []) ++ all a.body
+    alt_breaks a = unless a.line (cond_holds (known slots) a.cond [] && have_found a.found a.binds) ++ all a.body
 
     abbrev pub item_breaks_step : Item-F Breaks (List ℕ) (List ℕ) (List ℕ) → List ℕ
     item_breaks_step i = unless i.line i.kind.rule ++ i.kind.blocks
 
     abbrev pub branch_breaks : RBranch-F Breaks (List ℕ) (List ℕ) (List ℕ) → List ℕ
-    branch_breaks b = unless b.line (truth (typed slots b.cond)) ++ all b.body
+    branch_breaks b = unless b.line (truth (typed slots b.cond) && have_found b.found b.binds) ++ all b.body
 
     unfoldable pub item_breaks : Item → List ℕ
     item_breaks = fold-Item Breaks (List ℕ) (List ℕ) (List ℕ) kind_breaks alt_breaks item_breaks_step branch_breaks
@@ -180,17 +206,16 @@ module _ (messages : List MessageDecl) (queries : List Query) where
     branch_broken = fold-RBranch Breaks (List ℕ) (List ℕ) (List ℕ) kind_breaks alt_breaks item_breaks_step branch_breaks
 
     abbrev pub handler_breaks : Handler → List ℕ
-    handler_breaks h = unless h.line (is_some (handler_row h slots)) ++ flat_map item_breaks h.body
+    handler_breaks h = unless h.line (holds_of (handler_row h slots) (have_types h.binds)) ++ flat_map item_breaks h.body
 
--- the declared types of the slots of a class with those that come on the way
-unfoldable pub class_slots : List MessageDecl → Class → Slots
-class_slots messages c =
+-- the types of the slots of a class that are known, with those that come on the way
+unfoldable pub filled_slots : List MessageDecl → Class → Slots
+filled_slots messages c =
     in_turn (map (item_types messages c.queries) (c.setup ++ c.run) ++ map (handler_types messages c.queries) c.handlers) c.slots
 
 abbrev pub class_breaks : List MessageDecl → Class → List ℕ
 class_breaks messages c =
-    flat_map (item_breaks messages c.queries (class_slots messages c)) (c.setup ++ c.run)
-    ++ flat_map (handler_breaks messages c.queries (class_slots messages c)) c.handlers
+    flat_map (item_breaks messages c.queries c.slots) (c.setup ++ c.run) ++ flat_map (handler_breaks messages c.queries c.slots) c.handlers
 
 -- the arguments of a line of `setup` fit the parameters of the class
 abbrev pub args_fit : List MessageDecl → Class → List ℕ → List RExpr → Bool
@@ -203,13 +228,23 @@ call_breaks messages None call = []
 call_breaks messages (Some c) None = []
 call_breaks messages (Some c) (Some call) = if args_fit messages c c.params call.args then [] else call.line ∷ []
 
--- every line of a program that breaks a rule of types
-unfoldable pub type_breaks : Program → List ℕ
-type_breaks p =
+-- every line of a program that breaks a rule of types, where its slots have the types that are known
+unfoldable pub breaks_in : Program → List ℕ
+breaks_in p =
     flat_map (class_breaks p.messages) p.classes
     ++ flat_map (λ d. call_breaks p.messages (slice_get p.classes d.class) d.setup) p.procs
 
--- the least of them, if there is one
+-- the program in which each slot that had no type has the one that its header gives it
+abbrev pub filled_class : List MessageDecl → Class → Class
+filled_class messages c = record c { slots = filled_slots messages c }
+
+unfoldable pub filled : Program → Program
+filled p = record p { classes = map (filled_class p.messages) p.classes }
+
+-- every line of a program that breaks a rule of types, and the least of them, if there is one
+unfoldable pub type_breaks : Program → List ℕ
+type_breaks p = breaks_in (filled p)
+
 abbrev pub least_of : ℕ → Option ℕ → ℕ
 least_of line None = line
 least_of line (Some other) = if nat_lt other line then other else line
@@ -221,20 +256,18 @@ least (line ∷ lines) = Some (least_of line (least lines))
 abbrev pub type_fault : Program → Option ℕ
 type_fault p = least (type_breaks p)
 
--- the program with the type of every slot filled in
-abbrev pub filled_class : List MessageDecl → Class → Class
-filled_class messages c = record c { slots = class_slots messages c }
-
-unfoldable pub filled : Program → Program
-filled p = record p { classes = map (filled_class p.messages) p.classes }
-
--- a typed program: no rule is broken, and every slot has its type
+-- each slot has a type; each numbered query has one
 abbrev pub has_types : Class → Bool
-has_types c = list_all (λ ty. is_some ty) c.slots
+has_types c = list_all is_some c.slots
 
+abbrev pub has_queries : List MessageDecl → Class → Bool
+has_queries messages c = list_all (λ q. is_some (query_type (known messages c.queries c.slots) q)) c.queries
+
+-- a typed program: no rule is broken, and every slot and every numbered query has a type
 pub record IsTyped (p : Program) : Type 0 where
-  pub keeps : type_breaks p ≡ []
+  pub keeps : breaks_in p ≡ []
   pub complete : list_all has_types p.classes ≡ true
+  pub asked : list_all (has_queries p.messages) p.classes ≡ true
 
 -- the program that a resolved program becomes where no rule is broken
 pub record Typed (p q : Program) : Type 0 where

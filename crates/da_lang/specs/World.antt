@@ -4,8 +4,6 @@ use Rattle.da_values.specs.declared.val.Val.{Val}
 use Rattle.da_values.specs.declared.val.Val.TheVariants as val
 use Rattle.da_lang.specs.declared.program.Class.{Class}
 use Rattle.da_lang.specs.declared.program.Item.{Item}
-use Rattle.da_lang.specs.declared.program.Phase.{Phase}
-use Rattle.da_lang.specs.declared.program.Phase.TheVariants.{New}
 use Rattle.da_lang.specs.declared.program.ProcDecl.{ProcDecl}
 use Rattle.da_lang.specs.declared.program.Program.{Program}
 use Rattle.da_lang.specs.declared.program.SetupCall.{SetupCall}
@@ -33,6 +31,14 @@ pub data Task : Type 0 where
   Loop : (slot : ℕ) (left : List Val) (body : List Item) (line : ℕ) → Task
   Prepare : SetupCall → Task
 
+-- Where a process stands: it has not begun, it waits at a yield point, it has used up its statements, or a fault has
+-- ended it.
+pub data Phase : Type 0 where
+  New : Phase
+  Waiting : Phase
+  Ended : Phase
+  Faulted : Phase
+
 -- the whole of a process: what it knows, what is still to do, the next first, and where it stands
 pub record World : Type 0 where
   pub data' : Data
@@ -57,7 +63,7 @@ numbered members (suc place) = slice_get members place
 abbrev pub value_in : List Val → ℕ → Val
 value_in slots s = or_nothing (numbered slots s)
 
--- the same of a process
+-- the value of a slot of a process
 abbrev pub slot_of : Data → ℕ → Val
 slot_of d s = value_in d.slots s
 
@@ -66,7 +72,7 @@ abbrev pub with_slot : List Val → ℕ → Val → List Val
 with_slot slots zero x = slots
 with_slot slots (suc place) x = slice_set slots place x
 
--- the same of a process
+-- a process with another value in a slot
 abbrev pub put_slot : Data → ℕ → Val → Data
 put_slot d s x = record d { slots = with_slot d.slots s x }
 
@@ -88,7 +94,7 @@ abbrev pub first_value : ℕ → Option Ty → Val
 first_value me None = nothing
 first_value me (Some type') = default me type'
 
--- the class of a process, by its number
+-- the class that a declaration of a process names
 abbrev pub class_of_decl : Program → Option ProcDecl → Option Class
 class_of_decl program None = None
 class_of_decl program (Some decl) = slice_get program.classes decl.class

@@ -1,4 +1,4 @@
--- What is written in an expression, for the limits: its queries, its tuples; and whether it reads the clock.
+-- What is written in an expression, for the limits and for what `setup` may hold: its queries, its tuples, the clock.
 use Rattle.std.specs.Prelude.{ℕ, max, Bool, true, false, not, ◌==◌, if◌then◌else◌, List, [], ◌∷◌, ◌++◌, map, length, sum, option_to_list, flat_map}
 use Rattle.std.specs.List.{list_any}
 use Rattle.da_lang.specs.declared.tree.Expr.{Expr}

@@ -1,18 +1,18 @@
 //! Events of a schedule, and the actions that they make.
 use da_values::{SetVal, Value};
 
-/// An event of a schedule. Processes are numbered from 1, and so are the entries of a channel.
+/// An event of a schedule. Processes are numbered from 1, and so are the messages of a channel.
 #[derive(Clone, Copy, Debug, PartialEq, Eq)]
 pub enum Event {
     /// Process `p` begins, or goes on from the label where it waits.
     Move { p: u32 },
     /// Process `p` takes alternative `k` of the `await` where it waits, counted from 1.
     Take { p: u32, k: u32 },
-    /// Entry `i` of the channel from `p` to `q` arrives.
+    /// Message `i` of the channel from `p` to `q` arrives.
     Deliver { p: u32, q: u32, i: u32 },
-    /// Entry `i` of the channel from `p` to `q` is lost.
+    /// Message `i` of the channel from `p` to `q` is lost.
     Lose { p: u32, q: u32, i: u32 },
-    /// Entry `i` of the channel from `p` to `q` is doubled.
+    /// Message `i` of the channel from `p` to `q` is doubled.
     Repeat { p: u32, q: u32, i: u32 },
     /// The answers of the queries of process `p` are told.
     Show { p: u32 },

@@ -12,8 +12,8 @@ mod ty;
 pub use code::Instr;
 pub use event::{Action, Event, FaultKind};
 pub use program::{
-    Alt, BindArg, ChainPart, Class, Handler, Item, ItemKind, Phase, ProcDecl, Program, RBranch,
-    RExpr, SetupCall,
+    Alt, BindArg, ChainPart, Class, Handler, Item, ItemKind, ProcDecl, Program, RBranch, RExpr,
+    SetupCall,
 };
 pub use query::{
     Agg, AggOp, Cond, LivePattern, Node, Operand, Pattern, Query, QueryNode, RGen, Shape,

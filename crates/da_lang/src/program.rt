@@ -1,7 +1,7 @@
 //! Resolved programs: what is left of a text once its names are found.
 //!
-//! The slots of a class are numbered from 1: its variables, and then what its parameters, loops, patterns and handlers
-//! name. An expression within another type stands in a `Boxed` or a `List`, as in trees.
+//! The slots of a class are numbered from 1: its variables, and then the parameters and the variables of loops, of what
+//! a `some` binds and of handlers, as the inlined `setup`, `run` and handlers meet them. An expression within another type stands in a `Boxed` or a `List`, as in trees.
 use crate::query::{Cond, Pattern, Query};
 use crate::tree::{ArithOp, CmpOp, MessageDecl};
 use crate::ty::{ChannelKind, Name, Ty};
@@ -51,7 +51,7 @@ pub struct Class {
     pub line: u32,
 }
 
-/// A handler. `binds` are the slots that take the parts of the row of its two patterns.
+/// A handler. `binds` are the slots that take the parts of the row of its two patterns. The line is that of `receive`.
 #[derive(Debug, Drop)]
 pub struct Handler {
     pub message: Pattern,
@@ -161,24 +161,14 @@ pub enum RExpr {
     Cmp(CmpOp, Boxed<RExpr>, Boxed<RExpr>),
     /// Whether the first is an element of the second.
     Member(Boxed<RExpr>, Boxed<RExpr>),
-    /// An operand and others, each with its sign.
+    /// An operand and others, each with the operation before it.
     Chain(Boxed<RExpr>, List<ChainPart>),
 }
 
-/// A further operand of a chain, with its sign.
+/// A further operand of a chain, with the operation before it.
 #[cycle(rexpr)]
 #[derive(Debug, Drop)]
 pub struct ChainPart {
     pub op: ArithOp,
     pub operand: Boxed<RExpr>,
-}
-
-/// Where a process stands: it has not begun, it waits at a yield point, it has used up its statements, or a fault
-/// has ended it.
-#[derive(Clone, Copy, Debug, PartialEq, Eq)]
-pub enum Phase {
-    New,
-    Waiting,
-    Ended,
-    Faulted,
 }

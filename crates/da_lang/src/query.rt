@@ -152,15 +152,30 @@ pub enum Node {
     /// The one empty row.
     Root,
     /// Rows of `parent`, extended by each element that matches.
-    Gen { parent: u32, gen_: RGen },
+    Gen {
+        parent: u32,
+        gen_: RGen,
+    },
     /// Rows of `parent` where the condition holds.
-    Filter { parent: u32, cond: Boxed<Cond> },
+    Filter {
+        parent: u32,
+        cond: Boxed<Cond>,
+    },
     /// Rows of `parent` that some row of `child` extends.
-    Semi { parent: u32, child: u32 },
+    Semi {
+        parent: u32,
+        child: u32,
+    },
     /// Rows of `parent` that no row of `child` extends.
-    Anti { parent: u32, child: u32 },
+    Anti {
+        parent: u32,
+        child: u32,
+    },
     /// Rows of either.
-    Union { left: u32, right: u32 },
+    Union {
+        left: u32,
+        right: u32,
+    },
     /// Rows of `parent` with an aggregate over the rows of `child` that extend them as one more part.
     AggBind {
         parent: u32,

@@ -1,2 +1,5 @@
 pub mod RunLemmas
+pub mod StepLemmas
+pub mod SystemExamples
+pub mod SystemLaws
 pub mod WorldLemmas

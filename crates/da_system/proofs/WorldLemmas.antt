@@ -1,106 +1,124 @@
--- The worlds of a list of processes.
-use Rattle.std.proofs.Common.{◌≡◌, refl, sym, ◌∙◌, ap, subst, ℕ, zero, suc, ◌+◌, ◌-◌, ◌<◌, List, [], ◌∷◌, length, set, replicate, arith}
-use Rattle.std.specs.Prelude.{Option, Some, None, MatchOption, slice_get}
+-- The worlds and channels of processes that do no more than print.
+use Rattle.std.proofs.Common.{◌≡◌, refl, sym, ◌∙◌, ap, ℕ, zero, suc, ◌+◌, ◌-◌, ◌<◌, ◌≤◌, true, List, [], ◌∷◌, length, map, set, replicate, arith}
+use Rattle.std.specs.Prelude.{Option, Some, None, IfSome, slice_get, is_some}
+use Rattle.std.specs.List.{AllByRecursion, range_with_len}
 use Rattle.std.specs.Option.{option_map}
+use Rattle.std.proofs.lemmas.Bool.{false≢true}
 use Rattle.std.proofs.lemmas.Option.{slice_get_within}
-use Rattle.da_lang.specs.declared.event.Action.{Action}
-use Rattle.da_lang.specs.declared.event.Event.TheVariants.{Move}
-use Rattle.da_lang.specs.declared.program.Item.{Item}
-use Rattle.da_lang.specs.Steps.{Go, go}
-use Rattle.da_system.specs.declared.machine.Start.{Start}
 use Rattle.da_lang.specs.declared.program.ProcDecl.{ProcDecl}
 use Rattle.da_lang.specs.declared.program.Program.{Program}
-use Rattle.da_lang.specs.World.{World, opening, run_of}
+use Rattle.da_lang.specs.Steps.{setup_of_decl}
+use Rattle.da_lang.specs.World.{World, class_of, class_of_decl, numbered, opening, opening_data}
 use Rattle.da_system.specs.declared.process.Process.{Process}
-use Rattle.da_system.specs.declared.process.Process.TheVariants.{New, Waiting, Ended, Faulted}
-use Rattle.da_system.specs.Place.{IsStart, IsStuck, Moves, move_at, move_of, world_of}
-use Rattle.da_system.specs.State.{CanStart, worlds_from}
-use Rattle.da_system.specs.SystemStep.{Steps, openings, step_of, sys_step, with_world}
+use Rattle.da_system.specs.declared.process.Process.TheVariants.{New}
+use Rattle.da_system.specs.Channels.{Letter, channel, no_letters, or_empty, put_numbered}
+use Rattle.da_system.specs.Place.{world_of}
+use Rattle.da_system.specs.Printing.{ClassPrints, PrintsOnly}
+use Rattle.da_system.specs.State.{run_of, worlds_from}
+use Rattle.da_system.specs.SystemStep.{numbers_to}
 
 -- the world of the process of this number
 abbrev pub world_at : Program → ℕ → Process → World
-world_at program me process = world_of (run_of program me) me process
+world_at program me process = world_of (run_of program me) (opening_data program me) process
 
-pub worlds-get : (program : Program) (first : ℕ) (ps : List Process) (k : ℕ) → slice_get (worlds_from program first ps) k ≡ option_map (world_at program (first + k)) (slice_get ps k)
+worlds-get : (program : Program) (first : ℕ) (ps : List Process) (k : ℕ) → slice_get (worlds_from program first ps) k ≡ option_map (world_at program (first + k)) (slice_get ps k)
 worlds-get program first [] k = refl
 worlds-get program first (p ∷ ps) zero = ap (λ n. Some (world_at program n p)) (let same : first ≡ first + 0 = omega arith in same)
 worlds-get program first (p ∷ ps) (suc k) =
     worlds-get program (first + 1) ps k ∙ ap (λ n. option_map (world_at program n) (slice_get ps k)) (let same : first + 1 + k ≡ first + suc k = omega arith in same)
 
-pub worlds-set : (program : Program) (first : ℕ) (ps : List Process) (k : ℕ) (p : Process) → worlds_from program first (set ps k p) ≡ set (worlds_from program first ps) k (world_at program (first + k) p)
+-- the world of a number is that of the process of the number
+pub worlds-numbered : (program : Program) (ps : List Process) (p : ℕ) → numbered (worlds_from program 1 ps) p ≡ option_map (world_at program p) (numbered ps p)
+worlds-numbered program ps zero = refl
+worlds-numbered program ps (suc place) =
+    worlds-get program 1 ps place ∙ ap (λ n. option_map (world_at program n) (slice_get ps place)) (let same : 1 + place ≡ suc place = omega arith in same)
+
+pub is_some-map : {A B : Type 0} (f : A → B) (o : Option A) → is_some (option_map f o) ≡ is_some o
+is_some-map f None = refl
+is_some-map f (Some x) = refl
+
+pub worlds-there : (program : Program) (ps : List Process) (p : ℕ) → is_some (numbered (worlds_from program 1 ps) p) ≡ is_some (numbered ps p)
+worlds-there program ps p = ap is_some (worlds-numbered program ps p) ∙ is_some-map (world_at program p) (numbered ps p)
+
+worlds-set : (program : Program) (first : ℕ) (ps : List Process) (k : ℕ) (p : Process) → worlds_from program first (set ps k p) ≡ set (worlds_from program first ps) k (world_at program (first + k) p)
 worlds-set program first [] k p = refl
 worlds-set program first (q ∷ ps) zero p = ap (λ n. world_at program n p ∷ worlds_from program (first + 1) ps) (let same : first ≡ first + 0 = omega arith in same)
 worlds-set program first (q ∷ ps) (suc k) p =
-    ap (λ ws. world_at program first q ∷ ws) (worlds-set program (first + 1) ps k p
+    ap (λ (ws : List World). world_at program first q ∷ ws) (worlds-set program (first + 1) ps k p
     ∙ ap (λ n. set (worlds_from program (first + 1) ps) k (world_at program n p)) (let same : first + 1 + k ≡ first + suc k = omega arith in same))
 
+-- another process in the place of process p gives another world of that number
+pub worlds-put : (program : Program) (ps : List Process) (p : ℕ) (process : Process) → 0 < p → worlds_from program 1 (set ps (p - 1) process) ≡ put_numbered (worlds_from program 1 ps) p (world_at program p process)
+worlds-put program ps zero process some = absurd (omega (arith, some))
+worlds-put program ps (suc place) process some =
+    ap (λ n. worlds_from program 1 (set ps n process)) (let same : suc place - 1 ≡ place = omega arith in same) ∙ worlds-set program 1 ps place process
+    ∙ ap (λ n. set (worlds_from program 1 ps) place (world_at program n process)) (let same : 1 + place ≡ suc place = omega arith in same)
+
 -- new processes are in their openings
-pub worlds-new : (program : Program) (first : ℕ) (ds : List ProcDecl) → worlds_from program first (replicate (length ds) New) ≡ openings first ds
-worlds-new program first [] = refl
-worlds-new program first (d ∷ ds) = ap (λ ws. opening first ∷ ws) (worlds-new program (first + 1) ds)
+worlds-new : (program : Program) (first n : ℕ) → worlds_from program first (replicate n New) ≡ map (opening program) (range_with_len first n)
+worlds-new program first zero = refl
+worlds-new program first (suc n) = ap (λ (ws : List World). opening program first ∷ ws) (worlds-new program (first + 1) n)
 
-pub opened : (program : Program) (ps : List Process) (n : ℕ) → ps ≡ replicate n New → n ≡ length program.procs → worlds_from program 1 ps ≡ openings 1 program.procs
-opened program ps n are all =
-    ap (worlds_from program 1) (are ∙ ap (λ k. replicate k New) all) ∙ worlds-new program 1 program.procs
+pub opened : (program : Program) (ps : List Process) (n : ℕ) → ps ≡ replicate n New → n ≡ length program.procs → worlds_from program 1 ps ≡ map (opening program) (numbers_to (length program.procs))
+opened program ps n are all = ap (worlds_from program 1) (are ∙ ap (λ k. replicate k New) all) ∙ worlds-new program 1 (length program.procs)
 
-world_of-me : (items : List Item) (me : ℕ) (process : Process) → (world_of items me process).me ≡ me
-world_of-me items me New = refl
-world_of-me items me (Waiting place) = refl
-world_of-me items me Ended = refl
-world_of-me items me (Faulted place) = refl
+-- WHAT HOLDS OF EACH CLASS AND OF EACH PROCESS
 
--- the move of process p is that of its world, which has the statements of its class
-step_at : (program : Program) (ps : List Process) (place : ℕ) (process : Process) → slice_get ps place ≡ Some process
-    → sys_step program (worlds_from program 1 ps) (Move (suc place))
-    ≡ with_world (worlds_from program 1 ps) (suc place) (move_of (run_of program (suc place)) (world_at program (suc place) process))
-step_at program ps place process is =
-    let worlds = worlds_from program 1 ps in
-    let w = world_at program (suc place) process in
-    let found : slice_get worlds place ≡ Some w =
-    worlds-get program 1 ps place ∙ ap (option_map (world_at program (1 + place))) is ∙ ap (λ n. Some (world_at program n process)) (let same : 1 + place ≡ suc place = omega arith in same) in
-    ap (λ o. step_of program worlds (suc place) o Go) found
-    ∙ ap (λ n. with_world worlds (suc place) (go (run_of program n) w.me w.todo w.phase)) (world_of-me (run_of program (suc place)) (suc place) process)
+all_get : {A : Type 0} (P : A → Type 0) (xs : List A) (k : ℕ) → AllByRecursion P xs → IfSome (slice_get xs k) P
+all_get P [] k all = tt
+all_get P (x ∷ xs) zero all = all.0
+all_get P (x ∷ xs) (suc k) all = all_get P xs k all.1
 
-pub no_process : (program : Program) (ps : List Process) (p place : ℕ) → p ≡ place + 1 → slice_get ps place ≡ None → sys_step program (worlds_from program 1 ps) (Move p) ≡ None
-no_process program ps p place is none =
-    let worlds = worlds_from program 1 ps in
-    ap (λ n. sys_step program worlds (Move n)) (let same : p ≡ suc place = omega (arith, is) in same)
-    ∙ ap (λ o. step_of program worlds (suc place) o Go) (worlds-get program 1 ps place ∙ ap (option_map (world_at program (1 + place))) none)
+pub all_numbered : {A : Type 0} (P : A → Type 0) (xs : List A) (n : ℕ) → AllByRecursion P xs → IfSome (numbered xs n) P
+all_numbered P xs zero all = tt
+all_numbered P xs (suc k) all = all_get P xs k all
 
-pub no_number : (program : Program) (worlds : List World) (p : ℕ) → p < 1 → sys_step program worlds (Move p) ≡ None
-no_number program worlds zero none = refl
-no_number program worlds (suc p) none = absurd (omega (arith, none))
-
--- what a process in code can do, of the system
-pub starts : (program : Program) (ps : List Process) (p place : ℕ) (process : Process) (items : List Item) (found : Option Start) → p ≡ place + 1 → slice_get ps place ≡ Some process
-    → items ≡ run_of program p → MatchOption found (IsStuck items process) (λ start. IsStart items process start)
-    → MatchOption found (sys_step program (worlds_from program 1 ps) (Move p) ≡ None) (λ start. CanStart program ps p start)
-starts program ps p place process items found is here items_are can = subst (λ n. (o : Option Start) → MatchOption o (IsStuck (run_of program n) process) (λ start. IsStart (run_of program n) process start)
-    → MatchOption o (sys_step program (worlds_from program 1 ps) (Move n) ≡ None) (λ start. CanStart program ps n start)) (let same : suc place ≡ p = omega (arith, is) in same) at found
-    (subst (λ is. MatchOption found (IsStuck is process) (λ start. IsStart is process start)) items_are can)
+pub class_prints : (program : Program) (p : ℕ) → PrintsOnly program → IfSome (class_of program p) ClassPrints
+class_prints program p prints = of (numbered program.procs p)
   where
-    at : (o : Option Start) → MatchOption o (IsStuck (run_of program (suc place)) process) (λ start. IsStart (run_of program (suc place)) process start)
-        → MatchOption o (sys_step program (worlds_from program 1 ps) (Move (suc place)) ≡ None) (λ start. CanStart program ps (suc place) start)
-    at None stuck = step_at program ps place process here ∙ ap (with_world (worlds_from program 1 ps) (suc place)) (stuck (suc place))
-    at (Some start) can = record {
-      early = can.early;
-      some = omega arith;
-      inside = omega (arith, slice_get_within ps place process here);
-      step = step_at program ps place process here ∙ ap (with_world (worlds_from program 1 ps) (suc place)) (can.moves (suc place));
-    }
+    of : (decl : Option ProcDecl) → IfSome (class_of_decl program decl) ClassPrints
+    of None = tt
+    of (Some decl) = all_get ClassPrints program.classes decl.class prints.classes
 
--- the step that was made, where the process that it led to is put in its place
-pub stepped : (program : Program) (ps ps' : List Process) (p : ℕ) (start : Start) (process : Process) (items : List Item) (old new : List Action) → CanStart program ps p start
-    → items ≡ run_of program p → Moves items p start process old new → ps' ≡ set ps (p - 1) process
-    → Steps program (worlds_from program 1 ps) (Move p) (worlds_from program 1 ps') old new
-stepped program ps ps' p start process items old new can items_are moves_in put =
-    let moves : Moves (run_of program p) p start process old new = subst (λ is. Moves is p start process old new) items_are moves_in in
-    let step = move_at (run_of program p) p start in
-    let worlds : worlds_from program 1 ps' ≡ set (worlds_from program 1 ps) (p - 1) step.world =
-    ap (worlds_from program 1) put ∙ worlds-set program 1 ps (p - 1) process ∙ ap (λ n. set (worlds_from program 1 ps) (p - 1) (world_at program n process)) (let same : 1 + (p - 1) ≡ p = omega (arith, can.some) in same)
-    ∙ ap (set (worlds_from program 1 ps) (p - 1)) moves.world in
-    record {
-      actions = step.actions;
-      is = can.step ∙ ap (λ ws. Some (record { worlds = ws; actions = step.actions })) (sym worlds);
-      added = moves.added;
-    }
+pub not_set_up : (program : Program) (p : ℕ) → PrintsOnly program → setup_of_decl (numbered program.procs p) ≡ None
+not_set_up program p prints = of (numbered program.procs p) (all_numbered (λ (decl : ProcDecl). decl.setup ≡ None) program.procs p prints.procs)
+  where
+    of : (decl : Option ProcDecl) → IfSome decl (λ (d : ProcDecl). d.setup ≡ None) → setup_of_decl decl ≡ None
+    of None none = refl
+    of (Some decl) none = none
+
+-- CHANNELS WITHOUT LETTERS
+
+row_of : {A : Type 0} (n : ℕ) (row : List A) (k : ℕ) (P : List A → Type 0) → P [] → P row → P (or_empty (slice_get (replicate n row) k))
+row_of zero row k P none some = none
+row_of (suc n) row zero P none some = some
+row_of (suc n) row (suc k) P none some = row_of n row k P none some
+
+numbered_row : {A : Type 0} (n : ℕ) (row : List A) (k : ℕ) (P : List A → Type 0) → P [] → P row → P (or_empty (numbered (replicate n row) k))
+numbered_row n row zero P none some = none
+numbered_row n row (suc k) P none some = row_of n row k P none some
+
+pub numbered_none : {A : Type 0} (k : ℕ) → numbered {A = A} [] k ≡ None
+numbered_none zero = refl
+numbered_none (suc k) = refl
+
+-- no channel has a letter
+pub channel-empty : (n p q : ℕ) → channel (no_letters n) p q ≡ []
+channel-empty n p q =
+    numbered_row n (replicate n []) p (λ (row : List (List Letter)). or_empty (numbered row q) ≡ []) (ap or_empty (numbered_none {A = List Letter} q))
+    (numbered_row n [] q (λ (letters : List Letter). letters ≡ []) refl refl)
+
+pub no_letter : (n p q i : ℕ) → numbered (channel (no_letters n) p q) i ≡ None
+no_letter n p q i = ap (λ (letters : List Letter). numbered letters i) (channel-empty n p q) ∙ numbered_none {A = Letter} i
+
+-- the number of a process that is there is not greater than the number of processes
+pub within : (program : Program) (ps : List Process) (p : ℕ) → is_some (numbered (worlds_from program 1 ps) p) ≡ true → p ≤ length ps
+within program ps p there = of p (sym (worlds-there program ps p) ∙ there)
+  where
+    of : (n : ℕ) → is_some (numbered ps n) ≡ true → n ≤ length ps
+    of zero some = omega arith
+    of (suc place) some = get_within place (slice_get ps place) refl some
+      where
+        get_within : (place : ℕ) (found : Option Process) → slice_get ps place ≡ found → is_some found ≡ true → suc place ≤ length ps
+        get_within place None is some = absurd (false≢true some)
+        get_within place (Some process) is some = omega (arith, slice_get_within ps place process is)

@@ -1,24 +1,41 @@
--- The worlds that a system in code stands for.
-use Rattle.std.specs.Prelude.{◌≡◌, ℕ, ◌+◌, ◌-◌, ◌^◌, ◌<◌, ◌≤◌, List, [], ◌∷◌, length, Some}
+-- The state that a system in code stands for.
+use Rattle.std.specs.Prelude.{◌≡◌, ℕ, ◌+◌, ◌-◌, ◌^◌, ◌<◌, ◌≤◌, List, [], ◌∷◌, length, Option, Some, None}
+use Rattle.da_lang.specs.declared.event.Event.TheVariants.{Move}
+use Rattle.da_lang.specs.declared.program.Class.{Class}
+use Rattle.da_lang.specs.declared.program.Item.{Item}
 use Rattle.da_lang.specs.declared.program.Program.{Program}
-use Rattle.da_lang.specs.World.{World, run_of}
+use Rattle.da_lang.specs.World.{World, class_of, opening_data}
+use Rattle.da_system.specs.declared.machine.Start.{Start}
 use Rattle.da_system.specs.declared.process.Process.{Process}
 use Rattle.da_system.specs.declared.system.System.{System}
-use Rattle.da_lang.specs.declared.event.Event.TheVariants.{Move}
-use Rattle.da_system.specs.declared.machine.Start.{Start}
+use Rattle.da_system.specs.Channels.{no_letters}
 use Rattle.da_system.specs.Place.{move_at, world_of}
-use Rattle.da_system.specs.SystemStep.{sys_step, with_world}
+use Rattle.da_system.specs.Printing.{PrintsOnly}
+use Rattle.da_system.specs.SystemStep.{SystemState, stepped, sys_step}
 
 abbrev pub program_of : System → Program
 program_of system = system.program.now
 
--- the worlds of processes that are numbered from the first
+abbrev pub run_in : Option Class → List Item
+run_in None = []
+run_in (Some class) = class.run
+
+-- the statements of `run` of the process of this number
+abbrev pub run_of : Program → ℕ → List Item
+run_of program me = run_in (class_of program me)
+
+-- the worlds of processes that are numbered from the first. A process that does no more than print knows what it knew at
+-- the opening.
 abbrev pub worlds_from : Program → ℕ → List Process → List World
 worlds_from program first [] = []
-worlds_from program first (p ∷ ps) = world_of (run_of program first) first p ∷ worlds_from program (first + 1) ps
+worlds_from program first (p ∷ ps) = world_of (run_of program first) (opening_data program first) p ∷ worlds_from program (first + 1) ps
 
-abbrev pub state_of : System → List World
-state_of system = worlds_from (program_of system) 1 system.processes
+-- the state of these processes, which have sent nothing
+abbrev pub state_in : Program → List Process → SystemState
+state_in program ps = record { kind = program.kind; worlds = worlds_from program 1 ps; channels = no_letters (length program.procs) }
+
+abbrev pub state_of : System → SystemState
+state_of system = state_in (program_of system) system.processes
 
 -- each process of a program has a number of 16 bits
 abbrev pub IsNumbered : Program → Type 0
@@ -27,11 +44,13 @@ IsNumbered program = length program.procs < 2 ^ 16
 -- the system can make steps
 pub record IsReady (system : System) : Type 0 where
   pub few : IsNumbered (program_of system)
+  pub prints : PrintsOnly (program_of system)
   pub each : length system.processes ≡ length (program_of system).procs
 
--- process p of these has the move from the start
-pub record CanStart (program : Program) (ps : List Process) (p : ℕ) (start : Start) : Type 0 where
+-- process p of these, which is of the class, has the move from the start
+pub record CanStart (program : Program) (ps : List Process) (p : ℕ) (class : Class) (start : Start) : Type 0 where
   pub early : start.turns ≤ 1
   pub some : 0 < p
   pub inside : p - 1 < length ps
-  pub step : sys_step program (worlds_from program 1 ps) (Move p) ≡ with_world (worlds_from program 1 ps) p (Some (move_at (run_of program p) p start))
+  pub known : class_of program p ≡ Some class
+  pub step : sys_step program (state_in program ps) (Move p) ≡ stepped (state_in program ps) p (Some (move_at class (opening_data program p) start))

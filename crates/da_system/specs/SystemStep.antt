@@ -1,41 +1,132 @@
--- The step of a system: of the process that the event names.
-use Rattle.std.specs.Prelude.{◌≡◌, ℕ, ◌+◌, ◌-◌, List, [], ◌∷◌, ◌++◌, Option, Some, None, slice_set}
+-- The step of a system: what each event does, and where it is not allowed.
+use Rattle.std.specs.Prelude.{◌≡◌, ℕ, if◌then◌else◌, List, [], ◌∷◌, ◌++◌, map, length, Option, Some, None}
+use Rattle.std.specs.List.{range_with_len}
 use Rattle.da_lang.specs.declared.event.Action.{Action}
+use Rattle.da_lang.specs.declared.event.Action.TheVariants.{Again, Answer, Kept, Lost}
 use Rattle.da_lang.specs.declared.event.Event.{Event}
 use Rattle.da_lang.specs.declared.event.Event.TheVariants as event
-use Rattle.da_lang.specs.declared.program.ProcDecl.{ProcDecl}
+use Rattle.da_lang.specs.declared.program.Class.{Class}
 use Rattle.da_lang.specs.declared.program.Program.{Program}
-use Rattle.da_lang.specs.Steps.{Step, Go, Take, Stepped, proc_step}
-use Rattle.da_lang.specs.World.{World, numbered, opening}
+use Rattle.da_lang.specs.declared.query.Query.{Query}
+use Rattle.da_lang.specs.declared.ty.ChannelKind.{ChannelKind}
+use Rattle.da_lang.specs.Live.{kept}
+use Rattle.da_lang.specs.Queries.{shown_set}
+use Rattle.da_lang.specs.Steps.{Step, Go, Take, Deliver, Stepped, proc_step}
+use Rattle.da_lang.specs.World.{Data, World, class_of, numbered, opening}
+use Rattle.da_system.specs.Channels.{Channels, Letter, after_actions, channel, may_arrive, may_lose, may_repeat, no_letters, put_numbered, with_letter, without_letter}
 
--- the worlds of a system before any event, numbered from the first
-abbrev pub openings : ℕ → List ProcDecl → List World
-openings first [] = []
-openings first (d ∷ ds) = opening first ∷ openings (first + 1) ds
-
-abbrev pub start : Program → List World
-start program = openings 1 program.procs
-
--- the worlds after a step, and what the step did
-pub record After : Type 0 where
+-- a system: the kind of its channels, its processes in the order of their numbers, and its channels
+pub record SystemState : Type 0 where
+  pub kind : ChannelKind
   pub worlds : List World
+  pub channels : Channels
+
+-- the state after a step, and what the step did
+pub record After : Type 0 where
+  pub state : SystemState
   pub actions : List Action
 
-abbrev pub with_world : List World → ℕ → Option Stepped → Option After
-with_world worlds p None = None
-with_world worlds p (Some step) = Some (record { worlds = slice_set worlds (p - 1) step.world; actions = step.actions })
+-- THE OPENING
 
-abbrev pub step_of : Program → List World → ℕ → Option World → Step → Option After
-step_of program worlds p None step = None
-step_of program worlds p (Some world) step = with_world worlds p (proc_step program world step)
+-- the numbers of so many processes or queries: 1, 2 and so on
+abbrev pub numbers_to : ℕ → List ℕ
+numbers_to count = range_with_len 1 count
 
--- the step of an event, or none where it is not allowed
-abbrev pub sys_step : Program → List World → Event → Option After
-sys_step program worlds (event.Move p) = step_of program worlds p (numbered worlds p) Go
-sys_step program worlds (event.Take p k) = step_of program worlds p (numbered worlds p) (Take k)
+abbrev pub start : Program → SystemState
+start program = record {
+  kind = program.kind;
+  worlds = map (opening program) (numbers_to (length program.procs));
+  channels = no_letters (length program.procs);
+}
 
--- the event was allowed, led to these worlds, and its actions were added
-pub record Steps (program : Program) (worlds : List World) (e : Event) (worlds' : List World) (old new : List Action) : Type 0 where
+-- MOVES AND DELIVERIES
+
+-- process p has made the step: it has another world, and what it sent is in the channels
+abbrev pub stepped : SystemState → ℕ → Option Stepped → Option After
+stepped s p None = None
+stepped s p (Some step) = Some (record {
+  state = record s { worlds = put_numbered s.worlds p step.world; channels = after_actions s.channels step.actions };
+  actions = step.actions;
+})
+
+abbrev pub step_of : Program → SystemState → ℕ → Option World → Step → Option After
+step_of program s p None step = None
+step_of program s p (Some world) step = stepped s p (proc_step program world step)
+
+-- process p makes a step, if it is there and may
+abbrev pub process_step : Program → SystemState → ℕ → Step → Option After
+process_step program s p step = step_of program s p (numbered s.worlds p) step
+
+-- letter i of the channel from p to q leaves the channel and arrives
+abbrev pub arrive : Program → SystemState → ℕ → ℕ → ℕ → Option Letter → Option After
+arrive program s p q i None = None
+arrive program s p q i (Some letter) =
+    process_step program (record s { channels = without_letter s.channels p q i }) q (Deliver letter.message p letter.time)
+
+abbrev pub deliver : Program → SystemState → ℕ → ℕ → ℕ → Option After
+deliver program s p q i = if may_arrive s.kind i then arrive program s p q i (numbered (channel s.channels p q) i) else None
+
+-- LOSSES AND REPETITIONS
+
+-- the letter leaves the channel
+abbrev pub drop_letter : SystemState → ℕ → ℕ → ℕ → Option Letter → Option After
+drop_letter s p q i None = None
+drop_letter s p q i (Some letter) = Some (record { state = record s { channels = without_letter s.channels p q i }; actions = Lost p q letter.time ∷ [] })
+
+abbrev pub lose : SystemState → ℕ → ℕ → ℕ → Option After
+lose s p q i = if may_lose s.kind then drop_letter s p q i (numbered (channel s.channels p q) i) else None
+
+-- a copy of the letter goes to the end of the channel
+abbrev pub copy_letter : SystemState → ℕ → ℕ → Option Letter → Option After
+copy_letter s p q None = None
+copy_letter s p q (Some letter) = Some (record { state = record s { channels = with_letter s.channels p q letter }; actions = Again p q letter.time ∷ [] })
+
+abbrev pub repeat : SystemState → ℕ → ℕ → ℕ → Option After
+repeat s p q i = if may_repeat s.kind then copy_letter s p q (numbered (channel s.channels p q) i) else None
+
+-- WHAT IS TOLD OF A PROCESS
+
+-- if the process is there, the actions tell of what it knows, and nothing changes
+abbrev pub told : SystemState → Option World → (Data → List Action) → Option After
+told s None tell = None
+told s (Some world) tell = Some (record { state = s; actions = tell world.data' })
+
+-- an answer of each query, ascending by number
+abbrev pub answers : ℕ → List Query → Data → List Action
+answers p queries d = map (λ n. Answer p n (shown_set queries n d)) (numbers_to (length queries))
+
+-- a process of no class has no queries, and keeps no rows
+abbrev pub answers_of : ℕ → Option Class → Data → List Action
+answers_of p None d = []
+answers_of p (Some class) d = answers p class.queries d
+
+abbrev pub kept_of : Option Class → Data → ℕ
+kept_of None d = 0
+kept_of (Some class) d = kept class d
+
+abbrev pub show : Program → SystemState → ℕ → Option After
+show program s p = told s (numbered s.worlds p) (answers_of p (class_of program p))
+
+abbrev pub stat : Program → SystemState → ℕ → Option After
+stat program s p = told s (numbered s.worlds p) (λ d. Kept p (kept_of (class_of program p) d) ∷ [])
+
+-- THE STEP OF AN EVENT, or none where it is not allowed. Alternatives are numbered from 1, so there is none to take by the
+-- number 0.
+abbrev pub sys_step : Program → SystemState → Event → Option After
+sys_step program s (event.Move p) = process_step program s p Go
+sys_step program s (event.Take p k) = process_step program s p (Take k)
+sys_step program s (event.Deliver p q i) = deliver program s p q i
+sys_step program s (event.Lose p q i) = lose s p q i
+sys_step program s (event.Repeat p q i) = repeat s p q i
+sys_step program s (event.Show p) = show program s p
+sys_step program s (event.Stat p) = stat program s p
+
+-- the event was allowed, led to this state, and its actions were added
+pub record Steps (program : Program) (s : SystemState) (e : Event) (s' : SystemState) (old new : List Action) : Type 0 where
   pub actions : List Action
-  pub is : sys_step program worlds e ≡ Some (record { worlds = worlds'; actions = actions })
+  pub is : sys_step program s e ≡ Some (record { state = s'; actions = actions })
   pub added : new ≡ old ++ actions
+
+-- the event was allowed, changed nothing, and told this
+abbrev pub Tells : Program → SystemState → Event → List Action → Type 0
+Tells program s e actions = sys_step program s e ≡ Some (record { state = s; actions = actions })

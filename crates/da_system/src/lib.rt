@@ -4,5 +4,7 @@
 mod machine;
 mod process;
 mod system;
+#[cfg(test)]
+mod tests;
 
 pub use system::{StepFault, System};

@@ -1,12 +1,13 @@
 //! The processes of a program, and their steps.
-ghost use Rattle.da_lang.specs.World.{run_of as run_of_lem};
+ghost use Rattle.da_lang.specs.World.{class_of as class_of_lem, numbered as numbered_lem};
+ghost use Rattle.da_system.specs.Printing.{PrintsOnly};
 ghost use Rattle.da_system.specs.State.{CanStart, IsNumbered, IsReady, program_of, state_of};
-ghost use Rattle.da_system.specs.SystemStep.{start, sys_step, Steps};
-ghost use Rattle.std.specs.Prelude.{◌≡◌, ◌↔◌, None, IfOk, IsErrOf, IsSome, IsTrue, MatchOption, OnOk};
+ghost use Rattle.da_system.specs.SystemStep.{start, sys_step, Steps, Tells};
+ghost use Rattle.std.specs.Prelude.{◌≡◌, ◌↔◌, [], None, IfOk, IsErrOf, IsSome, IsTrue, MatchOption, OnOk, is_some, option_copied};
 
 use crate::machine::{Start, move_from, start_in};
 use crate::process::Process;
-use da_lang::{Action, Event, Item, Program};
+use da_lang::{Action, Class, Event, Program};
 use da_values::{List, NoMemory};
 use std::alloc::Global;
 use thiserror::Error;
@@ -33,7 +34,8 @@ impl From<NoMemory> for StepFault {
     }
 }
 
-/// The processes of a program, which run by the events of a schedule. Contracts see them as worlds, by `state_of`.
+/// The processes of a program, which run by the events of a schedule. Contracts see them as worlds and channels, by
+/// `state_of`.
 #[derive(Debug, Drop)]
 pub struct System<'p> {
     alloc: Global,
@@ -42,9 +44,11 @@ pub struct System<'p> {
 }
 
 impl<'p> System<'p> {
-    /// The system before any event. The program has fewer than 65,536 processes.
+    /// The system before any event. The program has fewer than 65,536 processes, and does no more than print: that much
+    /// is asked until the machine for all statements is there.
     pub fn new(alloc: Global, program: &'p Program) -> Result<System<'p>, NoMemory>
-        requires { IsNumbered program.now }
+        requires few { IsNumbered program.now }
+        requires prints { PrintsOnly program.now }
         ensures ready { IfOk result IsReady }
         ensures program { IfOk result (λ system. program_of system ≡ program.now) }
         ensures start { IfOk result (λ system. state_of system ≡ start program.now) }
@@ -68,6 +72,11 @@ impl<'p> System<'p> {
         match e {
             Event::Move { p } => self.start_of(*p).is_some(),
             Event::Take { .. } => false,
+            Event::Deliver { .. } => false,
+            Event::Lose { .. } => false,
+            Event::Repeat { .. } => false,
+            Event::Show { p } => self.has_process(*p),
+            Event::Stat { p } => self.has_process(*p),
         }
     }
 
@@ -86,22 +95,32 @@ impl<'p> System<'p> {
         match e {
             Event::Move { p } => self.make_move(*p, out),
             Event::Take { .. } => Err(StepFault::Forbidden),
+            Event::Deliver { .. } => Err(StepFault::Forbidden),
+            Event::Lose { .. } => Err(StepFault::Forbidden),
+            Event::Repeat { .. } => Err(StepFault::Forbidden),
+            Event::Show { p } => self.show(*p),
+            Event::Stat { p } => self.stat(*p, out),
         }
     }
 }
 
 impl System<'_> {
-    // Where a move of process `p` begins, or `None` where it is not allowed.
-    fn start_of(&self, p: u32) -> Option<Start>
-        ensures { MatchOption result (sys_step (program_of self.now) (state_of self.now) (Event.Move p) ≡ None) (λ start. CanStart (program_of self.now) self.now.processes p start) }
+    // Whether there is a process of this number.
+    fn has_process(&self, p: u32) -> bool
+        ensures { result ≡ is_some (numbered_lem (state_of self.now).worlds p) }
     {
-        let Some(place) = (p as usize).checked_sub(1) else {
-            return None;
-        };
-        match self.processes.get(place) {
-            None => None,
-            Some(process) => start_in(run_of(self.program, p as usize), process),
-        }
+        numbered(&self.processes, p).is_some()
+    }
+
+    // The class of process `p` and where its move begins, or `None` where it is not allowed.
+    fn start_of(&self, p: u32) -> Option<(&Class, Start)>
+        requires { IsReady self.now }
+        ensures { MatchOption result (sys_step (program_of self.now) (state_of self.now) (Event.Move p) ≡ None) (λ found. CanStart (program_of self.now) self.now.processes p found.0.now found.1) }
+    {
+        let process = numbered(&self.processes, p)?;
+        let class = class_of(self.program, p)?;
+        let start = start_in(class, process)?;
+        Some((class, start))
     }
 
     // The move of process `p`.
@@ -115,34 +134,56 @@ impl System<'_> {
         ensures allowed { sys_step (program_of self.old) (state_of self.old) (Event.Move p) ≡ None → IsErrOf result StepFault.Forbidden }
         ensures same { IsErrOf result StepFault.Forbidden → (state_of self.new ≡ state_of self.old) × (out.new ≡ out.old) }
     {
-        let start = match self.start_of(p) {
-            Some(start) => start,
-            None => return Err(StepFault::Forbidden),
+        let Some((class, start)) = self.start_of(p) else {
+            return Err(StepFault::Forbidden);
         };
-        let process = move_from(
-            self.alloc,
-            run_of(self.program, p as usize),
-            p as u16,
-            start,
-            out,
-        )?;
+        let process = move_from(self.alloc, class, p as u16, start, out)?;
         self.processes.set(p as usize - 1, process);
+        Ok(())
+    }
+
+    // Tells the answers of process `p`: none, since its class has no queries.
+    fn show(&self, p: u32) -> Result<(), StepFault>
+        requires { IsReady self.now }
+        ensures tells { OnOk result (Tells (program_of self.now) (state_of self.now) (Event.Show p) []) }
+        ensures forbidden { IsErrOf result StepFault.Forbidden → sys_step (program_of self.now) (state_of self.now) (Event.Show p) ≡ None }
+        ensures allowed { sys_step (program_of self.now) (state_of self.now) (Event.Show p) ≡ None → IsErrOf result StepFault.Forbidden }
+    {
+        if self.has_process(p) {
+            Ok(())
+        } else {
+            Err(StepFault::Forbidden)
+        }
+    }
+
+    // Tells how many rows process `p` keeps: none, since its class has no queries.
+    fn stat(&self, p: u32, out: &mut List<Action>) -> Result<(), StepFault>
+        requires { IsReady self.now }
+        ensures steps { OnOk result (Steps (program_of self.now) (state_of self.now) (Event.Stat p) (state_of self.now) out.old out.new) }
+        ensures forbidden { IsErrOf result StepFault.Forbidden → sys_step (program_of self.now) (state_of self.now) (Event.Stat p) ≡ None }
+        ensures allowed { sys_step (program_of self.now) (state_of self.now) (Event.Stat p) ≡ None → IsErrOf result StepFault.Forbidden }
+        ensures same { IsErrOf result StepFault.Forbidden → out.new ≡ out.old }
+    {
+        if !self.has_process(p) {
+            return Err(StepFault::Forbidden);
+        }
+        out.push(Action::Kept { p: p as u16, n: 0 })?;
         Ok(())
     }
 }
 
-// The statements of `run` of the process of this number.
-fn run_of(program: &Program, me: usize) -> &[Item]
-    ensures { result.now ≡ run_of_lem program.now me }
+// The member of this number, counted from 1.
+fn numbered<T>(members: &List<T>, number: u32) -> Option<&T>
+    ensures { option_copied result ≡ numbered_lem members.now number }
 {
-    let Some(place) = me.checked_sub(1) else {
-        return &[];
-    };
-    let Some(decl) = program.procs.get(place) else {
-        return &[];
-    };
-    let Some(class) = program.classes.get(decl.class as usize) else {
-        return &[];
-    };
-    class.run.as_slice()
+    let place = (number as usize).checked_sub(1)?;
+    members.get(place)
+}
+
+// The class of the process of this number.
+fn class_of(program: &Program, me: u32) -> Option<&Class>
+    ensures { option_copied result ≡ class_of_lem program.now me }
+{
+    let decl = numbered(&program.procs, me)?;
+    program.classes.get(decl.class as usize)
 }

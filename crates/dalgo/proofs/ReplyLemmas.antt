@@ -2,7 +2,7 @@
 use Rattle.std.proofs.Common.{◌≡◌, refl, sym, ◌∙◌, ap, subst, ℕ, ◌+◌, ◌<◌, ◌≤◌, inl, inr, List, [], ◌∷◌, take, length, arith, take_all, length-take}
 use Rattle.std.specs.Prelude.{Option, Some, None, Result, Ok, Err, IfOk, IsErrOf}
 use Rattle.da_lang.specs.declared.event.Action.{Action}
-use Rattle.da_lang.specs.declared.event.Action.TheVariants.{Took, Out, End, Fault, Stop}
+use Rattle.da_lang.specs.declared.event.Action.TheVariants.{Took, Sent, Got, Lost, Again, Out, End, Fault, Answer, Kept, Stop}
 use Rattle.da_lang.specs.declared.event.Event.{Event}
 use Rattle.da_lang.specs.declared.program.Program.{Program}
 use Rattle.da_lang.specs.declared.tree.Tree.{Tree}
@@ -20,8 +20,9 @@ use Rattle.dalgo.specs.declared.status.Status.{Status}
 use Rattle.dalgo.specs.declared.status.Status.TheVariants.{BadSchedule, Refused, ReadFault, WriteFault, Memory}
 use Rattle.dalgo.specs.declared.top.Ending.{Ending}
 use Rattle.dalgo.specs.declared.top.Ending.TheVariants as ending
+use Rattle.dalgo.specs.ActionText.{action_text}
 use Rattle.dalgo.specs.FirstForm.{first_program}
-use Rattle.dalgo.specs.Lines.{action_text, badline_text, refused_text}
+use Rattle.dalgo.specs.Lines.{badline_text, refused_text}
 use Rattle.dalgo.specs.Outside.{Appends, Fits, IsWhole, Rose}
 use Rattle.dalgo.specs.Replies.{IsRefusedAs, HasTree, HasNoTree, Accepts, Answers, IsAnswer, IsBadSchedule, IsRefused, IsReplay, IsReplayStatus, IsSchedule, MayRead, Ran, ReadCause, Refuses, ReplayReply, refused, bad_schedule, ran, Replies, RepliesTo, RepliesTold, RunReply, RunsWhole, bad, carried_out, program_limit, schedule_limit, status_of}
 use Rattle.dalgo.specs.Schedule.{schedule_events}
@@ -235,9 +236,15 @@ same_names words a b p q one other = (cc, cc)
 run_status : (actions : List Action) → IsReplayStatus (status_of actions)
 run_status [] = tt
 run_status (Took p k ∷ actions) = run_status actions
+run_status (Sent p q t v ∷ actions) = run_status actions
+run_status (Got q p t v ∷ actions) = run_status actions
+run_status (Lost p q t ∷ actions) = run_status actions
+run_status (Again p q t ∷ actions) = run_status actions
 run_status (Out p v ∷ actions) = run_status actions
 run_status (End p ∷ actions) = run_status actions
 run_status (Fault p kind line ∷ actions) = run_status actions
+run_status (Answer p n rows ∷ actions) = run_status actions
+run_status (Kept p n ∷ actions) = run_status actions
 run_status (Stop i ∷ actions) = tt
 
 pub said_status : (r : Result Status Ending) (status : Status) (actions : List Action) (P : Type 0) → status ≡ status_of actions → IfOk r (λ s. (s ≡ status) × P) → IfOk r IsReplayStatus

@@ -3,6 +3,7 @@ use Rattle.std.specs.Prelude.{ℕ, ℤ, ◌==◌, nat_le, Bool, false, List, [],
 use Rattle.std.specs.Option.{option_map}
 use Rattle.std.specs.Str.{bytes_eq}
 use Rattle.da_values.specs.declared.value.Value.TheVariants as value
+use Rattle.da_lang.specs.declared.program.Class.{Class}
 use Rattle.da_lang.specs.declared.program.Item.{Item}
 use Rattle.da_lang.specs.declared.program.ItemKind.TheVariants.{Output}
 use Rattle.da_lang.specs.declared.program.Program.{Program}
@@ -17,6 +18,8 @@ use Rattle.da_lang.specs.declared.tree.Member.TheVariants as member
 use Rattle.da_lang.specs.declared.tree.Stmt.{Stmt, out-Stmt}
 use Rattle.da_lang.specs.declared.tree.Stmt.TheOpen.{Stmt-F}
 use Rattle.da_lang.specs.declared.tree.Tree.{Tree}
+use Rattle.da_lang.specs.declared.ty.ChannelKind.{ChannelKind}
+use Rattle.da_lang.specs.BodyMeaning.{item_at}
 
 -- the greatest number of statements
 abbrev pub most_outputs : ℕ
@@ -29,7 +32,7 @@ literal _ = None
 
 -- the item of a statement that prints an integer
 abbrev pub item_by : {A B C : Type 0} → Stmt-F A B C → Option Item
-item_by (Stmt-F.Output x line) = option_map (λ n. record { line = line; kind = Output (Const (value.Int n)) }) (literal (out-Expr x))
+item_by (Stmt-F.Output x line) = option_map (λ n. item_at line (Output (Const (value.Int n)))) (literal (out-Expr x))
 item_by _ = None
 
 abbrev pub item_of : Stmt → Option Item
@@ -59,13 +62,17 @@ abbrev pub makes_one : ClassTree → MainLine → Bool
 makes_one class (main_line.New name of None line) = bytes_eq of class.name
 makes_one class _ = false
 
-abbrev pub program_of : ClassTree → List Item → Program
-program_of c items = record { classes = record { name = c.name; run = items; line = c.line } ∷ []; procs = record { class = 0 } ∷ [] }
+-- the class, and the program, whose `run` has these items
+abbrev pub class_of : ClassTree → List Item → Class
+class_of c items = record { name = c.name; slots = []; params = []; setup = []; run = items; handlers = []; queries = []; line = c.line }
 
-abbrev pub program_by : List ClassTree → List MainLine → Option Program
-program_by (c ∷ []) (l ∷ []) = if makes_one c l then option_map (program_of c) (run_items c.members) else None
-program_by _ _ = None
+abbrev pub program_of : ChannelKind → ClassTree → List Item → Program
+program_of kind c items = record { kind = kind; messages = []; classes = class_of c items ∷ []; procs = record { class = 0; setup = None } ∷ [] }
+
+abbrev pub program_by : ChannelKind → List ClassTree → List MainLine → Option Program
+program_by kind (c ∷ []) (l ∷ []) = if makes_one c l then option_map (program_of kind c) (run_items c.members) else None
+program_by kind _ _ = None
 
 -- the program of a tree, if it is of this form
 unfoldable pub first_program : Tree → Option Program
-first_program tree = if length tree.messages == 0 then program_by tree.classes tree.main else None
+first_program tree = if length tree.messages == 0 then program_by tree.kind tree.classes tree.main else None

@@ -1,3 +1,4 @@
+pub mod ActionText
 pub mod ExitCode
 pub mod FirstForm
 pub mod Lines

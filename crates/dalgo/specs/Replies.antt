@@ -19,8 +19,9 @@ use Rattle.dalgo.specs.declared.status.RefusedKind.{RefusedKind}
 use Rattle.dalgo.specs.declared.status.RefusedKind.TheVariants as kind_is
 use Rattle.dalgo.specs.declared.status.Status.{Status}
 use Rattle.dalgo.specs.declared.status.Status.TheVariants.{Done, Refused, Forbidden, BadSchedule, ReadFault, WriteFault, Memory, Words}
+use Rattle.dalgo.specs.ActionText.{action_text}
 use Rattle.dalgo.specs.FirstForm.{first_program}
-use Rattle.dalgo.specs.Lines.{action_text, badline_text, refused_text}
+use Rattle.dalgo.specs.Lines.{badline_text, refused_text}
 use Rattle.dalgo.specs.Outside.{Appends, Fits, Rose}
 use Rattle.dalgo.specs.Schedule.{schedule_events}
 

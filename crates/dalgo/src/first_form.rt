@@ -1,12 +1,14 @@
 //! The programs that run today: one class whose `run` prints integers, and one process of it.
+ghost use Rattle.da_system.specs.Printing.{PrintsOnly};
 ghost use Rattle.da_system.specs.State.{IsNumbered};
 ghost use Rattle.dalgo.specs.FirstForm as spec;
 ghost use Rattle.std.specs.Prelude.{◌≡◌, ◌∷◌, IfOk, IfSome};
 
 use da_lang::{
-    Class, ClassTree, Expr, Item, ItemKind, MainLine, Member, ProcDecl, Program, RExpr, Stmt, Tree,
+    ChannelKind, Class, ClassTree, Expr, Item, ItemKind, MainLine, Member, ProcDecl, Program,
+    RExpr, Stmt, Tree,
 };
-use da_values::{List, NoMemory, Value, copy_bytes};
+use da_values::{Boxed, List, NoMemory, Value, copy_bytes};
 use std::alloc::Global;
 
 /// The statements that `run` may have.
@@ -18,7 +20,8 @@ const MOST_OUTPUTS: usize = 16_384;
 #[tactic(auto, unfolding(crate::specs::FirstForm::first_program))]
 pub fn first_program(alloc: Global, tree: &Tree) -> Result<Option<Program>, NoMemory>
     ensures found { IfOk result (λ found. found ≡ spec.first_program tree.now) }
-    ensures numbered { IfOk result (λ found. IfSome found IsNumbered) }
+    ensures few { IfOk result (λ found. IfSome found IsNumbered) }
+    ensures prints { IfOk result (λ found. IfSome found PrintsOnly) }
 {
     if tree.messages.len() != 0 {
         return Ok(None);
@@ -34,7 +37,7 @@ pub fn first_program(alloc: Global, tree: &Tree) -> Result<Option<Program>, NoMe
     }
     match run_items(alloc, class.members.as_slice())? {
         None => Ok(None),
-        Some(items) => Ok(Some(program_of(alloc, class, items)?)),
+        Some(items) => Ok(Some(program_of(alloc, tree.kind, class, items)?)),
     }
 }
 
@@ -76,7 +79,7 @@ fn items_of(alloc: Global, body: &[Stmt]) -> Result<Option<List<Item>>, NoMemory
     let mut items = List::new(alloc);
     let mut left = body;
     while let [statement, rest @ ..] = left {
-        match item_of(statement) {
+        match item_of(alloc, statement)? {
             None => return Ok(None),
             Some(item) => items.push(item)?,
         }
@@ -86,33 +89,61 @@ fn items_of(alloc: Global, body: &[Stmt]) -> Result<Option<List<Item>>, NoMemory
 }
 
 // The item of a statement that prints an integer.
-fn item_of(statement: &Stmt) -> Option<Item>
-    ensures { result ≡ spec.item_of statement.now }
+fn item_of(alloc: Global, statement: &Stmt) -> Result<Option<Item>, NoMemory>
+    ensures { IfOk result (λ found. found ≡ spec.item_of statement.now) }
 {
     match statement {
         Stmt::Output { value, line } => match value.get() {
-            Expr::Int(n) => Some(Item {
-                line: *line,
-                kind: ItemKind::Output(RExpr::Const(Value::Int(*n))),
-            }),
-            _ => None,
+            Expr::Int(n) => {
+                let constant = Boxed::new(alloc, RExpr::Const(Value::Int(*n)))?;
+                Ok(Some(Item {
+                    line: *line,
+                    kind: ItemKind::Output(constant),
+                }))
+            }
+            _ => Ok(None),
         },
-        _ => None,
+        _ => Ok(None),
     }
 }
 
 // The program of a class with these items in its `run`, and of one process.
-fn program_of(alloc: Global, class: &ClassTree, items: List<Item>) -> Result<Program, NoMemory>
-    ensures program { IfOk result (λ program. program ≡ spec.program_of class.now items) }
-    ensures numbered { IfOk result IsNumbered }
+fn program_of(
+    alloc: Global,
+    kind: ChannelKind,
+    class: &ClassTree,
+    items: List<Item>,
+) -> Result<Program, NoMemory>
+    ensures program { IfOk result (λ program. program ≡ spec.program_of kind class.now items) }
+    ensures few { IfOk result IsNumbered }
 {
     let mut classes = List::new(alloc);
-    classes.push(Class {
-        name: copy_bytes(alloc, class.name.as_slice())?,
-        run: items,
-        line: class.line,
-    })?;
+    classes.push(class_of(alloc, class, items)?)?;
     let mut procs = List::new(alloc);
-    procs.push(ProcDecl { class: 0 })?;
-    Ok(Program { classes, procs })
+    procs.push(ProcDecl {
+        class: 0,
+        setup: None,
+    })?;
+    Ok(Program {
+        kind,
+        messages: List::new(alloc),
+        classes,
+        procs,
+    })
+}
+
+// The class with these items in its `run`.
+fn class_of(alloc: Global, class: &ClassTree, items: List<Item>) -> Result<Class, NoMemory>
+    ensures { IfOk result (λ made. made ≡ spec.class_of class.now items) }
+{
+    Ok(Class {
+        name: copy_bytes(alloc, class.name.as_slice())?,
+        slots: List::new(alloc),
+        params: List::new(alloc),
+        setup: List::new(alloc),
+        run: items,
+        handlers: List::new(alloc),
+        queries: List::new(alloc),
+        line: class.line,
+    })
 }

@@ -1,10 +1,9 @@
-//! The lines that the program writes.
-ghost use Rattle.dalgo.specs.Lines.{action_line, action_text, badline_text, fault_word, refused_text, refused_word as refused_word_lem};
+//! The lines by which a program and a schedule are refused.
+ghost use Rattle.dalgo.specs.Lines.{badline_text, refused_text, refused_word as refused_word_lem};
 ghost use Rattle.std.specs.Prelude.{◌≡◌, ◌++◌, decimal, IfOk, OnOk};
 
 use crate::status::RefusedKind;
-use da_lang::{Action, FaultKind};
-use da_values::{Buf, List, NoMemory, write_value};
+use da_values::{Buf, List, NoMemory};
 use itoa::Buffer;
 use std::alloc::Global;
 
@@ -14,19 +13,6 @@ fn write_number(n: u64, out: &mut Buf) -> Result<(), NoMemory>
 {
     let mut digits = Buffer::new();
     out.append(digits.format(n).as_bytes())
-}
-
-// The word for a kind of fault.
-fn word_of(kind: FaultKind) -> &'static [u8]
-    ensures { result.now ≡ fault_word kind }
-{
-    match kind {
-        FaultKind::Overflow => b"overflow",
-        FaultKind::Divide => b"divide",
-        FaultKind::Range => b"range",
-        FaultKind::Message => b"message",
-        FaultKind::TooLong => b"toolong",
-    }
 }
 
 // The word for a kind of refusal.
@@ -43,57 +29,6 @@ fn refused_word(kind: RefusedKind) -> &'static [u8]
         RefusedKind::Deep => b"deep",
         RefusedKind::NotYet => b"notyet",
     }
-}
-
-/// Appends the line of an action.
-pub fn write_action(a: &Action, out: &mut Buf) -> Result<(), NoMemory>
-    ensures { OnOk result (out.new ≡ out.old ++ action_line a.now) }
-{
-    match a {
-        Action::Took { p, k } => {
-            out.append(b"took ")?;
-            write_number(u64::from(*p), out)?;
-            out.append(b" ")?;
-            write_number(u64::from(*k), out)?;
-            out.append(b"\n")
-        }
-        Action::Out { p, v } => {
-            out.append(b"out ")?;
-            write_number(u64::from(*p), out)?;
-            out.append(b" ")?;
-            write_value(v, out)?;
-            out.append(b"\n")
-        }
-        Action::End { p } => {
-            out.append(b"end ")?;
-            write_number(u64::from(*p), out)?;
-            out.append(b"\n")
-        }
-        Action::Fault { p, kind, line } => {
-            out.append(b"fault ")?;
-            write_number(u64::from(*p), out)?;
-            out.append(b" ")?;
-            out.append(word_of(*kind))?;
-            out.append(b" ")?;
-            write_number(u64::from(*line), out)?;
-            out.append(b"\n")
-        }
-        Action::Stop { i } => {
-            out.append(b"stop ")?;
-            write_number(*i, out)?;
-            out.append(b"\n")
-        }
-    }
-}
-
-/// Appends the lines of some actions.
-pub fn write_actions(actions: &[Action], out: &mut Buf) -> Result<(), NoMemory>
-    ensures { OnOk result (out.new ≡ out.old ++ action_text actions.now) }
-{
-    for action in actions {
-        write_action(action, out)?;
-    }
-    Ok(())
 }
 
 /// The line of a refusal.

@@ -1,6 +1,9 @@
 //! Replays a schedule of a DistAlgo program, and writes what its processes do.
 #![tactic(auto)]
 
+#[cfg(test)]
+mod action_rows;
+mod action_text;
 mod first_form;
 mod lines;
 mod memory;

@@ -1,4 +1,5 @@
 //! Programs, from their texts.
+ghost use Rattle.da_system.specs.Printing.{PrintsOnly};
 ghost use Rattle.da_system.specs.State.{IsNumbered};
 ghost use Rattle.da_values.specs.declared.token.LexKind.TheVariants as lex;
 ghost use Rattle.dalgo.specs.Replies.{Accepts, IsRefusedAs, kind_after};
@@ -41,7 +42,8 @@ pub fn read_program(alloc: Global, text: &[u8]) -> Result<Program, ProgramFault>
     requires { length text.now ≤ 1048576 }
     ensures ok { IfOk result (Accepts text.now) }
     ensures refused { IfErr result (IsRefusedAs text.now) }
-    ensures numbered { IfOk result IsNumbered }
+    ensures few { IfOk result IsNumbered }
+    ensures prints { IfOk result PrintsOnly }
 {
     let tokens = match lex(alloc, text) {
         Ok(tokens) => tokens,

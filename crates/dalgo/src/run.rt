@@ -1,4 +1,5 @@
 //! The run of a schedule.
+ghost use Rattle.da_system.specs.Printing.{PrintsOnly};
 ghost use Rattle.da_system.specs.SourceRun.{src_run};
 ghost use Rattle.da_system.specs.State.{IsNumbered};
 ghost use Rattle.dalgo.specs.Replies.{status_of as status_of_lem};
@@ -16,7 +17,8 @@ pub fn run_events(
     program: &Program,
     events: &[Event],
 ) -> Result<List<Action>, NoMemory>
-    requires { IsNumbered program.now }
+    requires few { IsNumbered program.now }
+    requires prints { PrintsOnly program.now }
     ensures { IfOk result (λ actions. actions ≡ src_run program.now events.now) }
 {
     let mut system = System::new(alloc, program)?;

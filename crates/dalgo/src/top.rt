@@ -1,15 +1,18 @@
 //! The top call: all that the program does.
 ghost use Rattle.da_lang.specs.declared.event.Event.{Event};
 ghost use Rattle.da_lang.specs.declared.program.Program.{Program};
+ghost use Rattle.da_system.specs.Printing.{PrintsOnly};
 ghost use Rattle.da_system.specs.State.{IsNumbered};
-ghost use Rattle.dalgo.specs.Lines.{action_text, badline_text, refused_text};
+ghost use Rattle.dalgo.specs.ActionText.{action_text};
+ghost use Rattle.dalgo.specs.Lines.{badline_text, refused_text};
 ghost use Rattle.dalgo.specs.Outside.{Appends, Rose};
 ghost use Rattle.dalgo.specs.Replies.{Accepts, Answers, IsAnswer, IsRefused, IsReplay, IsReplayStatus, IsSchedule, Ran, ReadCause, Replies, RepliesTo, RepliesTold, RunsWhole};
 ghost use Rattle.dalgo.specs.Top.{status_after as status_after_lem};
 ghost use Rattle.std.specs.Prelude.{ℕ, ◌≡◌, ◌+◌, ◌≤◌, List, Some, codes, length, map, take, IfNone, IfOk, IfSome, IsErrOf};
 ghost use Rattle.std.specs.String.{string_bytes};
 
-use crate::lines::{bad_line, refused_line, write_actions};
+use crate::action_text::write_actions;
+use crate::lines::{bad_line, refused_line};
 use crate::outside::{Files, Sink, Trouble};
 use crate::program::{ProgramFault, read_program};
 use crate::run::{run_events, status_of};
@@ -185,7 +188,8 @@ fn answer_schedule<K: Sink>(
     text: &[u8],
     out: &mut K,
 ) -> Result<Status, Ending>
-    requires { IsNumbered program.now }
+    requires few { IsNumbered program.now }
+    requires prints { PrintsOnly program.now }
     ensures answers { (whole : List ℕ) → text.now ≡ take (SCHEDULE_LIMIT + 1) whole → IfOk result (λ s. Answers program.now whole s (K.taken out.old) (K.taken out.new)) }
     ensures status { IfOk result IsReplayStatus }
     ensures write { IsErrOf result Ending.Write → Rose (K.faults out.old) (K.faults out.new) }
@@ -208,7 +212,8 @@ fn answer_events<K: Sink>(
     events: &[Event],
     out: &mut K,
 ) -> Result<Status, Ending>
-    requires { IsNumbered program.now }
+    requires few { IsNumbered program.now }
+    requires prints { PrintsOnly program.now }
     ensures ran { IfOk result (λ s. Ran program.now events.now s (K.taken out.old) (K.taken out.new)) }
     ensures status { IfOk result IsReplayStatus }
     ensures write { IsErrOf result Ending.Write → Rose (K.faults out.old) (K.faults out.new) }

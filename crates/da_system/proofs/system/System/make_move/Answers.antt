@@ -1,6 +1,6 @@
-use Rattle.da_system.proofs.WorldLemmas.{stepped}
+use Rattle.std.proofs.Common.{refl}
+use Rattle.da_system.proofs.StepLemmas.{made}
 use Rattle.da_system.proofs.system.System.make_move.Goals as goal
 
 pub returns-clause-steps : goal.returns-clause-steps
-returns-clause-steps c =
-    stepped c.args.self.now.program.now c.args.self.now.processes _ _ _ _ _ _ _ c.in-Some.ensures c.run_of.ensures c.in_ok-process.ensures c.set.ensures
+returns-clause-steps c = made _ _ _ _ _ _ _ _ _ c.requires.prints c.in-Some.ensures (c.in_ok-process.ensures _ refl) c.set.ensures
