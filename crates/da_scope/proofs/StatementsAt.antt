@@ -35,7 +35,7 @@ scope_behind (s ∷ ss) scope tables = let first = s scope tables in scope_behin
 -- one statement behind others
 items_more : (copy : Copy) (stmts : List Stmt) (s : Stmt) (scope : Scope Meaning) (tables : Tables)
     → (body_with copy (stmts ++ s ∷ []) scope tables).0
-      ≡ (body_with copy stmts scope tables).0 ++ (stating copy s (scope_behind (map (stating copy) stmts) scope tables) (body_with copy stmts scope tables).1).item ∷ []
+    ≡ (body_with copy stmts scope tables).0 ++ (stating copy s (scope_behind (map (stating copy) stmts) scope tables) (body_with copy stmts scope tables).1).item ∷ []
 items_more copy [] s scope tables = refl
 items_more copy (t ∷ stmts) s scope tables = let first = stating copy t scope tables in ap (λ items. first.item ∷ items) (items_more copy stmts s first.scope first.tables)
 
