@@ -1,6 +1,6 @@
 -- Arguments that are taken from the front.
 use Rattle.std.proofs.Common.{◌≡◌, ◌∙◌, ap, sym, refl, ℕ, zero, suc, ◌+◌, ◌<◌, List, [], ◌∷◌, ◌++◌, length, get_or, take, drop, map, zip, Some, arith}
-use Rattle.std.specs.Prelude.{remove, slice_get}
+use Rattle.std.specs.Prelude.{slice_get}
 use Rattle.std.proofs.lemmas.List.{drop-drop, map-append}
 use Rattle.da_lang.specs.declared.program.BindArg.{BindArg}
 use Rattle.da_lang.specs.declared.program.RExpr.{RExpr}

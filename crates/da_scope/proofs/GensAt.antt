@@ -3,7 +3,6 @@ use Rattle.std.proofs.Common.{◌≡◌, ◌∙◌, ap, sym, refl, ℕ, ◌+◌,
 use Rattle.std.specs.Option.{option_map}
 use Rattle.da_lang.specs.declared.query.RGen.{RGen}
 use Rattle.da_lang.specs.declared.tree.GenTree.{GenTree, out-GenTree}
-use Rattle.da_lang.specs.declared.tree.PatternTree.{PatternTree}
 use Rattle.da_lang.specs.ExprMeaning.{Meaning, Generator, behind, generator, gen_meant, gens_in, matching, peer_binds, peer_of, peer_pattern, source_meant, with_row}
 use Rattle.da_lang.specs.Scopes.{Scope}
 use Rattle.da_lang.proofs.MeantAt.{generator-of, peer_of-From, peer_of-To}

@@ -8,7 +8,7 @@ use Rattle.da_lang.specs.declared.query.Pattern.TheVariants as pa
 use Rattle.da_lang.specs.declared.tree.Expr.{Expr}
 use Rattle.da_lang.specs.declared.tree.PatternTree.{PatternTree}
 use Rattle.da_lang.specs.declared.tree.PatternTree.TheVariants as pattern
-use Rattle.da_lang.specs.ExprMeaning.{Meaning, Meant, Matching, meant, matching, patterns_in, with_row}
+use Rattle.da_lang.specs.ExprMeaning.{Meaning, Matching, meant, matching, patterns_in, with_row}
 use Rattle.da_lang.specs.Scopes.{Scope}
 use Rattle.da_lang.proofs.MeantAt.{matching-Wild, matching-Name, matching-Int, matching-Text, matching-Truth, matching-Me, matching-Equal, matching-Tuple}
 use Rattle.da_scope.proofs.ScopeLaws.{with_row-append}

@@ -1,5 +1,5 @@
 -- Names that come into scope in two steps.
-use Rattle.std.proofs.Common.{◌≡◌, ◌∙◌, ap, sym, refl, ℕ, suc, ◌+◌, List, [], ◌∷◌, ◌++◌, length, arith, map}
+use Rattle.std.proofs.Common.{◌≡◌, ◌∙◌, ap, ℕ, suc, ◌+◌, List, [], ◌∷◌, ◌++◌, length, arith, map}
 use Rattle.std.proofs.lemmas.List.Sums.{sum_by-cons}
 use Rattle.da_lang.specs.ExprMeaning.{Meaning, InRow, numbered, in_row, width, with_row}
 use Rattle.da_lang.specs.Scopes.{Scope}

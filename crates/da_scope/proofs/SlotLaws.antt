@@ -1,6 +1,5 @@
 -- One new slot behind others.
-use Rattle.std.proofs.Common.{◌≡◌, ◌∙◌, ap, sym, refl, ℕ, suc, ◌+◌, ◌<◌, List, [], ◌∷◌, ◌++◌, map, length, get_or, take, append_assoc, append-nil, filter_map, Option, Some, None, arith}
-use Rattle.std.specs.List.{range_with_len}
+use Rattle.std.proofs.Common.{◌≡◌, ◌∙◌, ap, sym, refl, ℕ, ◌+◌, ◌<◌, List, [], ◌∷◌, ◌++◌, map, length, get_or, take, append_assoc, append-nil, filter_map, Option, Some, None, arith}
 use Rattle.std.proofs.lemmas.List.{map-append, length-append, length-map, length-take}
 use Rattle.std.proofs.lemmas.List.Elements.{filter_map-append}
 use denote.Bor.{Bor}

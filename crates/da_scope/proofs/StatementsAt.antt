@@ -1,12 +1,9 @@
 -- Statements, one layer at a time, and one statement more.
-use Rattle.std.proofs.Common.{◌≡◌, ◌∙◌, ap, sym, refl, ℕ, suc, ◌+◌, ◌<◌, List, [], ◌∷◌, ◌++◌, map, length, get_or, take}
-use Rattle.std.proofs.lemmas.List.{map-append}
-use Rattle.da_lang.specs.declared.program.Alt.{roll-Alt}
+use Rattle.std.proofs.Common.{◌≡◌, ap, refl, ℕ, ◌+◌, ◌<◌, List, [], ◌∷◌, ◌++◌, map, length, get_or, take}
 use Rattle.da_lang.specs.declared.program.Item.{Item}
-use Rattle.da_lang.specs.declared.program.RBranch.{roll-RBranch}
 use Rattle.da_lang.specs.declared.tree.Branch.{Branch, out-Branch}
 use Rattle.da_lang.specs.declared.tree.Stmt.{Stmt}
-use Rattle.da_lang.specs.BodyMeaning.{Becomes, Copy, Guarded, Stating, as_alt, as_branch, block, body_with, each, guarding, stating}
+use Rattle.da_lang.specs.BodyMeaning.{Becomes, Copy, Guarded, Stating, as_alt, as_branch, body_with, each, guarding, stating}
 use Rattle.da_lang.specs.ExprMeaning.{Meaning, Tables}
 use Rattle.da_lang.specs.Scopes.{Scope}
 use Rattle.da_lang.proofs.StatingAt.{stating_in, guarding-of}

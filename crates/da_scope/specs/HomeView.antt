@@ -1,5 +1,5 @@
 -- The bodies of a class that code asks for.
-use Rattle.std.specs.Prelude.{ℕ, Bool, List, Option, find}
+use Rattle.std.specs.Prelude.{Bool, List, Option, find}
 use Rattle.da_lang.specs.declared.tree.ClassTree.{ClassTree}
 use Rattle.da_lang.specs.declared.tree.Param.{Param}
 use Rattle.da_lang.specs.declared.tree.Stmt.{Stmt}

@@ -6,7 +6,7 @@ use denote.Ref.{MutBor}
 use Rattle.da_lang.specs.declared.program.ItemKind.{ItemKind}
 use Rattle.da_lang.specs.declared.program.RExpr.{RExpr}
 use Rattle.da_lang.specs.declared.tree.ClassTree.{ClassTree}
-use Rattle.da_lang.specs.BodyMeaning.{Copy, copies}
+use Rattle.da_lang.specs.BodyMeaning.{copies}
 use Rattle.da_lang.specs.ExprMeaning.{Tables}
 use Rattle.da_scope.specs.declared.meaning.home.Home.{Home}
 use Rattle.da_values.specs.declared.list.NoMemory.{NoMemory}

@@ -1,6 +1,5 @@
-use Rattle.std.proofs.Common.{◌≡◌, ◌∙◌, ap, sym, find, filter_map}
+use Rattle.std.proofs.Common.{◌∙◌, ap, sym, find, filter_map}
 use Rattle.std.specs.Option.{option_map}
-use Rattle.da_lang.specs.declared.tree.Member.{Member}
 use Rattle.da_lang.specs.ClassParts as class
 use Rattle.da_lang.specs.ClassParts.{body_in, params_if, stmts_if}
 use Rattle.da_scope.specs.HomeView.{parts, parts_in, wants}

@@ -1,4 +1,4 @@
-use Rattle.std.proofs.Common.{◌≡◌, ◌∙◌}
+use Rattle.std.proofs.Common.{◌∙◌}
 use Rattle.da_scope.proofs.ClassAt.{class_built}
 use Rattle.da_scope.proofs.meaning.class.build_class.Goals as goal
 

@@ -1,4 +1,4 @@
-use Rattle.std.proofs.Common.{◌≡◌, ◌∙◌, ap, sym, suc, ◌<◌, List, ℕ, arith, map, zip}
+use Rattle.std.proofs.Common.{◌≡◌, ◌∙◌, ap, sym, suc, ◌<◌, arith, map, zip}
 use Rattle.da_lang.specs.declared.program.ItemKind.{ItemKind}
 use Rattle.da_lang.specs.BodyMeaning.{bind_arg}
 use Rattle.da_lang.specs.ExprMeaning.{Tables}

@@ -1,5 +1,4 @@
 use Rattle.std.proofs.Common.{◌≡◌, map, take}
-use Rattle.da_lang.specs.declared.tree.Branch.{Branch}
 use Rattle.da_lang.specs.BodyMeaning.{Guarded, body_with, copies, each, guarding, stating}
 use Rattle.da_scope.proofs.StatementsAt.{scope_behind}
 use Rattle.da_scope.proofs.meaning.inliner.Inliner.+statements.Given as goal
