@@ -35,6 +35,8 @@ pub mod LimitTellingLaws
 pub mod LimitTreeAt
 pub mod LimitWalkAt
 pub mod ListSteps
+pub mod MainLaws
+pub mod MainMaps
 pub mod MethodExtents
 pub mod NoneBack
 pub mod Numbered

@@ -20,6 +20,7 @@ pub mod LimitTelling
 pub mod LimitTree
 pub mod LimitWalk
 pub mod Loops
+pub mod MainView
 pub mod Repeats
 pub mod ScopeView
 pub mod Sizes

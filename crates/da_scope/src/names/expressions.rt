@@ -25,7 +25,7 @@ pub fn tell_unless(allowed: bool, kind: ScopeKind, line: u32, least: &mut Least)
 }
 
 /// Whether a name that stands for this may be used as a value.
-fn is_value(found: Option<Role>) -> bool
+pub fn is_value(found: Option<Role>) -> bool
     ensures { used (option_map role_of found) ≡ unless result Unknown }
 {
     found.is_some()
