@@ -1,5 +1,5 @@
 //! How large the copies of methods are.
-use crate::calls::graph::CallGraph;
+use crate::calls::CallGraph;
 use crate::limits::extent::Extent;
 use da_values::List;
 

@@ -5,7 +5,7 @@ ghost use Rattle.da_scope.specs.CallGraph.{IsCallGraph};
 ghost use Rattle.da_scope.specs.LimitWalk.{IsKnown, many_in, member_many, member_told, stmts_told, wide_params, wide_patterns};
 ghost use Rattle.std.specs.Prelude.{◌≡◌, IfOk, OnOk};
 
-use crate::calls::graph::CallGraph;
+use crate::calls::CallGraph;
 use crate::limits::least::Least;
 use crate::limits::lines::{is_wide, some_many_variables, tell_generators, tell_if, tell_wide};
 use crate::limits::sizes::put_sizes;

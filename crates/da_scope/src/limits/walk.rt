@@ -8,7 +8,7 @@ ghost use Rattle.da_scope.specs.Loops.{NoneLeadsBack};
 ghost use Rattle.std.specs.List.{list_any};
 ghost use Rattle.std.specs.Prelude.{◌≡◌, ◌||◌, IfOk, OnOk, nat_lt};
 
-use crate::calls::graph::CallGraph;
+use crate::calls::CallGraph;
 use crate::limits::classes::class_extent;
 use crate::limits::extent::Extent;
 use crate::limits::least::Least;
