@@ -11,7 +11,6 @@ use Rattle.da_lang.specs.declared.tree.Expr.TheVariants as ex
 use Rattle.da_lang.specs.declared.tree.GenTree.{GenTree, out-GenTree}
 use Rattle.da_lang.specs.declared.tree.PatternTree.{PatternTree}
 use Rattle.da_lang.specs.declared.tree.PatternTree.TheVariants as pattern
-use Rattle.da_lang.specs.declared.tree.PeerTree.{PeerTree}
 use Rattle.da_lang.specs.declared.tree.PeerTree.TheVariants as peer
 use Rattle.da_lang.specs.declared.tree.SourceTree.{SourceTree}
 use Rattle.da_lang.specs.declared.tree.SourceTree.TheVariants as source_tree

@@ -1,5 +1,5 @@
 -- Sums and maxima of numbers that stop at the greatest that is counted.
-use Rattle.std.specs.Prelude.{◌≡◌, ℕ, ◌+◌, min, max}
+use Rattle.std.specs.Prelude.{◌≡◌, ℕ, ◌+◌, max}
 use Rattle.std.proofs.Common.{arith}
 use Rattle.da_scope.specs.Capped.{capped}
 

@@ -1,16 +1,15 @@
 -- The program of a class is as large as its extent says.
 use Rattle.std.specs.Prelude.{◌≡◌, refl, ℕ, zero, suc, ◌+◌, max, List, [], ◌∷◌, ◌++◌, map, length, sum, Option, Some, None}
 use Rattle.std.specs.List.{fold}
-use Rattle.std.proofs.Common.{◌∙◌, ap, sym, arith, length-append}
+use Rattle.std.proofs.Common.{◌∙◌, ap, arith, length-append}
 use Rattle.std.proofs.lemmas.List.{length-map}
 use Rattle.std.proofs.lemmas.List.Sums.{sum_by-cons}
 use Rattle.da_lang.specs.declared.program.Handler.{Handler}
 use Rattle.da_lang.specs.declared.program.Item.{Item}
-use Rattle.da_lang.specs.declared.program.RExpr.{RExpr}
 use Rattle.da_lang.specs.declared.tree.ClassTree.{ClassTree}
 use Rattle.da_lang.specs.declared.tree.Param.{Param}
 use Rattle.da_lang.specs.declared.ty.Ty.{Ty}
-use Rattle.da_lang.specs.BodyMeaning.{Copy, body_with, body_of, bind_arg, class_slots, copies, copy_of, fresh, named_slots, param_slots, untyped, with_params}
+use Rattle.da_lang.specs.BodyMeaning.{Copy, body_with, class_slots, copies, named_slots, param_slots, untyped, with_params}
 use Rattle.da_lang.specs.ClassParts.{Body, bodies_where, is_handler, method_of, params_if, run_of, setup_of, stmts_if, variables}
 use Rattle.da_lang.specs.ExprMeaning.{Tables}
 use Rattle.da_lang.specs.Limits.{item_count, item_depth, block_depth, class_items, class_blocks}
@@ -18,7 +17,7 @@ use Rattle.da_lang.specs.Resolution.{class_tables, handler, handlers, handler_bi
 use Rattle.da_lang.specs.Written.{greatest}
 use Rattle.da_lang.proofs.CountsAt.{kind_counted-Call, kind_counted-Pass, kind_depth_of-Call, kind_depth_of-Pass}
 use Rattle.da_scope.specs.declared.limits.extent.Extent.{Extent}
-use Rattle.da_scope.specs.Extents.{Called, beside, wider, extent, as_block, body_extent, body_extent_if, method_extent, handler_extent, run_extent, class_extent}
+use Rattle.da_scope.specs.Extents.{Called, beside, body_extent_if, method_extent, handler_extent, class_extent}
 use Rattle.da_scope.proofs.ExtentLaws.{Fits, nothing_fits, beside_fits, wider_fits, fits_as, Copies, body_fits}
 
 -- a body behind new slots
@@ -41,8 +40,8 @@ unfolding copies method_extent
 copies_fit zero c = record { of = λ name args tables. fits_as _ _ _ _ _ refl kind_counted-Pass kind_depth_of-Pass refl refl (nothing_fits (length tables.slots)) }
 copies_fit (suc most) c = record {
   of = λ name args tables.
-    let items = Made (copies most c) (method_extent most c) (copies_fit most c) c (method_of c name) tables in
-    fits_as _ _ _ _ _ refl (kind_counted-Call _ items.0) (kind_depth_of-Call _ items.0) refl refl (made_fits (copies most c) (method_extent most c) (copies_fit most c) c (method_of c name) tables);
+      let items = Made (copies most c) (method_extent most c) (copies_fit most c) c (method_of c name) tables in
+      fits_as _ _ _ _ _ refl (kind_counted-Call _ items.0) (kind_depth_of-Call _ items.0) refl refl (made_fits (copies most c) (method_extent most c) (copies_fit most c) c (method_of c name) tables);
 }
 
 -- the handlers, one behind the other

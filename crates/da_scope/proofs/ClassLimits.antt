@@ -1,6 +1,6 @@
 -- What limits a class passes, by its extent and by the queries in its members.
-use Rattle.std.specs.Prelude.{◌≡◌, refl, ℕ, zero, suc, ◌+◌, ◌<◌, ◌≤◌, nat_lt, ◌||◌, ◌&&◌, Bool, true, false, List, [], ◌∷◌, ◌++◌, length, map, flat_map, filter, filter_map, find, Option, Some, None, IsSome, Contains}
-use Rattle.std.specs.List.{list_any, fold, cons_option}
+use Rattle.std.specs.Prelude.{◌≡◌, refl, ℕ, ◌+◌, ◌<◌, ◌≤◌, nat_lt, ◌||◌, ◌&&◌, Bool, true, false, List, [], ◌∷◌, length, map, flat_map, filter, filter_map, find, Option, Some, None, IsSome, Contains}
+use Rattle.std.specs.List.{list_any, fold}
 use Rattle.std.proofs.Common.{◌∙◌, ap, sym, arith, cond, get_or, drop, subst, ⊎_elim}
 use Rattle.std.proofs.lemmas.List.Folds.{list_any-append}
 use Rattle.da_lang.specs.declared.refusal.LimitKind.TheVariants as limit
@@ -8,11 +8,10 @@ use Rattle.da_lang.specs.declared.tree.ClassTree.{ClassTree}
 use Rattle.da_lang.specs.declared.tree.Member.{Member}
 use Rattle.da_lang.specs.declared.tree.Member.TheVariants as member
 use Rattle.da_lang.specs.declared.tree.Stmt.{Stmt}
-use Rattle.da_lang.specs.ClassParts.{Body, InSetup, InRun, InMethod, InHandler, bodies, bodies_where, body_in, is_handler, is_method, method_of, run_of, setup_of, stmts_if, variables}
+use Rattle.da_lang.specs.ClassParts.{Body, InSetup, InRun, InMethod, InHandler, bodies, bodies_where, body_in, is_handler, is_method, run_of, setup_of, stmts_if, variables}
 use Rattle.da_lang.specs.Deeds.{Deed, deeds}
 use Rattle.da_lang.specs.Limits.{line_if, has_query, is_reached, class_items, class_blocks, items_over, blocks_over, variables_over, most_items, most_blocks, most_variables}
 use Rattle.da_lang.specs.Resolution.{handler_binds, resolved_class}
-use Rattle.da_scope.specs.Capped.{capped}
 use Rattle.da_scope.specs.declared.limits.extent.Extent.{Extent}
 use Rattle.da_scope.specs.Extents.{Called, beside, wider, as_block, body_extent_if, class_extent, class_extent_by, extent, handler_extent, method_extent, run_extent}
 use Rattle.da_scope.specs.LimitLines.{told_at}

@@ -8,7 +8,7 @@ use Rattle.da_lang.specs.declared.tree.Param.{Param}
 use Rattle.da_lang.specs.declared.tree.PatternTree.{PatternTree}
 use Rattle.da_lang.specs.declared.tree.Stmt.{Stmt}
 use Rattle.da_lang.specs.declared.ty.Ty.{Ty}
-use Rattle.da_lang.specs.ClassParts.{Body, InSetup, InRun, InHandler, variable_in}
+use Rattle.da_lang.specs.ClassParts.{InSetup, InRun, InHandler, variable_in}
 use Rattle.da_scope.specs.Capped.{capped}
 use Rattle.da_scope.specs.ClassMembers.{setup_in, run_in, is_variable, with_handlers}
 use Rattle.da_scope.specs.declared.limits.extent.Extent.{Extent}

@@ -1,5 +1,5 @@
 -- The extents of the copies of methods, found by their names.
-use Rattle.std.specs.Prelude.{◌≡◌, ℕ, List, Option, Some, None, option_and_then, slice_get, unwrap_or}
+use Rattle.std.specs.Prelude.{◌≡◌, ℕ, List, Option, Some, option_and_then, slice_get, unwrap_or}
 use Rattle.std.proofs.Common.{◌∙◌, ap, sym}
 use Rattle.da_scope.specs.CallGraph.{number_of}
 use Rattle.da_scope.specs.Copied.{copied, copied_by}

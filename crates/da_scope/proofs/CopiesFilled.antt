@@ -1,10 +1,10 @@
 -- One method more in the table of the extents of copies.
 use Rattle.std.specs.Prelude.{◌≡◌, refl, ℕ, zero, suc, ◌+◌, ◌<◌, ◌≤◌, List, [], ◌∷◌, length, map, Some, slice_get, slice_index, slice_set}
 use Rattle.std.specs.Borrow.{Bor}
-use Rattle.std.proofs.Common.{◌∙◌, ap, sym, subst, arith, get_or}
+use Rattle.std.proofs.Common.{◌∙◌, ap, sym, arith, get_or}
 use Rattle.std.proofs.lemmas.List.{length-map}
 use Rattle.da_lang.specs.ClassParts.{bodies}
-use Rattle.da_scope.specs.CallGraph.{IsCallGraph, IsOrdered, methods_in, number_of}
+use Rattle.da_scope.specs.CallGraph.{IsOrdered, methods_in, number_of}
 use Rattle.da_scope.specs.CallMethods.{Numbering, body_of}
 use Rattle.da_scope.specs.Copied.{copied, copied_by}
 use Rattle.da_scope.specs.declared.calls.graph.CallGraph.{CallGraph}

@@ -1,5 +1,5 @@
 -- The lines of statements that pass a limit, by what is written in each.
-use Rattle.std.specs.Prelude.{◌≡◌, refl, ℕ, ◌<◌, max, nat_lt, ◌||◌, Bool, true, false, if◌then◌else◌, List, [], ◌∷◌, ◌++◌, map, flat_map, filter, length}
+use Rattle.std.specs.Prelude.{◌≡◌, refl, ℕ, ◌<◌, max, nat_lt, ◌||◌, Bool, true, false, List, [], ◌∷◌, ◌++◌, map, flat_map, filter}
 use Rattle.std.specs.List.{list_any}
 use Rattle.std.proofs.Common.{◌∙◌, ap, sym, arith, cond, ltb-true, ltb-false}
 use Rattle.std.proofs.lemmas.Bool.{lt-ltb, le-ltb}

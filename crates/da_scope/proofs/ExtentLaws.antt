@@ -1,8 +1,8 @@
 -- What statements become is as large as their extent says: its statements, its blocks, and the slots that it adds.
-use Rattle.std.specs.Prelude.{◌≡◌, refl, ℕ, zero, suc, ◌+◌, max, List, [], ◌∷◌, ◌++◌, map, length, sum, Option, Some, None}
-use Rattle.std.specs.List.{AllByRecursion, fold, range_with_len}
+use Rattle.std.specs.Prelude.{◌≡◌, refl, ℕ, suc, ◌+◌, max, List, [], ◌∷◌, ◌++◌, map, length, sum, Option, Some, None}
+use Rattle.std.specs.List.{AllByRecursion, fold}
 use Rattle.std.specs.Option.{option_map}
-use Rattle.std.proofs.Common.{◌∙◌, ap, sym, arith, subst, length-append}
+use Rattle.std.proofs.Common.{◌∙◌, ap, sym, arith, length-append}
 use Rattle.std.proofs.lemmas.List.{length-map}
 use Rattle.std.proofs.lemmas.List.Sums.{sum_by-cons}
 use Rattle.da_lang.specs.declared.program.Alt.{Alt}
@@ -12,20 +12,19 @@ use Rattle.da_lang.specs.declared.program.ItemKind.TheVariants as it
 use Rattle.da_lang.specs.declared.program.RBranch.{RBranch}
 use Rattle.da_lang.specs.declared.program.RExpr.{RExpr}
 use Rattle.da_lang.specs.declared.tree.Branch.{Branch, roll-Branch}
-use Rattle.da_lang.specs.declared.tree.ClassTree.{ClassTree}
 use Rattle.da_lang.specs.declared.tree.Expr.{Expr}
 use Rattle.da_lang.specs.declared.tree.Stmt.{Stmt}
 use Rattle.da_lang.specs.declared.tree.Stmt.TheVariants as stmt
 use Rattle.da_lang.specs.declared.tree.TimeoutTree.{TimeoutTree}
 use Rattle.da_lang.specs.declared.ty.Ty.{Ty}
-use Rattle.da_lang.specs.BodyMeaning.{Copy, Stating, Guarded, Becomes, Behind, stating, guarding, stmt_meant, block, block_if, bound, each, copies, states, named_slots, as_alt, as_branch}
+use Rattle.da_lang.specs.BodyMeaning.{Copy, Guarded, Becomes, Behind, stating, guarding, block, block_if, bound, each, states, named_slots, as_alt, as_branch}
 use Rattle.da_lang.specs.ExprMeaning.{Meaning, Tables, meant, all_outside}
 use Rattle.da_lang.specs.ExprNames.{found_names}
 use Rattle.da_lang.specs.Limits.{item_count, item_depth, block_depth, kind_counted, kind_depth_of, branch_counted, branch_depth_of, alt_counted, alt_depth_of}
 use Rattle.da_lang.specs.Scopes.{Scope}
 use Rattle.da_lang.specs.Written.{greatest}
 use Rattle.da_lang.proofs.CondInduction.{Where}
-use Rattle.da_lang.proofs.CountsAt.{kind_counted-Assign, kind_counted-Add, kind_counted-Del, kind_counted-Send, kind_counted-Output, kind_counted-If, kind_counted-While, kind_counted-For, kind_counted-Call, kind_counted-Await, kind_counted-Label, kind_counted-Pass, alt_counted-of, item_count-of, branch_counted-of, kind_depth_of-Assign, kind_depth_of-Add, kind_depth_of-Del, kind_depth_of-Send, kind_depth_of-Output, kind_depth_of-If, kind_depth_of-While, kind_depth_of-For, kind_depth_of-Call, kind_depth_of-Await, kind_depth_of-Label, kind_depth_of-Pass, alt_depth_of-of, item_depth-of, branch_depth_of-of}
+use Rattle.da_lang.proofs.CountsAt.{kind_counted-Assign, kind_counted-Add, kind_counted-Del, kind_counted-Send, kind_counted-Output, kind_counted-If, kind_counted-While, kind_counted-For, kind_counted-Await, kind_counted-Label, kind_counted-Pass, alt_counted-of, item_count-of, branch_counted-of, kind_depth_of-Assign, kind_depth_of-Add, kind_depth_of-Del, kind_depth_of-Send, kind_depth_of-Output, kind_depth_of-If, kind_depth_of-While, kind_depth_of-For, kind_depth_of-Await, kind_depth_of-Label, kind_depth_of-Pass, alt_depth_of-of, item_depth-of, branch_depth_of-of}
 use Rattle.da_lang.proofs.StatingAt.{stating_in-Assign, stating_in-Add, stating_in-Del, stating_in-Send, stating_in-Output, stating_in-Pass, stating_in-Label, stating_in-Call, stating_in-If, stating_in-While, stating_in-For, stating_in-AwaitOne, stating_in-Await, guarding-of}
 use Rattle.da_lang.proofs.StmtInduction.{StmtCases, stmt_induction}
 use Rattle.da_scope.specs.declared.limits.extent.Extent.{Extent}
@@ -149,7 +148,7 @@ module _ (copy : Copy) (called : Called) (copied : Copies copy called) where
       → ((scope : Scope Meaning) (tables : Tables) → Fits e (kind_counted (becomes scope tables).0) (kind_depth_of (becomes scope tables).0) (length tables.slots) (length (becomes scope tables).1.slots)) → StmtFits s
   kind_as s line becomes e is means fit =
       stmt_as s (one e) (states line becomes) is means (λ scope tables.
-        fits_as _ _ _ _ _ refl (item_count-of line (becomes scope tables).0) (item_depth-of line (becomes scope tables).0) refl refl (one_fits _ _ _ _ _ (fit scope tables)))
+      fits_as _ _ _ _ _ refl (item_count-of line (becomes scope tables).0) (item_depth-of line (becomes scope tables).0) refl refl (one_fits _ _ _ _ _ (fit scope tables)))
 
   -- a statement without blocks that adds no slot
   plain : (kind : ItemKind) (n m : ℕ) → kind_counted kind ≡ 0 → kind_depth_of kind ≡ 0 → m ≡ n → Fits nothing (kind_counted kind) (kind_depth_of kind) n m
@@ -173,33 +172,33 @@ module _ (copy : Copy) (called : Called) (copied : Copies copy called) where
 
   named_fit : (x : Expr) (names : List (List ℕ)) (ss : List Stmt) → AllByRecursion StmtFits ss → (scope : Scope Meaning) (tables : Tables)
       → Fits (wider (length names) (as_block (map (extent called) ss))) (sum (map item_count (bound names (map (stating copy) ss) scope ((meant x).outside scope tables).1).0))
-        (block_depth (map item_depth (bound names (map (stating copy) ss) scope ((meant x).outside scope tables).1).0)) (length tables.slots) (length (bound names (map (stating copy) ss) scope ((meant x).outside scope tables).1).1.slots)
+      (block_depth (map item_depth (bound names (map (stating copy) ss) scope ((meant x).outside scope tables).1).0)) (length tables.slots) (length (bound names (map (stating copy) ss) scope ((meant x).outside scope tables).1).1.slots)
   named_fit x names ss fit scope tables = fits_as _ _ _ _ _ refl refl refl (sym (behind x scope tables)) refl (bound_fits names ss fit scope ((meant x).outside scope tables).1)
 
   loop_fit : (x : Expr) (ss : List Stmt) → AllByRecursion StmtFits ss → (scope : Scope Meaning) (tables : Tables)
       → Fits (as_block (map (extent called) ss)) (sum (map item_count (Block ss scope ((meant x).outside scope tables).1).0))
-        (block_depth (map item_depth (Block ss scope ((meant x).outside scope tables).1).0)) (length tables.slots) (length (Block ss scope ((meant x).outside scope tables).1).1.slots)
+      (block_depth (map item_depth (Block ss scope ((meant x).outside scope tables).1).0)) (length tables.slots) (length (Block ss scope ((meant x).outside scope tables).1).1.slots)
   loop_fit x ss fit scope tables = fits_as _ _ _ _ _ refl refl refl (sym (behind x scope tables)) refl (block_fits ss fit scope ((meant x).outside scope tables).1)
 
   branch_fits : (x : Expr) (ss : List Stmt) (line : ℕ) → AllByRecursion StmtFits ss → BranchFits (roll-Branch (record { cond = x; body = ss; line = line }))
   branch_fits x ss line fit = (
-      (λ scope tables.
+    (λ scope tables.
         let items = bound (found_names x) (map (stating copy) ss) scope ((meant x).outside scope tables).1 in
         let is : (guarding copy (roll-Branch (record { cond = x; body = ss; line = line }))).branch scope tables ≡ as_branch line x (map (stating copy) ss) scope tables = ap (λ (g : Guarded). g.branch scope tables) (guarding-of copy x ss line) in
         fits_as _ _ _ _ _ (extent_of_branch-of called x ss line)
         (ap (λ (r : RBranch × Tables). branch_counted r.0) is ∙ branch_counted-of _ _ _ items.0 _) (ap (λ (r : RBranch × Tables). branch_depth_of r.0) is ∙ branch_depth_of-of _ _ _ items.0 _)
         refl (ap (λ (r : RBranch × Tables). length r.1.slots) is) (named_fit x (found_names x) ss fit scope tables)),
-      (λ scope tables.
+    (λ scope tables.
         let items = bound (found_names x) (map (stating copy) ss) scope ((meant x).outside scope tables).1 in
         let is : (guarding copy (roll-Branch (record { cond = x; body = ss; line = line }))).alt scope tables ≡ as_alt line x (map (stating copy) ss) scope tables = ap (λ (g : Guarded). g.alt scope tables) (guarding-of copy x ss line) in
         fits_as _ _ _ _ _ (extent_of_branch-of called x ss line)
         (ap (λ (r : Alt × Tables). alt_counted r.0) is ∙ alt_counted-of _ _ _ items.0 _) (ap (λ (r : Alt × Tables). alt_depth_of r.0) is ∙ alt_depth_of-of _ _ _ items.0 _)
-        refl (ap (λ (r : Alt × Tables). length r.1.slots) is) (named_fit x (found_names x) ss fit scope tables))
-    )
+        refl (ap (λ (r : Alt × Tables). length r.1.slots) is) (named_fit x (found_names x) ss fit scope tables)),
+  )
 
   else_fits : (other : Option (List Stmt)) → Where (AllByRecursion StmtFits) other → (scope : Scope Meaning) (tables : Tables)
       → Fits (else_extent (option_map (map (extent called)) other)) (sum (map item_count (block_if (option_map (map (stating copy)) other) scope tables).0))
-        (block_depth (map item_depth (block_if (option_map (map (stating copy)) other) scope tables).0)) (length tables.slots) (length (block_if (option_map (map (stating copy)) other) scope tables).1.slots)
+      (block_depth (map item_depth (block_if (option_map (map (stating copy)) other) scope tables).0)) (length tables.slots) (length (block_if (option_map (map (stating copy)) other) scope tables).1.slots)
   unfolding else_extent
   else_fits None fit scope tables = nothing_fits (length tables.slots)
   else_fits (Some ss) fit scope tables = block_fits ss fit scope tables
@@ -215,30 +214,30 @@ module _ (copy : Copy) (called : Called) (copied : Copies copy called) where
   if_fits : (bs : List Branch) (other : Option (List Stmt)) (line : ℕ) → AllByRecursion BranchFits bs → Where (AllByRecursion StmtFits) other → StmtFits (stmt.If bs other line)
   if_fits bs other line fit others =
       kind_as _ line _ _ (extent-If called bs other line) (stating_in-If copy bs other line) (λ scope tables.
-        let conds = each (map (λ (g : Guarded). g.branch) (map (guarding copy) bs)) scope tables in
-        let last = block_if (option_map (map (stating copy)) other) scope conds.1 in
-        fits_as _ _ _ _ _ refl (kind_counted-If conds.0 last.0) (kind_depth_of-If conds.0 last.0) refl refl
-        (beside_fits _ _ _ _ _ _ _ _ _ (parts_fit (λ (g : Guarded). g.branch) (guarding copy) branch_counted branch_depth_of (extent_of_branch called) bs (firsts FitsAsBranch FitsAsAlt bs fit) scope tables) (else_fits other others scope conds.1)))
+      let conds = each (map (λ (g : Guarded). g.branch) (map (guarding copy) bs)) scope tables in
+      let last = block_if (option_map (map (stating copy)) other) scope conds.1 in
+      fits_as _ _ _ _ _ refl (kind_counted-If conds.0 last.0) (kind_depth_of-If conds.0 last.0) refl refl
+      (beside_fits _ _ _ _ _ _ _ _ _ (parts_fit (λ (g : Guarded). g.branch) (guarding copy) branch_counted branch_depth_of (extent_of_branch called) bs (firsts FitsAsBranch FitsAsAlt bs fit) scope tables) (else_fits other others scope conds.1)))
 
   await_fits : (bs : List Branch) (over : Option TimeoutTree) (line : ℕ) → AllByRecursion BranchFits bs → StmtFits (stmt.Await bs over line)
   await_fits bs over line fit =
       kind_as _ line _ _ (extent-Await called bs over line) (stating_in-Await copy bs over line) (λ scope tables.
-        let alts = each (map (λ (g : Guarded). g.alt) (map (guarding copy) bs)) scope tables in
-        fits_as _ _ _ _ _ refl (kind_counted-Await alts.0) (kind_depth_of-Await alts.0) refl refl
-        (parts_fit (λ (g : Guarded). g.alt) (guarding copy) alt_counted alt_depth_of (extent_of_branch called) bs (seconds FitsAsBranch FitsAsAlt bs fit) scope tables))
+      let alts = each (map (λ (g : Guarded). g.alt) (map (guarding copy) bs)) scope tables in
+      fits_as _ _ _ _ _ refl (kind_counted-Await alts.0) (kind_depth_of-Await alts.0) refl refl
+      (parts_fit (λ (g : Guarded). g.alt) (guarding copy) alt_counted alt_depth_of (extent_of_branch called) bs (seconds FitsAsBranch FitsAsAlt bs fit) scope tables))
 
   await_one_fits : (x : Expr) (line : ℕ) → StmtFits (stmt.AwaitOne x line)
   unfolding nothing as_block
   await_one_fits x line =
       stmt_as _ _ _ (extent-AwaitOne called x line) (stating_in-AwaitOne copy x line) (λ scope tables.
-        let alt = as_alt line x [] scope tables in
-        let counted : alt_counted alt.0 ≡ 0 = alt_counted-of _ _ _ [] _ in
-        let flat : alt_depth_of alt.0 ≡ 0 = alt_depth_of-of _ _ _ [] _ in
-        fits_as _ _ _ _ _ refl
-        (item_count-of line (it.Await (alt.0 ∷ [])) ∙ ap suc (kind_counted-Await (alt.0 ∷ []) ∙ ap (λ n. sum (n ∷ [])) counted))
-        (item_depth-of line (it.Await (alt.0 ∷ [])) ∙ kind_depth_of-Await (alt.0 ∷ []) ∙ ap (λ n. greatest (n ∷ [])) flat)
-        refl refl
-        (one_fits _ _ _ _ _ (named_fit x (found_names x) [] tt scope tables)))
+      let alt = as_alt line x [] scope tables in
+      let counted : alt_counted alt.0 ≡ 0 = alt_counted-of _ _ _ [] _ in
+      let flat : alt_depth_of alt.0 ≡ 0 = alt_depth_of-of _ _ _ [] _ in
+      fits_as _ _ _ _ _ refl
+      (item_count-of line (it.Await (alt.0 ∷ [])) ∙ ap suc (kind_counted-Await (alt.0 ∷ []) ∙ ap (λ n. sum (n ∷ [])) counted))
+      (item_depth-of line (it.Await (alt.0 ∷ [])) ∙ kind_depth_of-Await (alt.0 ∷ []) ∙ ap (λ n. greatest (n ∷ [])) flat)
+      refl refl
+      (one_fits _ _ _ _ _ (named_fit x (found_names x) [] tt scope tables)))
 
   fit_cases : StmtCases
   fit_cases = record {
@@ -253,13 +252,13 @@ module _ (copy : Copy) (called : Called) (copied : Copies copy called) where
     pass = λ line. kind_as _ line _ _ (extent-Pass called line) (stating_in-Pass copy line) (λ scope tables. plain _ _ _ kind_counted-Pass kind_depth_of-Pass refl);
     label = λ name line. kind_as _ line _ _ (extent-Label called name line) (stating_in-Label copy name line) (λ scope tables. plain _ _ _ kind_counted-Label kind_depth_of-Label refl);
     call = λ name xs line. kind_as _ line _ _ (extent-Call called name xs line) (stating_in-Call copy name xs line) (λ scope tables.
-      let args = all_outside (map meant xs) scope tables in
-      fits_as _ _ _ _ _ refl refl refl (sym (ap length (all_slots_kept xs scope tables))) refl (copied.of name args.0 args.1));
+        let args = all_outside (map meant xs) scope tables in
+        fits_as _ _ _ _ _ refl refl refl (sym (ap length (all_slots_kept xs scope tables))) refl (copied.of name args.0 args.1));
     conditional = if_fits;
     loop = λ x body line fit. kind_as _ line _ _ (extent-While called x body line) (stating_in-While copy x body line) (λ scope tables.
-      fits_as _ _ _ _ _ refl (kind_counted-While _ _) (kind_depth_of-While _ _) refl refl (loop_fit x body fit scope tables));
+        fits_as _ _ _ _ _ refl (kind_counted-While _ _) (kind_depth_of-While _ _) refl refl (loop_fit x body fit scope tables));
     each = λ name x body line fit. kind_as _ line _ _ (extent-For called name x body line) (stating_in-For copy name x body line) (λ scope tables.
-      fits_as _ _ _ _ _ refl (kind_counted-For _ _ _) (kind_depth_of-For _ _ _) refl refl (named_fit x (name ∷ []) body fit scope tables));
+        fits_as _ _ _ _ _ refl (kind_counted-For _ _ _) (kind_depth_of-For _ _ _) refl refl (named_fit x (name ∷ []) body fit scope tables));
     await_one = await_one_fits;
     await = λ bs over line fit others. await_fits bs over line fit;
     branch = branch_fits;

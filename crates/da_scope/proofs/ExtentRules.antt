@@ -1,11 +1,10 @@
 -- The extents of statements and blocks, from those of their parts.
-use Rattle.std.specs.Prelude.{◌≡◌, refl, ℕ, zero, suc, ◌+◌, ◌<◌, ◌≤◌, List, [], ◌∷◌, ◌++◌, map, length, Option, Some, None}
+use Rattle.std.specs.Prelude.{◌≡◌, refl, ℕ, ◌+◌, ◌<◌, ◌≤◌, List, [], ◌∷◌, ◌++◌, map, length, Some, None}
 use Rattle.std.specs.List.{fold}
 use Rattle.std.proofs.Common.{◌∙◌, ap, sym, arith, get_or, take}
 use Rattle.std.proofs.lemmas.List.{map-append, take_all}
 use Rattle.da_lang.specs.declared.tree.Branch.{Branch, out-Branch}
 use Rattle.da_lang.specs.declared.tree.Expr.{Expr}
-use Rattle.da_lang.specs.declared.tree.Stmt.{Stmt}
 use Rattle.da_lang.specs.declared.tree.Stmt.TheVariants as stmt
 use Rattle.da_lang.specs.ExprNames.{found_names}
 use Rattle.da_scope.specs.Bound.{found}

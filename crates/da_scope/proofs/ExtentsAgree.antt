@@ -4,7 +4,6 @@ use Rattle.std.specs.List.{AllByRecursion, cons_option}
 use Rattle.std.specs.Option.{option_map}
 use Rattle.std.proofs.Common.{◌∙◌, ap, sym, subst}
 use Rattle.da_lang.specs.declared.tree.Branch.{Branch}
-use Rattle.da_lang.specs.declared.tree.Expr.{Expr}
 use Rattle.da_lang.specs.declared.tree.Stmt.{Stmt}
 use Rattle.da_lang.specs.declared.tree.Stmt.TheVariants as stmt
 use Rattle.da_lang.specs.declared.tree.TimeoutTree.{TimeoutTree}
@@ -15,7 +14,7 @@ use Rattle.da_lang.proofs.CondInduction.{Where}
 use Rattle.da_lang.proofs.DeedsAt.{deeds_of-Call, deeds_of-If, deeds_of-While, deeds_of-For, deeds_of-Await, deeds_of_branch-of}
 use Rattle.da_lang.proofs.StmtInduction.{StmtCases, stmt_induction}
 use Rattle.da_scope.specs.declared.limits.extent.Extent.{Extent}
-use Rattle.da_scope.specs.Extents.{Called, nothing, beside, together, one, wider, as_block, else_extent, extent, extent_of_branch}
+use Rattle.da_scope.specs.Extents.{Called, beside, together, one, wider, as_block, else_extent, extent, extent_of_branch}
 use Rattle.da_scope.proofs.CallBounds.{in_first, in_cons_option}
 use Rattle.da_scope.proofs.ExtentsAt.{extent-Assign, extent-Add, extent-Del, extent-Send, extent-Output, extent-Pass, extent-Label, extent-Call, extent-If, extent-While, extent-For, extent-AwaitOne, extent-Await, extent_of_branch-of}
 
@@ -89,16 +88,16 @@ module _ (f g : Called) where
     call = λ name xs line same. let known = subst Agree (deeds_of-Call name xs line) same in extent-Call f name xs line ∙ ap one known.0 ∙ sym (extent-Call g name xs line);
     conditional = if_agrees;
     loop = λ x body line each same.
-      let known = subst Agree (deeds_of-While x body line) same in
-      extent-While f x body line ∙ ap one (body_agrees body each known.1) ∙ sym (extent-While g x body line);
+        let known = subst Agree (deeds_of-While x body line) same in
+        extent-While f x body line ∙ ap one (body_agrees body each known.1) ∙ sym (extent-While g x body line);
     each = λ name x body line each same.
-      let known = subst Agree (deeds_of-For name x body line) same in
-      extent-For f name x body line ∙ ap (λ e. one (wider 1 e)) (body_agrees body each known.1) ∙ sym (extent-For g name x body line);
+        let known = subst Agree (deeds_of-For name x body line) same in
+        extent-For f name x body line ∙ ap (λ e. one (wider 1 e)) (body_agrees body each known.1) ∙ sym (extent-For g name x body line);
     await_one = λ x line same. extent-AwaitOne f x line ∙ sym (extent-AwaitOne g x line);
     await = λ bs over line each others. await_agrees bs over line each;
     branch = λ x body line each same.
-      let known = subst Agree (deeds_of_branch-of x body line) same in
-      extent_of_branch-of f x body line ∙ ap (λ e. wider (length (found_names x)) e) (body_agrees body each known.1) ∙ sym (extent_of_branch-of g x body line);
+        let known = subst Agree (deeds_of_branch-of x body line) same in
+        extent_of_branch-of f x body line ∙ ap (λ e. wider (length (found_names x)) e) (body_agrees body each known.1) ∙ sym (extent_of_branch-of g x body line);
     timeout = λ body line each. tt;
   }
 

@@ -1,10 +1,9 @@
 -- The lines at which limits are passed, one by one.
-use Rattle.std.specs.Prelude.{◌≡◌, refl, ℕ, zero, suc, ◌+◌, ◌<◌, ◌≤◌, nat_lt, ◌||◌, Bool, true, false, List, [], ◌∷◌, ◌++◌, length, map, flat_map, Option, Some}
+use Rattle.std.specs.Prelude.{◌≡◌, refl, ℕ, zero, suc, ◌+◌, ◌<◌, ◌≤◌, nat_lt, ◌||◌, Bool, true, false, List, [], ◌∷◌, ◌++◌, length, flat_map, Option}
 use Rattle.std.proofs.Common.{◌∙◌, ap, sym, arith, get_or, take, drop, append-nil}
 use Rattle.std.proofs.lemmas.List.{map-append, take_all}
 use Rattle.std.proofs.lemmas.Grind.{flat_map-append}
 use Rattle.da_lang.specs.declared.refusal.LimitKind.{LimitKind}
-use Rattle.da_lang.specs.declared.refusal.LimitKind.TheVariants as limit
 use Rattle.da_lang.specs.Limits.{line_if, most_parts, most_generators, most_variables, most_items, most_blocks, most_classes, most_processes}
 use Rattle.da_lang.specs.Scopes.{Refused, at_lines}
 use Rattle.da_scope.specs.declared.limits.sizes.DeedSize.{DeedSize}
@@ -37,7 +36,7 @@ pub told_step : {A : Type 0} (kind : LimitKind) (lines : A → List ℕ) (xs : L
     → i < length xs → x ≡ get_or xs i x → found ≡ told_at kind start (flat_map lines (take i xs)) → more ≡ told_at kind found (lines x) → more ≡ told_at kind start (flat_map lines (take (i + 1) xs))
 told_step kind lines xs i x start found more inside here so_far grown =
     let longer : flat_map lines (take (i + 1) xs) ≡ flat_map lines (take i xs) ++ lines x =
-      ap (flat_map lines) (taken xs i x inside here) ∙ flat_map-append lines (take i xs) (x ∷ []) ∙ ap (λ ls. flat_map lines (take i xs) ++ ls) (append-nil (lines x)) in
+    ap (flat_map lines) (taken xs i x inside here) ∙ flat_map-append lines (take i xs) (x ∷ []) ∙ ap (λ ls. flat_map lines (take i xs) ++ ls) (append-nil (lines x)) in
     grown ∙ ap (λ f. told_at kind f (lines x)) so_far ∙ sym (told-append kind start (flat_map lines (take i xs)) (lines x)) ∙ ap (told_at kind start) (sym longer)
 
 -- the numbers of the limits

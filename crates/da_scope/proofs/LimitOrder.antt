@@ -3,7 +3,6 @@ use Rattle.std.specs.Prelude.{◌≡◌, refl, ℕ, ◌+◌, ◌<◌, ◌≤◌,
 use Rattle.std.specs.List.{cons_option}
 use Rattle.std.proofs.Common.{◌∙◌, ap, sym, cond, get_or, append_assoc, append-nil}
 use Rattle.std.proofs.lemmas.List.{map-append}
-use Rattle.std.proofs.lemmas.Grind.{flat_map-append}
 use Rattle.da_lang.specs.declared.refusal.LimitKind.{LimitKind}
 use Rattle.da_lang.specs.declared.refusal.LimitKind.TheVariants as limit
 use Rattle.da_lang.specs.declared.tree.ClassTree.{ClassTree}
@@ -24,7 +23,7 @@ use Rattle.da_scope.specs.LimitWalk.{class_told, member_told, members_told, stmt
 use Rattle.da_scope.specs.Sizes.{sizes}
 use Rattle.da_scope.proofs.ClassMembersAt.{dropped, dropped_all}
 use Rattle.da_scope.proofs.DeedLimits.{lines-wide, lines-gens}
-use Rattle.da_scope.proofs.LimitTellingLaws.{Alike, alike-refl, alike-trans, alike-sym, alike-is, alike-both, alike-swap, alike-flat, telling-nil, telling-append, telling-swap, told-telling}
+use Rattle.da_scope.proofs.LimitTellingLaws.{Alike, alike-refl, alike-trans, alike-sym, alike-is, alike-both, alike-flat, telling-nil, telling-append, telling-swap, told-telling}
 
 -- refusals of one kind
 abbrev At : LimitKind → List ℕ → List Refusal
@@ -69,7 +68,7 @@ body_told : (c : ClassTree) (b : Body) (reached wide : Bool) (found : Option Ref
 unfolding stmts_told
 body_told c b reached wide found is header =
     let parts : told_at limit.Parts (told_at limit.Parts found (line_if wide b.line)) (wide_lines (sizes b.stmts)) ≡ telling found (At limit.Parts (parts_in_body b)) =
-      told_two limit.Parts found (line_if wide b.line) (wide_lines (sizes b.stmts)) ∙ ap (λ w. telling found (At limit.Parts (line_if w b.line ++ wide_lines (sizes b.stmts)))) header ∙ ap (λ ls. telling found (At limit.Parts (line_if (wide_header b) b.line ++ ls))) (lines-wide b.stmts) in
+    told_two limit.Parts found (line_if wide b.line) (wide_lines (sizes b.stmts)) ∙ ap (λ w. telling found (At limit.Parts (line_if w b.line ++ wide_lines (sizes b.stmts)))) header ∙ ap (λ ls. telling found (At limit.Parts (line_if (wide_header b) b.line ++ ls))) (lines-wide b.stmts) in
     told_at-is limit.Generators (told_at limit.Parts (told_at limit.Parts found (line_if wide b.line)) (wide_lines (sizes b.stmts))) (if reached then gen_lines (sizes b.stmts) else [])
     ∙ ap (λ ls. telling (told_at limit.Parts (told_at limit.Parts found (line_if wide b.line)) (wide_lines (sizes b.stmts))) (At limit.Generators ls)) (gens_by reached b.stmts ∙ ap (λ r. gens_at r b.stmts) is)
     ∙ ap (λ f. telling f (At limit.Generators (gens_at (is_reached c b.place) b.stmts))) parts
@@ -153,7 +152,7 @@ filter-append [] ys = refl
 filter-append (x ∷ xs) ys = go (test x) (filter-append xs ys)
   where
     go : (b : Bool) → map (λ (d : Deed). d.line) (filter test (xs ++ ys)) ≡ map (λ (d : Deed). d.line) (filter test xs) ++ map (λ (d : Deed). d.line) (filter test ys)
-      → map (λ (d : Deed). d.line) (cond b (x ∷ filter test (xs ++ ys)) (filter test (xs ++ ys))) ≡ map (λ (d : Deed). d.line) (cond b (x ∷ filter test xs) (filter test xs)) ++ map (λ (d : Deed). d.line) (filter test ys)
+        → map (λ (d : Deed). d.line) (cond b (x ∷ filter test (xs ++ ys)) (filter test (xs ++ ys))) ≡ map (λ (d : Deed). d.line) (cond b (x ∷ filter test xs) (filter test xs)) ++ map (λ (d : Deed). d.line) (filter test ys)
     go true rest = ap (λ ls. x.line ∷ ls) rest
     go false rest = rest
 
@@ -177,8 +176,8 @@ members-alike c =
     let second = flat-filter (of_body c) body_in c.members in
     let inner = alike-sym (alike-flat (λ b. At limit.Parts (parts_in_body b)) (λ b. At limit.Generators (gens_at (is_reached c b.place) b.stmts)) (bodies c)) in
     let all_parts : vars ++ parts ≡ At limit.Parts (parts_in_class c) =
-      ap (λ rs. rs ++ parts) (sym (at-flat limit.Parts parts_in_variable (variables c))) ∙ ap (λ rs. At limit.Parts (flat_map parts_in_variable (variables c)) ++ rs) (sym (at-flat limit.Parts parts_in_body (bodies c)))
-      ∙ sym (at-append limit.Parts (flat_map parts_in_variable (variables c)) (flat_map parts_in_body (bodies c))) in
+    ap (λ rs. rs ++ parts) (sym (at-flat limit.Parts parts_in_variable (variables c))) ∙ ap (λ rs. At limit.Parts (flat_map parts_in_variable (variables c)) ++ rs) (sym (at-flat limit.Parts parts_in_body (bodies c)))
+    ∙ sym (at-append limit.Parts (flat_map parts_in_variable (variables c)) (flat_map parts_in_body (bodies c))) in
     let all_gens : gens ≡ At limit.Generators (generators_over c) = sym (ap (At limit.Generators) (gens-reached c (bodies c)) ∙ at-flat limit.Generators (λ b. gens_at (is_reached c b.place) b.stmts) (bodies c)) in
     alike-trans split
     (alike-trans (alike-both _ vars _ (parts ++ gens) (alike-is first) (alike-trans (alike-is second) inner))
@@ -203,12 +202,12 @@ classes-alike cs =
     let second = alike-sym (alike-flat ms is cs) in
     let first = alike-trans (alike-each ms (λ c. ps c ++ gs c) members-alike cs) (alike-sym (alike-flat ps gs cs)) in
     let kinds : flat_map ps cs ++ flat_map gs cs ++ flat_map is cs ++ flat_map bs cs ++ flat_map vs cs
-      ≡ At limit.Parts (flat_map parts_in_class cs) ++ At limit.Generators (flat_map generators_over cs) ++ At limit.Items (flat_map items_over cs) ++ At limit.Blocks (flat_map blocks_over cs) ++ At limit.Variables (flat_map variables_over cs) =
-      ap (λ rs. rs ++ flat_map gs cs ++ flat_map is cs ++ flat_map bs cs ++ flat_map vs cs) (sym (at-flat limit.Parts parts_in_class cs))
-      ∙ ap (λ rs. At limit.Parts (flat_map parts_in_class cs) ++ rs ++ flat_map is cs ++ flat_map bs cs ++ flat_map vs cs) (sym (at-flat limit.Generators generators_over cs))
-      ∙ ap (λ rs. At limit.Parts (flat_map parts_in_class cs) ++ At limit.Generators (flat_map generators_over cs) ++ rs ++ flat_map bs cs ++ flat_map vs cs) (sym (at-flat limit.Items items_over cs))
-      ∙ ap (λ rs. At limit.Parts (flat_map parts_in_class cs) ++ At limit.Generators (flat_map generators_over cs) ++ At limit.Items (flat_map items_over cs) ++ rs ++ flat_map vs cs) (sym (at-flat limit.Blocks blocks_over cs))
-      ∙ ap (λ rs. At limit.Parts (flat_map parts_in_class cs) ++ At limit.Generators (flat_map generators_over cs) ++ At limit.Items (flat_map items_over cs) ++ At limit.Blocks (flat_map blocks_over cs) ++ rs) (sym (at-flat limit.Variables variables_over cs)) in
+    ≡ At limit.Parts (flat_map parts_in_class cs) ++ At limit.Generators (flat_map generators_over cs) ++ At limit.Items (flat_map items_over cs) ++ At limit.Blocks (flat_map blocks_over cs) ++ At limit.Variables (flat_map variables_over cs) =
+    ap (λ rs. rs ++ flat_map gs cs ++ flat_map is cs ++ flat_map bs cs ++ flat_map vs cs) (sym (at-flat limit.Parts parts_in_class cs))
+    ∙ ap (λ rs. At limit.Parts (flat_map parts_in_class cs) ++ rs ++ flat_map is cs ++ flat_map bs cs ++ flat_map vs cs) (sym (at-flat limit.Generators generators_over cs))
+    ∙ ap (λ rs. At limit.Parts (flat_map parts_in_class cs) ++ At limit.Generators (flat_map generators_over cs) ++ rs ++ flat_map bs cs ++ flat_map vs cs) (sym (at-flat limit.Items items_over cs))
+    ∙ ap (λ rs. At limit.Parts (flat_map parts_in_class cs) ++ At limit.Generators (flat_map generators_over cs) ++ At limit.Items (flat_map items_over cs) ++ rs ++ flat_map vs cs) (sym (at-flat limit.Blocks blocks_over cs))
+    ∙ ap (λ rs. At limit.Parts (flat_map parts_in_class cs) ++ At limit.Generators (flat_map generators_over cs) ++ At limit.Items (flat_map items_over cs) ++ At limit.Blocks (flat_map blocks_over cs) ++ rs) (sym (at-flat limit.Variables variables_over cs)) in
     alike-trans last
     (alike-trans (alike-both _ _ (flat_map vs cs) _ (alike-trans third (alike-both _ _ (flat_map bs cs) _ (alike-trans second (alike-both _ _ (flat_map is cs) _ first (alike-refl (flat_map is cs)))) (alike-refl (flat_map bs cs)))) (alike-refl (flat_map vs cs)))
     (alike-is kinds))
@@ -219,8 +218,8 @@ orders s i b v m k x g =
     let q = i ++ b ++ v in
     let front : T (T (T s i) b) v ≡ T s q = sym (telling-append s (i ++ b) v ∙ ap (λ f. T f v) (telling-append s i b)) in
     let back : T (T (T (T (T s m) x) k) g) q ≡ T (T (T s m) x) (k ++ g ++ i ++ b ++ v) =
-      let from = T (T s m) x in
-      ap (λ f. T f q) (sym (telling-append from k g)) ∙ sym (telling-append from (k ++ g) q) ∙ ap (T from) (sym (append_assoc (k ++ g) (i ++ b) v) ∙ ap (λ rs. rs ++ v) (sym (append_assoc (k ++ g) i b))) in
+    let from = T (T s m) x in
+    ap (λ f. T f q) (sym (telling-append from k g)) ∙ sym (telling-append from (k ++ g) q) ∙ ap (T from) (sym (append_assoc (k ++ g) (i ++ b) v) ∙ ap (λ rs. rs ++ v) (sym (append_assoc (k ++ g) i b))) in
     ap (λ f. T (T f (m ++ k ++ x)) g) front
     ∙ ap (λ f. T f g) (telling-swap s q (m ++ k ++ x))
     ∙ telling-swap (T s (m ++ k ++ x)) q g
@@ -243,15 +242,15 @@ tree_told t =
     let g = At limit.Generators (flat_map generators_over t.classes) in
     let s = T (T None c) p in
     let parts : At limit.Parts (parts_over t) ≡ m ++ k ++ x =
-      at-append limit.Parts (flat_map parts_in_message t.messages ++ flat_map parts_in_class t.classes) (flat_map parts_in_main t.main) ∙ ap (λ rs. rs ++ x) (at-append limit.Parts (flat_map parts_in_message t.messages) (flat_map parts_in_class t.classes)) in
+    at-append limit.Parts (flat_map parts_in_message t.messages ++ flat_map parts_in_class t.classes) (flat_map parts_in_main t.main) ∙ ap (λ rs. rs ++ x) (at-append limit.Parts (flat_map parts_in_message t.messages) (flat_map parts_in_class t.classes)) in
     let defined : T None (c ++ p ++ i ++ b ++ v ++ At limit.Parts (parts_over t) ++ g) ≡ T (T (T (T (T s i) b) v) (m ++ k ++ x)) g =
-      telling-append None (c ++ p ++ i ++ b ++ v ++ At limit.Parts (parts_over t)) g
-      ∙ ap (λ f. T f g) (telling-append None (c ++ p ++ i ++ b ++ v) (At limit.Parts (parts_over t)) ∙ ap (T (T None (c ++ p ++ i ++ b ++ v))) parts
-      ∙ ap (λ f. T f (m ++ k ++ x)) (telling-append None (c ++ p ++ i ++ b) v ∙ ap (λ f. T f v) (telling-append None (c ++ p ++ i) b ∙ ap (λ f. T f b) (telling-append None (c ++ p) i ∙ ap (λ f. T f i) (telling-append None c p))))) in
+    telling-append None (c ++ p ++ i ++ b ++ v ++ At limit.Parts (parts_over t)) g
+    ∙ ap (λ f. T f g) (telling-append None (c ++ p ++ i ++ b ++ v) (At limit.Parts (parts_over t)) ∙ ap (T (T None (c ++ p ++ i ++ b ++ v))) parts
+    ∙ ap (λ f. T f (m ++ k ++ x)) (telling-append None (c ++ p ++ i ++ b) v ∙ ap (λ f. T f v) (telling-append None (c ++ p ++ i) b ∙ ap (λ f. T f b) (telling-append None (c ++ p) i ∙ ap (λ f. T f i) (telling-append None c p))))) in
     let outside : told_at limit.Parts (told_at limit.Parts (told_at limit.Processes (told_at limit.Classes None (classes_over t)) (processes_over 0 t.main)) (flat_map parts_in_message t.messages)) (flat_map parts_in_main t.main) ≡ T (T s m) x =
-      told_at-is limit.Parts (told_at limit.Parts (told_at limit.Processes (told_at limit.Classes None (classes_over t)) (processes_over 0 t.main)) (flat_map parts_in_message t.messages)) (flat_map parts_in_main t.main)
-      ∙ ap (λ f. T f x) (told_at-is limit.Parts (told_at limit.Processes (told_at limit.Classes None (classes_over t)) (processes_over 0 t.main)) (flat_map parts_in_message t.messages)
-      ∙ ap (λ f. T f m) (told_at-is limit.Processes (told_at limit.Classes None (classes_over t)) (processes_over 0 t.main) ∙ ap (λ f. T f p) (told_at-is limit.Classes None (classes_over t)))) in
+    told_at-is limit.Parts (told_at limit.Parts (told_at limit.Processes (told_at limit.Classes None (classes_over t)) (processes_over 0 t.main)) (flat_map parts_in_message t.messages)) (flat_map parts_in_main t.main)
+    ∙ ap (λ f. T f x) (told_at-is limit.Parts (told_at limit.Processes (told_at limit.Classes None (classes_over t)) (processes_over 0 t.main)) (flat_map parts_in_message t.messages)
+    ∙ ap (λ f. T f m) (told_at-is limit.Processes (told_at limit.Classes None (classes_over t)) (processes_over 0 t.main) ∙ ap (λ f. T f p) (told_at-is limit.Classes None (classes_over t)))) in
     let kinds = classes-alike t.classes in
     told-telling (c ++ p ++ i ++ b ++ v ++ At limit.Parts (parts_over t) ++ g) ∙ defined ∙ orders s i b v m k x g
     ∙ sym (kinds.tells (T (T s m) x)) ∙ sym (classes-told t.classes (T (T s m) x)) ∙ ap (classes_told t.classes) (sym outside)

@@ -1,6 +1,6 @@
 -- Which refusal by limits is told depends on what is found alone, and not on the order.
 use Rattle.std.specs.Prelude.{◌≡◌, refl, ℕ, ◌+◌, ◌*◌, ◌<◌, ◌≤◌, nat_lt, ◌==◌, ◌||◌, ◌&&◌, Bool, true, false, if◌then◌else◌, List, [], ◌∷◌, ◌++◌, flat_map, Option, Some, None}
-use Rattle.std.proofs.Common.{◌∙◌, sym, ap, subst, arith, append_assoc, ltb-true, ltb-false, eqb-true}
+use Rattle.std.proofs.Common.{◌∙◌, sym, ap, arith, ltb-true, ltb-false, eqb-true}
 use Rattle.std.proofs.lemmas.Bool.{eqb-false}
 use Rattle.da_lang.specs.declared.refusal.LimitKind.{LimitKind}
 use Rattle.da_lang.specs.declared.refusal.LimitKind.TheVariants as limit
@@ -139,7 +139,7 @@ told_with-swap : (found : Option Refusal) (x y : Refusal) → told_with (told_wi
 told_with-swap None x y = ap Some (sooner_of-lesser y x ∙ lesser_comm y x ∙ sym (sooner_of-lesser x y))
 told_with-swap (Some z) x y =
     let inner : (a b : Refusal) → sooner_of rank a (Some (sooner_of rank b (Some z))) ≡ lesser a (lesser b z) =
-      λ a b. sooner_of-lesser a (sooner_of rank b (Some z)) ∙ ap (lesser a) (sooner_of-lesser b z) in
+    λ a b. sooner_of-lesser a (sooner_of rank b (Some z)) ∙ ap (lesser a) (sooner_of-lesser b z) in
     ap Some (inner y x ∙ lesser-swap y x z ∙ sym (inner x y))
 
 telling-first : (found : Option Refusal) (x : Refusal) (xs : List Refusal) → telling (told_with found x) xs ≡ told_with (telling found xs) x

@@ -1,26 +1,21 @@
 -- What limits a tree passes outside its classes, one by one.
-use Rattle.std.specs.Prelude.{◌≡◌, refl, ℕ, zero, suc, ◌+◌, ◌<◌, ◌≤◌, min, nat_lt, ◌||◌, Bool, true, false, if◌then◌else◌, List, [], ◌∷◌, ◌++◌, length, map, flat_map, drop, Option, Some, None}
+use Rattle.std.specs.Prelude.{◌≡◌, refl, ℕ, suc, ◌+◌, ◌<◌, ◌≤◌, min, nat_lt, ◌||◌, Bool, true, false, if◌then◌else◌, List, [], ◌∷◌, length, map, flat_map, drop, Option}
 use Rattle.std.specs.List.{list_any}
 use Rattle.std.proofs.Common.{◌∙◌, ap, sym, arith, get_or, take, ◌-◌, length-drop}
 use Rattle.std.proofs.lemmas.List.{take_all}
 use Rattle.std.proofs.lemmas.Bool.{lt-ltb, le-ltb}
 use Rattle.da_lang.specs.declared.refusal.LimitKind.TheVariants as limit
 use Rattle.da_lang.specs.declared.tree.ClassTree.{ClassTree}
-use Rattle.da_lang.specs.declared.tree.Expr.{Expr}
 use Rattle.da_lang.specs.declared.tree.MainLine.{MainLine}
-use Rattle.da_lang.specs.declared.tree.MainLine.TheVariants as main_line
 use Rattle.da_lang.specs.declared.tree.MessageDecl.{MessageDecl}
-use Rattle.da_lang.specs.declared.ty.Ty.{Ty}
-use Rattle.da_lang.specs.Limits.{line_if, line_of_main, most_classes, most_parts, most_processes, parts_in_main, parts_in_message, processes_over, wide, wide_exprs}
+use Rattle.da_lang.specs.Limits.{line_if, line_of_main, most_classes, most_parts, most_processes, parts_in_main, parts_in_message, processes_over, wide}
 use Rattle.da_lang.specs.Resolution.{made_count}
-use Rattle.da_lang.specs.Written.{of, type_width, writing}
+use Rattle.da_lang.specs.Written.{type_width}
 use Rattle.da_scope.specs.Capped.{capped}
 use Rattle.da_scope.specs.LimitLines.{told_at}
-use Rattle.da_scope.specs.LimitTelling.{Refusal, telling}
+use Rattle.da_scope.specs.LimitTelling.{Refusal}
 use Rattle.da_scope.specs.LimitTree.{main_lines, message_lines}
-use Rattle.da_scope.specs.Writings.{seen}
 use Rattle.da_scope.proofs.ClassMembersAt.{dropped, dropped_all}
-use Rattle.da_scope.proofs.DeedLimits.{exprs-wide}
 use Rattle.da_scope.proofs.LimitLinesAt.{classes-is, processes-is, told-none, told-one}
 use Rattle.da_scope.proofs.LimitWalkAt.{wide-capped}
 

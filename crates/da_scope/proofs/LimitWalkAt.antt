@@ -1,5 +1,5 @@
 -- What limits members pass, from what their parts pass.
-use Rattle.std.specs.Prelude.{◌≡◌, refl, ℕ, ◌<◌, ◌+◌, max, nat_lt, ◌||◌, ◌&&◌, Bool, true, false, if◌then◌else◌, List, [], ◌∷◌, ◌++◌, map, Option, Some, None, option_to_list}
+use Rattle.std.specs.Prelude.{◌≡◌, refl, ℕ, ◌<◌, nat_lt, ◌||◌, Bool, true, false, List, Option, Some, None, option_to_list}
 use Rattle.std.specs.List.{list_any}
 use Rattle.std.proofs.Common.{◌∙◌, ap, sym, arith, ltb-true, ltb-false}
 use Rattle.std.proofs.lemmas.Bool.{lt-ltb, le-ltb}
@@ -11,7 +11,7 @@ use Rattle.da_lang.specs.declared.tree.PatternTree.{PatternTree}
 use Rattle.da_lang.specs.declared.tree.Stmt.{Stmt}
 use Rattle.da_lang.specs.declared.ty.Ty.{Ty}
 use Rattle.da_lang.specs.ClassParts.{InMethod}
-use Rattle.da_lang.specs.Limits.{line_if, wide, is_reached, most_parts, most_variables, most_generators}
+use Rattle.da_lang.specs.Limits.{line_if, wide, is_reached, most_parts, most_variables}
 use Rattle.da_lang.specs.Written.{Writing, pattern_written, type_width}
 use Rattle.da_scope.specs.Capped.{capped}
 use Rattle.da_scope.specs.LimitLines.{told_at, wide_lines, gen_lines}
@@ -19,7 +19,7 @@ use Rattle.da_scope.specs.LimitTelling.{Refusal}
 use Rattle.da_scope.specs.LimitWalk.{stmts_told, many_in, member_told, member_many, wide_params, wide_patterns}
 use Rattle.da_scope.specs.Sizes.{sizes}
 use Rattle.da_scope.specs.Writings.{seen}
-use Rattle.da_scope.proofs.LimitLinesAt.{told-none, parts-is, generators-is, variables-is}
+use Rattle.da_scope.proofs.LimitLinesAt.{told-none, parts-is}
 
 -- a limit below the greatest number that is counted
 capped_by : (limit n : ℕ) (b : Bool) → limit < 65535 → nat_lt limit n ≡ b → nat_lt limit (capped n) ≡ b

@@ -1,19 +1,19 @@
 -- The extents of the copies of methods, filled in behind those of the methods that each calls.
-use Rattle.std.specs.Prelude.{◌≡◌, refl, ℕ, zero, suc, ◌+◌, ◌<◌, ◌≤◌, ◌⊎◌, Bool, true, false, List, [], ◌∷◌, ◌++◌, length, map, take, Option, Some, None, option_and_then, filter_map, slice_get, slice_index, slice_set, unwrap_or, Contains}
+use Rattle.std.specs.Prelude.{◌≡◌, refl, ℕ, zero, suc, ◌+◌, ◌<◌, ◌≤◌, ◌⊎◌, List, [], ◌∷◌, ◌++◌, length, take, Option, Some, None, option_and_then, filter_map, slice_get, slice_index, slice_set, unwrap_or, Contains}
 use Rattle.std.proofs.Common.{◌∙◌, ap, sym, subst, arith, inl, inr, ⊎_elim, get_or}
 use Rattle.std.proofs.lemmas.Bool.{cases_eq}
 use Rattle.std.proofs.lemmas.List.{take_all}
 use Rattle.da_lang.specs.declared.tree.ClassTree.{ClassTree}
-use Rattle.da_lang.specs.Calls.{called, calls_in, leads}
+use Rattle.da_lang.specs.Calls.{called, calls_in}
 use Rattle.da_lang.specs.ClassParts.{Body, bodies, method_of, stmts_if}
 use Rattle.da_lang.specs.Deeds.{Deed, deeds}
 use Rattle.da_scope.specs.CallGraph.{IsOrdered}
 use Rattle.da_scope.specs.CallMethods.{Numbering}
 use Rattle.da_scope.specs.Copied.{copied_by}
 use Rattle.da_scope.specs.declared.limits.extent.Extent.{Extent}
-use Rattle.da_scope.specs.Extents.{nothing, wider, as_block, extent, body_extent, body_extent_if, method_extent}
+use Rattle.da_scope.specs.Extents.{nothing, wider, body_extent, body_extent_if, method_extent}
 use Rattle.da_scope.specs.Loops.{NoneLeadsBack}
-use Rattle.da_scope.proofs.CallBounds.{in_first, in_later, in_cases, in_none, some_same}
+use Rattle.da_scope.proofs.CallBounds.{in_first, in_later, in_cases, in_none}
 use Rattle.da_scope.proofs.ExtentsAgree.{blocks_agree}
 use Rattle.da_scope.proofs.Numbered.{order_short}
 use Rattle.da_scope.proofs.Taken.{taken}

@@ -1,10 +1,9 @@
 -- Where names refuse nothing, no call of a method leads back to it.
-use Rattle.std.specs.Prelude.{◌≡◌, refl, ℕ, zero, suc, ◌+◌, ◌<◌, ◌||◌, Bool, true, false, List, [], ◌∷◌, ◌++◌, length, map, drop, flat_map, filter, filter_map, Option, Some, None, Contains}
-use Rattle.std.proofs.Common.{◌∙◌, ap, sym, subst, arith, cond, get_or, length-append, ⊎_elim}
-use Rattle.std.proofs.lemmas.List.{nil_from_length, length-map}
+use Rattle.std.specs.Prelude.{◌≡◌, refl, ℕ, ◌+◌, ◌<◌, Bool, true, false, List, [], ◌∷◌, ◌++◌, length, map, drop, flat_map, filter, Some, Contains}
+use Rattle.std.proofs.Common.{◌∙◌, ap, sym, subst, arith, cond, get_or, ⊎_elim}
 use Rattle.da_lang.specs.declared.tree.ClassTree.{ClassTree}
 use Rattle.da_lang.specs.declared.tree.Tree.{Tree}
-use Rattle.da_lang.specs.Calls.{called, calls_in, deeds_in, leads}
+use Rattle.da_lang.specs.Calls.{called, deeds_in}
 use Rattle.da_lang.specs.Deeds.{Deed, Doing, Sends, Outputs, Labels, Calls, Loops, Awaits, TimesOut, Other}
 use Rattle.da_lang.specs.NameRules.{class_refusals, leads_back, method_names, name_refusals, recursive_in}
 use Rattle.da_scope.specs.Loops.{NoneLeadsBack}

@@ -1,7 +1,6 @@
 -- There are no more methods in an order than members of the class.
-use Rattle.std.specs.Prelude.{◌≡◌, refl, ℕ, zero, suc, ◌+◌, ◌<◌, ◌≤◌, ◌⊎◌, List, [], ◌∷◌, length, take, Option, Some, None, option_and_then, slice_get, slice_index, slice_index_or, Contains}
+use Rattle.std.specs.Prelude.{◌≡◌, refl, ℕ, zero, suc, ◌<◌, ◌≤◌, ◌⊎◌, List, [], ◌∷◌, length, take, Option, Some, option_and_then, slice_get, slice_index, slice_index_or, Contains}
 use Rattle.std.proofs.Common.{◌∙◌, ap, sym, subst, arith, inl, inr, ⊎_elim}
-use Rattle.da_values.specs.Sets.{Distinct}
 use Rattle.da_lang.specs.declared.tree.ClassTree.{ClassTree}
 use Rattle.da_lang.specs.ClassParts.{Body, bodies, method_of}
 use Rattle.da_lang.specs.NameRules.{method_names}
@@ -52,7 +51,7 @@ fewer_numbers number (x ∷ xs) names once named =
     let first = named x (in_first x xs) in
     let out = take_out names first.name first.among in
     let rest = fewer_numbers number xs out.rest once.1
-      (λ k has. other_names number names x k first out (λ same. once.0 (subst (λ w. Contains xs w) (sym same) has)) (named k (in_later x xs k has))) in
+    (λ k has. other_names number names x k first out (λ same. once.0 (subst (λ w. Contains xs w) (sym same) has)) (named k (in_later x xs k has))) in
     omega (arith, out.sized, rest)
 
 -- from places in a list
@@ -60,9 +59,9 @@ once_from : (xs : List ℕ) → ((i : ℕ) → i < length xs → Contains (take 
 unfolding Once
 once_from [] fresh = tt
 once_from (x ∷ xs) fresh = (
-    (λ has. fresh (suc has.0) (omega (arith, has.1)) (subst (λ w. Contains (x ∷ take has.0 xs) w) (sym (same_at xs has.0 x has.1 has.2)) (in_first x (take has.0 xs)))),
-    once_from xs (λ i inside has. fresh (suc i) (omega (arith, inside)) (in_later x (take i xs) (slice_index xs i) has))
-  )
+  (λ has. fresh (suc has.0) (omega (arith, has.1)) (subst (λ w. Contains (x ∷ take has.0 xs) w) (sym (same_at xs has.0 x has.1 has.2)) (in_first x (take has.0 xs)))),
+  once_from xs (λ i inside has. fresh (suc i) (omega (arith, inside)) (in_later x (take i xs) (slice_index xs i) has)),
+)
   where
     same_at : (ys : List ℕ) (i y : ℕ) → i < length ys → slice_index_or ys i y ≡ y → slice_index ys i ≡ y
     same_at [] i y inside is = absurd (omega (arith, inside))
@@ -88,5 +87,5 @@ at_place xs y has = go xs has.0 y has.1 has.2
 pub order_short : (c : ClassTree) (methods : List Body) (number : List ℕ → Option ℕ) (order : List ℕ) → Numbering (bodies c) methods number → IsOrdered c methods number order → length order ≤ length c.members
 order_short c methods number order w o =
     let few = fewer_numbers number order (method_names c) (once_from order o.once)
-      (λ k has. numbered_name c methods number k w (subst (λ n. n < length methods) (at_place order k has) (o.within has.0 has.1))) in
+    (λ k has. numbered_name c methods number k w (subst (λ n. n < length methods) (at_place order k has) (o.within has.0 has.1))) in
     omega (arith, few, fewer_names c)

@@ -1,6 +1,5 @@
 -- What is written in statements, from what is written in their parts.
-use Rattle.std.specs.Prelude.{◌≡◌, refl, ℕ, List, [], ◌∷◌, ◌++◌, map, flat_map, Option, Some, None, option_to_list}
-use Rattle.std.specs.Option.{option_map}
+use Rattle.std.specs.Prelude.{◌≡◌, refl, ℕ, List, [], ◌∷◌, ◌++◌, map, flat_map, Some, None}
 use Rattle.std.proofs.Common.{◌∙◌, ap, append_assoc, append-nil}
 use Rattle.std.proofs.lemmas.List.{map-append}
 use Rattle.da_lang.specs.declared.tree.Branch.{Branch, out-Branch}
@@ -9,10 +8,9 @@ use Rattle.da_lang.specs.declared.tree.Stmt.{Stmt}
 use Rattle.da_lang.specs.declared.tree.Stmt.TheVariants as stmt
 use Rattle.da_lang.specs.declared.tree.TimeoutTree.{TimeoutTree, out-TimeoutTree}
 use Rattle.da_lang.specs.Deeds.{Deed, Other, Awaits, all, deeds_of, deeds_of_branch, deeds_of_timeout}
-use Rattle.da_lang.specs.Written.{Writing, of, writing}
+use Rattle.da_lang.specs.Written.{of, writing}
 use Rattle.da_lang.proofs.DeedsAt.{deeds_of-Assign, deeds_of-Add, deeds_of-Del, deeds_of-Send, deeds_of-Output, deeds_of-Pass, deeds_of-Label, deeds_of-Call, deeds_of-If, deeds_of-While, deeds_of-For, deeds_of-AwaitOne, deeds_of-Await, deeds_of_branch-of, deeds_of_timeout-of}
 use Rattle.da_scope.specs.declared.limits.sizes.DeedSize.{DeedSize}
-use Rattle.da_scope.specs.declared.limits.written.Written.{Written}
 use Rattle.da_scope.specs.Sizes.{size_at, deed_size, sizes_of, sizes_of_branch, sizes, sizes_of_branches}
 use Rattle.da_scope.specs.Writings.{seen, nothing, beside}
 use Rattle.da_scope.proofs.WritingRules.{of-none, of-lone, of-two}

@@ -1,14 +1,9 @@
 -- An expression outside queries adds no slot.
-use Rattle.std.specs.Prelude.{◌≡◌, refl, ℕ, ℤ, Bool, List, [], ◌∷◌, map, Option}
+use Rattle.std.specs.Prelude.{◌≡◌, refl, List, [], ◌∷◌, map}
 use Rattle.std.specs.List.{AllByRecursion}
 use Rattle.std.proofs.Common.{◌∙◌, ap}
-use Rattle.da_lang.specs.declared.tree.ArithOp.{ArithOp}
 use Rattle.da_lang.specs.declared.tree.ChainTree.{ChainTree}
-use Rattle.da_lang.specs.declared.tree.CmpOp.{CmpOp}
 use Rattle.da_lang.specs.declared.tree.Expr.{Expr}
-use Rattle.da_lang.specs.declared.tree.GenTree.{GenTree}
-use Rattle.da_lang.specs.declared.tree.PatternTree.{PatternTree}
-use Rattle.da_lang.specs.declared.tree.PeerTree.{PeerTree}
 use Rattle.da_lang.specs.ExprMeaning.{Meaning, Meant, Signed, Tables, meant, signed_of, all_outside, signed_outside}
 use Rattle.da_lang.specs.Scopes.{Scope}
 use Rattle.da_lang.proofs.MeantAt.{meant-Quant, meant-Or, meant-And, meant-Not, meant-Cmp, meant-Member, meant-Chain, meant-Int, meant-Text, meant-Truth, meant-Me, meant-Name, meant-Clock, meant-Range, meant-Tuple, meant-SetOf, meant-Comp, meant-Count, meant-Sum, meant-Min, meant-Max, signed_of-of}

@@ -1,5 +1,5 @@
 -- The widest tuples of types, from those of their parts.
-use Rattle.std.specs.Prelude.{◌≡◌, refl, ℕ, ◌+◌, ◌<◌, max, List, [], ◌∷◌, ◌++◌, map, length}
+use Rattle.std.specs.Prelude.{◌≡◌, ℕ, ◌+◌, ◌<◌, max, List, [], ◌∷◌, ◌++◌, map, length}
 use Rattle.std.proofs.Common.{◌∙◌, ap, arith, get_or, take}
 use Rattle.std.proofs.lemmas.List.{length-map, map-append}
 use Rattle.da_lang.specs.declared.ty.Ty.{Ty}

@@ -1,10 +1,9 @@
 -- What is written in expressions and patterns, from what is written in their parts.
-use Rattle.std.specs.Prelude.{◌≡◌, refl, ℕ, ℤ, ◌+◌, ◌<◌, max, Bool, true, false, List, [], ◌∷◌, ◌++◌, map, length, sum, flat_map, Option, Some, None, option_to_list}
+use Rattle.std.specs.Prelude.{◌≡◌, refl, ℕ, ℤ, ◌+◌, ◌<◌, max, Bool, true, false, List, [], ◌∷◌, ◌++◌, map, length, sum, flat_map, Option, option_to_list}
 use Rattle.std.specs.Option.{option_map}
 use Rattle.std.proofs.Common.{◌∙◌, ap, sym, arith, get_or, take}
 use Rattle.std.proofs.lemmas.List.{length-map, map-append}
 use Rattle.std.proofs.lemmas.List.Sums.{sum_by-cons}
-use Rattle.da_lang.specs.declared.tree.ArithOp.{ArithOp}
 use Rattle.da_lang.specs.declared.tree.ChainTree.{ChainTree, out-ChainTree}
 use Rattle.da_lang.specs.declared.tree.CmpOp.{CmpOp}
 use Rattle.da_lang.specs.declared.tree.Expr.{Expr}
@@ -12,14 +11,12 @@ use Rattle.da_lang.specs.declared.tree.Expr.TheVariants as ex
 use Rattle.da_lang.specs.declared.tree.GenTree.{GenTree, out-GenTree}
 use Rattle.da_lang.specs.declared.tree.PatternTree.{PatternTree}
 use Rattle.da_lang.specs.declared.tree.PatternTree.TheVariants as pattern
-use Rattle.da_lang.specs.declared.tree.PeerTree.{PeerTree}
 use Rattle.da_lang.specs.declared.tree.PeerTree.TheVariants as peer
 use Rattle.da_lang.specs.Written as lang
 use Rattle.da_lang.specs.Written.{Size, Writing, of, tuple, query, argument, greatest, sizes, writing, pattern_written, peer_written, chain_written, gen_written}
 use Rattle.da_lang.proofs.WritingAt as at
 use Rattle.da_scope.proofs.Taken.{taken}
 use Rattle.da_scope.specs.Capped.{capped}
-use Rattle.da_scope.specs.declared.limits.written.QuerySize.{QuerySize}
 use Rattle.da_scope.specs.declared.limits.written.Written.{Written}
 use Rattle.da_scope.specs.Writings.{seen, counted, named, nothing, beside, as_query, as_tuple, ranged}
 

@@ -1,7 +1,7 @@
 -- The refusals by limits, one by one in the order in which they are looked for.
-use Rattle.std.specs.Prelude.{ℕ, ◌++◌, nat_lt, Bool, if◌then◌else◌, List, [], ◌∷◌, flat_map, Option}
+use Rattle.std.specs.Prelude.{ℕ, nat_lt, List, flat_map, Option}
 use Rattle.da_lang.specs.declared.refusal.LimitKind.{LimitKind}
-use Rattle.da_lang.specs.Limits.{line_if, most_parts, most_generators, most_variables}
+use Rattle.da_lang.specs.Limits.{line_if, most_parts, most_generators}
 use Rattle.da_lang.specs.Scopes.{at_lines}
 use Rattle.da_scope.specs.declared.limits.sizes.DeedSize.{DeedSize}
 use Rattle.da_scope.specs.LimitTelling.{Refusal, telling}

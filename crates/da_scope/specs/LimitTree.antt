@@ -1,12 +1,9 @@
 -- What limits a tree passes, in the order in which it is looked for.
-use Rattle.std.specs.Prelude.{ℕ, ◌+◌, List, [], ◌∷◌, drop, map, flat_map, Option}
-use Rattle.da_lang.specs.declared.refusal.LimitKind.TheVariants as limit
+use Rattle.std.specs.Prelude.{ℕ, List, [], ◌∷◌, flat_map, Option}
 use Rattle.da_lang.specs.declared.tree.ClassTree.{ClassTree}
 use Rattle.da_lang.specs.declared.tree.MainLine.{MainLine}
 use Rattle.da_lang.specs.declared.tree.MessageDecl.{MessageDecl}
-use Rattle.da_lang.specs.declared.tree.Tree.{Tree}
-use Rattle.da_lang.specs.Limits.{parts_in_main, parts_in_message, processes_over, most_classes}
-use Rattle.da_scope.specs.LimitLines.{told_at}
+use Rattle.da_lang.specs.Limits.{parts_in_main, parts_in_message}
 use Rattle.da_scope.specs.LimitTelling.{Refusal}
 use Rattle.da_scope.specs.LimitWalk.{class_told}
 use Rattle.da_scope.specs.Loops.{NoneLeadsBack}

@@ -1,5 +1,5 @@
 -- What is written in the statements of a body, each with its line, as far as limits ask for it.
-use Rattle.std.specs.Prelude.{ℕ, List, [], map, flat_map, Option, Some, None}
+use Rattle.std.specs.Prelude.{ℕ, List, map, flat_map}
 use Rattle.da_lang.specs.declared.tree.Branch.{Branch}
 use Rattle.da_lang.specs.declared.tree.Stmt.{Stmt}
 use Rattle.da_lang.specs.Deeds.{Deed, deeds_of, deeds_of_branch}

@@ -1,8 +1,7 @@
 -- What is written in expressions, as far as limits ask for it, in numbers up to 65,535.
 use Rattle.std.specs.Prelude.{ℕ, ◌+◌, max, true, false, if◌then◌else◌, map}
-use Rattle.da_lang.specs.Written.{Size, Writing, greatest}
+use Rattle.da_lang.specs.Written.{Writing, greatest}
 use Rattle.da_scope.specs.Capped.{capped}
-use Rattle.da_scope.specs.declared.limits.written.QuerySize.{QuerySize}
 use Rattle.da_scope.specs.declared.limits.written.Written.{Written}
 
 -- the most generators and the most variables of a largest query, all of them, and the widest tuple

@@ -16,6 +16,8 @@ mod methods;
 mod numbers;
 mod sizes;
 mod statements;
+#[cfg(test)]
+mod tests;
 mod tree;
 mod types;
 mod walk;
@@ -25,10 +27,9 @@ use crate::limits::tree::{tell_count, tell_main, tell_messages, tell_processes};
 use crate::limits::walk::tell_class;
 use da_lang::{ClassTree, Tree};
 use da_values::NoMemory;
-use std::alloc::Global;
-
-pub use least::LimitFault;
 use least::Least;
+pub use least::LimitFault;
+use std::alloc::Global;
 
 /// The limit that is told of a program that names do not refuse: of all that it passes, the one on the least line, and
 /// on one line the least one. Nothing is told exactly where it passes none.

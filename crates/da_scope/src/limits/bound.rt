@@ -56,7 +56,11 @@ pub fn found_by(x: &Expr) -> u16
             each,
             gens,
             cond: _,
-        } => if *each { 0 } else { bound_by_all(gens.as_slice()) },
+        } => if *each {
+            0
+        } else {
+            bound_by_all(gens.as_slice())
+        },
         Expr::Or(_) => 0,
         Expr::And(_) => 0,
         Expr::Not(_) => 0,

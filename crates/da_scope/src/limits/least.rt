@@ -69,8 +69,7 @@ impl Least {
 fn is_sooner(first: LimitFault, second: LimitFault) -> bool
     ensures { result ≡ sooner rank_of (refusal_of first) (refusal_of second) }
 {
-    first.line < second.line
-        || (first.line == second.line && rank(first.kind) < rank(second.kind))
+    first.line < second.line || (first.line == second.line && rank(first.kind) < rank(second.kind))
 }
 
 /// The place of a kind in the order of the kinds.

@@ -57,7 +57,12 @@ pub fn tell_wide(sizes: &[DeedSize], least: &mut Least)
 fn tell_wide_at(size: &DeedSize, least: &mut Least)
     ensures { least.new ≡ told_at limit.Parts least.old (line_if (nat_lt most_parts size.now.written.widest) size.now.line) }
 {
-    tell_if(is_wide(size.written.widest), LimitKind::Parts, size.line, least);
+    tell_if(
+        is_wide(size.written.widest),
+        LimitKind::Parts,
+        size.line,
+        least,
+    );
 }
 
 /// The lines with a query of too many generators.
@@ -73,7 +78,12 @@ pub fn tell_generators(sizes: &[DeedSize], least: &mut Least)
 fn tell_generators_at(size: &DeedSize, least: &mut Least)
     ensures { least.new ≡ told_at limit.Generators least.old (line_if (nat_lt most_generators size.now.written.largest.gens) size.now.line) }
 {
-    tell_if(has_many_generators(size), LimitKind::Generators, size.line, least);
+    tell_if(
+        has_many_generators(size),
+        LimitKind::Generators,
+        size.line,
+        least,
+    );
 }
 
 /// Whether some query has too many variables.

@@ -27,5 +27,9 @@ pub const MOST_GENERATORS: u16 = 8;
 pub fn capped(number: usize) -> u16
     ensures { result ≡ capped number }
 {
-    if number < 65_535 { number as u16 } else { u16::MAX }
+    if number < 65_535 {
+        number as u16
+    } else {
+        u16::MAX
+    }
 }

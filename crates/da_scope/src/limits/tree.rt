@@ -121,7 +121,11 @@ fn tell_line(line: &MainLine, least: &mut Least)
 {
     match line {
         MainLine::New { .. } => {}
-        MainLine::Setup { name: _, args, line } => tell_if(
+        MainLine::Setup {
+            name: _,
+            args,
+            line,
+        } => tell_if(
             is_wide(all_written(args.as_slice()).widest),
             LimitKind::Parts,
             *line,

@@ -148,7 +148,9 @@ pub fn expr_written(x: &Expr) -> Written
         Expr::Not(x) => Written::nothing().beside(expr_written(x.get())),
         Expr::Cmp(_, left, right) => expr_written(left.get()).beside(expr_written(right.get())),
         Expr::Member(left, right) => expr_written(left.get()).beside(expr_written(right.get())),
-        Expr::Chain(first, links) => expr_written(first.get()).beside(links_written(links.as_slice())),
+        Expr::Chain(first, links) => expr_written(first.get()).beside(links_written(
+            links.as_slice(),
+        )),
         Expr::Int(_) => Written::nothing(),
         Expr::Text(_) => Written::nothing(),
         Expr::Truth(_) => Written::nothing(),

@@ -11,4 +11,4 @@ pub returns : goal.returns
 returns c =
     c.fault.ensures
     ∙ all_told c.args.tree.now _ _ _ _ _ _ _ _ _ c.as_slice-classes.ensures c.as_slice-main.ensures c.as_slice-messages.ensures c.new-least.ensures
-      c.tell_count.ensures c.tell_processes.ensures c.tell_messages.ensures c.tell_main.ensures c.in_ok-tell_classes.ensures
+    c.tell_count.ensures c.tell_processes.ensures c.tell_messages.ensures c.tell_main.ensures c.in_ok-tell_classes.ensures

@@ -1,6 +1,6 @@
 use Rattle.std.proofs.Common.{◌∙◌, ap, sym, map}
 use Rattle.da_scope.specs.Copied.{copied}
-use Rattle.da_scope.specs.Extents.{wider, as_block, extent, body_extent_if}
+use Rattle.da_scope.specs.Extents.{as_block, extent, body_extent_if}
 use Rattle.da_scope.proofs.ClassMembersAt.{setup_step, setup_here, setup_end}
 use Rattle.da_scope.proofs.ExtentRules.{body_made}
 use Rattle.da_scope.proofs.limits.classes.setup_extent.Goals as goal

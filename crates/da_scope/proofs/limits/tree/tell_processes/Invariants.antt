@@ -1,4 +1,4 @@
-use Rattle.std.proofs.Common.{◌≡◌, ◌≤◌, drop}
+use Rattle.std.proofs.Common.{◌≡◌, drop}
 use Rattle.da_lang.specs.Limits.{processes_over}
 use Rattle.da_scope.proofs.limits.tree.tell_processes.Given as goal
 

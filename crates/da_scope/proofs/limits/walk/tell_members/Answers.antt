@@ -1,7 +1,7 @@
 use Rattle.std.proofs.Common.{◌≡◌, ◌∙◌, ap, sym}
-use Rattle.std.specs.Prelude.{◌||◌, true, false}
+use Rattle.std.specs.Prelude.{◌||◌}
 use Rattle.da_lang.specs.declared.tree.ClassTree.{ClassTree}
-use Rattle.da_scope.specs.LimitWalk.{member_many, members_told}
+use Rattle.da_scope.specs.LimitWalk.{member_many}
 use Rattle.da_scope.proofs.ClassLimits.{known_at, members_step, members_end, many_step, many_end}
 use Rattle.da_scope.proofs.limits.walk.tell_members.Goals as goal
 use Rattle.da_scope.proofs.limits.walk.tell_members.Goals.{then-many, else-many}
@@ -14,12 +14,12 @@ pub loop-member-preserved : goal.loop-member-preserved
 loop-member-preserved c =
     let either : c.if-many.many ≡ (c.loop-member.many || c.in_ok-here.here) =
     elim c.if-many.branch [
-      then-many w ↦ w.many-is ∙ w.if-many.true ∙ ap (λ b. b || c.in_ok-here.here) (sym w.if-many.true)
-    | else-many w ↦ w.many-is ∙ ap (λ b. b || c.in_ok-here.here) (sym w.if-many.false)
+      | then-many w ↦ w.many-is ∙ w.if-many.true ∙ ap (λ b. b || c.in_ok-here.here) (sym w.if-many.true)
+      | else-many w ↦ w.many-is ∙ ap (λ b. b || c.in_ok-here.here) (sym w.if-many.false)
     ] in
     record {
-    told = members_step c.args.graph.now.class.now _ _ c.member-item.result _ _ _ c.loop-member-test.true c.member-item.is c.loop-member.invariant.told c.in_ok-here.ensures.told;
-    many = many_step (member_many c.args.graph.now.class.now) _ _ c.member-item.result c.loop-member.many c.in_ok-here.here _ _ c.loop-member-test.true c.member-item.is c.loop-member.invariant.many c.in_ok-here.ensures.many either;
+      told = members_step c.args.graph.now.class.now _ _ c.member-item.result _ _ _ c.loop-member-test.true c.member-item.is c.loop-member.invariant.told c.in_ok-here.ensures.told;
+      many = many_step (member_many c.args.graph.now.class.now) _ _ c.member-item.result c.loop-member.many c.in_ok-here.here _ _ c.loop-member-test.true c.member-item.is c.loop-member.invariant.many c.in_ok-here.ensures.many either;
     }
 
 pub returns-clause-told : goal.returns-clause-told

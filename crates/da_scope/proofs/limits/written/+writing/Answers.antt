@@ -1,7 +1,6 @@
 use Rattle.std.proofs.Common.{◌≡◌, ◌∙◌, ap, sym, map}
 use Rattle.std.specs.Option.{option_map}
 use Rattle.std.specs.Prelude.{option_to_list}
-use Rattle.da_lang.specs.declared.tree.ChainTree.{out-ChainTree}
 use Rattle.da_lang.specs.Written.{chain_written, gen_written, of, pattern_written, writing}
 use Rattle.da_scope.specs.Writings.{as_query, beside, seen}
 use Rattle.da_scope.proofs.WritingRules.{all_step, expr-Comp, link-beside}
