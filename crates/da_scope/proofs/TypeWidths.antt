@@ -5,7 +5,7 @@ use Rattle.std.proofs.lemmas.List.{length-map, map-append}
 use Rattle.da_lang.specs.declared.ty.Ty.{Ty}
 use Rattle.da_lang.specs.declared.ty.Ty.TheVariants as t
 use Rattle.da_lang.specs.Written.{greatest, type_width}
-use Rattle.da_lang.proofs.TypesAt.{type_width-Int, type_width-Bool, type_width-Text, type_width-Proc, type_width-Tuple, type_width-Set}
+use Rattle.da_lang.proofs.typing.TypesAt.{type_width-Int, type_width-Bool, type_width-Text, type_width-Proc, type_width-Tuple, type_width-Set}
 use Rattle.da_scope.specs.Capped.{capped}
 use Rattle.da_scope.proofs.Taken.{taken}
 
