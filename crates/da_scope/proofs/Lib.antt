@@ -9,8 +9,8 @@ pub mod MakingAt
 pub mod NumbersOn
 pub mod OutsideAt
 pub mod PatternsAt
-pub mod ScopeLaws
+pub mod SlotScopeLaws
 pub mod SlotLaws
 pub mod StatementsAt
-pub mod Taken
+pub mod TakenMeanings
 pub mod TermsAt

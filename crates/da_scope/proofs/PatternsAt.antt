@@ -11,8 +11,8 @@ use Rattle.da_lang.specs.declared.tree.PatternTree.TheVariants as pattern
 use Rattle.da_lang.specs.ExprMeaning.{Meaning, Meant, Matching, meant, matching, patterns_in, with_row}
 use Rattle.da_lang.specs.Scopes.{Scope}
 use Rattle.da_lang.proofs.MeantAt.{matching-Wild, matching-Name, matching-Int, matching-Text, matching-Truth, matching-Me, matching-Equal, matching-Tuple}
-use Rattle.da_scope.proofs.ScopeLaws.{with_row-append}
-use Rattle.da_scope.proofs.Taken.{taken}
+use Rattle.da_scope.proofs.SlotScopeLaws.{with_row-append}
+use Rattle.da_scope.proofs.TakenMeanings.{taken}
 
 abbrev shape : Scope Meaning → Matching → Pattern
 shape scope m = m.pattern scope

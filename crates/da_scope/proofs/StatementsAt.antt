@@ -8,7 +8,7 @@ use Rattle.da_lang.specs.ExprMeaning.{Meaning, Tables}
 use Rattle.da_lang.specs.Scopes.{Scope}
 use Rattle.da_lang.proofs.StatingAt.{stating_in, guarding-of}
 use Rattle.da_scope.specs.BlockScope.{scope_behind}
-use Rattle.da_scope.proofs.Taken.{taken}
+use Rattle.da_scope.proofs.TakenMeanings.{taken}
 
 pub ruleset statements_at = (stating_in)
 

@@ -5,4 +5,4 @@ pub mod Inlining
 pub mod MakingView
 pub mod MeaningView
 pub mod NamesView
-pub mod ScopeView
+pub mod SlotScope

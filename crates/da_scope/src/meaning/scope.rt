@@ -46,7 +46,7 @@ impl<'t> Model for Scope<'t> {
 
     ghost Value = { Scope Meaning };
 
-    ghost use Rattle.da_scope.specs.ScopeView.{shown};
+    ghost use Rattle.da_scope.specs.SlotScope.{shown};
 
     ghost view = { λ scope. shown scope.names };
 
