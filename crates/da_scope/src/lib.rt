@@ -4,4 +4,8 @@
 mod calls;
 mod least;
 mod limits;
+mod meaning;
 mod names;
+mod resolve;
+
+pub use resolve::{ScopeFault, resolve};
