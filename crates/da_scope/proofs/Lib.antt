@@ -19,8 +19,10 @@ pub mod CappedSums
 pub mod ClassAt
 pub mod ClassExtentRules
 pub mod ClassExtents
+pub mod ClassLaws
 pub mod ClassLimits
 pub mod ClassMembersAt
+pub mod ClassSteps
 pub mod CondsAt
 pub mod CopiedAt
 pub mod CopiesAt
@@ -53,6 +55,8 @@ pub mod OutsideAt
 pub mod PartLaws
 pub mod PatternsAt
 pub mod Ranges
+pub mod RecursiveLaws
+pub mod SameBody
 pub mod SameLook
 pub mod ScopeLaws
 pub mod SizesAt

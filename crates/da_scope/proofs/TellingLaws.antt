@@ -1,12 +1,13 @@
 -- Which refusal is told depends on what is found alone, and not on the order.
-use Rattle.std.specs.Prelude.{◌≡◌, refl, ℕ, ◌+◌, ◌*◌, ◌<◌, ◌≤◌, nat_lt, ◌==◌, ◌||◌, ◌&&◌, Bool, true, false, if◌then◌else◌, List, [], ◌∷◌, ◌++◌, flat_map, Option, Some, None}
-use Rattle.std.proofs.Common.{◌∙◌, sym, ap, arith, ltb-true, ltb-false, eqb-true}
+use Rattle.std.specs.Prelude.{◌≡◌, refl, ℕ, ◌+◌, ◌*◌, ◌<◌, ◌≤◌, nat_lt, ◌==◌, ◌||◌, ◌&&◌, Bool, true, false, if◌then◌else◌, List, [], ◌∷◌, ◌++◌, flat_map, Option, Some, None, Contains}
+use Rattle.std.proofs.Common.{◌∙◌, ⊎_elim, subst, sym, ap, arith, ltb-true, ltb-false, eqb-true}
 use Rattle.std.proofs.lemmas.Bool.{eqb-false}
 use Rattle.da_lang.specs.declared.refusal.ScopeKind.{ScopeKind}
 use Rattle.da_lang.specs.declared.refusal.ScopeKind.TheVariants as refusal
 use Rattle.da_lang.specs.NameRules.{rank}
 use Rattle.da_lang.specs.Scopes.{sooner, sooner_of, told}
 use Rattle.da_scope.specs.Telling.{Refusal, telling}
+use Rattle.da_scope.proofs.CallBounds.{in_first, in_later, in_cases, in_none}
 
 pub telling-nil : (found : Option Refusal) → telling found [] ≡ found
 unfolding telling
@@ -155,6 +156,53 @@ pub telling-swap : (found : Option Refusal) (xs ys : List Refusal) → telling (
 unfolding telling
 telling-swap found [] ys = refl
 telling-swap found (x ∷ xs) ys = telling-swap (told_with found x) xs ys ∙ ap (λ f. telling f xs) (telling-first found x ys)
+
+-- what was found before changes nothing
+below_by : (x z : Refusal) (b : Bool) → nat_lt (place z) (place x) ≡ b → place (if b then z else x) ≤ place x
+below_by x z true e = omega (arith, ltb-true (place z) (place x) e)
+below_by x z false e = omega arith
+
+lesser_below : (x z : Refusal) → place (lesser x z) ≤ place x
+unfolding lesser
+lesser_below x z = below_by x z (nat_lt (place z) (place x)) refl
+
+told_with-again : (found : Option Refusal) (x : Refusal) → told_with (told_with found x) x ≡ told_with found x
+told_with-again None x = ap Some (sooner_of-lesser x x ∙ lesser_left x x (omega arith))
+told_with-again (Some z) x =
+    ap Some (sooner_of-lesser x (sooner_of rank x (Some z)) ∙ ap (lesser x) (sooner_of-lesser x z) ∙ lesser_right x (lesser x z) (lesser_below x z) ∙ sym (sooner_of-lesser x z))
+
+pub telling-again : (found : Option Refusal) (xs : List Refusal) → telling (telling found xs) xs ≡ telling found xs
+unfolding telling
+telling-again found [] = refl
+telling-again found (x ∷ xs) =
+    ap (λ f. telling f xs) (sym (telling-first (told_with found x) x xs) ∙ ap (λ f. telling f xs) (told_with-again found x)) ∙ telling-again (told_with found x) xs
+
+-- the same things in another order, some of them more than once
+known_here : {A : Type 0} (p : A → List Refusal) (found : Option Refusal) (x : A) (xs : List A) → telling (telling found (flat_map p (x ∷ xs))) (p x) ≡ telling found (flat_map p (x ∷ xs))
+known_here p found x xs =
+    ap (λ f. telling f (p x)) (telling-append found (p x) (flat_map p xs)) ∙ telling-swap (telling found (p x)) (flat_map p xs) (p x)
+    ∙ ap (λ f. telling f (flat_map p xs)) (telling-again found (p x)) ∙ sym (telling-append found (p x) (flat_map p xs))
+
+known_later : {A : Type 0} (p : A → List Refusal) (found : Option Refusal) (x : A) (xs : List A) (y : A) → telling (telling (telling found (p x)) (flat_map p xs)) (p y) ≡ telling (telling found (p x)) (flat_map p xs) → telling (telling found (flat_map p (x ∷ xs))) (p y) ≡ telling found (flat_map p (x ∷ xs))
+known_later p found x xs y known = ap (λ f. telling f (p y)) (telling-append found (p x) (flat_map p xs)) ∙ known ∙ sym (telling-append found (p x) (flat_map p xs))
+
+telling-known : {A : Type 0} (p : A → List Refusal) (found : Option Refusal) (xs : List A) (y : A) → Contains xs y → telling (telling found (flat_map p xs)) (p y) ≡ telling found (flat_map p xs)
+telling-known p found [] y has = absurd (in_none y has)
+telling-known p found (x ∷ xs) y has =
+    ⊎_elim
+    (λ same. subst (λ z. telling (telling found (flat_map p (x ∷ xs))) (p z) ≡ telling found (flat_map p (x ∷ xs))) same (known_here p found x xs))
+    (λ later. known_later p found x xs y (telling-known p (telling found (p x)) xs y later))
+    (in_cases x xs y has)
+
+all_known : {A : Type 0} (p : A → List Refusal) (found : Option Refusal) (xs ys : List A) → ((y : A) → Contains ys y → Contains xs y) → telling (telling found (flat_map p xs)) (flat_map p ys) ≡ telling found (flat_map p xs)
+all_known p found xs [] among = telling-nil (telling found (flat_map p xs))
+all_known p found xs (y ∷ ys) among =
+    telling-append (telling found (flat_map p xs)) (p y) (flat_map p ys)
+    ∙ ap (λ f. telling f (flat_map p ys)) (telling-known p found xs y (among y (in_first y ys)))
+    ∙ all_known p found xs ys (λ z has. among z (in_later y ys z has))
+
+pub telling-same : {A : Type 0} (p : A → List Refusal) (found : Option Refusal) (xs ys : List A) → ((x : A) → Contains xs x → Contains ys x) → ((y : A) → Contains ys y → Contains xs y) → telling found (flat_map p xs) ≡ telling found (flat_map p ys)
+telling-same p found xs ys there back = sym (all_known p found xs ys back) ∙ telling-swap found (flat_map p xs) (flat_map p ys) ∙ all_known p found ys xs there
 
 pub told-telling : (xs : List Refusal) → told rank xs ≡ telling None xs
 unfolding telling

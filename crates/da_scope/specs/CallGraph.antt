@@ -17,7 +17,10 @@ pub record IsOrdered (c : ClassTree) (methods : List Body) (number : List ℕ �
   pub behind : (i : ℕ) (name next : List ℕ) (k : ℕ) → i < length order → number name ≡ Some (slice_index order i) → number next ≡ Some k
       → Contains (calls_in c name) next → leads c next name ≡ false → Contains (take i order) k
 
--- the methods of a graph, and their numbers
+-- the class of a graph, its methods, and their numbers
+abbrev pub class_in : CallGraph → ClassTree
+class_in g = g.class.now
+
 abbrev pub methods_in : CallGraph → List Body
 methods_in g = numbered g.methods
 

@@ -12,6 +12,7 @@ pub mod CallRows
 pub mod CallTasks
 pub mod Capped
 pub mod ClassMembers
+pub mod ClassRules
 pub mod ClassView
 pub mod Copied
 pub mod DeedView
@@ -29,6 +30,7 @@ pub mod MakingView
 pub mod MeaningView
 pub mod NamesView
 pub mod Repeats
+pub mod Resolving
 pub mod ScopeView
 pub mod Sizes
 pub mod SlotScope
@@ -37,4 +39,3 @@ pub mod Told
 pub mod ToldStmts
 pub mod Variables
 pub mod Writings
-pub mod Resolving

@@ -2,7 +2,9 @@
 
 mod arities;
 mod bodies;
+mod call_rules;
 mod classes;
+mod declared;
 mod deed_rules;
 mod deeds;
 mod early;
@@ -12,5 +14,5 @@ mod repeats;
 mod scope;
 mod statements;
 mod top_names;
-mod tree;
+pub mod tree;
 mod variables;

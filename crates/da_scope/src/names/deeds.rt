@@ -140,7 +140,7 @@ fn put_stmt<'t>(stmt: &'t Stmt, out: &mut List<Deed<'t>>) -> Result<(), NoMemory
 
 /// Appends the statements of a block.
 #[cycle(deeds)]
-fn put_body<'t>(body: &'t [Stmt], out: &mut List<Deed<'t>>) -> Result<(), NoMemory>
+pub fn put_body<'t>(body: &'t [Stmt], out: &mut List<Deed<'t>>) -> Result<(), NoMemory>
     ensures { OnOk result (deeds_in out.new ≡ deeds_in out.old ++ deeds body.now) }
 {
     for stmt in body {
