@@ -3,8 +3,8 @@ use Rattle.std.specs.Prelude.{◌≡◌, List, [], Some}
 use Rattle.da_lang.specs.declared.tree.Tree.{Tree}
 use Rattle.da_lang.specs.Limits.{limit_fault}
 use Rattle.da_lang.specs.NameRules.{name_fault, name_refusals}
-use Rattle.da_scope.specs.declared.resolve.ScopeFault.{ScopeFault}
-use Rattle.da_scope.specs.declared.resolve.ScopeFault.TheVariants.{Refused, Limit, Memory}
+use Rattle.da_scope.specs.declared.top.ScopeFault.{ScopeFault}
+use Rattle.da_scope.specs.declared.top.ScopeFault.TheVariants.{Refused, Limit, Memory}
 
 -- names refuse the tree so; or they do not, and it passes this limit; or memory was refused
 abbrev pub IsRefusedAs : Tree → ScopeFault → Type 0

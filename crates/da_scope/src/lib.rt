@@ -6,6 +6,6 @@ mod least;
 mod limits;
 mod meaning;
 mod names;
-mod resolve;
+mod top;
 
-pub use resolve::{ScopeFault, resolve};
+pub use top::{ScopeFault, resolve};

@@ -2,7 +2,7 @@
 ghost use Rattle.da_lang.specs.Limits.{Resolves};
 ghost use Rattle.da_lang.specs.declared.program.Program.{Program as ProgramOf};
 ghost use Rattle.da_scope.specs.Resolving.{IsRefusedAs};
-ghost use Rattle.da_scope.specs.declared.resolve.ScopeFault.TheVariants.{Memory};
+ghost use Rattle.da_scope.specs.declared.top.ScopeFault.TheVariants.{Memory};
 ghost use Rattle.std.specs.Prelude.{◌≡◌, IfErr, IfOk, MatchResult};
 
 use crate::least::NameFault;
@@ -29,7 +29,7 @@ pub enum ScopeFault {
 }
 
 impl From<NoMemory> for ScopeFault {
-    ghost use Rattle.da_scope.specs.declared.resolve.ScopeFault.TheVariants.{Memory};
+    ghost use Rattle.da_scope.specs.declared.top.ScopeFault.TheVariants.{Memory};
     ghost use Rattle.std.specs.Prelude.{◌≡◌};
 
     ghost from_gives = { λ _ fault. fault ≡ Memory };
