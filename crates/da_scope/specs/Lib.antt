@@ -1,4 +1,3 @@
-pub mod BlockScope
 pub mod ClassView
 pub mod HomeView
 pub mod Inlining
