@@ -15,7 +15,7 @@ generator_is g = let v = out-GenTree g in generator-of v.message v.peer v.source
 
 pub gen-at : (g : GenTree) (scope : Scope Meaning)
     → (generator g).gen_ scope ≡ record {
-      source = source_meant scope (out-GenTree g).source;
+      source = source_meant (with_row ((matching (out-GenTree g).message).binds ++ peer_binds (option_map peer_of (out-GenTree g).peer)) scope) (out-GenTree g).source;
       message = (matching (out-GenTree g).message).pattern scope;
       peer = peer_pattern (out-GenTree g).source (with_row (matching (out-GenTree g).message).binds scope) (option_map peer_of (out-GenTree g).peer);
     }

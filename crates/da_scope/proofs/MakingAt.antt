@@ -9,7 +9,7 @@ use Rattle.da_lang.specs.declared.tree.MainLine.{MainLine}
 use Rattle.da_lang.specs.declared.tree.MainLine.TheVariants as main_line
 use Rattle.da_lang.specs.declared.tree.Tree.{Tree}
 use Rattle.da_lang.specs.ExprMeaning.{Meaning}
-use Rattle.da_lang.specs.Resolution.{first_call, made, made_count, made_name, many, place_of_class, procs_of, setup_call}
+use Rattle.da_lang.specs.Resolution.{first_call, made, made_count, made_entry, many, place_of_class, procs_of, setup_call}
 use Rattle.da_lang.specs.Scopes.{Scope}
 use Rattle.da_scope.specs.MakingView.{made_by}
 use Rattle.da_scope.proofs.TakenMeanings.{taken}
@@ -21,24 +21,24 @@ made_by-last : (lines : List MainLine) (l : MainLine) → made_by (lines ++ l �
 made_by-last [] l = made_by-cons l [] ∙ omega arith
 made_by-last (k ∷ lines) l = made_by-cons k (lines ++ l ∷ []) ∙ omega (arith, made_by-last lines l, made_by-cons k lines)
 
-made-last : (before : ℕ) (lines : List MainLine) (l : MainLine) → made before (lines ++ l ∷ []) ≡ made before lines ++ made_name (before + made_by lines) l
-made-last before [] l = let none : before ≡ before + 0 = omega arith in append-nil (made_name before l) ∙ ap (λ n. made_name n l) none
+made-last : (before : ℕ) (lines : List MainLine) (l : MainLine) → made before (lines ++ l ∷ []) ≡ made before lines ++ made_entry (before + made_by lines) l
+made-last before [] l = let none : before ≡ before + 0 = omega arith in append-nil (made_entry before l) ∙ ap (λ n. made_entry n l) none
 made-last before (k ∷ lines) l =
     let there : before + made_count k + made_by lines ≡ before + made_by (k ∷ lines) = omega (arith, made_by-cons k lines) in
-    ap (λ names. made_name before k ++ names) (made-last (before + made_count k) lines l)
-    ∙ sym (append_assoc (made_name before k) (made (before + made_count k) lines) (made_name (before + made_count k + made_by lines) l))
-    ∙ ap (λ n. made_name before k ++ made (before + made_count k) lines ++ made_name n l) there
+    ap (λ names. made_entry before k ++ names) (made-last (before + made_count k) lines l)
+    ∙ sym (append_assoc (made_entry before k) (made (before + made_count k) lines) (made_entry (before + made_count k + made_by lines) l))
+    ∙ ap (λ n. made_entry before k ++ made (before + made_count k) lines ++ made_entry n l) there
 
 -- a line less
 pub before_step : (rest earlier : List MainLine) (l : MainLine) (before less count : ℕ) → rest ≡ earlier ++ l ∷ [] → before ≡ made_by rest → count ≡ made_count l → less ≡ before - count → less ≡ made_by earlier
 before_step rest earlier l before less count is all one fewer = omega (arith, all, one, fewer, ap made_by is, made_by-last earlier l)
 
 pub made_step : (lines rest earlier : List MainLine) (l : MainLine) (less : ℕ) (scope grown : Scope Meaning) → rest ≡ earlier ++ l ∷ [] → made 0 lines ≡ made 0 rest ++ scope → less ≡ made_by earlier
-    → grown ≡ made_name less l ++ scope → made 0 lines ≡ made 0 earlier ++ grown
+    → grown ≡ made_entry less l ++ scope → made 0 lines ≡ made 0 earlier ++ grown
 made_step lines rest earlier l less scope grown is all fewer one =
     let there : 0 + made_by earlier ≡ less = omega (arith, fewer) in
-    all ∙ ap (λ ls. made 0 ls ++ scope) is ∙ ap (λ names. names ++ scope) (made-last 0 earlier l ∙ ap (λ n. made 0 earlier ++ made_name n l) there)
-    ∙ append_assoc (made 0 earlier) (made_name less l) scope ∙ ap (λ s. made 0 earlier ++ s) (sym one)
+    all ∙ ap (λ ls. made 0 ls ++ scope) is ∙ ap (λ names. names ++ scope) (made-last 0 earlier l ∙ ap (λ n. made 0 earlier ++ made_entry n l) there)
+    ∙ append_assoc (made 0 earlier) (made_entry less l) scope ∙ ap (λ s. made 0 earlier ++ s) (sym one)
 
 -- the first line of `setup`
 first_of : (calls more : List SetupCall) (call : Option SetupCall) → is_some call ≡ true → call ≡ first_call calls → call ≡ first_call (calls ++ more)

@@ -1,13 +1,15 @@
 -- Statements, one layer at a time, and one statement more.
-use Rattle.std.proofs.Common.{◌≡◌, ◌∙◌, ap, sym, refl, ℕ, ◌+◌, ◌<◌, List, [], ◌∷◌, ◌++◌, map, length, get_or, take, append_assoc}
+use Rattle.std.proofs.Common.{◌≡◌, ◌∙◌, ap, sym, refl, ℕ, suc, ◌+◌, ◌<◌, List, [], ◌∷◌, ◌++◌, map, length, get_or, take}
+use Rattle.std.proofs.lemmas.List.{map-append}
+use Rattle.da_lang.specs.declared.program.Alt.{roll-Alt}
 use Rattle.da_lang.specs.declared.program.Item.{Item}
+use Rattle.da_lang.specs.declared.program.RBranch.{roll-RBranch}
 use Rattle.da_lang.specs.declared.tree.Branch.{Branch, out-Branch}
 use Rattle.da_lang.specs.declared.tree.Stmt.{Stmt}
-use Rattle.da_lang.specs.BodyMeaning.{Becomes, Copy, Guarded, as_alt, as_branch, body_with, each, guarding, stating}
+use Rattle.da_lang.specs.BodyMeaning.{Becomes, Copy, Guarded, Stating, as_alt, as_branch, block, body_with, each, guarding, stating}
 use Rattle.da_lang.specs.ExprMeaning.{Meaning, Tables}
 use Rattle.da_lang.specs.Scopes.{Scope}
 use Rattle.da_lang.proofs.StatingAt.{stating_in, guarding-of}
-use Rattle.da_scope.specs.BlockScope.{scope_behind}
 use Rattle.da_scope.proofs.TakenMeanings.{taken}
 
 pub ruleset statements_at = (stating_in)
@@ -25,49 +27,54 @@ alt-at copy b scope tables = ap (λ (g : Guarded). g.alt scope tables) (guarding
 
 pub ruleset branch_rules = (branch-at, alt-at)
 
--- statements behind others: what they become, and the tables and the scope behind them
-pub items_append : (copy : Copy) (xs ys : List Stmt) (scope : Scope Meaning) (tables : Tables)
-    → (body_with copy (xs ++ ys) scope tables).0 ≡ (body_with copy xs scope tables).0 ++ (body_with copy ys (scope_behind copy xs scope tables) (body_with copy xs scope tables).1).0
-items_append copy [] ys scope tables = refl
-items_append copy (x ∷ xs) ys scope tables = let first = stating copy x scope tables in ap (λ items. first.item ∷ items) (items_append copy xs ys first.scope first.tables)
+-- the names in scope behind some statements
+abbrev pub scope_behind : List Stating → Scope Meaning → Tables → Scope Meaning
+scope_behind [] scope tables = scope
+scope_behind (s ∷ ss) scope tables = let first = s scope tables in scope_behind ss first.scope first.tables
 
-pub tables_append : (copy : Copy) (xs ys : List Stmt) (scope : Scope Meaning) (tables : Tables)
-    → (body_with copy (xs ++ ys) scope tables).1 ≡ (body_with copy ys (scope_behind copy xs scope tables) (body_with copy xs scope tables).1).1
-tables_append copy [] ys scope tables = refl
-tables_append copy (x ∷ xs) ys scope tables = let first = stating copy x scope tables in tables_append copy xs ys first.scope first.tables
+-- one statement behind others
+items_more : (copy : Copy) (stmts : List Stmt) (s : Stmt) (scope : Scope Meaning) (tables : Tables)
+    → (body_with copy (stmts ++ s ∷ []) scope tables).0
+    ≡ (body_with copy stmts scope tables).0 ++ (stating copy s (scope_behind (map (stating copy) stmts) scope tables) (body_with copy stmts scope tables).1).item ∷ []
+items_more copy [] s scope tables = refl
+items_more copy (t ∷ stmts) s scope tables = let first = stating copy t scope tables in ap (λ items. first.item ∷ items) (items_more copy stmts s first.scope first.tables)
 
-pub scope_append : (copy : Copy) (xs ys : List Stmt) (scope : Scope Meaning) (tables : Tables)
-    → scope_behind copy (xs ++ ys) scope tables ≡ scope_behind copy ys (scope_behind copy xs scope tables) (body_with copy xs scope tables).1
-scope_append copy [] ys scope tables = refl
-scope_append copy (x ∷ xs) ys scope tables = let first = stating copy x scope tables in scope_append copy xs ys first.scope first.tables
+tables_more : (copy : Copy) (stmts : List Stmt) (s : Stmt) (scope : Scope Meaning) (tables : Tables)
+    → (body_with copy (stmts ++ s ∷ []) scope tables).1 ≡ (stating copy s (scope_behind (map (stating copy) stmts) scope tables) (body_with copy stmts scope tables).1).tables
+tables_more copy [] s scope tables = refl
+tables_more copy (t ∷ stmts) s scope tables = let first = stating copy t scope tables in tables_more copy stmts s first.scope first.tables
+
+scope_more : (copy : Copy) (stmts : List Stmt) (s : Stmt) (scope : Scope Meaning) (tables : Tables)
+    → scope_behind (map (stating copy) (stmts ++ s ∷ [])) scope tables ≡ (stating copy s (scope_behind (map (stating copy) stmts) scope tables) (body_with copy stmts scope tables).1).scope
+scope_more copy [] s scope tables = refl
+scope_more copy (t ∷ stmts) s scope tables = let first = stating copy t scope tables in scope_more copy stmts s first.scope first.tables
 
 -- a statement more of a list
-pub items_step : (copy : Copy) (stmts : List Stmt) (i : ℕ) (s : Stmt) (scope inner : Scope Meaning) (before middle : Tables) (others found more : List Item) (item : Item)
-    → i < length stmts → s ≡ get_or stmts i s → found ≡ others ++ (body_with copy (take i stmts) scope before).0 → inner ≡ scope_behind copy (take i stmts) scope before
+pub items_step : (copy : Copy) (stmts : List Stmt) (i : ℕ) (s : Stmt) (scope inner : Scope Meaning) (before middle : Tables) (found more : List Item) (item : Item)
+    → i < length stmts → s ≡ get_or stmts i s → found ≡ (body_with copy (take i stmts) scope before).0 → inner ≡ scope_behind (map (stating copy) (take i stmts)) scope before
     → middle ≡ (body_with copy (take i stmts) scope before).1 → item ≡ (stating copy s inner middle).item → more ≡ found ++ item ∷ []
-    → more ≡ others ++ (body_with copy (take (i + 1) stmts) scope before).0
-items_step copy stmts i s scope inner before middle others found more item inside here so_far there tables one grown =
+    → more ≡ (body_with copy (take (i + 1) stmts) scope before).0
+items_step copy stmts i s scope inner before middle found more item inside here so_far there tables one grown =
     let next = taken stmts i s inside here in
-    let all = items_append copy (take i stmts) (s ∷ []) scope before in
-    let behind = append_assoc others (body_with copy (take i stmts) scope before).0 (item ∷ []) in
+    let all = items_more copy (take i stmts) s scope before in
     cc
 
 pub scope_step : (copy : Copy) (stmts : List Stmt) (i : ℕ) (s : Stmt) (scope inner after : Scope Meaning) (before middle : Tables)
-    → i < length stmts → s ≡ get_or stmts i s → inner ≡ scope_behind copy (take i stmts) scope before
+    → i < length stmts → s ≡ get_or stmts i s → inner ≡ scope_behind (map (stating copy) (take i stmts)) scope before
     → middle ≡ (body_with copy (take i stmts) scope before).1 → after ≡ (stating copy s inner middle).scope
-    → after ≡ scope_behind copy (take (i + 1) stmts) scope before
+    → after ≡ scope_behind (map (stating copy) (take (i + 1) stmts)) scope before
 scope_step copy stmts i s scope inner after before middle inside here there tables one =
     let next = taken stmts i s inside here in
-    let all = scope_append copy (take i stmts) (s ∷ []) scope before in
+    let all = scope_more copy (take i stmts) s scope before in
     cc
 
 pub tables_step : (copy : Copy) (stmts : List Stmt) (i : ℕ) (s : Stmt) (scope inner : Scope Meaning) (before middle after : Tables)
-    → i < length stmts → s ≡ get_or stmts i s → inner ≡ scope_behind copy (take i stmts) scope before
+    → i < length stmts → s ≡ get_or stmts i s → inner ≡ scope_behind (map (stating copy) (take i stmts)) scope before
     → middle ≡ (body_with copy (take i stmts) scope before).1 → after ≡ (stating copy s inner middle).tables
     → after ≡ (body_with copy (take (i + 1) stmts) scope before).1
 tables_step copy stmts i s scope inner before middle after inside here there tables one =
     let next = taken stmts i s inside here in
-    let all = tables_append copy (take i stmts) (s ∷ []) scope before in
+    let all = tables_more copy (take i stmts) s scope before in
     cc
 
 -- the parts of branches, in order

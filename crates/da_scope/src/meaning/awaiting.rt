@@ -60,6 +60,7 @@ pub fn awaited<'t>(
 ) -> Result<Boxed<Cond>, NoMemory>
     ensures cond { IfOk result (λ cond. cond ≡ (meant x.now).condition scope.now) }
     ensures tables { OnOk result (tables.new ≡ ((meant x.now).outside scope.now tables.old).1) }
+    ensures slots { OnOk result (tables.new.slots ≡ tables.old.slots) }
 {
     outside(alloc, x, scope, tables)?;
     boxed_condition(alloc, x, scope)

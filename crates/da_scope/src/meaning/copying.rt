@@ -1,7 +1,6 @@
 //! Copies of the bodies of methods.
 ghost use Rattle.da_lang.specs.BodyMeaning.{body_of, copies};
-ghost use Rattle.da_scope.specs.BlockScope.{scope_behind_in};
-ghost use Rattle.std.specs.Prelude.{◌≡◌, ◌++◌, IfOk, OnOk};
+ghost use Rattle.std.specs.Prelude.{◌≡◌, IfOk, OnOk};
 
 use crate::meaning::arguments::bind_args;
 use crate::meaning::bodies::{Wanted, first_body};
@@ -32,28 +31,6 @@ pub fn body<'t>(
         copy: copy_body,
     }
     .block(stmts, scope, tables)
-}
-
-/// The statements of a body of a class, behind others. Names that they bring come into scope.
-pub fn append_body<'t>(
-    alloc: Global,
-    home: &Home<'t>,
-    stmts: &'t [Stmt],
-    scope: &mut Scope<'t>,
-    tables: &mut Tables,
-    items: &mut List<Item>,
-) -> Result<(), NoMemory>
-    ensures items { OnOk result (items.new ≡ items.old ++ (body_of home.now.class.now stmts.now scope.old tables.old).0) }
-    ensures scope { OnOk result (scope.new ≡ scope_behind_in home.now.class.now stmts.now scope.old tables.old) }
-    ensures tables { OnOk result (tables.new ≡ (body_of home.now.class.now stmts.now scope.old tables.old).1) }
-{
-    Inliner {
-        alloc,
-        home,
-        most: home.class.members.len(),
-        copy: copy_body,
-    }
-    .append(stmts, scope, tables, items)
 }
 
 /// A copy of the body of the method of a name, with its arguments, in which at most so many calls are within calls.

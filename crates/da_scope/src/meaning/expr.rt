@@ -27,6 +27,7 @@ pub fn outside<'t>(
 ) -> Result<RExpr, NoMemory>
     ensures value { IfOk result (λ found. found ≡ ((meant x.now).outside scope.now tables.old).0) }
     ensures tables { OnOk result (tables.new ≡ ((meant x.now).outside scope.now tables.old).1) }
+    ensures slots { OnOk result (tables.new.slots ≡ tables.old.slots) }
 {
     match x {
         Expr::Quant { each, gens, cond } => {
@@ -107,6 +108,7 @@ pub fn boxed_outside<'t>(
 ) -> Result<Boxed<RExpr>, NoMemory>
     ensures value { IfOk result (λ found. found ≡ ((meant x.now).outside scope.now tables.old).0) }
     ensures tables { OnOk result (tables.new ≡ ((meant x.now).outside scope.now tables.old).1) }
+    ensures slots { OnOk result (tables.new.slots ≡ tables.old.slots) }
 {
     Boxed::new(alloc, outside(alloc, x, scope, tables)?)
 }
@@ -121,6 +123,7 @@ pub fn all_outside<'t>(
 ) -> Result<List<RExpr>, NoMemory>
     ensures value { IfOk result (λ found. found ≡ (all_outside (map meant xs.now) scope.now tables.old).0) }
     ensures tables { OnOk result (tables.new ≡ (all_outside (map meant xs.now) scope.now tables.old).1) }
+    ensures slots { OnOk result (tables.new.slots ≡ tables.old.slots) }
 {
     let mut found = List::new(alloc);
     for x in xs {
@@ -139,6 +142,7 @@ fn links_outside<'t>(
 ) -> Result<List<ChainPart>, NoMemory>
     ensures value { IfOk result (λ found. found ≡ (signed_outside (map signed_of links.now) scope.now tables.old).0) }
     ensures tables { OnOk result (tables.new ≡ (signed_outside (map signed_of links.now) scope.now tables.old).1) }
+    ensures slots { OnOk result (tables.new.slots ≡ tables.old.slots) }
 {
     let mut found = List::new(alloc);
     for link in links {
@@ -155,6 +159,7 @@ fn links_outside<'t>(
 fn ask(query: Query, tables: &mut Tables) -> Result<RExpr, NoMemory>
     ensures value { IfOk result (λ found. found ≡ Ask (suc (length tables.old.queries))) }
     ensures tables { OnOk result (tables.new ≡ record { slots = tables.old.slots; queries = tables.old.queries ++ query ∷ [] }) }
+    ensures slots { OnOk result (tables.new.slots ≡ tables.old.slots) }
 {
     let number = tables.next_query()?;
     tables.add_query(query)?;

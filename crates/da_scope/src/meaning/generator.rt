@@ -36,9 +36,9 @@ fn generator<'t>(
     ensures gen_ { IfOk result (λ found. found ≡ (generator g.now).gen_ scope.old) }
     ensures scope { OnOk result (scope.new ≡ with_row (generator g.now).binds scope.old) }
 {
-    let source = source_of(&g.source, scope);
     let message = pattern(alloc, &g.message, scope)?;
     let peer = peer_of(alloc, &g.source, &g.peer, scope)?;
+    let source = source_of(&g.source, scope);
     Ok(RGen {
         source,
         message,

@@ -1,9 +1,8 @@
 //! Statements, with the bodies of methods in the place of calls.
 ghost use Rattle.da_lang.specs.BodyMeaning.{Guarded, body_with, bound, calling, copies, each, fresh, guarding, item_at, stating};
 ghost use Rattle.da_lang.specs.ExprNames.{found_names};
-ghost use Rattle.da_scope.specs.BlockScope.{scope_behind};
 ghost use Rattle.da_scope.specs.Inlining.{Copies};
-ghost use Rattle.std.specs.Prelude.{◌≡◌, ◌++◌, IfOk, OnOk, length, map};
+ghost use Rattle.std.specs.Prelude.{◌≡◌, IfOk, OnOk, length, map};
 
 use crate::meaning::awaiting::{await_one, awaited, declare_found, found_number, slot_named};
 use crate::meaning::expr::{all_outside, boxed_outside};
@@ -51,28 +50,10 @@ impl<
     {
         let mut inner = scope.copy(self.alloc)?;
         let mut items = List::new(self.alloc);
-        self.append(stmts, &mut inner, tables, &mut items)?;
-        Ok(items)
-    }
-
-    /// Statements behind others. Names that they bring come into scope.
-    #[cycle(statements)]
-    pub fn append(
-        &self,
-        stmts: &'t [Stmt],
-        scope: &mut Scope<'t>,
-        tables: &mut Tables,
-        items: &mut List<Item>,
-    ) -> Result<(), NoMemory>
-        requires { Copies self.now.home.now.class.now self.now.most (F.pre self.now.copy) (F.post self.now.copy) }
-        ensures items { OnOk result (items.new ≡ items.old ++ (body_with (copies self.now.most self.now.home.now.class.now) stmts.now scope.old tables.old).0) }
-        ensures scope { OnOk result (scope.new ≡ scope_behind (copies self.now.most self.now.home.now.class.now) stmts.now scope.old tables.old) }
-        ensures tables { OnOk result (tables.new ≡ (body_with (copies self.now.most self.now.home.now.class.now) stmts.now scope.old tables.old).1) }
-    {
         for stmt in stmts {
-            items.push(self.statement(stmt, scope, tables)?)?;
+            items.push(self.statement(stmt, &mut inner, tables)?)?;
         }
-        Ok(())
+        Ok(items)
     }
 
     // A statement. Names that it brings come into scope.

@@ -1,5 +1,5 @@
 //! The processes that `main` makes.
-ghost use Rattle.da_lang.specs.Resolution.{first_call, made, made_count, made_name, procs_of, resolved_args, setup_call};
+ghost use Rattle.da_lang.specs.Resolution.{first_call, made, made_count, made_entry, procs_of, resolved_args, setup_call};
 ghost use Rattle.da_scope.specs.MakingView.{made_by};
 ghost use Rattle.std.specs.Prelude.{◌≡◌, ◌++◌, IfOk, OnOk, flat_map, position, bytes_eq, unwrap_or};
 
@@ -58,7 +58,7 @@ fn enter_line<'t>(
     line: &'t MainLine,
     scope: &mut Scope<'t>,
 ) -> Result<(), NoMemory>
-    ensures { OnOk result (scope.new ≡ made_name before line.now ++ scope.old) }
+    ensures { OnOk result (scope.new ≡ made_entry before line.now ++ scope.old) }
 {
     match line {
         MainLine::New { name, count, .. } => scope.enter_made(name.as_slice(), *count, before),

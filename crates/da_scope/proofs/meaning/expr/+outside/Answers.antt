@@ -1,3 +1,4 @@
+use Rattle.std.proofs.Common.{◌∙◌}
 use Rattle.da_scope.proofs.OutsideAt.{asked_quant, asked_comp, values_step, tables_step, links_step, link_tables_step}
 use Rattle.da_scope.proofs.meaning.expr.+outside.Goals as goal
 
@@ -5,12 +6,14 @@ pub all_outside-loop-x-preserved : goal.all_outside-loop-x-preserved
 all_outside-loop-x-preserved t c = record {
   found = values_step _ _ _ c.args.scope.now c.args.tables.now _ _ _ _ c.loop-x-test.true c.x-item.is c.loop-x.invariant.found c.loop-x.invariant.tables c.in_ok-outside.ensures.value c.in_ok-push.ensures.ok;
   tables = tables_step _ _ _ c.args.scope.now c.args.tables.now _ _ c.loop-x-test.true c.x-item.is c.loop-x.invariant.tables c.in_ok-outside.ensures.tables;
+  slots = c.in_ok-outside.ensures.slots ∙ c.loop-x.invariant.slots;
 }
 
 pub links_outside-loop-link-preserved : goal.links_outside-loop-link-preserved
 links_outside-loop-link-preserved t c = record {
   found = links_step _ _ _ _ c.args.scope.now c.args.tables.now _ _ _ _ c.loop-link-test.true c.link-item.is c.loop-link.invariant.found c.loop-link.invariant.tables c.get.ensures c.in_ok-operand.ensures.value c.in_ok-push.ensures.ok;
   tables = link_tables_step _ _ _ _ c.args.scope.now c.args.tables.now _ _ c.loop-link-test.true c.link-item.is c.loop-link.invariant.tables c.get.ensures c.in_ok-operand.ensures.tables;
+  slots = c.in_ok-operand.ensures.slots ∙ c.loop-link.invariant.slots;
 }
 
 pub outside-returns-in_ok-query-in-Quant-clause-tables : goal.outside-returns-in_ok-query-in-Quant-clause-tables

@@ -1,13 +1,14 @@
-use Rattle.std.proofs.Common.{◌≡◌, ◌++◌, map, take}
-use Rattle.da_lang.specs.BodyMeaning.{Guarded, body_with, copies, each, guarding}
-use Rattle.da_scope.specs.BlockScope.{scope_behind}
+use Rattle.std.proofs.Common.{◌≡◌, map, take}
+use Rattle.da_lang.specs.declared.tree.Branch.{Branch}
+use Rattle.da_lang.specs.BodyMeaning.{Guarded, body_with, copies, each, guarding, stating}
+use Rattle.da_scope.proofs.StatementsAt.{scope_behind}
 use Rattle.da_scope.proofs.meaning.inliner.Inliner.+statements.Given as goal
 
-abbrev pub invariant-append-loop-stmt : goal.invariant-append-loop-stmt
-invariant-append-loop-stmt g l = record {
-  items : l.items ≡ l.initial.items ++ (body_with (copies l.self.most l.self.home.now.class.now) (take l.stmt-index l.stmts) l.initial.scope l.initial.tables).0;
-  scope : l.scope ≡ scope_behind (copies l.self.most l.self.home.now.class.now) (take l.stmt-index l.stmts) l.initial.scope l.initial.tables;
-  tables : l.tables ≡ (body_with (copies l.self.most l.self.home.now.class.now) (take l.stmt-index l.stmts) l.initial.scope l.initial.tables).1;
+abbrev pub invariant-block-loop-stmt : goal.invariant-block-loop-stmt
+invariant-block-loop-stmt g l = record {
+  items : l.items ≡ (body_with (copies l.self.most l.self.home.now.class.now) (take l.stmt-index l.stmts) l.scope l.initial.tables).0;
+  scope : l.inner ≡ scope_behind (map (stating (copies l.self.most l.self.home.now.class.now)) (take l.stmt-index l.stmts)) l.scope l.initial.tables;
+  tables : l.tables ≡ (body_with (copies l.self.most l.self.home.now.class.now) (take l.stmt-index l.stmts) l.scope l.initial.tables).1;
 }
 
 abbrev pub invariant-branches-loop-branch : goal.invariant-branches-loop-branch
