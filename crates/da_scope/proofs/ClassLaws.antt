@@ -1,6 +1,6 @@
 -- The refusals of a class, found in another order.
 use Rattle.std.specs.Prelude.{◌≡◌, refl, ℕ, List, [], ◌∷◌, ◌++◌, map, filter, filter_map, flat_map, Bool, Option}
-use Rattle.std.proofs.Common.{◌∙◌, sym, ap, append_assoc}
+use Rattle.std.proofs.Common.{◌∙◌, sym, ap}
 use Rattle.std.proofs.lemmas.List.{map-append}
 use Rattle.std.proofs.lemmas.List.Elements.{filter-append}
 use Rattle.da_lang.specs.declared.refusal.ScopeKind.{ScopeKind}
@@ -11,7 +11,7 @@ use Rattle.da_lang.specs.Deeds.{Deed, deeds}
 use Rattle.da_lang.specs.ExprNames.{Role}
 use Rattle.da_lang.specs.NameRules as rules_of
 use Rattle.da_lang.specs.Scopes.{Scope, at_lines}
-use Rattle.da_scope.specs.ClassRules.{body_refusals, deed_refusals, member_refusals, deeds_by, label_lines, label_names, lines_behind, no_run_line, variable_names}
+use Rattle.da_scope.specs.ClassRules.{body_refusals, deed_refusals, member_refusals, deeds_by, label_lines, label_names, lines_behind, no_run_line}
 use Rattle.da_scope.specs.Telling.{Refusal, telling}
 use Rattle.da_scope.proofs.AgainLaws.{at_lines-append}
 use Rattle.da_scope.proofs.SameBody.{flat_map-same, scope_refusals-same}
@@ -97,11 +97,11 @@ twice_lines : (f : Option Refusal) (a b c d e g : List ℕ) → telling f (at_li
 twice_lines f a b c d e g =
     let at = at_lines refusal.Twice in
     ap (telling f) (
-      at_lines-append refusal.Twice (a ++ b ++ c ++ d ++ e) g
-      ∙ ap (λ x. x ++ at g) (at_lines-append refusal.Twice (a ++ b ++ c ++ d) e
-      ∙ ap (λ x. x ++ at e) (at_lines-append refusal.Twice (a ++ b ++ c) d
-      ∙ ap (λ x. x ++ at d) (at_lines-append refusal.Twice (a ++ b) c
-      ∙ ap (λ x. x ++ at c) (at_lines-append refusal.Twice a b)))))
+    at_lines-append refusal.Twice (a ++ b ++ c ++ d ++ e) g
+    ∙ ap (λ x. x ++ at g) (at_lines-append refusal.Twice (a ++ b ++ c ++ d) e
+    ∙ ap (λ x. x ++ at e) (at_lines-append refusal.Twice (a ++ b ++ c) d
+    ∙ ap (λ x. x ++ at d) (at_lines-append refusal.Twice (a ++ b) c
+    ∙ ap (λ x. x ++ at c) (at_lines-append refusal.Twice a b)))))
     ∙ tells_six f (at a) (at b) (at c) (at d) (at e) (at g)
 
 body_same : (c : ClassTree) (s t : Scope Role) (b : Body) → rules_of.scope_refusals s b ≡ rules_of.scope_refusals t b → body_refusals c s b ≡ body_refusals c t b
@@ -153,9 +153,9 @@ class_by f variables headers scopes params yields early late unknown arity label
     ∙ ap (λ k. telling k recursive) (fourth ∙ ap (λ k. tells k (methods ∷ setups ∷ runs ∷ norun ∷ [])) (third ∙ ap (λ k. tells k (late ∷ unknown ∷ arity ∷ labels ∷ [])) (second ∙ ap (λ k. tells k (headers ∷ scopes ∷ params ∷ yields ∷ early ∷ [])) first)))
     ∙ in_other_order f variables headers scopes params yields early late unknown arity labels methods setups runs norun recursive
     ∙ sym (
-      tells_nine f not_yet unknown scopes twice recursive yields early norun arity
-      ∙ ap (λ k. tells k (unknown ∷ scopes ∷ twice ∷ recursive ∷ yields ∷ early ∷ norun ∷ arity ∷ [])) (is_not_yet f)
-      ∙ ap (λ k. tells k (recursive ∷ yields ∷ early ∷ norun ∷ arity ∷ [])) (is_twice (telling (telling (telling (telling f headers) late) unknown) scopes)))
+    tells_nine f not_yet unknown scopes twice recursive yields early norun arity
+    ∙ ap (λ k. tells k (unknown ∷ scopes ∷ twice ∷ recursive ∷ yields ∷ early ∷ norun ∷ arity ∷ [])) (is_not_yet f)
+    ∙ ap (λ k. tells k (recursive ∷ yields ∷ early ∷ norun ∷ arity ∷ [])) (is_twice (telling (telling (telling (telling f headers) late) unknown) scopes)))
 
 not_yet_told : (c : ClassTree) (k : Option Refusal) → telling k (at_lines refusal.NotYet (flat_map rules_of.not_yet_in (bodies c)))
     ≡ tells k (at_lines refusal.NotYet (flat_map label_lines (bodies c)) ∷ at_lines refusal.NotYet (rules_of.lines_where (λ d. rules_of.times_out d.does) (deeds_by (bodies c))) ∷ [])

@@ -1,5 +1,5 @@
 -- Steps of the loops over the parts of a class.
-use Rattle.std.specs.Prelude.{◌≡◌, refl, ℕ, suc, ◌+◌, ◌<◌, length, take, drop, Bool, true, false, not, ◌==◌, ◌&&◌, ◌||◌, if◌then◌else◌, List, [], ◌∷◌, ◌++◌, map, filter, filter_map, flat_map, Option, Some, None, option_map}
+use Rattle.std.specs.Prelude.{◌≡◌, refl, ℕ, suc, ◌+◌, ◌<◌, length, take, drop, Bool, true, false, not, ◌==◌, ◌&&◌, ◌||◌, if◌then◌else◌, List, [], ◌∷◌, ◌++◌, map, filter_map, flat_map, Option, Some, None}
 use Rattle.std.specs.List.{cons_option}
 use Rattle.std.proofs.Common.{◌∙◌, sym, ap, arith, eqb-true, get_or}
 use Rattle.std.proofs.lemmas.List.{append-nil, map-append, take_more}

@@ -1,13 +1,12 @@
 -- Which calls lead back: what is told of the first methods of all names is told of all methods.
-use Rattle.std.proofs.Common.{◌≡◌, ◌∙◌, ℕ, zero, suc, ◌+◌, ◌<◌, Bool, true, false, ◌&&◌, List, [], ◌∷◌, ◌++◌, length, map, take, get_or, find, flat_map, cond, Option, Some, None, Contains, subst, sym, refl, ap, ⊎_elim, arith}
+use Rattle.std.proofs.Common.{◌≡◌, ◌∙◌, ℕ, zero, suc, ◌+◌, ◌<◌, Bool, true, false, List, [], ◌∷◌, ◌++◌, length, map, take, get_or, find, flat_map, cond, Option, Some, None, Contains, subst, sym, refl, ap, ⊎_elim, arith}
 use Rattle.std.specs.List.{slice_get}
 use Rattle.std.specs.Option.{option_and_then}
-use Rattle.std.specs.Str.{bytes_eq}
 use Rattle.std.proofs.lemmas.List.{append-nil, map-append, take_more}
 use Rattle.std.proofs.lemmas.Grind.{flat_map-append}
 use Rattle.da_lang.specs.declared.refusal.ScopeKind.TheVariants.{Recursive}
 use Rattle.da_lang.specs.declared.tree.ClassTree.{ClassTree}
-use Rattle.da_lang.specs.Calls.{called, calls_in, deeds_in, leads}
+use Rattle.da_lang.specs.Calls.{called, deeds_in}
 use Rattle.da_lang.specs.ClassParts.{Body, Place, InSetup, InRun, InMethod, InHandler, bodies, is_method, method_name, method_of, stmts_if}
 use Rattle.da_lang.specs.Deeds.{Deed, Doing, Sends, Outputs, Labels, Calls, Loops, Awaits, TimesOut, Other, deeds}
 use Rattle.da_lang.specs.NameRules.{leads_back, method_names, recursive_in}
@@ -19,7 +18,7 @@ use Rattle.da_scope.specs.ClassRules.{goes_round}
 use Rattle.da_scope.specs.DeedView as view
 use Rattle.da_scope.specs.Telling.{Refusal, telling}
 use Rattle.da_scope.proofs.CallAnswers.{leads_back-call}
-use Rattle.da_scope.proofs.CallBounds.{false_true, none_is_some, some_same, in_first, in_later, in_cases, in_none, in_filter_map, filter_map_in, find_in, name_of_method, method_in_names}
+use Rattle.da_scope.proofs.CallBounds.{false_true, none_is_some, some_same, in_first, in_later, in_cases, in_none, in_filter_map, filter_map_in, find_in, method_in_names}
 use Rattle.da_scope.proofs.CallNames.{same_name, name_same}
 use Rattle.da_scope.proofs.CallRows.{method_read}
 use Rattle.da_scope.proofs.TellingLaws.{telling-append, telling-same}

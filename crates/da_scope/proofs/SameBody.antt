@@ -1,5 +1,5 @@
 -- What is refused in a body depends on what the names in scope stand for alone.
-use Rattle.std.specs.Prelude.{◌≡◌, refl, List, [], ◌∷◌, ◌++◌, map, flat_map, Some, None}
+use Rattle.std.specs.Prelude.{◌≡◌, refl, List, [], ◌∷◌, ◌++◌, flat_map, Some, None}
 use Rattle.std.specs.List.{AllByRecursion}
 use Rattle.std.proofs.Common.{◌∙◌, ap}
 use Rattle.da_lang.specs.declared.refusal.ScopeKind.{ScopeKind}

@@ -240,10 +240,7 @@ fn check_deeds(
 }
 
 /// The statements of all bodies.
-fn deeds_of_bodies<'t>(
-    alloc: Global,
-    bodies: &[Body<'t>],
-) -> Result<List<Deed<'t>>, NoMemory>
+fn deeds_of_bodies<'t>(alloc: Global, bodies: &[Body<'t>]) -> Result<List<Deed<'t>>, NoMemory>
     ensures { IfOk result (λ list. deeds_in list ≡ deeds_by (bodies_in bodies.now)) }
 {
     let mut list = List::new(alloc);

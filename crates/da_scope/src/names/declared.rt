@@ -14,10 +14,7 @@ use da_values::{List, NoMemory};
 use std::alloc::Global;
 
 /// The variables of a class.
-pub fn variables_of<'t>(
-    alloc: Global,
-    class: &'t ClassTree,
-) -> Result<List<Declared<'t>>, NoMemory>
+pub fn variables_of<'t>(alloc: Global, class: &'t ClassTree) -> Result<List<Declared<'t>>, NoMemory>
     ensures { IfOk result (λ list. declared_in list ≡ variable_names class.now) }
 {
     let mut list = List::new(alloc);
@@ -46,10 +43,7 @@ fn variable_in(member: &Member) -> Option<Declared<'_>>
 }
 
 /// The methods among bodies.
-pub fn methods_of<'t>(
-    alloc: Global,
-    bodies: &[Body<'t>],
-) -> Result<List<Declared<'t>>, NoMemory>
+pub fn methods_of<'t>(alloc: Global, bodies: &[Body<'t>]) -> Result<List<Declared<'t>>, NoMemory>
     ensures { IfOk result (λ list. declared_in list ≡ filter_map named_body (bodies_in bodies.now)) }
 {
     let mut list = List::new(alloc);
@@ -99,10 +93,7 @@ pub fn params_of<'t>(
 }
 
 /// The labels among statements.
-pub fn labels_of<'t>(
-    alloc: Global,
-    deeds: &[Deed<'t>],
-) -> Result<List<Declared<'t>>, NoMemory>
+pub fn labels_of<'t>(alloc: Global, deeds: &[Deed<'t>]) -> Result<List<Declared<'t>>, NoMemory>
     ensures { IfOk result (λ list. declared_in list ≡ label_names (deeds_in deeds.now)) }
 {
     let mut list = List::new(alloc);

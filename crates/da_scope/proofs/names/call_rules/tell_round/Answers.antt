@@ -1,4 +1,4 @@
-use Rattle.std.proofs.Common.{◌≡◌, ◌∙◌, ap, inl, inr, sym, take}
+use Rattle.std.proofs.Common.{◌∙◌, ap, inl, inr}
 use Rattle.std.proofs.lemmas.List.{take_all}
 use Rattle.da_lang.specs.declared.refusal.ScopeKind.TheVariants.{Recursive}
 use Rattle.da_lang.specs.Deeds.{Deed}

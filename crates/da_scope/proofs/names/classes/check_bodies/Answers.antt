@@ -1,4 +1,4 @@
-use Rattle.std.proofs.Common.{◌≡◌, ◌∙◌, ap, flat_map, refl, sym}
+use Rattle.std.proofs.Common.{◌∙◌, ap, flat_map, refl, sym}
 use Rattle.std.proofs.lemmas.List.{take_all}
 use Rattle.std.proofs.lemmas.List.Folds.{flat_map-map}
 use Rattle.da_scope.specs.BodyView.{body_view}

@@ -1,4 +1,4 @@
-use Rattle.std.proofs.Common.{◌≡◌, ◌∙◌, ap, refl}
+use Rattle.std.proofs.Common.{◌≡◌, ◌∙◌, ap}
 use Rattle.da_lang.specs.declared.refusal.ScopeKind.TheVariants.{Twice}
 use Rattle.da_lang.specs.NameRules.{again}
 use Rattle.da_lang.specs.Scopes.{at_lines}
@@ -20,5 +20,5 @@ returns c =
     let labels : declared_in c.as_slice.result.now ≡ label_names ds = ap declared_in c.as_slice.ensures ∙ c.in_ok-labels.ensures in
     on_same c.tell_again.result c.tell_again.new.least _ _ c.tell_again.ensures
     (ap (λ names. telling c.tell_misfits.new.least (at_lines Twice (again names))) labels
-      ∙ four_steps first c.tell_timeouts.new.least c.tell_unknown.new.least c.tell_misfits.new.least _ _ _ _ c.tell_timeouts.ensures c.tell_unknown.ensures c.tell_misfits.ensures
-      ∙ ap (λ es. telling first (deed_refusals (class_in c.args.graph.now) es)) here)
+    ∙ four_steps first c.tell_timeouts.new.least c.tell_unknown.new.least c.tell_misfits.new.least _ _ _ _ c.tell_timeouts.ensures c.tell_unknown.ensures c.tell_misfits.ensures
+    ∙ ap (λ es. telling first (deed_refusals (class_in c.args.graph.now) es)) here)

@@ -1,8 +1,8 @@
 use Rattle.std.proofs.Common.{◌≡◌, ◌∙◌, [], ap, flat_map, map, refl, subst, sym}
-use Rattle.da_lang.specs.declared.refusal.ScopeKind.TheVariants.{Recursive, Twice}
-use Rattle.da_lang.specs.ClassParts.{Body, Variable, bodies, variables}
+use Rattle.da_lang.specs.declared.refusal.ScopeKind.TheVariants.{Twice}
+use Rattle.da_lang.specs.ClassParts.{Variable, bodies, variables}
 use Rattle.da_lang.specs.ExprNames.{ClassVariable}
-use Rattle.da_lang.specs.NameRules.{class_scope, method_names, recursive_in, variables_again}
+use Rattle.da_lang.specs.NameRules.{class_scope, variables_again}
 use Rattle.da_lang.specs.Scopes.{at_lines}
 use Rattle.da_scope.specs.CallGraph.{class_in}
 use Rattle.da_scope.specs.ClassRules.{bodies_in, body_refusals, deed_refusals, deeds_by, member_refusals}
@@ -26,6 +26,6 @@ returns c =
     let second = c.in_ok-check_bodies.ensures.told ∙ ap (λ bs. telling c.enter_variables.new.least (flat_map (body_refusals class c.enter_variables.new.names) bs)) (ap bodies_in c.as_slice.ensures ∙ list) in
     let third = c.in_ok-check_deeds.ensures ∙ ap (λ bs. telling c.check_bodies.new.least (deed_refusals class (deeds_by bs))) (ap bodies_in c.as_slice-2.ensures ∙ list) in
     let fourth = c.in_ok-check_members.ensures ∙ ap (λ bs. telling c.check_deeds.new.least (member_refusals c.class-class.result.now.line bs)) (ap bodies_in c.as_slice-3.ensures ∙ list)
-        ∙ ap (λ k. telling c.check_deeds.new.least (member_refusals k.line (bodies class))) same in
+    ∙ ap (λ k. telling c.check_deeds.new.least (member_refusals k.line (bodies class))) same in
     on_same c.tell_recursive.result c.tell_recursive.new.least _ _ c.tell_recursive.ensures
     (class_told c.args.least.now class c.enter_variables.new.names c.enter_variables.new.least c.check_bodies.new.least c.check_deeds.new.least c.check_members.new.least _ look first second third fourth refl)

@@ -1,4 +1,4 @@
-use Rattle.std.proofs.Common.{◌≡◌, ◌∙◌, ap, inl, inr}
+use Rattle.std.proofs.Common.{◌∙◌, ap, inl, inr}
 use Rattle.std.specs.Prelude.{not}
 use Rattle.da_lang.specs.declared.refusal.ScopeKind.TheVariants.{NoRun, Twice}
 use Rattle.da_lang.specs.NameRules.{again}

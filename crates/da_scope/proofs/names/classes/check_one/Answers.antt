@@ -1,4 +1,3 @@
-use Rattle.std.proofs.Common.{◌∙◌, ap}
 use Rattle.da_scope.specs.BodyView.{told_body}
 use Rattle.da_scope.specs.ClassRules.{body_refusals}
 use Rattle.da_scope.proofs.ClassSteps.{five_steps}
@@ -10,4 +9,4 @@ unfolding body_refusals told_body
 returns-clause-told c =
     on_same c.tell_early_in.result c.tell_early_in.new.least _ _ c.tell_early_in.ensures
     (five_steps c.args.least.now c.tell_labels.new.least c.check_body.new.least c.tell_params.new.least c.tell_yields_in.new.least _ _ _ _ _
-      c.tell_labels.ensures c.in_ok-check_body.ensures.told c.in_ok-tell_params.ensures c.in_ok-tell_yields_in.ensures)
+    c.tell_labels.ensures c.in_ok-check_body.ensures.told c.in_ok-tell_params.ensures c.in_ok-tell_yields_in.ensures)

@@ -1,9 +1,6 @@
-use Rattle.std.proofs.Common.{◌≡◌, ◌∙◌, ap, refl, sym, take}
-use Rattle.std.specs.Prelude.{Bool, true, false, ◌&&◌, ◌||◌, if◌then◌else◌, ◌∷◌, []}
-use Rattle.da_lang.specs.declared.refusal.ScopeKind.TheVariants.{Twice}
-use Rattle.da_lang.specs.Scopes.{at_lines}
-use Rattle.da_scope.specs.ClassRules.{bodies_in, has_some, is_once, lines_behind}
-use Rattle.da_scope.specs.Telling.{telling}
+use Rattle.std.proofs.Common.{◌∙◌, ap, sym}
+use Rattle.std.specs.Prelude.{◌||◌}
+use Rattle.da_scope.specs.ClassRules.{is_once}
 use Rattle.da_scope.proofs.ClassSteps.{behind_more, behind_none, some_more, some_none, when_both, when_first, when_not}
 use Rattle.da_scope.proofs.names.classes.tell_behind.Goals as goal
 use Rattle.da_scope.proofs.names.classes.tell_behind.Goals.{then-is_part+then-seen, then-is_part+else-seen, else-is_part}

@@ -1,7 +1,7 @@
 use Rattle.std.proofs.Common.{◌∙◌, ap, sym}
 use Rattle.std.specs.Prelude.{◌||◌}
 use Rattle.da_lang.specs.declared.refusal.ScopeKind.TheVariants.{Yield}
-use Rattle.da_lang.specs.ClassParts.{is_handler, is_setup}
+use Rattle.da_lang.specs.ClassParts.{is_setup}
 use Rattle.da_scope.specs.BodyView.{place_view}
 use Rattle.da_scope.proofs.ClassSteps.{told_nothing}
 use Rattle.da_scope.proofs.names.classes.tell_yields_in.Goals as goal
