@@ -2,10 +2,9 @@
 use Rattle.std.specs.Prelude.{◌≡◌, refl, ℕ, ◌+◌, ◌<◌, ◌==◌, ◌||◌, length, take, Bool, true, false, not, if◌then◌else◌, List, [], ◌∷◌, ◌++◌, map, flat_map, filter_map, Option, Some, None, is_none, is_some, option_map, option_and_then, option_to_list}
 use Rattle.std.specs.List.{list_any, fold}
 use Rattle.std.specs.Option.{option_or}
-use Rattle.std.proofs.Common.{◌∙◌, ◌⊎◌, inl, inr, sym, ap, get_or, append_assoc}
-use Rattle.std.proofs.lemmas.List.{append-nil, map-append, take_more}
+use Rattle.std.proofs.Common.{◌∙◌, sym, ap, get_or, append_assoc}
+use Rattle.std.proofs.lemmas.List.{append-nil, take_more}
 use Rattle.std.proofs.lemmas.List.Elements.{filter_map-append}
-use Rattle.std.proofs.lemmas.Grind.{flat_map-append}
 use Rattle.da_lang.specs.declared.refusal.ScopeKind.{ScopeKind}
 use Rattle.da_lang.specs.declared.refusal.ScopeKind.TheVariants as refusal
 use Rattle.da_lang.specs.declared.tree.ClassTree.{ClassTree}
@@ -22,7 +21,7 @@ use Rattle.da_lang.specs.Scopes.{Scope, look, at_line, at_lines, told}
 use Rattle.da_lang.specs.Written.{asks, reads_clock}
 use Rattle.da_scope.specs.Early.{asks_early}
 use Rattle.da_scope.specs.MainView.{setup_arity, setup_kinds_by, told_line}
-use Rattle.da_scope.specs.Repeats.{declared_in, declared_of}
+use Rattle.da_scope.specs.Repeats.{declared_in}
 use Rattle.da_scope.specs.declared.names.repeats.Declared as code
 use Rattle.da_scope.specs.Telling.{Refusal, telling}
 use Rattle.da_scope.specs.Told.{entered_each, told_kinds, told_expr}
@@ -33,34 +32,17 @@ use Rattle.da_scope.proofs.TellingLaws.{telling-append, told-telling}
 use Rattle.da_scope.proofs.ToldExprs.{told_expr-Name}
 use Rattle.da_scope.proofs.ToldParts.{told_kinds-nil, told_kinds-append}
 
--- one more of some things, each with its refusals
-pub telling_more : {A : Type 0} (of : A → List Refusal) (first found last : Option Refusal) (xs : List A) (i : ℕ) (x : A) → i < length xs → x ≡ get_or xs i x → found ≡ telling first (flat_map of (take i xs)) → last ≡ telling found (of x) → last ≡ telling first (flat_map of (take (i + 1) xs))
-telling_more of first found last xs i x within here told step =
-    let more : take (i + 1) xs ≡ take i xs ++ x ∷ [] = take_more xs i x within ∙ ap (λ y. take i xs ++ y ∷ []) (sym here) in
-    step ∙ ap (λ f. telling f (of x)) told
-    ∙ sym (telling-append first (flat_map of (take i xs)) (of x))
-    ∙ ap (λ rs. telling first (flat_map of (take i xs) ++ rs)) (sym (append-nil (of x)))
-    ∙ ap (telling first) (sym (flat_map-append of (take i xs) (x ∷ [])) ∙ ap (flat_map of) (sym more))
-
 -- one more line that may declare a name
 one_of : {A : Type 0} (o : Option A) → filter_map (λ (y : Option A). y) (o ∷ []) ≡ option_to_list o
 one_of None = refl
 one_of (Some y) = refl
 
-pub declared_more : {A B : Type 0} (of : A → Option B) (before : List B) (found : Option B) (xs : List A) (i : ℕ) (x : A) → i < length xs → x ≡ get_or xs i x → before ≡ filter_map of (take i xs) → found ≡ of x → before ++ option_to_list found ≡ filter_map of (take (i + 1) xs)
+declared_more : {A B : Type 0} (of : A → Option B) (before : List B) (found : Option B) (xs : List A) (i : ℕ) (x : A) → i < length xs → x ≡ get_or xs i x → before ≡ filter_map of (take i xs) → found ≡ of x → before ++ option_to_list found ≡ filter_map of (take (i + 1) xs)
 declared_more of before found xs i x within here so_far is =
     let more : take (i + 1) xs ≡ take i xs ++ x ∷ [] = take_more xs i x within ∙ ap (λ y. take i xs ++ y ∷ []) (sym here) in
     ap (λ b. b ++ option_to_list found) so_far ∙ ap (λ o. filter_map of (take i xs) ++ option_to_list o) is
     ∙ ap (λ l. filter_map of (take i xs) ++ l) (sym (one_of (of x)))
     ∙ sym (filter_map-append of (take i xs) (x ∷ [])) ∙ ap (filter_map of) (sym more)
-
-declares : (of : MainLine → Option parts.Declared) (x : MainLine) (old new : List code.Declared) → ((d : code.Declared) × (of x ≡ Some (declared_of d)) × (new ≡ old ++ d ∷ [])) ⊎ ((of x ≡ None) × (new ≡ old)) → declared_in new ≡ declared_in old ++ option_to_list (of x)
-declares of x old new (inl h) = ap declared_in h.2 ∙ map-append declared_of old (h.0 ∷ []) ∙ ap (λ o. declared_in old ++ option_to_list o) (sym h.1)
-declares of x old new (inr h) = ap declared_in h.1 ∙ sym (append-nil (declared_in old)) ∙ ap (λ o. declared_in old ++ option_to_list o) (sym h.0)
-
-pub declared_step : (of : MainLine → Option parts.Declared) (old new : List code.Declared) (xs : List MainLine) (i : ℕ) (x : MainLine) → i < length xs → x ≡ get_or xs i x → declared_in old ≡ filter_map of (take i xs)
-    → ((d : code.Declared) × (of x ≡ Some (declared_of d)) × (new ≡ old ++ d ∷ [])) ⊎ ((of x ≡ None) × (new ≡ old)) → declared_in new ≡ filter_map of (take (i + 1) xs)
-declared_step of old new xs i x within here so_far step = declares of x old new step ∙ declared_more of (declared_in old) (of x) xs i x within here so_far refl
 
 -- the names that lines make are in scope in the reverse order
 pub made_look : (before : List MainLine) (scope : Scope Role) → scope ≡ entered_each Made (filter_map made_name before) [] → SameLook scope (made_scope before)
