@@ -15,15 +15,8 @@ use Rattle.da_lang.specs.ClassParts.{Body, body_in, is_handler, params_if, run_o
 use Rattle.da_lang.specs.ExprMeaning.{Meaning, Tables}
 use Rattle.da_lang.specs.Resolution.{class_tables, handler, handlers, resolved_class}
 use Rattle.da_lang.specs.Scopes.{Scope}
-<<<<<<< HEAD
-use Rattle.da_scope.specs.BlockScope.{scope_behind_in}
-use Rattle.da_scope.specs.ClassView.{handlers_in, run_in}
-use Rattle.da_scope.proofs.StatementsAt.{items_append, scope_append, tables_append}
-use Rattle.da_scope.proofs.TakenMeanings.{taken}
-=======
 use Rattle.da_scope.specs.ClassView.{handlers_in}
 use Rattle.da_scope.proofs.TakenMeanings.{taken}
->>>>>>> 7befc4a652a6889f3d08fcf888d5b46c285ae587
 
 filter_more : (p : Body → Bool) (xs ys : List Member) → filter p (filter_map body_in (xs ++ ys)) ≡ filter p (filter_map body_in xs) ++ filter p (filter_map body_in ys)
 filter_more p xs ys = ap (filter p) (filter_map-append body_in xs ys) ∙ filter-append p (filter_map body_in xs) (filter_map body_in ys)
@@ -67,8 +60,8 @@ assembled : (Body_of : List Stmt → Scope Meaning → Tables → List Item × T
     → setup ≡ (Body_of stmts inner t1).0 → t2 ≡ (Body_of stmts inner t1).1 → run ≡ (Body_of main scope t2).0 → t3 ≡ (Body_of main scope t2).1 → found ≡ (Handled t3).0 → t4 ≡ (Handled t3).1
     → types ≡ t4.slots → queries ≡ t4.queries
     → ◌≡◌ {A = Class} (record { name = name; slots = types; params = slots; setup = setup; run = run; handlers = found; queries = queries; line = line })
-      (let s = Body_of stmts' (In params' t0' scope') (With params' t0') in let r = Body_of main' scope' s.1 in let h = Handled r.1 in
-      record { name = name'; slots = h.1.slots; params = New t0' (length params'); setup = s.0; run = r.0; handlers = h.0; queries = h.1.queries; line = line })
+    (let s = Body_of stmts' (In params' t0' scope') (With params' t0') in let r = Body_of main' scope' s.1 in let h = Handled r.1 in
+    record { name = name'; slots = h.1.slots; params = New t0' (length params'); setup = s.0; run = r.0; handlers = h.0; queries = h.1.queries; line = line })
 assembled Body_of Handled In With New name name' line params params' stmts stmts' main main' scope scope' inner t0 t0' t1 t2 t3 t4 types queries slots setup run found a b c d e f g h i j k l m n o p q = cc
 
 -- a class, with the bodies of another
@@ -94,6 +87,6 @@ pub class_built : (c h : ClassTree) (name : List ℕ) (params : List Param) (stm
 class_built c h name params stmts main scope outer inner t0 t1 t2 t3 t4 types queries slots setup run none found same outside a b d z e f g i j k l m n nothing o p q r =
     let there = outside ∙ ap class_slots same in
     assembled (body_of h) (handlers h (handlers_in h.members)) param_slots with_params fresh name c.name c.line params (params_if (setup_of c)) stmts (stmts_if (setup_of c)) main (stmts_if (run_of c)) scope (class_slots c) inner
-      t0 (class_tables c) t1 t2 t3 t4 types queries slots setup run found a b d z (e ∙ there) f g i j k l (m ∙ ap (λ s. (body_of h main s t2).0) (sym e)) (n ∙ ap (λ s. (body_of h main s t2).1) (sym e))
-      (o ∙ ap (λ (hs : List Handler). hs ++ (handlers h (handlers_in h.members) t3).0) nothing) p q r
+    t0 (class_tables c) t1 t2 t3 t4 types queries slots setup run found a b d z (e ∙ there) f g i j k l (m ∙ ap (λ s. (body_of h main s t2).0) (sym e)) (n ∙ ap (λ s. (body_of h main s t2).1) (sym e))
+    (o ∙ ap (λ (hs : List Handler). hs ++ (handlers h (handlers_in h.members) t3).0) nothing) p q r
     ∙ ap (λ (x : ClassTree). made_of x c) same ∙ class_is c

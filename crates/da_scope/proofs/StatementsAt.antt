@@ -10,12 +10,7 @@ use Rattle.da_lang.specs.BodyMeaning.{Becomes, Copy, Guarded, Stating, as_alt, a
 use Rattle.da_lang.specs.ExprMeaning.{Meaning, Tables}
 use Rattle.da_lang.specs.Scopes.{Scope}
 use Rattle.da_lang.proofs.StatingAt.{stating_in, guarding-of}
-<<<<<<< HEAD
-use Rattle.da_scope.specs.BlockScope.{scope_behind}
 use Rattle.da_scope.proofs.TakenMeanings.{taken}
-=======
-use Rattle.da_scope.proofs.TakenMeanings.{taken}
->>>>>>> 7befc4a652a6889f3d08fcf888d5b46c285ae587
 
 pub ruleset statements_at = (stating_in)
 
@@ -40,7 +35,7 @@ scope_behind (s ∷ ss) scope tables = let first = s scope tables in scope_behin
 -- one statement behind others
 items_more : (copy : Copy) (stmts : List Stmt) (s : Stmt) (scope : Scope Meaning) (tables : Tables)
     → (body_with copy (stmts ++ s ∷ []) scope tables).0
-      ≡ (body_with copy stmts scope tables).0 ++ (stating copy s (scope_behind (map (stating copy) stmts) scope tables) (body_with copy stmts scope tables).1).item ∷ []
+    ≡ (body_with copy stmts scope tables).0 ++ (stating copy s (scope_behind (map (stating copy) stmts) scope tables) (body_with copy stmts scope tables).1).item ∷ []
 items_more copy [] s scope tables = refl
 items_more copy (t ∷ stmts) s scope tables = let first = stating copy t scope tables in ap (λ items. first.item ∷ items) (items_more copy stmts s first.scope first.tables)
 
