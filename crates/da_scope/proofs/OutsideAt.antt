@@ -118,7 +118,7 @@ link_at link operand = roll-ChainPart (record { op = (out-ChainTree link).op; op
 
 links_more : (links : List ChainTree) (link : ChainTree) (scope : Scope Meaning) (tables : Tables)
     → (signed_outside (map signed_of (links ++ link ∷ [])) scope tables).0
-      ≡ (signed_outside (map signed_of links) scope tables).0 ++ link_at link ((meant (out-ChainTree link).operand).outside scope (signed_outside (map signed_of links) scope tables).1).0 ∷ []
+    ≡ (signed_outside (map signed_of links) scope tables).0 ++ link_at link ((meant (out-ChainTree link).operand).outside scope (signed_outside (map signed_of links) scope tables).1).0 ∷ []
 links_more [] link scope tables = ap (λ s. (signed_outside (s ∷ []) scope tables).0) (signed_is link)
 links_more (l ∷ links) link scope tables =
     let first = (signed_of l).meant.outside scope tables in

@@ -16,7 +16,7 @@ numbered-append means first (x ∷ xs) ys scope =
 
 width-numbered : (first : ℕ) (names : List (List ℕ)) (scope : Scope Meaning) → width (numbered InRow first names scope) ≡ length names + width scope
 width-numbered first [] scope = omega arith
-width-numbered first (x ∷ xs) scope = 
+width-numbered first (x ∷ xs) scope =
     let wider : width ((x, InRow first) ∷ scope) ≡ suc (width scope) = omega (arith, sum_by-cons (λ (n : ℕ). n) 1 (map (λ (entry : List ℕ × Meaning). in_row entry.1) scope)) in
     width-numbered (suc first) xs ((x, InRow first) ∷ scope) ∙ omega (arith, wider)
 

@@ -7,11 +7,7 @@ use da_values::{Boxed, List, NoMemory};
 use std::alloc::Global;
 
 /// Arguments with the slots of their parameters. Each is taken from the front: a class has few slots.
-pub fn bind_args(
-    alloc: Global,
-    slots: &[u16],
-    args: List<RExpr>,
-) -> Result<List<BindArg>, NoMemory>
+pub fn bind_args(alloc: Global, slots: &[u16], args: List<RExpr>) -> Result<List<BindArg>, NoMemory>
     ensures { IfOk result (λ binds. binds ≡ map bind_arg (zip slots.now args)) }
 {
     let mut left = args;

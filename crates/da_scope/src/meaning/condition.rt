@@ -9,7 +9,8 @@ use crate::meaning::generator::{generators, slot_source};
 use crate::meaning::scope::Scope;
 use crate::meaning::term::term;
 use da_lang::{
-    Agg, AggOp, ArithOp, ChainTree, Cond, Expr, GenTree, Operand, Pattern, RGen, SignedOperand, Term,
+    Agg, AggOp, ArithOp, ChainTree, Cond, Expr, GenTree, Operand, Pattern, RGen, SignedOperand,
+    Term,
 };
 use da_values::{Boxed, List, NoMemory};
 use std::alloc::Global;
@@ -72,11 +73,7 @@ pub fn boxed_condition<'t>(
 
 // Expressions as conditions.
 #[cycle(conditions)]
-fn conditions<'t>(
-    alloc: Global,
-    xs: &'t [Expr],
-    scope: &Scope<'t>,
-) -> Result<List<Cond>, NoMemory>
+fn conditions<'t>(alloc: Global, xs: &'t [Expr], scope: &Scope<'t>) -> Result<List<Cond>, NoMemory>
     ensures { IfOk result (λ found. found ≡ map (λ (m : Meant). m.condition scope.now) (map meant xs.now)) }
 {
     let mut found = List::new(alloc);
@@ -115,20 +112,8 @@ fn operand<'t>(alloc: Global, x: &'t Expr, scope: &Scope<'t>) -> Result<Operand,
             let first = boxed_operand(alloc, first.get(), scope)?;
             Ok(Operand::Chain(first, signed_operands(alloc, links.as_slice(), scope)?))
         }
-        Expr::Count(x) => Ok(Operand::Agg(aggregate(
-            alloc,
-            AggOp::Count,
-            x.get(),
-            None,
-            scope,
-        )?)),
-        Expr::Sum(x) => Ok(Operand::Agg(aggregate(
-            alloc,
-            AggOp::Sum,
-            x.get(),
-            None,
-            scope,
-        )?)),
+        Expr::Count(x) => Ok(Operand::Agg(aggregate(alloc, AggOp::Count, x.get(), None, scope)?)),
+        Expr::Sum(x) => Ok(Operand::Agg(aggregate(alloc, AggOp::Sum, x.get(), None, scope)?)),
         Expr::Min(x, other) => Ok(Operand::Agg(aggregate(
             alloc,
             AggOp::Min,

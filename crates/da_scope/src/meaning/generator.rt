@@ -28,11 +28,7 @@ pub fn generators<'t>(
 
 // A generator, whose variables come into scope.
 #[tactic(auto, using(crate::proofs::GensAt::gens_at))]
-fn generator<'t>(
-    alloc: Global,
-    g: &'t GenTree,
-    scope: &mut Scope<'t>,
-) -> Result<RGen, NoMemory>
+fn generator<'t>(alloc: Global, g: &'t GenTree, scope: &mut Scope<'t>) -> Result<RGen, NoMemory>
     ensures gen_ { IfOk result (λ found. found ≡ (generator g.now).gen_ scope.old) }
     ensures scope { OnOk result (scope.new ≡ with_row (generator g.now).binds scope.old) }
 {

@@ -53,11 +53,7 @@ fn count_made(line: &MainLine) -> usize
 }
 
 // The name that a line makes behind so many processes comes into scope.
-fn enter_line<'t>(
-    before: usize,
-    line: &'t MainLine,
-    scope: &mut Scope<'t>,
-) -> Result<(), NoMemory>
+fn enter_line<'t>(before: usize, line: &'t MainLine, scope: &mut Scope<'t>) -> Result<(), NoMemory>
     ensures { OnOk result (scope.new ≡ made_entry before line.now ++ scope.old) }
 {
     match line {
@@ -168,11 +164,7 @@ fn call_of<'t>(
 }
 
 // Arguments of `setup`, which have no queries.
-fn arguments<'t>(
-    alloc: Global,
-    xs: &'t [Expr],
-    scope: &Scope<'t>,
-) -> Result<List<RExpr>, NoMemory>
+fn arguments<'t>(alloc: Global, xs: &'t [Expr], scope: &Scope<'t>) -> Result<List<RExpr>, NoMemory>
     ensures { IfOk result (λ args. args ≡ resolved_args scope.now xs.now) }
 {
     let mut args = List::new(alloc);
