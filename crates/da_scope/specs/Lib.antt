@@ -1,4 +1,3 @@
-pub mod BlockScope
 pub mod BodyView
 pub mod Bound
 pub mod CallBodies
