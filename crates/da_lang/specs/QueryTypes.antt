@@ -140,14 +140,24 @@ pattern_tag _ = None
 abbrev pub message_row : Known → Pattern → List Ty → Option (List Ty)
 message_row known p row = given (given (pattern_tag (out-Pattern p)) (message_type known)) (λ ty. pattern_row known p ty row)
 
--- what a generator goes through: messages, or the elements of a slot of a set type; the other pattern is over processes
+-- what a generator goes through: messages, or the elements of a slot of a set type
 abbrev pub source_row : Known → Source → Pattern → List Ty → Option (List Ty)
 source_row known source.Received p row = message_row known p row
 source_row known source.Sent p row = message_row known p row
 source_row known (source.Slot slot) p row = given (given (slot_type known slot) element_of) (λ element. matched_row known p element row)
 
+-- the second pattern: of a message it is over processes; an element of a set has no other process
+abbrev pub is_any : pattern.Pattern-F Pattern → Bool
+is_any pattern.Any = true
+is_any _ = false
+
+abbrev pub peer_row : Known → Source → Pattern → List Ty → Option (List Ty)
+peer_row known source.Received p row = pattern_row known p t.Proc row
+peer_row known source.Sent p row = pattern_row known p t.Proc row
+peer_row known (source.Slot slot) p row = when (is_any (out-Pattern p)) row
+
 abbrev pub gen_row : Known → RGen → List Ty → Option (List Ty)
-gen_row known g row = given (source_row known g.source g.message row) (pattern_row known g.peer t.Proc)
+gen_row known g row = given (source_row known g.source g.message row) (peer_row known g.source g.peer)
 
 abbrev pub gens_row : Known → List RGen → List Ty → Option (List Ty)
 gens_row known [] row = Some row

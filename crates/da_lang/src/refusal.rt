@@ -11,7 +11,8 @@ pub enum ScopeKind {
     /// A second declaration of a name, a second `setup` or `run` of a class, or a second line of `setup` for a name of
     /// `main`.
     Twice,
-    /// A parameter or another variable with the name of a variable in scope.
+    /// A parameter or another variable with the name of a variable in scope, or a second variable of one name in the
+    /// patterns of a handler.
     Shadow,
     /// A call in a method that leads back to that method.
     Recursive,

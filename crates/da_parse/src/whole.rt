@@ -64,8 +64,9 @@ fn read_tree(alloc: Global, tokens: &Tokens<'_>) -> Result<Tree, ParseFault>
 }
 
 /// The tree that the tokens of a text spell, if they spell one in which no more than 32 things are open at once; there is
-/// one such tree. Otherwise the answer is the first token with which the tokens before it begin no program, or which
-/// opens one thing too many, by its line; the end of the text counts as a last token.
+/// one such tree. Otherwise the answer tells the line of the token at which the reader of the grammar stopped, since no
+/// program goes on so or one thing too many is opened there; the end of the text counts as a last token. What is proved
+/// of a fault is that its line is one of the text, and that no tree is spelled within that nesting.
 pub fn parse(alloc: Global, tokens: &Tokens<'_>) -> Result<Tree, ParseFault>
     // What is read is spelled so, where the tokens are those of their text.
     ensures spelled { tokens_of tokens.now.text.now ≡ Ok tokens.now.list → IfOk result (λ tree. SpellsWithin 32 tree (toks tokens.now.text.now tokens.now.list)) }
