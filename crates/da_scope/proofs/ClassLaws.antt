@@ -16,6 +16,7 @@ use Rattle.da_scope.specs.Telling.{Refusal, telling}
 use Rattle.da_scope.proofs.AgainLaws.{at_lines-append}
 use Rattle.da_scope.proofs.SameBody.{flat_map-same, scope_refusals-same}
 use Rattle.da_scope.proofs.SameLook.{SameLook}
+use Rattle.da_scope.proofs.KindOrders.{name_order}
 use Rattle.da_scope.proofs.TellingLaws.{telling-append, telling-both, telling-swap}
 
 -- lists that are found one after the other
@@ -25,7 +26,7 @@ tells found (xs ∷ rest) = tells (telling found xs) rest
 
 sooner_found : (found : Option Refusal) (before : List (List Refusal)) (xs : List Refusal) (after : List (List Refusal)) → tells found (before ++ xs ∷ after) ≡ tells found (xs ∷ before ++ after)
 sooner_found found [] xs after = refl
-sooner_found found (y ∷ ys) xs after = sooner_found (telling found y) ys xs after ∙ ap (λ f. tells f (ys ++ after)) (telling-swap found y xs)
+sooner_found found (y ∷ ys) xs after = sooner_found (telling found y) ys xs after ∙ ap (λ f. tells f (ys ++ after)) (telling-swap name_order found y xs)
 
 module _ (f : Option Refusal) where
   pub tells_two : (a b : List Refusal) → telling f (a ++ b) ≡ tells f (a ∷ b ∷ [])
@@ -81,16 +82,16 @@ flat_where test (b ∷ bs) =
 both_lines : {A : Type 0} (f : Option Refusal) (kind : ScopeKind) (p q : A → List ℕ) (xs : List A) → telling f (at_lines kind (flat_map (λ x. p x ++ q x) xs)) ≡ tells f (at_lines kind (flat_map p xs) ∷ at_lines kind (flat_map q xs) ∷ [])
 both_lines f kind p q xs =
     ap (telling f) (sym (flat_lines kind (λ x. p x ++ q x) xs) ∙ flat_map-same (λ x. at_lines kind (p x ++ q x)) (λ x. at_lines kind (p x) ++ at_lines kind (q x)) xs (λ x. at_lines-append kind (p x) (q x)))
-    ∙ telling-both (λ x. at_lines kind (p x)) (λ x. at_lines kind (q x)) f xs
+    ∙ telling-both name_order (λ x. at_lines kind (p x)) (λ x. at_lines kind (q x)) f xs
     ∙ ap (λ rs. telling (telling f rs) (flat_map (λ x. at_lines kind (q x)) xs)) (flat_lines kind p xs)
     ∙ ap (telling (telling f (at_lines kind (flat_map p xs)))) (flat_lines kind q xs)
 
 both_five : {A : Type 0} (f : Option Refusal) (p q r s t : A → List Refusal) (xs : List A) → telling f (flat_map (λ x. p x ++ q x ++ r x ++ s x ++ t x) xs) ≡ tells f (flat_map p xs ∷ flat_map q xs ∷ flat_map r xs ∷ flat_map s xs ∷ flat_map t xs ∷ [])
 both_five f p q r s t xs =
-    telling-both (λ x. p x ++ q x ++ r x ++ s x) t f xs
-    ∙ ap (λ g. telling g (flat_map t xs)) (telling-both (λ x. p x ++ q x ++ r x) s f xs
-    ∙ ap (λ g. telling g (flat_map s xs)) (telling-both (λ x. p x ++ q x) r f xs
-    ∙ ap (λ g. telling g (flat_map r xs)) (telling-both p q f xs)))
+    telling-both name_order (λ x. p x ++ q x ++ r x ++ s x) t f xs
+    ∙ ap (λ g. telling g (flat_map t xs)) (telling-both name_order (λ x. p x ++ q x ++ r x) s f xs
+    ∙ ap (λ g. telling g (flat_map s xs)) (telling-both name_order (λ x. p x ++ q x) r f xs
+    ∙ ap (λ g. telling g (flat_map r xs)) (telling-both name_order p q f xs)))
 
 twice_lines : (f : Option Refusal) (a b c d e g : List ℕ) → telling f (at_lines refusal.Twice (a ++ b ++ c ++ d ++ e ++ g))
     ≡ tells f (at_lines refusal.Twice a ∷ at_lines refusal.Twice b ∷ at_lines refusal.Twice c ∷ at_lines refusal.Twice d ∷ at_lines refusal.Twice e ∷ at_lines refusal.Twice g ∷ [])

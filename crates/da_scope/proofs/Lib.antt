@@ -1,4 +1,5 @@
 pub mod AgainLaws
+pub mod Alike
 pub mod Arguments
 pub mod BodiesAt
 pub mod BodyLaws
@@ -38,9 +39,9 @@ pub mod ExtentsAt
 pub mod Found
 pub mod FoundAt
 pub mod GensAt
+pub mod KindOrders
 pub mod LimitLinesAt
 pub mod LimitOrder
-pub mod LimitTellingLaws
 pub mod LimitTreeAt
 pub mod LimitWalkAt
 pub mod ListSteps
@@ -66,7 +67,6 @@ pub mod SlotsKept
 pub mod StatementsAt
 pub mod StmtLaws
 pub mod Taken
-pub mod TakenMeanings
 pub mod TellingLaws
 pub mod TermsAt
 pub mod ToldExprs

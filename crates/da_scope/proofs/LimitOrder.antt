@@ -17,13 +17,15 @@ use Rattle.da_lang.specs.Deeds.{Deed, deeds}
 use Rattle.da_lang.specs.Limits.{line_if, has_query, is_reached, most_classes, wide_exprs, most_generators, classes_over, processes_over, items_over, blocks_over, variables_over, generators_over, wide_header, parts_in_body, parts_in_class, parts_in_main, parts_in_message, parts_in_variable, parts_over, limit_refusals, rank}
 use Rattle.da_lang.specs.Scopes.{Refused, at_lines, told}
 use Rattle.da_scope.specs.LimitLines.{told_at, wide_lines, gen_lines}
-use Rattle.da_scope.specs.LimitTelling.{Refusal, telling}
+use Rattle.da_scope.specs.Telling.{LimitRefusal as Refusal, telling_limits as telling}
 use Rattle.da_scope.specs.LimitTree.{classes_told, main_lines, message_lines}
 use Rattle.da_scope.specs.LimitWalk.{class_told, member_told, members_told, stmts_told, wide_params, wide_patterns}
 use Rattle.da_scope.specs.Sizes.{sizes}
 use Rattle.da_scope.proofs.ClassMembersAt.{dropped, dropped_all}
 use Rattle.da_scope.proofs.DeedLimits.{lines-wide, lines-gens}
-use Rattle.da_scope.proofs.LimitTellingLaws.{Alike, alike-refl, alike-trans, alike-sym, alike-is, alike-both, alike-flat, telling-nil, telling-append, telling-swap, told-telling}
+use Rattle.da_scope.proofs.Alike.{Alike, alike-refl, alike-trans, alike-sym, alike-is, alike-both, alike-flat}
+use Rattle.da_scope.proofs.KindOrders.{limit_order}
+use Rattle.da_scope.proofs.TellingLaws.{telling-nil, telling-append, telling-swap, told-telling}
 
 -- refusals of one kind
 abbrev At : LimitKind → List ℕ → List Refusal
@@ -221,9 +223,9 @@ orders s i b v m k x g =
     let from = T (T s m) x in
     ap (λ f. T f q) (sym (telling-append from k g)) ∙ sym (telling-append from (k ++ g) q) ∙ ap (T from) (sym (append_assoc (k ++ g) (i ++ b) v) ∙ ap (λ rs. rs ++ v) (sym (append_assoc (k ++ g) i b))) in
     ap (λ f. T (T f (m ++ k ++ x)) g) front
-    ∙ ap (λ f. T f g) (telling-swap s q (m ++ k ++ x))
-    ∙ telling-swap (T s (m ++ k ++ x)) q g
-    ∙ ap (λ f. T (T f g) q) (telling-append s (m ++ k) x ∙ ap (λ f. T f x) (telling-append s m k) ∙ telling-swap (T s m) k x)
+    ∙ ap (λ f. T f g) (telling-swap limit_order s q (m ++ k ++ x))
+    ∙ telling-swap limit_order (T s (m ++ k ++ x)) q g
+    ∙ ap (λ f. T (T f g) q) (telling-append s (m ++ k) x ∙ ap (λ f. T f x) (telling-append s m k) ∙ telling-swap limit_order (T s m) k x)
     ∙ back
 
 -- what is told of a tree
@@ -252,7 +254,7 @@ tree_told t =
     ∙ ap (λ f. T f x) (told_at-is limit.Parts (told_at limit.Processes (told_at limit.Classes None (classes_over t)) (processes_over 0 t.main)) (flat_map parts_in_message t.messages)
     ∙ ap (λ f. T f m) (told_at-is limit.Processes (told_at limit.Classes None (classes_over t)) (processes_over 0 t.main) ∙ ap (λ f. T f p) (told_at-is limit.Classes None (classes_over t)))) in
     let kinds = classes-alike t.classes in
-    told-telling (c ++ p ++ i ++ b ++ v ++ At limit.Parts (parts_over t) ++ g) ∙ defined ∙ orders s i b v m k x g
+    told-telling limit_order (c ++ p ++ i ++ b ++ v ++ At limit.Parts (parts_over t) ++ g) ∙ defined ∙ orders s i b v m k x g
     ∙ sym (kinds.tells (T (T s m) x)) ∙ sym (classes-told t.classes (T (T s m) x)) ∙ ap (classes_told t.classes) (sym outside)
 
 -- each class one behind the other

@@ -13,7 +13,7 @@ use Rattle.da_lang.specs.Resolution.{made_count}
 use Rattle.da_lang.specs.Written.{type_width}
 use Rattle.da_scope.specs.Capped.{capped}
 use Rattle.da_scope.specs.LimitLines.{told_at}
-use Rattle.da_scope.specs.LimitTelling.{Refusal}
+use Rattle.da_scope.specs.Telling.{LimitRefusal as Refusal}
 use Rattle.da_scope.specs.LimitTree.{main_lines, message_lines}
 use Rattle.da_scope.proofs.ClassMembersAt.{dropped, dropped_all}
 use Rattle.da_scope.proofs.LimitLinesAt.{classes-is, processes-is, told-none, told-one}

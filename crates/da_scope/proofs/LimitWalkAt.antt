@@ -15,7 +15,7 @@ use Rattle.da_lang.specs.Limits.{line_if, wide, is_reached, most_parts, most_var
 use Rattle.da_lang.specs.Written.{Writing, pattern_written, type_width}
 use Rattle.da_scope.specs.Capped.{capped}
 use Rattle.da_scope.specs.LimitLines.{told_at, wide_lines, gen_lines}
-use Rattle.da_scope.specs.LimitTelling.{Refusal}
+use Rattle.da_scope.specs.Telling.{LimitRefusal as Refusal}
 use Rattle.da_scope.specs.LimitWalk.{stmts_told, many_in, member_told, member_many, wide_params, wide_patterns}
 use Rattle.da_scope.specs.Sizes.{sizes}
 use Rattle.da_scope.specs.Writings.{seen}

@@ -28,6 +28,7 @@ use Rattle.da_scope.specs.Told.{entered_each, told_kinds, told_expr}
 use Rattle.da_scope.proofs.AgainLaws.{at_lines-append}
 use Rattle.da_scope.proofs.PartLaws.{expr_plain}
 use Rattle.da_scope.proofs.SameLook.{SameLook, same_each, entered_each-append}
+use Rattle.da_scope.proofs.KindOrders.{name_order}
 use Rattle.da_scope.proofs.TellingLaws.{telling-append, told-telling}
 use Rattle.da_scope.proofs.ToldExprs.{told_expr-Name}
 use Rattle.da_scope.proofs.ToldParts.{told_kinds-nil, told_kinds-append}
@@ -212,4 +213,4 @@ unfolding name_refusals
 told_whole t first second last classes twice main =
     main ∙ ap (λ f. telling f (main_refusals t [] t.main)) (twice ∙ ap (λ f. telling f (at_lines refusal.Twice (twice_of t))) classes ∙ sym (telling-append None (flat_map class_refusals t.classes) (at_lines refusal.Twice (twice_of t))))
     ∙ sym (telling-append None (flat_map class_refusals t.classes ++ at_lines refusal.Twice (twice_of t)) (main_refusals t [] t.main))
-    ∙ sym (told-telling (name_refusals t))
+    ∙ sym (told-telling name_order (name_refusals t))

@@ -21,6 +21,7 @@ use Rattle.da_scope.proofs.CallAnswers.{leads_back-call}
 use Rattle.da_scope.proofs.CallBounds.{false_true, none_is_some, some_same, in_first, in_later, in_cases, in_none, in_filter_map, filter_map_in, find_in, method_in_names}
 use Rattle.da_scope.proofs.CallNames.{same_name, name_same}
 use Rattle.da_scope.proofs.CallRows.{method_read}
+use Rattle.da_scope.proofs.KindOrders.{name_order}
 use Rattle.da_scope.proofs.TellingLaws.{telling-append, telling-same}
 use Rattle.da_scope.proofs.AgainLaws.{at_lines-append}
 
@@ -97,7 +98,7 @@ module _ (c : ClassTree) (ms : List Method) (number : List ℕ → Option ℕ) (
   pub told_once : (found : Option Refusal) → telling found (at_lines Recursive (flat_map (recursive_in c) (map name_of ms))) ≡ telling found (at_lines Recursive (flat_map (recursive_in c) (method_names c)))
   told_once found =
       ap (telling found) (flat_lines (map name_of ms))
-      ∙ telling-same (λ n. at_lines Recursive (recursive_in c n)) found (map name_of ms) (method_names c) numbered_all all_numbered
+      ∙ telling-same name_order (λ n. at_lines Recursive (recursive_in c n)) found (map name_of ms) (method_names c) numbered_all all_numbered
       ∙ ap (telling found) (sym (flat_lines (method_names c)))
 
 -- a call in a method that leads to it again

@@ -20,7 +20,6 @@ pub mod Extents
 pub mod HomeView
 pub mod Inlining
 pub mod LimitLines
-pub mod LimitTelling
 pub mod LimitTree
 pub mod LimitWalk
 pub mod Loops

@@ -1,7 +1,7 @@
 //! Limits: the refusal of a program that passes one.
 ghost use Rattle.da_lang.specs.Limits.{limit_fault};
 ghost use Rattle.da_lang.specs.NameRules.{name_refusals};
-ghost use Rattle.da_scope.specs.LimitTelling.{refusal_of};
+ghost use Rattle.da_scope.specs.Telling.{refusal_of};
 ghost use Rattle.da_scope.specs.LimitTree.{NoneLeadBack, classes_told};
 ghost use Rattle.std.specs.Prelude.{◌≡◌, [], IfOk, OnOk, option_map};
 
@@ -9,7 +9,6 @@ mod bound;
 mod classes;
 mod copies;
 mod extent;
-mod least;
 mod lines;
 mod members;
 mod methods;
@@ -23,12 +22,11 @@ mod types;
 mod walk;
 mod written;
 
+use crate::least::{Least, LimitFault};
 use crate::limits::tree::{tell_count, tell_main, tell_messages, tell_processes};
 use crate::limits::walk::tell_class;
-use da_lang::{ClassTree, Tree};
+use da_lang::{ClassTree, LimitKind, Tree};
 use da_values::NoMemory;
-use least::Least;
-pub use least::LimitFault;
 use std::alloc::Global;
 
 /// The limit that is told of a program that names do not refuse: of all that it passes, the one on the least line, and
@@ -50,7 +48,7 @@ pub fn limit_fault(alloc: Global, tree: &Tree) -> Result<Option<LimitFault>, NoM
 }
 
 // The limits that classes pass, in none of which a call leads back.
-fn tell_classes(alloc: Global, classes: &[ClassTree], least: &mut Least) -> Result<(), NoMemory>
+fn tell_classes(alloc: Global, classes: &[ClassTree], least: &mut Least<LimitKind>) -> Result<(), NoMemory>
     requires { NoneLeadBack classes.now }
     ensures { OnOk result (least.new ≡ classes_told classes.now least.old) }
 {

@@ -5,8 +5,8 @@ ghost use Rattle.da_scope.specs.Resolving.{IsRefusedAs};
 ghost use Rattle.da_scope.specs.declared.top.ScopeFault.TheVariants.{Memory};
 ghost use Rattle.std.specs.Prelude.{◌≡◌, IfErr, IfOk, MatchResult};
 
-use crate::least::NameFault;
-use crate::limits::{LimitFault, limit_fault};
+use crate::least::{LimitFault, NameFault};
+use crate::limits::limit_fault;
 use crate::meaning::program::build_program;
 use crate::names::tree::name_fault;
 use da_lang::{LimitKind, Program, ScopeKind, Tree};

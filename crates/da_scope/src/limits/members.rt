@@ -6,7 +6,7 @@ ghost use Rattle.da_scope.specs.LimitWalk.{IsKnown, many_in, member_many, member
 ghost use Rattle.std.specs.Prelude.{◌≡◌, IfOk, OnOk};
 
 use crate::calls::CallGraph;
-use crate::limits::least::Least;
+use crate::least::Least;
 use crate::limits::lines::{is_wide, some_many_variables, tell_generators, tell_if, tell_wide};
 use crate::limits::sizes::put_sizes;
 use crate::limits::types::type_width;
@@ -21,7 +21,7 @@ pub fn tell_member(
     alloc: Global,
     member: &Member,
     graph: &CallGraph<'_>,
-    least: &mut Least,
+    least: &mut Least<LimitKind>,
 ) -> Result<bool, NoMemory>
     requires graph { IsCallGraph graph.now }
     requires known { IsKnown graph.now.class.now member.now }
@@ -82,7 +82,7 @@ fn tell_stmts(
     alloc: Global,
     stmts: &[Stmt],
     reached: bool,
-    least: &mut Least,
+    least: &mut Least<LimitKind>,
 ) -> Result<bool, NoMemory>
     ensures told { OnOk result (least.new ≡ stmts_told reached stmts.now least.old) }
     ensures many { IfOk result (λ many. many ≡ many_in reached stmts.now) }

@@ -1,6 +1,6 @@
 //! Limits, at each and one past it.
+use crate::least::{Least, LimitFault};
 use crate::limits::extent::Extent;
-use crate::limits::least::{Least, LimitFault};
 use crate::limits::lines::{is_wide, some_many_variables, tell_generators};
 use crate::limits::sizes::{DeedSize, put_sizes};
 use crate::limits::tree::{tell_count, tell_processes};

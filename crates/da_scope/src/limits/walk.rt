@@ -11,7 +11,7 @@ ghost use Rattle.std.specs.Prelude.{◌≡◌, ◌||◌, IfOk, OnOk, nat_lt};
 use crate::calls::CallGraph;
 use crate::limits::classes::class_extent;
 use crate::limits::extent::Extent;
-use crate::limits::least::Least;
+use crate::least::Least;
 use crate::limits::lines::tell_if;
 use crate::limits::members::tell_member;
 use crate::limits::methods::copies_of;
@@ -20,7 +20,7 @@ use da_values::NoMemory;
 use std::alloc::Global;
 
 /// The limits that a class passes. No call in it leads back.
-pub fn tell_class(alloc: Global, class: &ClassTree, least: &mut Least) -> Result<(), NoMemory>
+pub fn tell_class(alloc: Global, class: &ClassTree, least: &mut Least<LimitKind>) -> Result<(), NoMemory>
     requires { NoneLeadsBack class.now }
     ensures { OnOk result (least.new ≡ class_told class.now least.old) }
 {
@@ -33,7 +33,7 @@ pub fn tell_class(alloc: Global, class: &ClassTree, least: &mut Least) -> Result
 }
 
 // The limits that the extent of a class passes. Some query has too many variables, or none has.
-fn tell_extent(extent: Extent, many: bool, line: u32, least: &mut Least)
+fn tell_extent(extent: Extent, many: bool, line: u32, least: &mut Least<LimitKind>)
     ensures { least.new ≡ told_at limit.Variables (told_at limit.Blocks (told_at limit.Items least.old (line_if (nat_lt most_items extent.items) line)) (line_if (nat_lt most_blocks extent.blocks) line)) (line_if (nat_lt most_variables extent.slots || many) line) }
 {
     tell_if(extent.has_many_items(), LimitKind::Items, line, least);
@@ -47,7 +47,7 @@ fn tell_extent(extent: Extent, many: bool, line: u32, least: &mut Least)
 }
 
 // The limits that the members of a class pass by themselves, and whether a query in one has too many variables.
-fn tell_members(alloc: Global, graph: &CallGraph<'_>, least: &mut Least) -> Result<bool, NoMemory>
+fn tell_members(alloc: Global, graph: &CallGraph<'_>, least: &mut Least<LimitKind>) -> Result<bool, NoMemory>
     requires { IsCallGraph graph.now }
     ensures told { OnOk result (least.new ≡ members_told graph.now.class.now graph.now.class.now.members least.old) }
     ensures many { IfOk result (λ many. many ≡ list_any (member_many graph.now.class.now) graph.now.class.now.members) }

@@ -95,7 +95,7 @@ pub fn check_body<'t>(
     alloc: Global,
     body: Body<'t>,
     names: &mut Names<'t>,
-    least: &mut Least,
+    least: &mut Least<ScopeKind>,
 ) -> Result<(), NoMemory>
     ensures told { OnOk result (least.new ≡ told_body names.old least.old (body_view body.entry)) }
     ensures same { OnOk result (names.new ≡ names.old) }
@@ -113,7 +113,7 @@ pub fn check_body<'t>(
 }
 
 /// Checks that no parameter takes the name of one in scope.
-fn check_params(params: &[Param], line: u32, names: &Names<'_>, least: &mut Least)
+fn check_params(params: &[Param], line: u32, names: &Names<'_>, least: &mut Least<ScopeKind>)
     ensures { least.new ≡ told_params line names.now least.old params.now }
 {
     for param in params {
@@ -188,7 +188,7 @@ fn check_place<'t>(
     place: Place<'t>,
     line: u32,
     names: &mut Names<'t>,
-    least: &mut Least,
+    least: &mut Least<ScopeKind>,
 ) -> Result<(), NoMemory>
     ensures told { OnOk result (least.new ≡ told_place line names.old least.old (place_view place.entry)) }
     ensures same { OnOk result (names.new ≡ names.old) }
@@ -214,7 +214,7 @@ fn check_sender<'t>(
     from: &'t Option<PatternTree>,
     line: u32,
     names: &mut Names<'t>,
-    least: &mut Least,
+    least: &mut Least<ScopeKind>,
 ) -> Result<(), NoMemory>
     ensures told { OnOk result (least.new ≡ told_sender line names.old least.old from.now) }
     ensures same { OnOk result (names.new ≡ names.old) }

@@ -20,7 +20,7 @@ use da_values::NoMemory;
 use std::alloc::Global;
 
 /// Tells the lines of the calls of no method.
-pub fn tell_unknown(deeds: &[Deed<'_>], graph: &CallGraph<'_>, least: &mut Least)
+pub fn tell_unknown(deeds: &[Deed<'_>], graph: &CallGraph<'_>, least: &mut Least<ScopeKind>)
     requires { IsCallGraph graph.now }
     ensures { least.new ≡ telling least.old (at_lines Unknown (lines_where (λ d. calls_none_of (class_in graph.now) d.does) (deeds_in deeds.now))) }
 {
@@ -32,7 +32,7 @@ pub fn tell_unknown(deeds: &[Deed<'_>], graph: &CallGraph<'_>, least: &mut Least
 }
 
 /// Tells the lines of the calls with another number of arguments than their method has parameters.
-pub fn tell_misfits(deeds: &[Deed<'_>], graph: &CallGraph<'_>, least: &mut Least)
+pub fn tell_misfits(deeds: &[Deed<'_>], graph: &CallGraph<'_>, least: &mut Least<ScopeKind>)
     requires { IsCallGraph graph.now }
     ensures { least.new ≡ telling least.old (at_lines Arity (lines_where (λ d. misfits_of (class_in graph.now) d d.does) (deeds_in deeds.now))) }
 {
@@ -44,7 +44,7 @@ pub fn tell_misfits(deeds: &[Deed<'_>], graph: &CallGraph<'_>, least: &mut Least
 }
 
 /// Tells the lines of the yield points, and of the calls of methods that yield.
-pub fn tell_yields(deeds: &[Deed<'_>], graph: &CallGraph<'_>, least: &mut Least)
+pub fn tell_yields(deeds: &[Deed<'_>], graph: &CallGraph<'_>, least: &mut Least<ScopeKind>)
     requires { IsCallGraph graph.now }
     ensures { least.new ≡ telling least.old (at_lines Yield (lines_where (λ d. yields_by (class_in graph.now) d.does) (deeds_in deeds.now))) }
 {
@@ -59,7 +59,7 @@ pub fn tell_yields(deeds: &[Deed<'_>], graph: &CallGraph<'_>, least: &mut Least)
 pub fn tell_recursive(
     alloc: Global,
     graph: &CallGraph<'_>,
-    least: &mut Least,
+    least: &mut Least<ScopeKind>,
 ) -> Result<(), NoMemory>
     requires { IsCallGraph graph.now }
     ensures { OnOk result (least.new ≡ telling least.old (at_lines Recursive (flat_map (recursive_in (class_in graph.now)) (method_names (class_in graph.now))))) }
@@ -72,7 +72,7 @@ pub fn tell_recursive(
 }
 
 /// Tells the lines of the calls of one method that lead back to it.
-fn tell_round(holder: &[u8], deeds: &[Deed<'_>], graph: &CallGraph<'_>, least: &mut Least)
+fn tell_round(holder: &[u8], deeds: &[Deed<'_>], graph: &CallGraph<'_>, least: &mut Least<ScopeKind>)
     requires graph { IsCallGraph graph.now }
     requires deeds { deeds_in deeds.now ≡ deeds_of_method (class_in graph.now) holder.now }
     ensures { least.new ≡ telling least.old (at_lines Recursive (recursive_in (class_in graph.now) holder.now)) }

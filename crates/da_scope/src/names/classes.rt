@@ -28,7 +28,7 @@ use da_values::{List, NoMemory};
 use std::alloc::Global;
 
 /// Tells the refusals by names of a class, in time in step with its text.
-pub fn check_class(alloc: Global, class: &ClassTree, least: &mut Least) -> Result<(), NoMemory>
+pub fn check_class(alloc: Global, class: &ClassTree, least: &mut Least<ScopeKind>) -> Result<(), NoMemory>
     ensures { OnOk result (least.new ≡ telling least.old (class_refusals class.now)) }
 {
     let graph = CallGraph::new(alloc, class)?;
@@ -36,7 +36,7 @@ pub fn check_class(alloc: Global, class: &ClassTree, least: &mut Least) -> Resul
 }
 
 /// The same for the class of a graph of calls.
-fn check_graph(alloc: Global, graph: &CallGraph<'_>, least: &mut Least) -> Result<(), NoMemory>
+fn check_graph(alloc: Global, graph: &CallGraph<'_>, least: &mut Least<ScopeKind>) -> Result<(), NoMemory>
     requires { IsCallGraph graph.now }
     ensures { OnOk result (least.new ≡ telling least.old (class_refusals (class_in graph.now))) }
 {
@@ -68,7 +68,7 @@ fn enter_variables<'t>(
     alloc: Global,
     class: &'t ClassTree,
     names: &mut Names<'t>,
-    least: &mut Least,
+    least: &mut Least<ScopeKind>,
 ) -> Result<(), NoMemory>
     ensures told { OnOk result (least.new ≡ telling least.old (at_lines Twice (variables_again class.now))) }
     ensures entered { OnOk result (names.new ≡ entered_each ClassVariable (map (λ v. v.name) (variables_in class.now)) names.old) }
@@ -84,7 +84,7 @@ fn check_bodies<'t>(
     bodies: &[Body<'t>],
     graph: &CallGraph<'_>,
     names: &mut Names<'t>,
-    least: &mut Least,
+    least: &mut Least<ScopeKind>,
 ) -> Result<(), NoMemory>
     requires { IsCallGraph graph.now }
     ensures told { OnOk result (least.new ≡ telling least.old (flat_map (body_refusals (class_in graph.now) names.old) (bodies_in bodies.now))) }
@@ -102,7 +102,7 @@ fn check_one<'t>(
     body: Body<'t>,
     graph: &CallGraph<'_>,
     names: &mut Names<'t>,
-    least: &mut Least,
+    least: &mut Least<ScopeKind>,
 ) -> Result<(), NoMemory>
     requires { IsCallGraph graph.now }
     ensures told { OnOk result (least.new ≡ telling least.old (body_refusals (class_in graph.now) names.old (body_view body.entry))) }
@@ -116,7 +116,7 @@ fn check_one<'t>(
 }
 
 /// Tells the line of a handler with labels behind its patterns.
-fn tell_labels(body: Body<'_>, least: &mut Least)
+fn tell_labels(body: Body<'_>, least: &mut Least<ScopeKind>)
     ensures { least.new ≡ telling least.old (at_lines NotYet (label_lines (body_view body.entry))) }
 {
     if has_labels(body) {
@@ -139,7 +139,7 @@ fn has_labels(body: Body<'_>) -> bool
 }
 
 /// Tells the parameters of a body that are declared again.
-fn tell_params(alloc: Global, body: Body<'_>, least: &mut Least) -> Result<(), NoMemory>
+fn tell_params(alloc: Global, body: Body<'_>, least: &mut Least<ScopeKind>) -> Result<(), NoMemory>
     ensures { OnOk result (least.new ≡ telling least.old (at_lines Twice (params_again (body_view body.entry)))) }
 {
     let params = params_of(alloc, body.params, body.line)?;
@@ -151,7 +151,7 @@ fn tell_yields_in(
     alloc: Global,
     body: Body<'_>,
     graph: &CallGraph<'_>,
-    least: &mut Least,
+    least: &mut Least<ScopeKind>,
 ) -> Result<(), NoMemory>
     requires { IsCallGraph graph.now }
     ensures { OnOk result (least.new ≡ telling least.old (at_lines Yield (yield_in (class_in graph.now) (body_view body.entry)))) }
@@ -164,7 +164,7 @@ fn tell_yields_in(
 }
 
 /// Tells what sends, prints, loops, calls or asks in `setup`.
-fn tell_early_in(alloc: Global, body: Body<'_>, least: &mut Least) -> Result<(), NoMemory>
+fn tell_early_in(alloc: Global, body: Body<'_>, least: &mut Least<ScopeKind>) -> Result<(), NoMemory>
     ensures { OnOk result (least.new ≡ telling least.old (at_lines Setup (setup_in (body_view body.entry)))) }
 {
     if is_setup(body.place) {
@@ -225,7 +225,7 @@ fn check_deeds(
     alloc: Global,
     bodies: &[Body<'_>],
     graph: &CallGraph<'_>,
-    least: &mut Least,
+    least: &mut Least<ScopeKind>,
 ) -> Result<(), NoMemory>
     requires { IsCallGraph graph.now }
     ensures { OnOk result (least.new ≡ telling least.old (deed_refusals (class_in graph.now) (deeds_by (bodies_in bodies.now)))) }
@@ -262,7 +262,7 @@ fn check_members(
     alloc: Global,
     bodies: &[Body<'_>],
     line: u32,
-    least: &mut Least,
+    least: &mut Least<ScopeKind>,
 ) -> Result<(), NoMemory>
     ensures { OnOk result (least.new ≡ telling least.old (member_refusals line (bodies_in bodies.now))) }
 {
@@ -276,7 +276,7 @@ fn check_members(
 }
 
 /// Tells each `setup`, or each `run`, behind the first, and answers whether there is one.
-fn tell_behind(bodies: &[Body<'_>], part: Once, least: &mut Least) -> bool
+fn tell_behind(bodies: &[Body<'_>], part: Once, least: &mut Least<ScopeKind>) -> bool
     ensures told { least.new ≡ telling least.old (at_lines Twice (lines_behind (is_once part) (bodies_in bodies.now))) }
     ensures some { result ≡ has_some (is_once part) (bodies_in bodies.now) }
 {

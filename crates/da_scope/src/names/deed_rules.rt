@@ -15,7 +15,7 @@ use crate::names::early::{asks_early, some_asks_early};
 use da_lang::ScopeKind;
 
 /// Tells the lines of `timeout`.
-pub fn tell_timeouts(deeds: &[Deed<'_>], least: &mut Least)
+pub fn tell_timeouts(deeds: &[Deed<'_>], least: &mut Least<ScopeKind>)
     ensures { least.new ≡ telling least.old (at_lines NotYet (lines_where (λ d. times_out d.does) (deeds_in deeds.now))) }
 {
     for deed in deeds {
@@ -26,7 +26,7 @@ pub fn tell_timeouts(deeds: &[Deed<'_>], least: &mut Least)
 }
 
 /// Tells the lines of `setup` that send, print, loop, call or ask.
-pub fn tell_early(deeds: &[Deed<'_>], least: &mut Least)
+pub fn tell_early(deeds: &[Deed<'_>], least: &mut Least<ScopeKind>)
     ensures { least.new ≡ telling least.old (at_lines Setup (lines_where (λ d. acts_of d.does || list_any asks d.says) (deeds_in deeds.now))) }
 {
     for deed in deeds {

@@ -15,8 +15,8 @@ use da_lang::{ChainTree, Expr, GenTree, PatternTree, PeerTree, ScopeKind, Source
 use da_values::{Boxed, NoMemory};
 
 /// Tells a refusal where something is not allowed.
-#[tactic(auto, unfolding(crate::specs::Told::told_kinds, crate::specs::Telling::telling))]
-pub fn tell_unless(allowed: bool, kind: ScopeKind, line: u32, least: &mut Least)
+#[tactic(auto, unfolding(crate::specs::Told::told_kinds, crate::specs::Telling::telling_by))]
+pub fn tell_unless(allowed: bool, kind: ScopeKind, line: u32, least: &mut Least<ScopeKind>)
     ensures { least.new ≡ told_kinds line least.old (unless allowed kind) }
 {
     if !allowed {
@@ -45,7 +45,7 @@ fn is_free(found: Option<Role>) -> bool
 }
 
 /// Tells that a new variable takes the name of one in scope.
-pub fn check_new(name: &[u8], line: u32, names: &Names<'_>, least: &mut Least)
+pub fn check_new(name: &[u8], line: u32, names: &Names<'_>, least: &mut Least<ScopeKind>)
     ensures { least.new ≡ told_kinds line least.old (taken (look names.now name.now)) }
 {
     let free = is_free(names.look(name));
@@ -87,7 +87,7 @@ pub fn check_expr<'t>(
     x: &'t Expr,
     line: u32,
     names: &mut Names<'t>,
-    least: &mut Least,
+    least: &mut Least<ScopeKind>,
 ) -> Result<(), NoMemory>
     ensures told { OnOk result (least.new ≡ told_expr line names.old least.old x.now) }
     ensures same { OnOk result (names.new ≡ names.old) }
@@ -162,7 +162,7 @@ pub fn check_exprs<'t>(
     xs: &'t [Expr],
     line: u32,
     names: &mut Names<'t>,
-    least: &mut Least,
+    least: &mut Least<ScopeKind>,
 ) -> Result<(), NoMemory>
     ensures told { OnOk result (least.new ≡ fold (told_expr line names.old) least.old xs.now) }
     ensures same { OnOk result (names.new ≡ names.old) }
@@ -180,7 +180,7 @@ fn check_links<'t>(
     links: &'t [ChainTree],
     line: u32,
     names: &mut Names<'t>,
-    least: &mut Least,
+    least: &mut Least<ScopeKind>,
 ) -> Result<(), NoMemory>
     ensures told { OnOk result (least.new ≡ fold (told_link line names.old) least.old links.now) }
     ensures same { OnOk result (names.new ≡ names.old) }
@@ -198,7 +198,7 @@ fn check_argument<'t>(
     x: &'t Expr,
     line: u32,
     names: &mut Names<'t>,
-    least: &mut Least,
+    least: &mut Least<ScopeKind>,
 ) -> Result<(), NoMemory>
     ensures told { OnOk result (least.new ≡ told_argument line names.old least.old x.now) }
     ensures same { OnOk result (names.new ≡ names.old) }
@@ -214,7 +214,7 @@ fn check_condition<'t>(
     cond: &'t Option<Boxed<Expr>>,
     line: u32,
     names: &mut Names<'t>,
-    least: &mut Least,
+    least: &mut Least<ScopeKind>,
 ) -> Result<(), NoMemory>
     ensures told { OnOk result (least.new ≡ fold (told_expr line names.old) least.old (option_to_list cond.now)) }
     ensures same { OnOk result (names.new ≡ names.old) }
@@ -232,7 +232,7 @@ fn enter_gens<'t>(
     gens: &'t [GenTree],
     line: u32,
     names: &mut Names<'t>,
-    least: &mut Least,
+    least: &mut Least<ScopeKind>,
 ) -> Result<(), NoMemory>
     ensures told { OnOk result (least.new ≡ told_all gen_part line QueryVariable names.old least.old gens.now) }
     ensures entered { OnOk result (names.new ≡ behind_all gen_part QueryVariable names.old gens.now) }
@@ -250,7 +250,7 @@ fn enter_gen<'t>(
     generator: &'t GenTree,
     line: u32,
     names: &mut Names<'t>,
-    least: &mut Least,
+    least: &mut Least<ScopeKind>,
 ) -> Result<(), NoMemory>
     ensures told { OnOk result (least.new ≡ told_part line QueryVariable names.old least.old (gen_part generator.now)) }
     ensures entered { OnOk result (names.new ≡ behind QueryVariable names.old (gen_part generator.now)) }
@@ -268,7 +268,7 @@ fn enter_peer<'t>(
     peer: &'t Option<PeerTree>,
     line: u32,
     names: &mut Names<'t>,
-    least: &mut Least,
+    least: &mut Least<ScopeKind>,
 ) -> Result<(), NoMemory>
     ensures told { OnOk result (least.new ≡ told_all peer_part line QueryVariable names.old least.old (option_to_list peer.now)) }
     ensures entered { OnOk result (names.new ≡ behind_all peer_part QueryVariable names.old (option_to_list peer.now)) }
@@ -282,7 +282,7 @@ fn enter_peer<'t>(
 
 /// Checks where the messages or elements of a generator come from.
 #[tactic(auto, using(crate::proofs::ToldExprs::source_rules))]
-fn check_source(source: &SourceTree, line: u32, names: &Names<'_>, least: &mut Least)
+fn check_source(source: &SourceTree, line: u32, names: &Names<'_>, least: &mut Least<ScopeKind>)
     ensures { least.new ≡ told_part line QueryVariable names.now least.old (source_part source.now) }
 {
     match source {
@@ -302,7 +302,7 @@ fn enter_pattern<'t>(
     pattern: &'t PatternTree,
     line: u32,
     names: &mut Names<'t>,
-    least: &mut Least,
+    least: &mut Least<ScopeKind>,
 ) -> Result<(), NoMemory>
     ensures told { OnOk result (least.new ≡ told_part line QueryVariable names.old least.old (pattern_part pattern.now)) }
     ensures entered { OnOk result (names.new ≡ behind QueryVariable names.old (pattern_part pattern.now)) }
@@ -329,7 +329,7 @@ fn enter_patterns<'t>(
     patterns: &'t [PatternTree],
     line: u32,
     names: &mut Names<'t>,
-    least: &mut Least,
+    least: &mut Least<ScopeKind>,
 ) -> Result<(), NoMemory>
     ensures told { OnOk result (least.new ≡ told_all pattern_part line QueryVariable names.old least.old patterns.now) }
     ensures entered { OnOk result (names.new ≡ behind_all pattern_part QueryVariable names.old patterns.now) }
@@ -347,7 +347,7 @@ pub fn check_pattern<'t>(
     pattern: &'t PatternTree,
     line: u32,
     names: &mut Names<'t>,
-    least: &mut Least,
+    least: &mut Least<ScopeKind>,
 ) -> Result<(), NoMemory>
     ensures told { OnOk result (least.new ≡ told_part line Local names.old least.old (pattern_part pattern.now)) }
     ensures same { OnOk result (names.new ≡ names.old) }
@@ -373,7 +373,7 @@ fn check_patterns<'t>(
     patterns: &'t [PatternTree],
     line: u32,
     names: &mut Names<'t>,
-    least: &mut Least,
+    least: &mut Least<ScopeKind>,
 ) -> Result<(), NoMemory>
     ensures told { OnOk result (least.new ≡ told_all pattern_part line Local names.old least.old patterns.now) }
     ensures same { OnOk result (names.new ≡ names.old) }

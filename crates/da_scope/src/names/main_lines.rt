@@ -30,7 +30,7 @@ fn nothing_made<'t>(alloc: Global) -> Classes<'t>
 }
 
 /// Checks the lines of `main`, in time in step with their text.
-pub fn check_main(alloc: Global, tree: &Tree, least: &mut Least) -> Result<(), NoMemory>
+pub fn check_main(alloc: Global, tree: &Tree, least: &mut Least<ScopeKind>) -> Result<(), NoMemory>
     ensures { OnOk result (least.new ≡ telling least.old (main_refusals tree.now [] tree.now.main)) }
 {
     let arities = arities_of(alloc, tree.classes.as_slice())?;
@@ -49,7 +49,7 @@ fn check_line<'t>(
     arities: &Arities<'_>,
     classes: &Classes<'t>,
     names: &mut Names<'t>,
-    least: &mut Least,
+    least: &mut Least<ScopeKind>,
 ) -> Result<(), NoMemory>
     ensures told { OnOk result (least.new ≡ told_line (at_name arities.now) (class_at classes.now) names.old least.old line.now) }
     ensures same { OnOk result (names.new ≡ names.old) }
@@ -84,7 +84,7 @@ fn check_setup<'t>(
     line: u32,
     arity: Option<usize>,
     names: &mut Names<'t>,
-    least: &mut Least,
+    least: &mut Least<ScopeKind>,
 ) -> Result<(), NoMemory>
     ensures told { OnOk result (least.new ≡ told_kinds line least.old (setup_kinds_by names.old arity name.now args.now)) }
     ensures same { OnOk result (names.new ≡ names.old) }

@@ -50,7 +50,7 @@ pub fn tell_again(
     alloc: Global,
     declared: &[Declared<'_>],
     kind: ScopeKind,
-    least: &mut Least,
+    least: &mut Least<ScopeKind>,
 ) -> Result<(), NoMemory>
     ensures { OnOk result (least.new ≡ telling least.old (at_lines kind (again (declared_in declared.now)))) }
 {

@@ -37,7 +37,7 @@ fn check_change<'t>(
     value: &'t Expr,
     line: u32,
     names: &mut Names<'t>,
-    least: &mut Least,
+    least: &mut Least<ScopeKind>,
 ) -> Result<(), NoMemory>
     ensures told { OnOk result (least.new ≡ told_expr line names.old (told_kinds line least.old (changed (look names.old name.now))) value.now) }
     ensures same { OnOk result (names.new ≡ names.old) }
@@ -54,7 +54,7 @@ fn check_stmt<'t>(
     alloc: Global,
     stmt: &'t Stmt,
     names: &mut Names<'t>,
-    least: &mut Least,
+    least: &mut Least<ScopeKind>,
 ) -> Result<(), NoMemory>
     ensures told { OnOk result (least.new ≡ told_stmt names.old least.old stmt.now) }
     ensures entered { OnOk result (names.new ≡ behind_stmts names.old (stmt.now ∷ [])) }
@@ -131,7 +131,7 @@ pub fn check_block<'t>(
     alloc: Global,
     body: &'t [Stmt],
     names: &mut Names<'t>,
-    least: &mut Least,
+    least: &mut Least<ScopeKind>,
 ) -> Result<(), NoMemory>
     ensures told { OnOk result (least.new ≡ told_block names.old least.old body.now) }
     ensures same { OnOk result (names.new ≡ names.old) }
@@ -150,7 +150,7 @@ fn check_branches<'t>(
     alloc: Global,
     branches: &'t [Branch],
     names: &mut Names<'t>,
-    least: &mut Least,
+    least: &mut Least<ScopeKind>,
 ) -> Result<(), NoMemory>
     ensures told { OnOk result (least.new ≡ fold (told_branch names.old) least.old branches.now) }
     ensures same { OnOk result (names.new ≡ names.old) }
@@ -168,7 +168,7 @@ fn check_branch<'t>(
     alloc: Global,
     branch: &'t Branch,
     names: &mut Names<'t>,
-    least: &mut Least,
+    least: &mut Least<ScopeKind>,
 ) -> Result<(), NoMemory>
     ensures told { OnOk result (least.new ≡ told_branch names.old least.old branch.now) }
     ensures same { OnOk result (names.new ≡ names.old) }
@@ -188,7 +188,7 @@ fn check_timeout<'t>(
     alloc: Global,
     timeout: &'t Option<TimeoutTree>,
     names: &mut Names<'t>,
-    least: &mut Least,
+    least: &mut Least<ScopeKind>,
 ) -> Result<(), NoMemory>
     ensures told { OnOk result (least.new ≡ fold (told_timeout names.old) least.old (option_to_list timeout.now)) }
     ensures same { OnOk result (names.new ≡ names.old) }

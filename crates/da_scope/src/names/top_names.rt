@@ -13,7 +13,7 @@ use da_values::{List, NoMemory};
 use std::alloc::Global;
 
 /// Tells the second declarations of classes and tags, and of names and lines of `setup` in `main`.
-pub fn tell_twice(alloc: Global, tree: &Tree, least: &mut Least) -> Result<(), NoMemory>
+pub fn tell_twice(alloc: Global, tree: &Tree, least: &mut Least<ScopeKind>) -> Result<(), NoMemory>
     ensures { OnOk result (least.new ≡ telling least.old (at_lines Twice (twice_of tree.now))) }
 {
     let classes = classes_declared(alloc, tree.classes.as_slice())?;

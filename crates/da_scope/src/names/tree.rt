@@ -7,7 +7,7 @@ use crate::least::{Least, NameFault};
 use crate::names::classes::check_class;
 use crate::names::main_lines::check_main;
 use crate::names::top_names::tell_twice;
-use da_lang::{ClassTree, Tree};
+use da_lang::{ClassTree, ScopeKind, Tree};
 use da_values::NoMemory;
 use std::alloc::Global;
 
@@ -23,7 +23,7 @@ pub fn name_fault(alloc: Global, tree: &Tree) -> Result<Option<NameFault>, NoMem
 }
 
 /// Checks the names of classes.
-fn check_classes(alloc: Global, classes: &[ClassTree], least: &mut Least) -> Result<(), NoMemory>
+fn check_classes(alloc: Global, classes: &[ClassTree], least: &mut Least<ScopeKind>) -> Result<(), NoMemory>
     ensures { OnOk result (least.new ≡ telling least.old (flat_map class_refusals classes.now)) }
 {
     for class in classes {
