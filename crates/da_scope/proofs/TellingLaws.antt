@@ -22,8 +22,8 @@ told_none : {K : Type 0} (rank : K → ℕ) (xs : List (Refused K)) → told ran
 told_none rank [] none = refl
 told_none rank (x ∷ xs) none = absurd (cc)
 
-pub fault_none : {K : Type 0} (rank : K → ℕ) (xs : List (Refused K)) (fault : Option (Fault K)) → option_map refusal_of fault ≡ told rank xs → fault ≡ None → xs ≡ []
-fault_none rank xs fault tells none = told_none rank xs (sym tells ∙ ap (option_map refusal_of) none)
+pub untold : {K : Type 0} (rank : K → ℕ) (xs : List (Refused K)) (fault : Option (Fault K)) → option_map refusal_of fault ≡ told rank xs → fault ≡ None → xs ≡ []
+untold rank xs fault tells none = told_none rank xs (sym tells ∙ ap (option_map refusal_of) none)
 
 -- ranks that are few, and another one for each kind
 pub record IsOrder {K : Type 0} (rank : K → ℕ) : Type 0 where
