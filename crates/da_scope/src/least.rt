@@ -122,5 +122,6 @@ impl<K: Kind> Least<K> {
 fn is_sooner<K: Kind>(first: Fault<K>, second: Fault<K>) -> bool
     ensures { result ≡ sooner K.rank (refusal_of first) (refusal_of second) }
 {
-    first.line < second.line || (first.line == second.line && first.kind.rank() < second.kind.rank())
+    first.line < second.line
+        || (first.line == second.line && first.kind.rank() < second.kind.rank())
 }

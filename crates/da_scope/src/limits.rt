@@ -48,7 +48,11 @@ pub fn limit_fault(alloc: Global, tree: &Tree) -> Result<Option<LimitFault>, NoM
 }
 
 // The limits that classes pass, in none of which a call leads back.
-fn tell_classes(alloc: Global, classes: &[ClassTree], least: &mut Least<LimitKind>) -> Result<(), NoMemory>
+fn tell_classes(
+    alloc: Global,
+    classes: &[ClassTree],
+    least: &mut Least<LimitKind>,
+) -> Result<(), NoMemory>
     requires { NoneLeadBack classes.now }
     ensures { OnOk result (least.new ≡ classes_told classes.now least.old) }
 {

@@ -6,8 +6,7 @@ ghost use Rattle.da_scope.specs.Extents.{body_extent, method_extent};
 ghost use Rattle.da_scope.specs.Loops.{NoneLeadsBack};
 ghost use Rattle.std.specs.Prelude.{◌≡◌, ℕ, IfOk, List, length};
 
-use crate::calls::CallGraph;
-use crate::calls::Method;
+use crate::calls::{CallGraph, Method};
 use crate::limits::copies::Copies;
 use crate::limits::extent::Extent;
 use crate::limits::numbers::capped;

@@ -9,9 +9,9 @@ ghost use Rattle.std.specs.List.{list_any};
 ghost use Rattle.std.specs.Prelude.{◌≡◌, ◌||◌, IfOk, OnOk, nat_lt};
 
 use crate::calls::CallGraph;
+use crate::least::Least;
 use crate::limits::classes::class_extent;
 use crate::limits::extent::Extent;
-use crate::least::Least;
 use crate::limits::lines::tell_if;
 use crate::limits::members::tell_member;
 use crate::limits::methods::copies_of;
@@ -20,7 +20,11 @@ use da_values::NoMemory;
 use std::alloc::Global;
 
 /// The limits that a class passes. No call in it leads back.
-pub fn tell_class(alloc: Global, class: &ClassTree, least: &mut Least<LimitKind>) -> Result<(), NoMemory>
+pub fn tell_class(
+    alloc: Global,
+    class: &ClassTree,
+    least: &mut Least<LimitKind>,
+) -> Result<(), NoMemory>
     requires { NoneLeadsBack class.now }
     ensures { OnOk result (least.new ≡ class_told class.now least.old) }
 {
@@ -47,7 +51,11 @@ fn tell_extent(extent: Extent, many: bool, line: u32, least: &mut Least<LimitKin
 }
 
 // The limits that the members of a class pass by themselves, and whether a query in one has too many variables.
-fn tell_members(alloc: Global, graph: &CallGraph<'_>, least: &mut Least<LimitKind>) -> Result<bool, NoMemory>
+fn tell_members(
+    alloc: Global,
+    graph: &CallGraph<'_>,
+    least: &mut Least<LimitKind>,
+) -> Result<bool, NoMemory>
     requires { IsCallGraph graph.now }
     ensures told { OnOk result (least.new ≡ members_told graph.now.class.now graph.now.class.now.members least.old) }
     ensures many { IfOk result (λ many. many ≡ list_any (member_many graph.now.class.now) graph.now.class.now.members) }

@@ -72,7 +72,12 @@ pub fn tell_recursive(
 }
 
 /// Tells the lines of the calls of one method that lead back to it.
-fn tell_round(holder: &[u8], deeds: &[Deed<'_>], graph: &CallGraph<'_>, least: &mut Least<ScopeKind>)
+fn tell_round(
+    holder: &[u8],
+    deeds: &[Deed<'_>],
+    graph: &CallGraph<'_>,
+    least: &mut Least<ScopeKind>,
+)
     requires graph { IsCallGraph graph.now }
     requires deeds { deeds_in deeds.now ≡ deeds_of_method (class_in graph.now) holder.now }
     ensures { least.new ≡ telling least.old (at_lines Recursive (recursive_in (class_in graph.now) holder.now)) }

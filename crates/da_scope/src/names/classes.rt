@@ -28,7 +28,11 @@ use da_values::{List, NoMemory};
 use std::alloc::Global;
 
 /// Tells the refusals by names of a class, in time in step with its text.
-pub fn check_class(alloc: Global, class: &ClassTree, least: &mut Least<ScopeKind>) -> Result<(), NoMemory>
+pub fn check_class(
+    alloc: Global,
+    class: &ClassTree,
+    least: &mut Least<ScopeKind>,
+) -> Result<(), NoMemory>
     ensures { OnOk result (least.new ≡ telling least.old (class_refusals class.now)) }
 {
     let graph = CallGraph::new(alloc, class)?;
@@ -36,7 +40,11 @@ pub fn check_class(alloc: Global, class: &ClassTree, least: &mut Least<ScopeKind
 }
 
 /// The same for the class of a graph of calls.
-fn check_graph(alloc: Global, graph: &CallGraph<'_>, least: &mut Least<ScopeKind>) -> Result<(), NoMemory>
+fn check_graph(
+    alloc: Global,
+    graph: &CallGraph<'_>,
+    least: &mut Least<ScopeKind>,
+) -> Result<(), NoMemory>
     requires { IsCallGraph graph.now }
     ensures { OnOk result (least.new ≡ telling least.old (class_refusals (class_in graph.now))) }
 {
@@ -164,7 +172,11 @@ fn tell_yields_in(
 }
 
 /// Tells what sends, prints, loops, calls or asks in `setup`.
-fn tell_early_in(alloc: Global, body: Body<'_>, least: &mut Least<ScopeKind>) -> Result<(), NoMemory>
+fn tell_early_in(
+    alloc: Global,
+    body: Body<'_>,
+    least: &mut Least<ScopeKind>,
+) -> Result<(), NoMemory>
     ensures { OnOk result (least.new ≡ telling least.old (at_lines Setup (setup_in (body_view body.entry)))) }
 {
     if is_setup(body.place) {

@@ -23,7 +23,11 @@ pub fn name_fault(alloc: Global, tree: &Tree) -> Result<Option<NameFault>, NoMem
 }
 
 /// Checks the names of classes.
-fn check_classes(alloc: Global, classes: &[ClassTree], least: &mut Least<ScopeKind>) -> Result<(), NoMemory>
+fn check_classes(
+    alloc: Global,
+    classes: &[ClassTree],
+    least: &mut Least<ScopeKind>,
+) -> Result<(), NoMemory>
     ensures { OnOk result (least.new ≡ telling least.old (flat_map class_refusals classes.now)) }
 {
     for class in classes {

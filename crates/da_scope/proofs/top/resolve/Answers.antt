@@ -9,11 +9,10 @@ pub limit_fault-requires : goal.limit_fault-requires
 limit_fault-requires c = untold name_rank (name_refusals c.args.t.now) c.in_ok-kind.field-0 c.in_ok-kind.ensures c.in_default.is
 
 pub returns-in-Some-2-clause-refused : goal.returns-in-Some-2-clause-refused
-returns-in-Some-2-clause-refused c =
-    (
-      untold name_rank (name_refusals c.args.t.now) c.in_ok-kind.field-0 c.in_ok-kind.ensures c.in_default.is,
-      sym c.in_ok-kind-2.ensures ∙ ap (option_map refusal_of) c.in-Some-2.is,
-    )
+returns-in-Some-2-clause-refused c = (
+  untold name_rank (name_refusals c.args.t.now) c.in_ok-kind.field-0 c.in_ok-kind.ensures c.in_default.is,
+  sym c.in_ok-kind-2.ensures ∙ ap (option_map refusal_of) c.in-Some-2.is,
+)
 
 pub returns-clause-program : goal.returns-clause-program
 returns-clause-program c = record {
