@@ -1,9 +1,16 @@
 -- Lists of refusals by limits of which the same is told.
-use Rattle.std.specs.Prelude.{◌≡◌, refl, List, ◌++◌, flat_map, Option}
+use Rattle.std.specs.Prelude.{◌≡◌, refl, List, [], ◌++◌, flat_map, Option}
 use Rattle.std.proofs.Common.{◌∙◌, sym, ap}
+use Rattle.da_lang.specs.Limits.{rank}
 use Rattle.da_scope.specs.Telling.{LimitRefusal as Refusal, telling_limits as telling}
 use Rattle.da_scope.proofs.KindOrders.{limit_order}
-use Rattle.da_scope.proofs.TellingLaws.{telling-append, telling-both, telling-swap}
+use Rattle.da_scope.proofs.TellingLaws.{telling_by-append, telling_by-nil, telling-both, telling-swap}
+
+pub telling-nil : (found : Option Refusal) → telling found [] ≡ found
+telling-nil = telling_by-nil rank
+
+pub telling-append : (found : Option Refusal) (xs ys : List Refusal) → telling found (xs ++ ys) ≡ telling (telling found xs) ys
+telling-append = telling_by-append rank
 
 pub record Alike (xs ys : List Refusal) : Type 0 where
   pub tells : (found : Option Refusal) → telling found xs ≡ telling found ys

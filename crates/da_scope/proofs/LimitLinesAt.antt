@@ -9,7 +9,7 @@ use Rattle.da_lang.specs.Scopes.{Refused, at_lines}
 use Rattle.da_scope.specs.declared.limits.sizes.DeedSize.{DeedSize}
 use Rattle.da_scope.specs.LimitLines.{told_at, wide_lines, gen_lines}
 use Rattle.da_scope.specs.Telling.{LimitRefusal as Refusal, telling_limits as telling}
-use Rattle.da_scope.proofs.TellingLaws.{telling-nil, telling-append}
+use Rattle.da_scope.proofs.Alike.{telling-nil, telling-append}
 use Rattle.std.specs.List.{list_any}
 use Rattle.std.proofs.lemmas.Bool.{lt-ltb, le-ltb}
 use Rattle.da_scope.proofs.ClassMembersAt.{dropped, dropped_all}

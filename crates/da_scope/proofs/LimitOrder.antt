@@ -23,9 +23,9 @@ use Rattle.da_scope.specs.LimitWalk.{class_told, member_told, members_told, stmt
 use Rattle.da_scope.specs.Sizes.{sizes}
 use Rattle.da_scope.proofs.ClassMembersAt.{dropped, dropped_all}
 use Rattle.da_scope.proofs.DeedLimits.{lines-wide, lines-gens}
-use Rattle.da_scope.proofs.Alike.{Alike, alike-refl, alike-trans, alike-sym, alike-is, alike-both, alike-flat}
+use Rattle.da_scope.proofs.Alike.{Alike, alike-refl, alike-trans, alike-sym, alike-is, alike-both, alike-flat, telling-nil, telling-append}
 use Rattle.da_scope.proofs.KindOrders.{limit_order}
-use Rattle.da_scope.proofs.TellingLaws.{telling-nil, telling-append, telling-swap, told-telling}
+use Rattle.da_scope.proofs.TellingLaws.{telling-swap, told-telling}
 
 -- refusals of one kind
 abbrev At : LimitKind → List ℕ → List Refusal

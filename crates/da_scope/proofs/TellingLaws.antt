@@ -2,20 +2,28 @@
 use Rattle.std.specs.Prelude.{◌≡◌, refl, ℕ, ◌+◌, ◌*◌, ◌<◌, ◌≤◌, nat_lt, ◌==◌, ◌||◌, ◌&&◌, Bool, true, false, if◌then◌else◌, List, [], ◌∷◌, ◌++◌, flat_map, Option, Some, None, Contains, option_map}
 use Rattle.std.proofs.Common.{◌∙◌, ⊎_elim, subst, sym, ap, arith, ltb-true, ltb-false, eqb-true}
 use Rattle.std.proofs.lemmas.Bool.{eqb-false}
+use Rattle.da_lang.specs.NameRules.{rank as name_rank}
 use Rattle.da_lang.specs.Scopes.{Refused, sooner, sooner_of, told}
 use Rattle.da_scope.specs.declared.least.Fault.{Fault}
-use Rattle.da_scope.specs.Telling.{refusal_of, telling_by}
+use Rattle.da_scope.specs.Telling.{Refusal, refusal_of, telling, telling_by}
 use Rattle.da_scope.proofs.CallBounds.{in_first, in_later, in_cases, in_none}
 
-module _ {K : Type 0} {rank : K → ℕ} where
-  pub telling-nil : (found : Option (Refused K)) → telling_by rank found [] ≡ found
+module _ {K : Type 0} (rank : K → ℕ) where
+  pub telling_by-nil : (found : Option (Refused K)) → telling_by rank found [] ≡ found
   unfolding telling_by
-  telling-nil found = refl
+  telling_by-nil found = refl
 
-  pub telling-append : (found : Option (Refused K)) (xs ys : List (Refused K)) → telling_by rank found (xs ++ ys) ≡ telling_by rank (telling_by rank found xs) ys
+  pub telling_by-append : (found : Option (Refused K)) (xs ys : List (Refused K)) → telling_by rank found (xs ++ ys) ≡ telling_by rank (telling_by rank found xs) ys
   unfolding telling_by
-  telling-append found [] ys = refl
-  telling-append found (x ∷ xs) ys = telling-append (Some (sooner_of rank x found)) xs ys
+  telling_by-append found [] ys = refl
+  telling_by-append found (x ∷ xs) ys = telling_by-append (Some (sooner_of rank x found)) xs ys
+
+-- the same of refusals by names
+pub telling-nil : (found : Option Refusal) → telling found [] ≡ found
+telling-nil = telling_by-nil name_rank
+
+pub telling-append : (found : Option Refusal) (xs ys : List Refusal) → telling found (xs ++ ys) ≡ telling (telling found xs) ys
+telling-append = telling_by-append name_rank
 
 -- nothing is told only where nothing is found
 told_none : {K : Type 0} (rank : K → ℕ) (xs : List (Refused K)) → told rank xs ≡ None → xs ≡ []
@@ -163,11 +171,11 @@ module _ {K : Type 0} {rank : K → ℕ} (order : IsOrder rank) where
   -- the same things in another order, some of them more than once
   known_here : {A : Type 0} (p : A → List (Refused K)) (found : Option (Refused K)) (x : A) (xs : List A) → telling_by rank (telling_by rank found (flat_map p (x ∷ xs))) (p x) ≡ telling_by rank found (flat_map p (x ∷ xs))
   known_here p found x xs =
-      ap (λ f. telling_by rank f (p x)) (telling-append found (p x) (flat_map p xs)) ∙ telling-swap (telling_by rank found (p x)) (flat_map p xs) (p x)
-      ∙ ap (λ f. telling_by rank f (flat_map p xs)) (telling-again found (p x)) ∙ sym (telling-append found (p x) (flat_map p xs))
+      ap (λ f. telling_by rank f (p x)) (telling_by-append rank found (p x) (flat_map p xs)) ∙ telling-swap (telling_by rank found (p x)) (flat_map p xs) (p x)
+      ∙ ap (λ f. telling_by rank f (flat_map p xs)) (telling-again found (p x)) ∙ sym (telling_by-append rank found (p x) (flat_map p xs))
 
   known_later : {A : Type 0} (p : A → List (Refused K)) (found : Option (Refused K)) (x : A) (xs : List A) (y : A) → telling_by rank (telling_by rank (telling_by rank found (p x)) (flat_map p xs)) (p y) ≡ telling_by rank (telling_by rank found (p x)) (flat_map p xs) → telling_by rank (telling_by rank found (flat_map p (x ∷ xs))) (p y) ≡ telling_by rank found (flat_map p (x ∷ xs))
-  known_later p found x xs y known = ap (λ f. telling_by rank f (p y)) (telling-append found (p x) (flat_map p xs)) ∙ known ∙ sym (telling-append found (p x) (flat_map p xs))
+  known_later p found x xs y known = ap (λ f. telling_by rank f (p y)) (telling_by-append rank found (p x) (flat_map p xs)) ∙ known ∙ sym (telling_by-append rank found (p x) (flat_map p xs))
 
   telling-known : {A : Type 0} (p : A → List (Refused K)) (found : Option (Refused K)) (xs : List A) (y : A) → Contains xs y → telling_by rank (telling_by rank found (flat_map p xs)) (p y) ≡ telling_by rank found (flat_map p xs)
   telling-known p found [] y has = absurd (in_none y has)
@@ -178,9 +186,9 @@ module _ {K : Type 0} {rank : K → ℕ} (order : IsOrder rank) where
       (in_cases x xs y has)
 
   all_known : {A : Type 0} (p : A → List (Refused K)) (found : Option (Refused K)) (xs ys : List A) → ((y : A) → Contains ys y → Contains xs y) → telling_by rank (telling_by rank found (flat_map p xs)) (flat_map p ys) ≡ telling_by rank found (flat_map p xs)
-  all_known p found xs [] among = telling-nil (telling_by rank found (flat_map p xs))
+  all_known p found xs [] among = telling_by-nil rank (telling_by rank found (flat_map p xs))
   all_known p found xs (y ∷ ys) among =
-      telling-append (telling_by rank found (flat_map p xs)) (p y) (flat_map p ys)
+      telling_by-append rank (telling_by rank found (flat_map p xs)) (p y) (flat_map p ys)
       ∙ ap (λ f. telling_by rank f (flat_map p ys)) (telling-known p found xs y (among y (in_first y ys)))
       ∙ all_known p found xs ys (λ z has. among z (in_later y ys z has))
 
@@ -194,11 +202,11 @@ module _ {K : Type 0} {rank : K → ℕ} (order : IsOrder rank) where
 
   -- two lists that are found together, for each of some things
   pub telling-both : {A : Type 0} (p q : A → List (Refused K)) (found : Option (Refused K)) (xs : List A) → telling_by rank found (flat_map (λ x. p x ++ q x) xs) ≡ telling_by rank (telling_by rank found (flat_map p xs)) (flat_map q xs)
-  telling-both p q found [] = sym (telling-nil (telling_by rank found []))
+  telling-both p q found [] = sym (telling_by-nil rank (telling_by rank found []))
   telling-both p q found (x ∷ xs) =
-      telling-append found (p x ++ q x) (flat_map (λ y. p y ++ q y) xs)
+      telling_by-append rank found (p x ++ q x) (flat_map (λ y. p y ++ q y) xs)
       ∙ telling-both p q (telling_by rank found (p x ++ q x)) xs
-      ∙ ap (λ f. telling_by rank (telling_by rank f (flat_map p xs)) (flat_map q xs)) (telling-append found (p x) (q x))
+      ∙ ap (λ f. telling_by rank (telling_by rank f (flat_map p xs)) (flat_map q xs)) (telling_by-append rank found (p x) (q x))
       ∙ ap (λ f. telling_by rank f (flat_map q xs)) (telling-swap (telling_by rank found (p x)) (q x) (flat_map p xs))
-      ∙ ap (λ f. telling_by rank (telling_by rank f (q x)) (flat_map q xs)) (sym (telling-append found (p x) (flat_map p xs)))
-      ∙ sym (telling-append (telling_by rank found (p x ++ flat_map p xs)) (q x) (flat_map q xs))
+      ∙ ap (λ f. telling_by rank (telling_by rank f (q x)) (flat_map q xs)) (sym (telling_by-append rank found (p x) (flat_map p xs)))
+      ∙ sym (telling_by-append rank (telling_by rank found (p x ++ flat_map p xs)) (q x) (flat_map q xs))
