@@ -6,6 +6,8 @@ mod least;
 mod limits;
 mod meaning;
 mod names;
+#[cfg(test)]
+mod rows;
 mod top;
 
 pub use top::{ScopeFault, resolve};
