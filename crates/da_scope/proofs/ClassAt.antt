@@ -16,7 +16,7 @@ use Rattle.da_lang.specs.ExprMeaning.{Meaning, Tables}
 use Rattle.da_lang.specs.Resolution.{class_tables, handler, handlers, resolved_class}
 use Rattle.da_lang.specs.Scopes.{Scope}
 use Rattle.da_scope.specs.ClassView.{handlers_in}
-use Rattle.da_scope.proofs.Taken.{taken}
+use Rattle.da_limits.proofs.Taken.{taken}
 
 filter_more : (p : Body → Bool) (xs ys : List Member) → filter p (filter_map body_in (xs ++ ys)) ≡ filter p (filter_map body_in xs) ++ filter p (filter_map body_in ys)
 filter_more p xs ys = ap (filter p) (filter_map-append body_in xs ys) ∙ filter-append p (filter_map body_in xs) (filter_map body_in ys)

@@ -21,7 +21,7 @@ use Rattle.da_lang.specs.ExprMeaning.{Meaning, Meant, Range, Signed, agg_of, beh
 use Rattle.da_lang.specs.Scopes.{Scope, look}
 use Rattle.da_lang.proofs.MeantAt.{meant-Quant, meant-Or, meant-And, meant-Not, meant-Cmp, meant-Member, meant-Chain, meant-Int, meant-Text, meant-Truth, meant-Me, meant-Name, meant-Clock, meant-Range, meant-Tuple, meant-SetOf, meant-Comp, meant-Count, meant-Sum, meant-Min, meant-Max}
 use Rattle.da_lang.proofs.MeantAt.{signed_of-of}
-use Rattle.da_scope.proofs.Taken.{taken}
+use Rattle.da_limits.proofs.Taken.{taken}
 
 -- a link of a chain
 pub signed_is : (c : ChainTree) → signed_of c ≡ record { op = (out-ChainTree c).op; meant = meant (out-ChainTree c).operand }

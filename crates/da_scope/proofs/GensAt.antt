@@ -8,7 +8,7 @@ use Rattle.da_lang.specs.ExprMeaning.{Meaning, Generator, behind, generator, gen
 use Rattle.da_lang.specs.Scopes.{Scope}
 use Rattle.da_lang.proofs.MeantAt.{generator-of, peer_of-From, peer_of-To}
 use Rattle.da_scope.proofs.SlotScopeLaws.{with_row-append}
-use Rattle.da_scope.proofs.Taken.{taken}
+use Rattle.da_limits.proofs.Taken.{taken}
 
 generator_is : (g : GenTree) → generator g ≡ gen_meant (record { message = matching (out-GenTree g).message; peer = option_map peer_of (out-GenTree g).peer; source = (out-GenTree g).source })
 generator_is g = let v = out-GenTree g in generator-of v.message v.peer v.source

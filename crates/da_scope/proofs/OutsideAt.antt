@@ -18,7 +18,7 @@ use Rattle.da_lang.specs.ExprMeaning.{Meaning, Meant, Tables, agg_of, all_outsid
 use Rattle.da_lang.specs.Scopes.{Scope, look}
 use Rattle.da_lang.proofs.MeantAt.{meant-Quant, meant-Or, meant-And, meant-Not, meant-Cmp, meant-Member, meant-Chain, meant-Int, meant-Text, meant-Truth, meant-Me, meant-Name, meant-Clock, meant-Range, meant-Tuple, meant-SetOf, meant-Comp, meant-Count, meant-Sum, meant-Min, meant-Max}
 use Rattle.da_scope.proofs.CondsAt.{signed_is}
-use Rattle.da_scope.proofs.Taken.{taken}
+use Rattle.da_limits.proofs.Taken.{taken}
 
 pub outside-Quant : (each : Bool) (gens : List GenTree) (cond : Option Expr) (scope : Scope Meaning) (tables : Tables) → ◌≡◌ {A = RExpr × Tables} ((meant (ex.Quant each gens cond)).outside scope tables) (ask (λ (s : Scope Meaning). qu.Quant each (gens_in (map generator gens) s) (cond_behind (map generator gens) (option_map meant cond) s)) scope tables)
 outside-Quant each gens cond scope tables = ap (λ (m : Meant). m.outside scope tables) (meant-Quant each gens cond)

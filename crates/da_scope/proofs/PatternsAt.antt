@@ -12,7 +12,7 @@ use Rattle.da_lang.specs.ExprMeaning.{Meaning, Meant, Matching, meant, matching,
 use Rattle.da_lang.specs.Scopes.{Scope}
 use Rattle.da_lang.proofs.MeantAt.{matching-Wild, matching-Name, matching-Int, matching-Text, matching-Truth, matching-Me, matching-Equal, matching-Tuple}
 use Rattle.da_scope.proofs.SlotScopeLaws.{with_row-append}
-use Rattle.da_scope.proofs.Taken.{taken}
+use Rattle.da_limits.proofs.Taken.{taken}
 
 abbrev shape : Scope Meaning → Matching → Pattern
 shape scope m = m.pattern scope

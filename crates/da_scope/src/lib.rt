@@ -1,11 +1,7 @@
-//! Names, calls and limits of a program: from its tree to its resolved form, or to the rule that refuses it.
+//! From the tree of a program to its resolved form, or to the rule of names or the limit that refuses it.
 #![tactic(auto)]
 
-mod calls;
-mod least;
-mod limits;
 mod meaning;
-mod names;
 #[cfg(test)]
 mod rows;
 mod top;

@@ -5,11 +5,10 @@ ghost use Rattle.da_scope.specs.Resolving.{IsRefusedAs};
 ghost use Rattle.da_scope.specs.declared.top.ScopeFault.TheVariants.{Memory};
 ghost use Rattle.std.specs.Prelude.{◌≡◌, IfErr, IfOk, MatchResult};
 
-use crate::least::{LimitFault, NameFault};
-use crate::limits::limit_fault;
 use crate::meaning::program::build_program;
-use crate::names::tree::name_fault;
 use da_lang::{LimitKind, Program, ScopeKind, Tree};
+use da_limits::limit_fault;
+use da_names::{LimitFault, NameFault, name_fault};
 use da_values::NoMemory;
 use std::alloc::Global;
 use thiserror::Error;

@@ -1,0 +1,12 @@
+pub mod CallAnswers
+pub mod CallBodies
+pub mod CallBounds
+pub mod CallCycles
+pub mod CallMethods
+pub mod CallNames
+pub mod CallOrder
+pub mod CallReach
+pub mod CallReached
+pub mod CallRows
+pub mod CallSearch
+pub mod CallTranslation

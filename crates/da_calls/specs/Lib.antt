@@ -1,0 +1,9 @@
+pub mod CallBodies
+pub mod CallCycles
+pub mod CallGraph
+pub mod CallMethods
+pub mod CallNames
+pub mod CallOrder
+pub mod CallPaths
+pub mod CallRows
+pub mod CallTasks

@@ -1,0 +1,11 @@
+pub mod Bound
+pub mod Capped
+pub mod ClassMembers
+pub mod Copied
+pub mod Extents
+pub mod LimitLines
+pub mod LimitTree
+pub mod LimitWalk
+pub mod Loops
+pub mod Sizes
+pub mod Writings

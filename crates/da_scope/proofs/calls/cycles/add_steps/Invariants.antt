@@ -1,6 +1,0 @@
-use Rattle.std.proofs.Common.{take}
-use Rattle.da_scope.specs.CallCycles.{AddsSteps}
-use Rattle.da_scope.proofs.calls.cycles.add_steps.Given as goal
-
-abbrev pub invariant-loop-node : goal.invariant-loop-node
-invariant-loop-node l = AddsSteps l.to (take l.node-index l.nodes) l.initial.graph l.graph

@@ -1,6 +1,0 @@
-use Rattle.std.proofs.Common.{sym}
-use Rattle.da_scope.proofs.CallAnswers.{marked_test}
-use Rattle.da_scope.proofs.calls.graph.CallGraph.is_reached.Goals as goal
-
-pub returns-in-Some : goal.returns-in-Some
-returns-in-Some c = marked_test _ _ _ _ _ c.has_mark.ensures c.as_slice.ensures.value (c.requires.graph.reached_at _ _ (sym c.in-Some.ensures.number))

@@ -1,9 +1,0 @@
-use Rattle.std.proofs.Common.{◌≡◌, take, filter_map}
-use Rattle.da_lang.specs.ClassParts.{body_in}
-use Rattle.da_scope.specs.CallBodies.{calls_by}
-use Rattle.da_scope.specs.CallNames.{number_in}
-use Rattle.da_scope.specs.CallRows.{outside_deeds}
-use Rattle.da_scope.proofs.calls.rows.outside_calls.Given as goal
-
-abbrev pub invariant-loop-member : goal.invariant-loop-member
-invariant-loop-member l = l.calls ≡ calls_by (number_in l.numbers) (outside_deeds (filter_map body_in (take l.member-index l.member-items)))

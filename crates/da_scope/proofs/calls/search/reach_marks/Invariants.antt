@@ -1,6 +1,0 @@
-use Rattle.std.proofs.Common.{take}
-use Rattle.da_scope.proofs.CallReached.{Reaching}
-use Rattle.da_scope.proofs.calls.search.reach_marks.Given as goal
-
-abbrev pub invariant-loop-start : goal.invariant-loop-start
-invariant-loop-start l = Reaching l.graph (take l.start-index l.starts) l.marks.items

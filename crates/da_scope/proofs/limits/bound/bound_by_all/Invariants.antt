@@ -1,6 +1,0 @@
-use Rattle.std.proofs.Common.{◌≡◌, take}
-use Rattle.da_scope.specs.Bound.{bound_by_all}
-use Rattle.da_scope.proofs.limits.bound.bound_by_all.Given as goal
-
-abbrev pub invariant-loop-g : goal.invariant-loop-g
-invariant-loop-g l = l.all ≡ bound_by_all (take l.g-index l.gens)

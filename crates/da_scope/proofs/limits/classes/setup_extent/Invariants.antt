@@ -1,6 +1,0 @@
-use Rattle.std.proofs.Common.{◌≡◌, drop}
-use Rattle.da_scope.specs.ClassMembers.{setup_in}
-use Rattle.da_scope.proofs.limits.classes.setup_extent.Given as goal
-
-abbrev pub invariant-loop-member : goal.invariant-loop-member
-invariant-loop-member l = setup_in (drop l.member-index l.members) ≡ setup_in l.members

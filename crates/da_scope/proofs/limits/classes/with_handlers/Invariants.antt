@@ -1,7 +1,0 @@
-use Rattle.std.proofs.Common.{◌≡◌, drop}
-use Rattle.da_scope.specs.ClassMembers.{with_handlers}
-use Rattle.da_scope.specs.Copied.{copied}
-use Rattle.da_scope.proofs.limits.classes.with_handlers.Given as goal
-
-abbrev pub invariant-loop-member : goal.invariant-loop-member
-invariant-loop-member l = with_handlers (copied l.copies) l.all (drop l.member-index l.members) ≡ with_handlers (copied l.copies) l.fn.entry l.members

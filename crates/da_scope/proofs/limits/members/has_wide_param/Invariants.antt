@@ -1,6 +1,0 @@
-use Rattle.std.proofs.Common.{◌≡◌, drop}
-use Rattle.da_scope.specs.LimitWalk.{wide_params}
-use Rattle.da_scope.proofs.limits.members.has_wide_param.Given as goal
-
-abbrev pub invariant-loop-param : goal.invariant-loop-param
-invariant-loop-param l = wide_params (drop l.param-index l.params) ≡ wide_params l.params

@@ -1,7 +1,0 @@
-use Rattle.std.proofs.Common.{◌≡◌, flat_map, take}
-use Rattle.da_lang.specs.Deeds.{deeds}
-use Rattle.da_scope.specs.DeedView.{deeds_in}
-use Rattle.da_scope.proofs.names.classes.deeds_of_bodies.Given as goal
-
-abbrev pub invariant-loop-body : goal.invariant-loop-body
-invariant-loop-body l = deeds_in l.list ≡ flat_map (λ b. deeds b.stmts.now) (take l.body-index l.bodies)
