@@ -1,6 +1,6 @@
 use Rattle.std.proofs.Common.{◌≡◌, ◌≤◌, ◌-◌, ◌+◌, ℕ, List, length}
-use Rattle.dalgo.specs.Outside.{IsFront}
-use Rattle.dalgo.proofs.transfer.read_all.Given as goal
+use Rattle.da_outside.specs.Outside.{IsFront}
+use Rattle.da_outside.proofs.transfer.read_all.Given as goal
 
 abbrev pub invariant-pieces : goal.invariant-pieces
 invariant-pieces g l = record {

@@ -1,5 +1,5 @@
 //! What the program meets outside: a source of named files, and a sink.
-ghost use Rattle.dalgo.specs.Outside.{Appends, HasCause, ReadsTold};
+ghost use Rattle.da_outside.specs.Outside.{Appends, HasCause, ReadsTold};
 ghost use Rattle.std.specs.Prelude.{ℕ, ◌≡◌, ◌<◌, ◌≤◌, List, Option, length, take, IfOk, OnErr};
 
 use da_values::NoMemory;
@@ -17,7 +17,7 @@ pub enum Trouble {
 }
 
 impl From<NoMemory> for Trouble {
-    ghost use Rattle.dalgo.specs.declared.outside.Trouble.TheVariants.{Memory};
+    ghost use Rattle.da_outside.specs.declared.outside.Trouble.TheVariants.{Memory};
     ghost use Rattle.std.specs.Prelude.{◌≡◌};
 
     ghost from_gives = { λ _ trouble. trouble ≡ Memory };

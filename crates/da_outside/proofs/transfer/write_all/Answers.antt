@@ -1,6 +1,6 @@
 use Rattle.std.proofs.Common.{rules}
-use Rattle.dalgo.proofs.OutsideLemmas.{appends_more}
-use Rattle.dalgo.proofs.transfer.write_all.Goals as goal
+use Rattle.da_outside.proofs.OutsideLemmas.{appends_more}
+use Rattle.da_outside.proofs.transfer.write_all.Goals as goal
 
 pub pieces-preserved : goal.pieces-preserved
 pieces-preserved g c = record {

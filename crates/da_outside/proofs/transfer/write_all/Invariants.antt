@@ -1,6 +1,6 @@
 use Rattle.std.proofs.Common.{◌≤◌, ◌-◌, take, length}
-use Rattle.dalgo.specs.Outside.{Appends}
-use Rattle.dalgo.proofs.transfer.write_all.Given as goal
+use Rattle.da_outside.specs.Outside.{Appends}
+use Rattle.da_outside.proofs.transfer.write_all.Given as goal
 
 abbrev pub invariant-pieces : goal.invariant-pieces
 invariant-pieces g l = record {

@@ -1,8 +1,8 @@
 -- Sources and sinks: what a call does to what they tell, and when it may fail.
 use Rattle.std.specs.Prelude.{◌≡◌, ℕ, ◌+◌, ◌-◌, ◌^◌, ◌<◌, ◌≤◌, min, List, ◌++◌, ⊤, length, take, drop, Option, Some, None, Result, IsErrOf}
 use Rattle.std.specs.Option.{option_map}
-use Rattle.dalgo.specs.declared.outside.Trouble.{Trouble}
-use Rattle.dalgo.specs.declared.outside.Trouble.TheVariants.{Failed}
+use Rattle.da_outside.specs.declared.outside.Trouble.{Trouble}
+use Rattle.da_outside.specs.declared.outside.Trouble.TheVariants.{Failed}
 
 -- a count rose, or it stands at the greatest value of a u64
 abbrev pub Rose : ℕ → ℕ → Type 0

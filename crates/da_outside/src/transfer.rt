@@ -1,5 +1,5 @@
 //! Whole texts from a source, and to a sink.
-ghost use Rattle.dalgo.specs.Outside.{Appends, EndsAt, HasCause, IsFront, IsWhole};
+ghost use Rattle.da_outside.specs.Outside.{Appends, EndsAt, HasCause, IsFront, IsWhole};
 ghost use Rattle.std.specs.Prelude.{ℕ, ◌≡◌, ◌+◌, ◌<◌, ◌≤◌, List, length, take, IfOk, OnErr, OnOk};
 
 use crate::outside::{Files, Sink, Trouble};
