@@ -20,10 +20,10 @@ fn files_fail_at_their_script(rt: HostRuntime) -> Result<(), Fail> {
     files.add(copy_bytes(alloc, b"a")?, copy_bytes(alloc, b"hello")?)?;
     files.add(copy_bytes(alloc, b"a")?, copy_bytes(alloc, b"second")?)?;
     let front = read_all(alloc, &mut files, "a", 3)?;
-    assert!(rt; front.as_slice() == b"hell");
+    assert!(rt; front.as_slice() == b"hell".as_slice());
     assert!(rt; read_all(alloc, &mut files, "a", 3).is_err());
     let whole = read_all(alloc, &mut files, "a", 5)?;
-    assert!(rt; whole.as_slice() == b"hello");
+    assert!(rt; whole.as_slice() == b"hello".as_slice());
     assert!(rt; read_all(alloc, &mut files, "b", 5).is_err());
     Ok(())
 }
@@ -33,9 +33,9 @@ fn sinks_fail_at_their_script(rt: HostRuntime) -> Result<(), Fail> {
     let alloc = rt.alloc();
     let mut out = MemSink::new(alloc, 4, script_of(alloc, 3)?);
     assert_eq!(rt; write_all(&mut out, b"twelve bytes"), Err(Trouble::Failed));
-    assert!(rt; out.bytes() == b"twelve b");
+    assert!(rt; out.bytes() == b"twelve b".as_slice());
     write_all(&mut out, b"!")?;
-    assert!(rt; out.bytes() == b"twelve b!");
+    assert!(rt; out.bytes() == b"twelve b!".as_slice());
     let mut closed = MemSink::new(alloc, 0, List::new(alloc));
     assert_eq!(rt; closed.write(b""), Ok(0));
     assert_eq!(rt; closed.write(b"x"), Err(Trouble::Failed));
