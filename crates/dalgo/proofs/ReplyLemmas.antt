@@ -6,6 +6,7 @@ use Rattle.da_lang.specs.declared.event.Action.TheVariants.{Took, Sent, Got, Los
 use Rattle.da_lang.specs.declared.event.Event.{Event}
 use Rattle.da_lang.specs.declared.program.Program.{Program}
 use Rattle.da_lang.specs.declared.tree.Tree.{Tree}
+use Rattle.da_outside.specs.Outside.{Appends, Fits, IsWhole, Rose}
 use Rattle.da_parse.proofs.WholePrograms.{Spells_unique, SpellsWithin_spells}
 use Rattle.da_values.specs.declared.token.Token.{Token}
 use Rattle.da_values.specs.Marks.{toks}
@@ -23,7 +24,6 @@ use Rattle.dalgo.specs.declared.top.Ending.TheVariants as ending
 use Rattle.dalgo.specs.ActionText.{action_text}
 use Rattle.dalgo.specs.FirstForm.{first_program}
 use Rattle.dalgo.specs.Lines.{badline_text, refused_text}
-use Rattle.dalgo.specs.Outside.{Appends, Fits, IsWhole, Rose}
 use Rattle.dalgo.specs.Replies.{IsRefusedAs, HasTree, HasNoTree, Accepts, Answers, IsAnswer, IsBadSchedule, IsRefused, IsReplay, IsReplayStatus, IsSchedule, MayRead, Ran, ReadCause, Refuses, ReplayReply, refused, bad_schedule, ran, Replies, RepliesTo, RepliesTold, RunReply, RunsWhole, bad, carried_out, program_limit, schedule_limit, status_of}
 use Rattle.dalgo.specs.Schedule.{schedule_events}
 use Rattle.dalgo.specs.Top.{status_after}

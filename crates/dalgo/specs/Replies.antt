@@ -11,6 +11,7 @@ use Rattle.da_lang.specs.declared.event.Event.{Event}
 use Rattle.da_lang.specs.declared.program.Program.{Program}
 use Rattle.da_lang.specs.declared.tree.Tree.{Tree}
 use Rattle.da_lang.specs.Grammar.{SpellsWithin}
+use Rattle.da_outside.specs.Outside.{Appends, Fits, Rose}
 use Rattle.da_parse.specs.Parse.{IsLineOf}
 use Rattle.da_system.specs.SourceRun.{src_run}
 use Rattle.dalgo.specs.declared.program.ProgramFault.{ProgramFault}
@@ -22,7 +23,6 @@ use Rattle.dalgo.specs.declared.status.Status.TheVariants.{Done, Refused, Forbid
 use Rattle.dalgo.specs.ActionText.{action_text}
 use Rattle.dalgo.specs.FirstForm.{first_program}
 use Rattle.dalgo.specs.Lines.{badline_text, refused_text}
-use Rattle.dalgo.specs.Outside.{Appends, Fits, Rose}
 use Rattle.dalgo.specs.Schedule.{schedule_events}
 
 -- the bytes that the text of a program may have, and those of a schedule

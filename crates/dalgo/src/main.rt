@@ -6,19 +6,15 @@ mod action_rows;
 mod action_text;
 mod first_form;
 mod lines;
-mod memory;
-mod outside;
 mod program;
-mod real;
 #[cfg(test)]
 mod rows;
 mod run;
 mod schedule;
 mod status;
 mod top;
-mod transfer;
 
-use real::{RealFiles, RealSink};
+use da_outside::{RealFiles, RealSink};
 use status::Status;
 use std::env;
 use std::process::ExitCode;

@@ -1,8 +1,7 @@
 //! Worked rows: what the program answers to texts in memory.
-use crate::memory::{MemFiles, MemSink};
-use crate::outside::Sink;
 use crate::status::{RefusedKind, Status};
 use crate::top::dalgo;
+use da_outside::{MemFiles, MemSink, Sink};
 use da_values::{Buf, List, NoMemory, copy_bytes};
 use std::alloc::Global;
 use std::test::Fail;

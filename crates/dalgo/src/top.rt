@@ -1,11 +1,11 @@
 //! The top call: all that the program does.
 ghost use Rattle.da_lang.specs.declared.event.Event.{Event};
 ghost use Rattle.da_lang.specs.declared.program.Program.{Program};
+ghost use Rattle.da_outside.specs.Outside.{Appends, Rose};
 ghost use Rattle.da_system.specs.Printing.{PrintsOnly};
 ghost use Rattle.da_system.specs.State.{IsNumbered};
 ghost use Rattle.dalgo.specs.ActionText.{action_text};
 ghost use Rattle.dalgo.specs.Lines.{badline_text, refused_text};
-ghost use Rattle.dalgo.specs.Outside.{Appends, Rose};
 ghost use Rattle.dalgo.specs.Replies.{Accepts, Answers, IsAnswer, IsRefused, IsReplay, IsReplayStatus, IsSchedule, Ran, ReadCause, Replies, RepliesTo, RepliesTold, RunsWhole};
 ghost use Rattle.dalgo.specs.Top.{status_after as status_after_lem};
 ghost use Rattle.std.specs.Prelude.{ℕ, ◌≡◌, ◌+◌, ◌≤◌, List, Some, codes, length, map, take, IfNone, IfOk, IfSome, IsErrOf};
@@ -13,13 +13,12 @@ ghost use Rattle.std.specs.String.{string_bytes};
 
 use crate::action_text::write_actions;
 use crate::lines::{bad_line, refused_line};
-use crate::outside::{Files, Sink, Trouble};
 use crate::program::{ProgramFault, read_program};
 use crate::run::{run_events, status_of};
 use crate::schedule::{SchedFault, read_schedule};
 use crate::status::{RefusedKind, Status};
-use crate::transfer::{read_all, write_all};
 use da_lang::{Event, Program};
+use da_outside::{Files, Sink, Trouble, read_all, write_all};
 use da_values::{List, NoMemory};
 use std::alloc::Global;
 use thiserror::Error;

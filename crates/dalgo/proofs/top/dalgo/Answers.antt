@@ -1,6 +1,6 @@
 use Rattle.std.proofs.Common.{◌≡◌, subst, sym, List, ℕ}
 use Rattle.std.specs.Prelude.{Some}
-use Rattle.dalgo.specs.Outside.{Rose}
+use Rattle.da_outside.specs.Outside.{Rose}
 use Rattle.dalgo.specs.Replies.{RepliesTold}
 use Rattle.dalgo.proofs.ReplyLemmas.{after_replies, not_read, of_told, runs_whole, same_names}
 use Rattle.dalgo.proofs.top.dalgo.Goals as goal

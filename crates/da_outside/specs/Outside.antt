@@ -1,0 +1,48 @@
+-- Sources and sinks: what a call does to what they tell, and when it may fail.
+use Rattle.std.specs.Prelude.{◌≡◌, ℕ, ◌+◌, ◌-◌, ◌^◌, ◌<◌, ◌≤◌, min, List, ◌++◌, ⊤, length, take, drop, Option, Some, None, Result, IsErrOf}
+use Rattle.std.specs.Option.{option_map}
+use Rattle.da_outside.specs.declared.outside.Trouble.{Trouble}
+use Rattle.da_outside.specs.declared.outside.Trouble.TheVariants.{Failed}
+
+-- a count rose, or it stands at the greatest value of a u64
+abbrev pub Rose : ℕ → ℕ → Type 0
+Rose before now = min (before + 1) (2 ^ 64 - 1) ≤ now
+
+-- `Failed` comes only where the count rose, and the count does not fall
+pub record HasCause {T : Type 0} (before now : ℕ) (result : Result T Trouble) : Type 0 where
+  pub later : before ≤ now
+  pub failed : IsErrOf result Failed → Rose before now
+
+-- n of these bytes, from a place on, stand at the front of the buffer: at least one where some are left
+pub record ReadsFrom (bytes : List ℕ) (at n : ℕ) (buf : List ℕ) : Type 0 where
+  pub read : take n buf ≡ take n (drop at bytes)
+  pub within : n ≤ length (drop at bytes)
+  pub some : 0 < length buf → 0 < length (drop at bytes) → 0 < n
+
+abbrev pub ReadsTold : Option (List ℕ) → ℕ → ℕ → List ℕ → Type 0
+ReadsTold None at n buf = ⊤
+ReadsTold (Some bytes) at n buf = ReadsFrom bytes at n buf
+
+-- what is told has these bytes more
+abbrev pub Appends : Option (List ℕ) → Option (List ℕ) → List ℕ → Type 0
+Appends old new bytes = new ≡ option_map (λ told. told ++ bytes) old
+
+-- the text is the told one, where one is told
+abbrev pub Fits : Option (List ℕ) → List ℕ → Type 0
+Fits None text = ⊤
+Fits (Some told) text = text ≡ told
+
+-- the bytes that are told, or one more than the limit where there are more; never more than that
+abbrev pub IsWhole : Option (List ℕ) → ℕ → List ℕ → Type 0
+IsWhole None limit text = length text ≤ limit + 1
+IsWhole (Some bytes) limit text = text ≡ take (limit + 1) bytes
+
+-- the text is the front of what is told
+abbrev pub IsFront : Option (List ℕ) → List ℕ → Type 0
+IsFront None text = ⊤
+IsFront (Some bytes) text = text ≡ take (length text) bytes
+
+-- no byte is told from there on
+abbrev pub EndsAt : Option (List ℕ) → ℕ → Type 0
+EndsAt None at = ⊤
+EndsAt (Some bytes) at = length bytes ≤ at

@@ -1,0 +1,68 @@
+//! Whole texts from a source, and to a sink.
+ghost use Rattle.da_outside.specs.Outside.{Appends, EndsAt, HasCause, IsFront, IsWhole};
+ghost use Rattle.std.specs.Prelude.{ℕ, ◌≡◌, ◌+◌, ◌<◌, ◌≤◌, List, length, take, IfOk, OnErr, OnOk};
+
+use crate::outside::{Files, Sink, Trouble};
+use da_values::{Buf, List};
+use std::alloc::Global;
+
+const PIECE: usize = 4096;
+
+/// The bytes of a name, or one more than the limit where it has more. No more are ever read.
+pub fn read_all<F: Files>(
+    alloc: Global,
+    files: &mut F,
+    name: &str,
+    limit: usize,
+) -> Result<Buf, Trouble>
+    requires { limit ≤ 16777216 }
+    ensures whole { IfOk result (λ text. IsWhole (F.told files.old name.now) limit text) }
+    ensures same { (x : List ℕ) → F.told files.new x ≡ F.told files.old x }
+    ensures cause { HasCause (F.faults files.old name.now) (F.faults files.new name.now) result }
+    ensures later { (x : List ℕ) → F.faults files.old x ≤ F.faults files.new x }
+{
+    let mut text = List::new(alloc);
+    'pieces: while text.len() <= limit {
+        let room = (limit + 1 - text.len()).min(PIECE);
+        if read_piece(files, name, room, &mut text)? == 0 {
+            return Ok(text);
+        }
+    }
+    Ok(text)
+}
+
+// Reads at most this many bytes more, and says how many. 0 is the end.
+fn read_piece<F: Files>(
+    files: &mut F,
+    name: &str,
+    room: usize,
+    text: &mut Buf,
+) -> Result<usize, Trouble>
+    requires room { (0 < room) × (room ≤ 4096) }
+    requires at { length text.old ≤ 16777216 }
+    ensures grows { IfOk result (λ count. length text.new ≡ length text.old + count) }
+    ensures within { IfOk result (λ count. count ≤ room) }
+    ensures front { OnOk result (IsFront (F.told files.old name.now) text.old → IsFront (F.told files.old name.now) text.new) }
+    ensures end { IfOk result (λ count. count ≡ 0 → EndsAt (F.told files.old name.now) (length text.new)) }
+    ensures same { (x : List ℕ) → F.told files.new x ≡ F.told files.old x }
+    ensures cause { HasCause (F.faults files.old name.now) (F.faults files.new name.now) result }
+    ensures later { (x : List ℕ) → F.faults files.old x ≤ F.faults files.new x }
+{
+    let mut piece = [0u8; PIECE];
+    let count = files.read(name, text.len() as u64, &mut piece[..room])?;
+    text.append(&piece[..count])?;
+    Ok(count)
+}
+
+/// Writes all the bytes. After a trouble the sink has taken some from the front.
+pub fn write_all<K: Sink>(out: &mut K, bytes: &[u8]) -> Result<(), Trouble>
+    ensures ok { OnOk result (Appends (K.taken out.old) (K.taken out.new) bytes.now) }
+    ensures prefix { OnErr result ((n : ℕ) × Appends (K.taken out.old) (K.taken out.new) (take n bytes.now)) }
+    ensures cause { HasCause (K.faults out.old) (K.faults out.new) result }
+{
+    let mut place = 0;
+    'pieces: while place < bytes.len() {
+        place += out.write(&bytes[place..])?;
+    }
+    Ok(())
+}

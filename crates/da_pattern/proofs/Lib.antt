@@ -1,0 +1,2 @@
+pub mod PatternsAt
+pub mod TermsAt

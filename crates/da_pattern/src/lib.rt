@@ -1,0 +1,11 @@
+//! Matching of patterns: whether a value matches, and the row that it makes longer.
+#![tactic(auto)]
+
+mod matching;
+mod process;
+mod row;
+mod term;
+#[cfg(test)]
+mod tests;
+
+pub use matching::match_pattern;
