@@ -1,76 +1,77 @@
--- One turn of the loop over the statements of `run`, and that these only print.
-use Rattle.std.proofs.Common.{◌≡◌, refl, ap, sym, ◌∙◌, subst, ℕ, ℤ, length, Bool, true, false, List, [], ◌∷◌, ◌++◌, append_assoc, append-nil}
-use Rattle.std.specs.List.{AllByRecursion}
-use Rattle.std.specs.Option.{option_map}
-use Rattle.std.specs.Prelude.{Option, Some, None, IfSome, nat_le, if◌then◌else◌}
-use Rattle.da_values.specs.declared.value.Value.TheVariants.{Int}
+-- A program of the form that runs today does no more than print.
+use Rattle.std.proofs.Common.{◌≡◌, refl, sym, ap, ◌∙◌, ℕ, ◌<◌, ◌^◌, Bool, true, false, true≢false, List, [], ◌∷◌, length, arith, eqb-true}
+use Rattle.std.specs.List.{list_all, AllByRecursion}
+use Rattle.std.specs.Prelude.{◌==◌, ◌&&◌, Option, Some, None, is_none}
+use Rattle.da_values.specs.declared.value.Value.TheVariants as value
+use Rattle.da_lang.specs.declared.program.Alt.{Alt}
+use Rattle.da_lang.specs.declared.program.ChainPart.{ChainPart}
+use Rattle.da_lang.specs.declared.program.Class.{Class}
 use Rattle.da_lang.specs.declared.program.Item.{Item}
-use Rattle.da_lang.specs.declared.program.ItemKind.TheVariants.{Output, outs-Output}
-use Rattle.da_lang.specs.declared.program.RExpr.TheVariants.{Const, outs-Const}
-use Rattle.da_lang.specs.declared.tree.ClassTree.{ClassTree}
-use Rattle.da_lang.specs.declared.tree.Expr.{out-Expr}
-use Rattle.da_lang.specs.declared.tree.Member.{Member}
-use Rattle.da_lang.specs.declared.tree.Member.TheVariants.{Run}
-use Rattle.da_lang.specs.declared.tree.Stmt.{Stmt, out-Stmt}
-use Rattle.da_lang.specs.declared.tree.Stmt.TheOpen.{Stmt-F}
-use Rattle.da_lang.specs.declared.ty.ChannelKind.{ChannelKind}
-use Rattle.da_lang.specs.BodyMeaning.{item_at}
-use Rattle.da_system.specs.Printing.{Prints, PrintsOnly}
-use Rattle.dalgo.specs.FirstForm.{item_by, item_of, with_item, items_of, behind, literal, most_outputs, run_items, program_of}
+use Rattle.da_lang.specs.declared.program.ItemKind.{ItemKind}
+use Rattle.da_lang.specs.declared.program.ItemKind.TheOpen.{ItemKind-F, Output}
+use Rattle.da_lang.specs.declared.program.Program.{Program}
+use Rattle.da_lang.specs.declared.program.RBranch.{RBranch}
+use Rattle.da_lang.specs.declared.program.RExpr.{RExpr, out-RExpr}
+use Rattle.da_lang.specs.declared.program.RExpr.TheOpen.{RExpr-F, Const}
+use Rattle.da_lang.specs.Turns.{kind_of}
+use Rattle.da_system.specs.Printing.{ClassPrints, IsFixedLayer, Prints, PrintsLayer, PrintsOnly}
+use Rattle.da_system.specs.State.{IsNumbered}
+use Rattle.dalgo.specs.FirstForm.{class_prints, is_integer, prints, prints_layer, program_prints}
 
-pub items_start : (body : List Stmt) → items_of body ≡ behind [] (items_of body)
-items_start body = go (items_of body)
-  where
-    go : (found : Option (List Item)) → found ≡ behind [] found
-    go (Some items) = refl
-    go None = refl
+and_first : (a b : Bool) → (a && b) ≡ true → a ≡ true
+and_first true b is = refl
+and_first false b is = absurd (true≢false (sym is))
 
-with_more : (found : List Item) (item : Item) (more : Option (List Item)) → behind found (with_item (Some item) more) ≡ behind (found ++ item ∷ []) more
-with_more found item (Some items) = ap Some (sym (append_assoc found (item ∷ []) items))
-with_more found item None = refl
+and_second : (a b : Bool) → (a && b) ≡ true → b ≡ true
+and_second true b is = is
+and_second false b is = absurd (true≢false (sym is))
 
-pub items_turn : (found : List Item) (s : Stmt) (ss : List Stmt) (item : Item) → item_of s ≡ Some item → behind found (items_of (s ∷ ss)) ≡ behind (found ++ item ∷ []) (items_of ss)
-items_turn found s ss item is = ap (λ o. behind found (with_item o (items_of ss))) is ∙ with_more found item (items_of ss)
+-- what a test says of each element
+each : {A : Type 0} (test : A → Bool) (P : A → Type 0) → ((x : A) → test x ≡ true → P x) → (xs : List A) → list_all test xs ≡ true → AllByRecursion P xs
+each test P says [] is = tt
+each test P says (x ∷ xs) is = (says x (and_first (test x) (list_all test xs) is), each test P says xs (and_second (test x) (list_all test xs) is))
 
-pub items_stop : (found : List Item) (s : Stmt) (ss : List Stmt) → item_of s ≡ None → behind found (items_of (s ∷ ss)) ≡ None
-items_stop found s ss is = ap (λ o. behind found (with_item o (items_of ss))) is
+empty : {A : Type 0} (xs : List A) → (length xs == 0) ≡ true → xs ≡ []
+empty [] is = refl
+empty (x ∷ xs) is = absurd (omega (arith, eqb-true (length (x ∷ xs)) 0 is))
 
-pub items_end : (found : List Item) → behind found (items_of []) ≡ Some found
-items_end found = ap Some (append-nil found)
+absent : {A : Type 0} (x : Option A) → is_none x ≡ true → x ≡ None
+absent None is = refl
+absent (Some x) is = absurd (true≢false (sym is))
 
-pub ruleset items_loop = (items_start, items_turn, items_stop, items_end)
+fixed : (layer : RExpr-F RExpr ChainPart) → is_integer layer ≡ true → IsFixedLayer layer
+fixed (Const v) is = tt
+fixed _ is = absurd (true≢false (sym is))
 
--- an item that prints an integer
-literal_prints : (line : ℕ) (n : ℤ) → Prints (item_at line (Output (Const (Int n))))
-literal_prints line n = simp (outs-Output, outs-Const) tt
+layer_prints : (layer : ItemKind-F ItemKind Alt Item RBranch) → prints_layer layer ≡ true → PrintsLayer layer
+layer_prints (Output e) is = fixed (out-RExpr e) is
+layer_prints _ is = absurd (true≢false (sym is))
 
-printed : (line : ℕ) (found : Option ℤ) → IfSome (option_map (λ n. item_at line (Output (Const (Int n)))) found) Prints
-printed line (Some n) = literal_prints line n
-printed line None = tt
+item_prints : (i : Item) → prints i ≡ true → Prints i
+item_prints i is = layer_prints (kind_of i) is
 
-layer_prints : {A B C : Type 0} (x : Stmt-F A B C) → IfSome (item_by x) Prints
-layer_prints (Stmt-F.Output x line) = printed line (literal (out-Expr x))
-layer_prints _ = tt
+one_class : (c : Class) → class_prints c ≡ true → ClassPrints c
+one_class c is =
+    let run = list_all prints c.run in
+    let front = and_first ((length c.queries == 0) && (length c.handlers == 0)) run is in
+    record {
+      queries = empty c.queries (and_first (length c.queries == 0) (length c.handlers == 0) front);
+      handlers = empty c.handlers (and_second (length c.queries == 0) (length c.handlers == 0) front);
+      run = each prints Prints item_prints c.run (and_second ((length c.queries == 0) && (length c.handlers == 0)) run is);
+    }
 
-with_prints : (item : Option Item) (more : Option (List Item)) → IfSome item Prints → IfSome more (AllByRecursion Prints) → IfSome (with_item item more) (AllByRecursion Prints)
-with_prints (Some item) (Some items) first others = (first, others)
-with_prints (Some item) None first others = tt
-with_prints None more first others = tt
+pub prints_only : (p : Program) → program_prints p ≡ true → PrintsOnly p
+prints_only p is =
+    let one = length p.procs == 1 in
+    let bare = list_all (λ d. is_none d.setup) p.procs in
+    let classes = list_all class_prints p.classes in
+    record {
+      classes = each class_prints ClassPrints one_class p.classes (and_second (one && bare) classes is);
+      procs = each (λ d. is_none d.setup) (λ d. d.setup ≡ None) (λ d. absent d.setup) p.procs (and_second one bare (and_first (one && bare) classes is));
+    }
 
-items_print : (body : List Stmt) → IfSome (items_of body) (AllByRecursion Prints)
-items_print [] = tt
-items_print (s ∷ ss) = with_prints (item_of s) (items_of ss) (layer_prints (out-Stmt s)) (items_print ss)
-
-limited : (few : Bool) (found : Option (List Item)) → IfSome found (AllByRecursion Prints) → IfSome (if few then found else None) (AllByRecursion Prints)
-limited true found prints = prints
-limited false found prints = tt
-
-run_prints : (members : List Member) → IfSome (run_items members) (AllByRecursion Prints)
-run_prints (Run body line ∷ []) = limited (nat_le (length body) most_outputs) (items_of body) (items_print body)
-run_prints _ = tt
-
--- a program of the form only prints
-pub prints_only : (kind : ChannelKind) (c : ClassTree) (items : List Item) (members : List Member) → Some items ≡ run_items members → PrintsOnly (program_of kind c items)
-prints_only kind c items members is =
-    let prints : AllByRecursion Prints items = subst (λ found. IfSome found (AllByRecursion Prints)) (sym is) (run_prints members) in
-    record { classes = (record { queries = refl; handlers = refl; run = prints }, tt); procs = (refl, tt) }
+pub few_processes : (p : Program) → program_prints p ≡ true → IsNumbered p
+few_processes p is =
+    let one = length p.procs == 1 in
+    let bare = list_all (λ d. is_none d.setup) p.procs in
+    omega (arith, eqb-true (length p.procs) 1 (and_first one bare (and_first (one && bare) (list_all class_prints p.classes) is)))

@@ -1,16 +1,30 @@
--- From what the lexer, the parser and the form of a tree answer to what is said of a text.
-use Rattle.std.proofs.Common.{◌≡◌, subst, ℕ, ◌≤◌, List, length}
-use Rattle.std.specs.Prelude.{Ok, Err, MatchResult, Result}
+-- From what the lexer, the parser, names, limits and types answer to what is said of a text.
+use Rattle.std.proofs.Common.{◌≡◌, subst, sym, ℕ, ◌≤◌, List, length}
+use Rattle.std.specs.Prelude.{Ok, Err, MatchResult, Result, Some}
 use Rattle.da_values.specs.declared.token.LexKind.{LexKind}
 use Rattle.da_values.specs.declared.token.LexKind.TheVariants as lex
 use Rattle.da_values.specs.declared.token.Token.{Token}
 use Rattle.da_values.specs.Marks.{toks}
 use Rattle.da_values.specs.Tokens.{tokens}
+use Rattle.da_lang.specs.declared.program.Program.{Program}
+use Rattle.da_lang.specs.declared.refusal.LimitKind.{LimitKind}
+use Rattle.da_lang.specs.declared.refusal.LimitKind.TheVariants as limit
+use Rattle.da_lang.specs.declared.refusal.ScopeKind.{ScopeKind}
+use Rattle.da_lang.specs.declared.refusal.ScopeKind.TheVariants as name
 use Rattle.da_lang.specs.declared.tree.Tree.{Tree}
 use Rattle.da_lang.specs.Grammar.{SpellsWithin}
+use Rattle.da_lang.specs.Limits.{Resolves}
 use Rattle.da_parse.specs.declared.whole.ParseFault.{ParseFault}
 use Rattle.da_parse.specs.declared.whole.ParseFault.TheVariants as parse_fault
-use Rattle.dalgo.specs.Replies.{HasNoTree, Refuses, kind_after, program_limit}
+use Rattle.da_scope.specs.declared.top.ScopeFault.{ScopeFault}
+use Rattle.da_scope.specs.declared.top.ScopeFault.TheVariants as scope
+use Rattle.da_scope.specs.Resolving.{IsRefusedAs as IsNotResolved}
+use Rattle.da_types.specs.declared.check.TypeFault.{TypeFault}
+use Rattle.da_types.specs.declared.check.TypeFault.TheVariants as types
+use Rattle.da_types.specs.Checking.{IsRefusedAs as IsNotTyped}
+use Rattle.dalgo.specs.declared.program.ProgramFault.{ProgramFault}
+use Rattle.dalgo.specs.Faults.{after_names, after_types}
+use Rattle.dalgo.specs.Verdict.{HasTree, HasNoTree, IsMisnamed, IsRefusedAs, IsTooLarge, Refuses, kind_after, kind_of_limit, kind_of_name, program_limit}
 
 -- the text is not cut into tokens
 pub not_cut : (text : List ℕ) (kind : LexKind) (line : ℕ) → length text ≤ program_limit → tokens text ≡ Err (record { kind = kind; line = line }) → Refuses text (kind_after kind) line
@@ -28,3 +42,33 @@ has_no_tree text list r e few lexed is other only = record {
   lexed = lexed;
   none = λ tree spelled. other (subst (λ (o : Result Tree ParseFault). MatchResult o (λ found. found ≡ tree) (λ e. e ≡ parse_fault.Memory)) is (only tree spelled));
 }
+
+-- the refusal that is told of a tree
+by_name : (text : List ℕ) (kind : ScopeKind) (line : ℕ) → IsMisnamed text kind line → Refuses text (kind_of_name kind) line
+by_name text name.NotYet line is = is
+by_name text name.Unknown line is = is
+by_name text name.Twice line is = is
+by_name text name.Shadow line is = is
+by_name text name.Recursive line is = is
+by_name text name.Yield line is = is
+by_name text name.Setup line is = is
+by_name text name.NoRun line is = is
+by_name text name.Arity line is = is
+
+by_limit : (text : List ℕ) (which : LimitKind) (line : ℕ) → IsTooLarge text which line → Refuses text (kind_of_limit which) line
+by_limit text limit.Classes line is = is
+by_limit text limit.Processes line is = is
+by_limit text limit.Items line is = is
+by_limit text limit.Blocks line is = is
+by_limit text limit.Variables line is = is
+by_limit text limit.Parts line is = is
+by_limit text limit.Generators line is = is
+
+pub not_resolved : (text : List ℕ) (tree : Tree) (why : ScopeFault) → HasTree text tree → IsNotResolved tree why → IsRefusedAs text (after_names why)
+not_resolved text tree (scope.Refused kind line) has is = by_name text kind line (record { tree = tree; has = has; is = is })
+not_resolved text tree (scope.Limit which line) has is = by_limit text which line (record { tree = tree; has = has; named = is.0; is = is.1 })
+not_resolved text tree scope.Memory has is = tt
+
+pub not_typed : (text : List ℕ) (tree : Tree) (p : Program) (why : TypeFault) → HasTree text tree → Resolves tree p → IsNotTyped p why → IsRefusedAs text (after_types why)
+not_typed text tree p (types.Refused line) has resolves is = record { tree = tree; has = has; resolved = p; resolves = resolves; is = is }
+not_typed text tree p types.Memory has resolves is = tt

@@ -1,96 +1,49 @@
 -- What the program answers to the text of a program and that of a schedule.
-use Rattle.std.specs.Prelude.{◌≡◌, ℕ, ◌⊎◌, ◌<◌, ◌≤◌, List, [], ◌∷◌, length, codes, Ok, Err, Option, Some, None}
-use Rattle.da_values.specs.declared.token.LexKind.{LexKind}
-use Rattle.da_values.specs.declared.token.LexKind.TheVariants as lex
-use Rattle.da_values.specs.declared.token.Token.{Token}
-use Rattle.da_values.specs.Marks.{toks}
-use Rattle.da_values.specs.Tokens.{tokens}
+use Rattle.std.specs.Prelude.{◌≡◌, ℕ, ◌⊎◌, ◌<◌, ◌≤◌, Bool, true, false, List, [], ◌∷◌, ◌++◌, length, codes, decimal, Ok, Err, Option, Some, None}
 use Rattle.da_lang.specs.declared.event.Action.{Action}
 use Rattle.da_lang.specs.declared.event.Action.TheVariants.{Stop}
 use Rattle.da_lang.specs.declared.event.Event.{Event}
 use Rattle.da_lang.specs.declared.program.Program.{Program}
-use Rattle.da_lang.specs.declared.tree.Tree.{Tree}
-use Rattle.da_lang.specs.Grammar.{SpellsWithin}
-use Rattle.da_outside.specs.Outside.{Appends, Fits, Rose}
-use Rattle.da_parse.specs.Parse.{IsLineOf}
 use Rattle.da_system.specs.SourceRun.{src_run}
-use Rattle.dalgo.specs.declared.program.ProgramFault.{ProgramFault}
-use Rattle.dalgo.specs.declared.program.ProgramFault.TheVariants as fault
 use Rattle.dalgo.specs.declared.status.RefusedKind.{RefusedKind}
-use Rattle.dalgo.specs.declared.status.RefusedKind.TheVariants as kind_is
+use Rattle.dalgo.specs.declared.status.RefusedKind.TheVariants.{NotYet}
 use Rattle.dalgo.specs.declared.status.Status.{Status}
 use Rattle.dalgo.specs.declared.status.Status.TheVariants.{Done, Refused, Forbidden, BadSchedule, ReadFault, WriteFault, Memory, Words}
 use Rattle.dalgo.specs.ActionText.{action_text}
-use Rattle.dalgo.specs.FirstForm.{first_program}
-use Rattle.dalgo.specs.Lines.{badline_text, refused_text}
+use Rattle.dalgo.specs.FirstForm.{only_run, runs_today}
+use Rattle.dalgo.specs.Lines.{accepted_text, badline_text, refused_text}
+use Rattle.da_outside.specs.Outside.{Appends, Fits, Rose}
 use Rattle.dalgo.specs.Schedule.{schedule_events}
+use Rattle.dalgo.specs.Verdict.{Accepts, Refuses}
 
--- the bytes that the text of a program may have, and those of a schedule
-abbrev pub program_limit : ℕ
-program_limit = 1048576
-
+-- the bytes that the text of a schedule may have
 abbrev pub schedule_limit : ℕ
 schedule_limit = 16777216
 
--- the tokens of the text spell this tree, and none of them opens a thing where 32 are open
-pub record HasTree (text : List ℕ) (tree : Tree) : Type 0 where
-  pub size : length text ≤ program_limit
-  pub list : List Token
-  pub lexed : tokens text ≡ Ok list
-  pub spelled : SpellsWithin 32 tree (toks text list)
+-- the text gives this program, and it is of the form that runs today
+pub record Runs (text : List ℕ) (program : Program) : Type 0 where
+  pub accepts : Accepts text program
+  pub today : runs_today accepts.tree program ≡ true
 
--- the text has tokens, and they spell no such tree
-pub record HasNoTree (text : List ℕ) : Type 0 where
-  pub size : length text ≤ program_limit
-  pub list : List Token
-  pub lexed : tokens text ≡ Ok list
-  pub none : (tree : Tree) → SpellsWithin 32 tree (toks text list) → ⊥
-
--- the text gives this program
-pub record Accepts (text : List ℕ) (program : Program) : Type 0 where
-  pub tree : Tree
-  pub has : HasTree text tree
-  pub is : first_program tree ≡ Some program
-
--- the text gives no program yet
+-- the text gives a program of another form
 pub record IsNotYet (text : List ℕ) : Type 0 where
-  pub tree : Tree
-  pub has : HasTree text tree
-  pub is : first_program tree ≡ None
+  pub program : Program
+  pub accepts : Accepts text program
+  pub later : runs_today accepts.tree program ≡ false
 
--- the first fault of the text, where it is cut into tokens, is of this kind and on this line
-abbrev pub IsNotCut : List ℕ → LexKind → ℕ → Type 0
-IsNotCut text kind line = (length text ≤ program_limit) × (tokens text ≡ Err (record { kind = kind; line = line }))
+-- the text gives this program, and this says whether each of its classes has `run` alone
+pub record IsRead (text : List ℕ) (program : Program) (only : Bool) : Type 0 where
+  pub accepts : Accepts text program
+  pub says : only ≡ only_run accepts.tree
 
--- the kind of the refusal of a text that is not cut into tokens
-abbrev pub kind_after : LexKind → RefusedKind
-kind_after lex.BadByte = kind_is.Byte
-kind_after lex.BadIndent = kind_is.Indent
-kind_after lex.BadToken = kind_is.Token
-kind_after lex.Unclosed = kind_is.Unclosed
+-- `replay` refuses what `check` refuses, and last a program of a form that does not run yet
+abbrev pub ReplayRefuses : List ℕ → RefusedKind → ℕ → Type 0
+ReplayRefuses text kind line = Refuses text kind line ⊎ ((kind ≡ NotYet) × (line ≡ 0) × IsNotYet text)
 
--- The text is refused so, at this line. Of the texts without a tree it is not said yet which are `syntax` and which
--- are `deep`, nor on which of their lines.
-abbrev pub Refuses : List ℕ → RefusedKind → ℕ → Type 0
-Refuses text kind_is.Size line = (program_limit < length text) × (line ≡ 0)
-Refuses text kind_is.Byte line = IsNotCut text lex.BadByte line
-Refuses text kind_is.Indent line = IsNotCut text lex.BadIndent line
-Refuses text kind_is.Token line = IsNotCut text lex.BadToken line
-Refuses text kind_is.Unclosed line = IsNotCut text lex.Unclosed line
-Refuses text kind_is.Syntax line = HasNoTree text × IsLineOf text line
-Refuses text kind_is.Deep line = HasNoTree text × IsLineOf text line
-Refuses text kind_is.NotYet line = IsNotYet text × (line ≡ 0)
-
--- a text that gives no program is refused so, or memory was refused
-abbrev pub IsRefusedAs : List ℕ → ProgramFault → Type 0
-IsRefusedAs text (fault.Refused kind line) = Refuses text kind line
-IsRefusedAs text fault.Memory = Unit {0}
-
--- the text is refused
 pub record IsRefused (text : List ℕ) : Type 0 where
   pub kind : RefusedKind
   pub line : ℕ
-  pub refuses : Refuses text kind line
+  pub refuses : ReplayRefuses text kind line
 
 -- the text is a schedule of these events
 pub record IsSchedule (text : List ℕ) (events : List Event) : Type 0 where
@@ -109,11 +62,11 @@ status_of (a ∷ actions) = status_of actions
 
 -- the status and the bytes with which `replay` answers a program's text and a schedule's
 pub data ReplayReply (program_text schedule_text : List ℕ) : Status → List ℕ → Type 0 where
-  refused : (kind : RefusedKind) (line : ℕ) → Refuses program_text kind line
+  refused : (kind : RefusedKind) (line : ℕ) → ReplayRefuses program_text kind line
       → ReplayReply program_text schedule_text (Refused kind line) (refused_text kind line)
-  bad_schedule : (program : Program) (line : ℕ) → Accepts program_text program → IsBadSchedule schedule_text line
+  bad_schedule : (program : Program) (line : ℕ) → Runs program_text program → IsBadSchedule schedule_text line
       → ReplayReply program_text schedule_text (BadSchedule line) (badline_text line)
-  ran : (program : Program) (events : List Event) → Accepts program_text program → IsSchedule schedule_text events
+  ran : (program : Program) (events : List Event) → Runs program_text program → IsSchedule schedule_text events
       → ReplayReply program_text schedule_text (status_of (src_run program events)) (action_text (src_run program events))
 
 -- a sink gained the bytes with which `replay` answers the two texts, and the status is that of the answer
@@ -139,6 +92,28 @@ abbrev pub RunsWhole : Program → List Event → Status → Option (List ℕ) �
 RunsWhole program events status before after =
     (status ≡ Memory) ⊎ ((status ≡ status_of (src_run program events)) × Appends before after (action_text (src_run program events)))
 
+-- the status and the bytes with which `check` answers a program's text
+pub data CheckReply (text : List ℕ) : Status → List ℕ → Type 0 where
+  declined : (kind : RefusedKind) (line : ℕ) → Refuses text kind line → CheckReply text (Refused kind line) (refused_text kind line)
+  accepted : (program : Program) → Accepts text program → CheckReply text Done (accepted_text (length program.classes) (length program.procs))
+
+-- a sink gained the bytes with which `check` answers the text, and the status is that of the answer
+pub record Checks (text : List ℕ) (status : Status) (before after : Option (List ℕ)) : Type 0 where
+  pub bytes : List ℕ
+  pub reply : CheckReply text status bytes
+  pub written : Appends before after bytes
+
+-- the same of a text that fits what is told
+pub record ChecksTold (told : Option (List ℕ)) (status : Status) (before after : Option (List ℕ)) : Type 0 where
+  pub text : List ℕ
+  pub fits : Fits told text
+  pub checks : Checks text status before after
+
+-- the program was accepted, and that was written; or memory was refused
+abbrev pub IsAccepted : Program → Status → Option (List ℕ) → Option (List ℕ) → Type 0
+IsAccepted program status before after =
+    (status ≡ Memory) ⊎ ((status ≡ Done) × Appends before after (accepted_text (length program.classes) (length program.procs)))
+
 -- a status that tells of an answer, and not of a fault or of want of memory
 abbrev pub IsAnswer : Status → Type 0
 IsAnswer Done = Unit {0}
@@ -161,9 +136,22 @@ IsReplayStatus ReadFault = ⊥
 IsReplayStatus WriteFault = ⊥
 IsReplayStatus Memory = ⊥
 
--- the words ask to replay these names
+-- a status with which `check` answers a text
+abbrev pub IsCheckStatus : Status → Type 0
+IsCheckStatus Done = Unit {0}
+IsCheckStatus (Refused kind line) = Unit {0}
+IsCheckStatus _ = ⊥
+
+-- the words ask to replay these names; to check this one
 abbrev pub IsReplay : List (List ℕ) → List ℕ → List ℕ → Type 0
 IsReplay words program schedule = words ≡ codes "replay" ∷ program ∷ schedule ∷ []
+
+abbrev pub IsCheck : List (List ℕ) → List ℕ → Type 0
+IsCheck words program = words ≡ codes "check" ∷ program ∷ []
+
+-- the words ask for neither
+abbrev pub IsOther : List (List ℕ) → Type 0
+IsOther words = ((p q : List ℕ) → IsReplay words p q → ⊥) × ((p : List ℕ) → IsCheck words p → ⊥)
 
 -- a schedule is read unless the told program is refused
 abbrev pub MayRead : Option (List ℕ) → Type 0
@@ -174,6 +162,12 @@ MayRead (Some text) = IsRefused text → ⊥
 abbrev pub ReadCause : Option (List ℕ) → (List ℕ → ℕ) → (List ℕ → ℕ) → List ℕ → List ℕ → Type 0
 ReadCause told before now program schedule =
     Rose (before program) (now program) ⊎ (Rose (before schedule) (now schedule) × MayRead told)
+
+-- a read failed, and the count rose for a name in the words that may be read
+abbrev pub HasReadCause : List (List ℕ) → (List ℕ → Option (List ℕ)) → (List ℕ → ℕ) → (List ℕ → ℕ) → Type 0
+HasReadCause words told before now =
+    ((p : List ℕ) × (q : List ℕ) × IsReplay words p q × ReadCause (told p) before now p q)
+    ⊎ ((p : List ℕ) × IsCheck words p × Rose (before p) (now p))
 
 -- what a schedule is answered, where the program is this
 pub data RunReply (program : Program) (schedule_text : List ℕ) : Status → List ℕ → Type 0 where

@@ -2,8 +2,8 @@
 use Rattle.std.specs.Prelude.{Result, Ok, Err}
 use Rattle.dalgo.specs.declared.status.Status.{Status}
 use Rattle.dalgo.specs.declared.status.Status.TheVariants.{ReadFault, WriteFault, Memory}
-use Rattle.dalgo.specs.declared.top.Ending.{Ending}
-use Rattle.dalgo.specs.declared.top.Ending.TheVariants as ending
+use Rattle.dalgo.specs.declared.endings.Ending.{Ending}
+use Rattle.dalgo.specs.declared.endings.Ending.TheVariants as ending
 
 abbrev pub status_after : Result Status Ending → Status
 status_after (Ok status) = status

@@ -1,5 +1,5 @@
-//! The lines by which a program and a schedule are refused.
-ghost use Rattle.dalgo.specs.Lines.{badline_text, refused_text, refused_word as refused_word_lem};
+//! The lines by which a program is accepted or refused, and a schedule is refused.
+ghost use Rattle.dalgo.specs.Lines.{accepted_text, badline_text, refused_text, refused_word as refused_word_lem};
 ghost use Rattle.std.specs.Prelude.{◌≡◌, ◌++◌, decimal, IfOk, OnOk};
 
 use crate::status::RefusedKind;
@@ -28,6 +28,22 @@ fn refused_word(kind: RefusedKind) -> &'static [u8]
         RefusedKind::Syntax => b"syntax",
         RefusedKind::Deep => b"deep",
         RefusedKind::NotYet => b"notyet",
+        RefusedKind::Unknown => b"unknown",
+        RefusedKind::Twice => b"twice",
+        RefusedKind::Shadow => b"shadow",
+        RefusedKind::Recursive => b"recursive",
+        RefusedKind::Yield => b"yield",
+        RefusedKind::Setup => b"setup",
+        RefusedKind::NoRun => b"norun",
+        RefusedKind::Arity => b"arity",
+        RefusedKind::Classes => b"classes",
+        RefusedKind::Processes => b"processes",
+        RefusedKind::Items => b"items",
+        RefusedKind::Blocks => b"blocks",
+        RefusedKind::Variables => b"variables",
+        RefusedKind::Parts => b"parts",
+        RefusedKind::Generators => b"generators",
+        RefusedKind::Types => b"type",
     }
 }
 
@@ -51,6 +67,19 @@ pub fn bad_line(alloc: Global, line: u64) -> Result<Buf, NoMemory>
     let mut text = List::new(alloc);
     text.append(b"badline ")?;
     write_number(line, &mut text)?;
+    text.append(b"\n")?;
+    Ok(text)
+}
+
+/// The line of an accepted program with so many classes and processes.
+pub fn accepted_line(alloc: Global, classes: usize, processes: usize) -> Result<Buf, NoMemory>
+    ensures { IfOk result (λ text. text ≡ accepted_text classes processes) }
+{
+    let mut text = List::new(alloc);
+    text.append(b"ok ")?;
+    write_number(classes as u64, &mut text)?;
+    text.append(b" ")?;
+    write_number(processes as u64, &mut text)?;
     text.append(b"\n")?;
     Ok(text)
 }

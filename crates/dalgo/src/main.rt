@@ -1,18 +1,24 @@
-//! Replays a schedule of a DistAlgo program, and writes what its processes do.
+//! Checks DistAlgo programs, and replays their schedules: writes what their processes do.
 #![tactic(auto)]
 
 #[cfg(test)]
 mod action_rows;
 mod action_text;
+#[cfg(test)]
+mod check_rows;
+mod checking;
+mod endings;
 mod first_form;
 mod lines;
 mod program;
+mod replaying;
 #[cfg(test)]
 mod rows;
 mod run;
 mod schedule;
 mod status;
 mod top;
+mod words;
 
 use da_outside::{RealFiles, RealSink};
 use status::Status;

@@ -1,18 +1,22 @@
 //! Programs, from their texts.
-ghost use Rattle.da_system.specs.Printing.{PrintsOnly};
-ghost use Rattle.da_system.specs.State.{IsNumbered};
+ghost use Rattle.da_lang.specs.Limits.{Resolves};
 ghost use Rattle.da_values.specs.declared.token.LexKind.TheVariants as lex;
-ghost use Rattle.dalgo.specs.Replies.{Accepts, IsRefusedAs, kind_after};
+ghost use Rattle.dalgo.specs.Replies.{IsRead};
+ghost use Rattle.dalgo.specs.Verdict.{HasTree, IsRefusedAs, kind_after, kind_of_limit, kind_of_name};
 ghost use Rattle.std.specs.Prelude.{◌≡◌, ◌≤◌, IfErr, IfOk, length};
 
-use crate::first_form::first_program;
+use crate::first_form::has_only_run;
 use crate::status::RefusedKind;
-use da_lang::Program;
+use da_lang::{LimitKind, ScopeKind, Tree};
 use da_lex::{LexFault, LexKind, lex};
 use da_parse::{ParseFault, parse};
-use da_values::NoMemory;
+use da_scope::{ScopeFault, resolve};
+use da_types::{TypeFault, Typed, check_types};
 use std::alloc::Global;
 use thiserror::Error;
+
+/// The bytes that the text of a program may have.
+pub const PROGRAM_LIMIT: usize = 1_048_576;
 
 /// Why a text gives no program.
 #[derive(Clone, Copy, Debug, PartialEq, Eq, Error)]
@@ -25,25 +29,76 @@ pub enum ProgramFault {
     Memory,
 }
 
-impl From<NoMemory> for ProgramFault {
-    ghost use Rattle.dalgo.specs.declared.program.ProgramFault.TheVariants.{Memory};
+impl From<ScopeFault> for ProgramFault {
+    ghost use Rattle.dalgo.specs.Faults.{after_names};
     ghost use Rattle.std.specs.Prelude.{◌≡◌};
 
-    ghost from_gives = { λ _ fault. fault ≡ Memory };
+    ghost from_gives = { λ why fault. fault ≡ after_names why };
 
-    fn from(_: NoMemory) -> ProgramFault {
-        ProgramFault::Memory
+    fn from(why: ScopeFault) -> ProgramFault {
+        match why {
+            ScopeFault::Refused { kind, line } => ProgramFault::Refused {
+                kind: kind_of_name(kind),
+                line,
+            },
+            ScopeFault::Limit { which, line } => ProgramFault::Refused {
+                kind: kind_of_limit(which),
+                line,
+            },
+            ScopeFault::Memory => ProgramFault::Memory,
+        }
     }
 }
 
-/// The program of a text of at most 1,048,576 bytes: its tokens are cut, the tree that they spell is read, and its form
-/// is looked at, in this order. The first of these that fails gives the refusal.
-pub fn read_program(alloc: Global, text: &[u8]) -> Result<Program, ProgramFault>
+impl From<TypeFault> for ProgramFault {
+    ghost use Rattle.dalgo.specs.Faults.{after_types};
+    ghost use Rattle.std.specs.Prelude.{◌≡◌};
+
+    ghost from_gives = { λ why fault. fault ≡ after_types why };
+
+    fn from(why: TypeFault) -> ProgramFault {
+        match why {
+            TypeFault::Refused { line } => ProgramFault::Refused {
+                kind: RefusedKind::Types,
+                line,
+            },
+            TypeFault::Memory => ProgramFault::Memory,
+        }
+    }
+}
+
+/// A program that was read.
+#[derive(Drop)]
+pub struct Read {
+    /// The program, with the type of every slot.
+    pub typed: Typed,
+    /// Whether in its text each class has `run` and no other member.
+    pub only_run: bool,
+}
+
+/// The program of a text of at most 1,048,576 bytes: its tokens are cut, the tree that they spell is read, the names of
+/// the tree are resolved within the limits, and its types are checked, in this order. The first of these that fails
+/// gives the refusal.
+#[tactic(auto, using(crate::proofs::ProgramLemmas::not_resolved, crate::proofs::ProgramLemmas::not_typed))]
+pub fn read_program(alloc: Global, text: &[u8]) -> Result<Read, ProgramFault>
     requires { length text.now ≤ 1048576 }
-    ensures ok { IfOk result (Accepts text.now) }
+    ensures read { IfOk result (λ read. IsRead text.now read.typed read.only_run) }
     ensures refused { IfErr result (IsRefusedAs text.now) }
-    ensures few { IfOk result IsNumbered }
-    ensures prints { IfOk result PrintsOnly }
+{
+    let tree = read_tree(alloc, text)?;
+    let program = resolve(alloc, &tree)?;
+    let typed = check_types(alloc, program)?;
+    Ok(Read {
+        typed,
+        only_run: has_only_run(&tree),
+    })
+}
+
+// The tree of a text.
+fn read_tree(alloc: Global, text: &[u8]) -> Result<Tree, ProgramFault>
+    requires { length text.now ≤ 1048576 }
+    ensures ok { IfOk result (HasTree text.now) }
+    ensures refused { IfErr result (IsRefusedAs text.now) }
 {
     let tokens = match lex(alloc, text) {
         Ok(tokens) => tokens,
@@ -55,27 +110,16 @@ pub fn read_program(alloc: Global, text: &[u8]) -> Result<Program, ProgramFault>
             });
         }
     };
-    let tree = match parse(alloc, &tokens) {
-        Ok(tree) => tree,
-        Err(ParseFault::Memory) => return Err(ProgramFault::Memory),
-        Err(ParseFault::Syntax { line }) => {
-            return Err(ProgramFault::Refused {
-                kind: RefusedKind::Syntax,
-                line,
-            });
-        }
-        Err(ParseFault::Deep { line }) => {
-            return Err(ProgramFault::Refused {
-                kind: RefusedKind::Deep,
-                line,
-            });
-        }
-    };
-    match first_program(alloc, &tree)? {
-        Some(program) => Ok(program),
-        None => Err(ProgramFault::Refused {
-            kind: RefusedKind::NotYet,
-            line: 0,
+    match parse(alloc, &tokens) {
+        Ok(tree) => Ok(tree),
+        Err(ParseFault::Memory) => Err(ProgramFault::Memory),
+        Err(ParseFault::Syntax { line }) => Err(ProgramFault::Refused {
+            kind: RefusedKind::Syntax,
+            line,
+        }),
+        Err(ParseFault::Deep { line }) => Err(ProgramFault::Refused {
+            kind: RefusedKind::Deep,
+            line,
         }),
     }
 }
@@ -89,5 +133,37 @@ fn kind_after(kind: LexKind) -> RefusedKind
         LexKind::BadIndent => RefusedKind::Indent,
         LexKind::BadToken => RefusedKind::Token,
         LexKind::Unclosed => RefusedKind::Unclosed,
+    }
+}
+
+// The kind of a refusal by names.
+fn kind_of_name(kind: ScopeKind) -> RefusedKind
+    ensures { result ≡ kind_of_name kind }
+{
+    match kind {
+        ScopeKind::NotYet => RefusedKind::NotYet,
+        ScopeKind::Unknown => RefusedKind::Unknown,
+        ScopeKind::Twice => RefusedKind::Twice,
+        ScopeKind::Shadow => RefusedKind::Shadow,
+        ScopeKind::Recursive => RefusedKind::Recursive,
+        ScopeKind::Yield => RefusedKind::Yield,
+        ScopeKind::Setup => RefusedKind::Setup,
+        ScopeKind::NoRun => RefusedKind::NoRun,
+        ScopeKind::Arity => RefusedKind::Arity,
+    }
+}
+
+// The kind of a refusal by limits.
+fn kind_of_limit(which: LimitKind) -> RefusedKind
+    ensures { result ≡ kind_of_limit which }
+{
+    match which {
+        LimitKind::Classes => RefusedKind::Classes,
+        LimitKind::Processes => RefusedKind::Processes,
+        LimitKind::Items => RefusedKind::Items,
+        LimitKind::Blocks => RefusedKind::Blocks,
+        LimitKind::Variables => RefusedKind::Variables,
+        LimitKind::Parts => RefusedKind::Parts,
+        LimitKind::Generators => RefusedKind::Generators,
     }
 }

@@ -23,13 +23,18 @@ const NOT_YET: Status = Status::Refused {
     line: 0,
 };
 
+const ITEMS: Status = Status::Refused {
+    kind: RefusedKind::Items,
+    line: 1,
+};
+
 const NO_SYNTAX: Status = Status::Refused {
     kind: RefusedKind::Syntax,
     line: 1,
 };
 
 // Some copies of the bytes.
-fn repeated(alloc: Global, bytes: &[u8], count: u32) -> Result<Buf, NoMemory> {
+pub fn repeated(alloc: Global, bytes: &[u8], count: u32) -> Result<Buf, NoMemory> {
     let mut text = List::new(alloc);
     for _ in 0..count {
         text.append(bytes)?;
@@ -38,7 +43,7 @@ fn repeated(alloc: Global, bytes: &[u8], count: u32) -> Result<Buf, NoMemory> {
 }
 
 // A program with so many lines that print 0.
-fn long_program(alloc: Global, count: u32) -> Result<Buf, NoMemory> {
+pub fn long_program(alloc: Global, count: u32) -> Result<Buf, NoMemory> {
     let mut text = List::new(alloc);
     text.append(HEADING)?;
     text.append(repeated(alloc, b"        output(0)\n", count)?.as_slice())?;
@@ -47,7 +52,7 @@ fn long_program(alloc: Global, count: u32) -> Result<Buf, NoMemory> {
 }
 
 // The words of a call.
-fn words_of(alloc: Global, words: &[&str]) -> Result<Vec<String>, Fail> {
+pub fn words_of(alloc: Global, words: &[&str]) -> Result<Vec<String>, Fail> {
     let mut list = Vec::new(alloc);
     for word in words {
         list.push(String::from_str(alloc, word)?)?;
@@ -56,7 +61,7 @@ fn words_of(alloc: Global, words: &[&str]) -> Result<Vec<String>, Fail> {
 }
 
 // Files `p` and `s` of these bytes.
-fn files_of(
+pub fn files_of(
     alloc: Global,
     program: &[u8],
     schedule: &[u8],
@@ -92,10 +97,19 @@ fn replays(
     Ok(ended == status && out.bytes() == text)
 }
 
+// Whether `check` of this text ends so and writes this.
+pub fn checks(alloc: Global, program: &[u8], status: Status, text: &[u8]) -> Result<bool, Fail> {
+    let words = words_of(alloc, &["check", "p"])?;
+    let mut files = files_of(alloc, program, b"", List::new(alloc))?;
+    let mut out = MemSink::new(alloc, 16, List::new(alloc));
+    let ended = dalgo(alloc, words.as_slice(), &mut files, &mut out);
+    Ok(ended == status && out.bytes() == text)
+}
+
 // Programs, schedules, and what comes of them.
 #[test]
 fn rows(rt: HostRuntime) -> Result<(), Fail> {
-    let rows: [(&[u8], &[u8], Status, &[u8]); 17] = [
+    let rows: [(&[u8], &[u8], Status, &[u8]); 20] = [
         (ONE, b"move 1\n", Status::Done, RAN),
         (ONE, b"move 1", Status::Done, RAN),
         (ONE, b"", Status::Done, b""),
@@ -167,16 +181,37 @@ fn rows(rt: HostRuntime) -> Result<(), Fail> {
             b"refused notyet 0\n",
         ),
         (
-            b"message m(int)\nclass P extends process:\n    def run():\n        output(7)\ndef main():\n    a = new(P)\n",
+            b"message m(int)\nclass Q extends process:\n    def run():\n        output(8)\nclass P extends process:\n    def run():\n        output(7)\ndef main():\n    a = new(P, 1)\n",
+            b"move 1\n",
+            Status::Done,
+            RAN,
+        ),
+        (
+            b"class P extends process:\n    var x: int\n    def run():\n        output(7)\ndef main():\n    a = new(P)\n",
             b"move 1\n",
             NOT_YET,
             b"refused notyet 0\n",
         ),
         (
-            b"class P extends process:\n    def run():\n        output(7)\ndef main():\n    a = new(P, 1)\n",
+            b"class P extends process:\n    def run():\n        output(7)\n    def f():\n        pass\ndef main():\n    a = new(P)\n",
             b"move 1\n",
             NOT_YET,
             b"refused notyet 0\n",
+        ),
+        (
+            b"class P extends process:\n    def run():\n        output(7)\ndef main():\n    a = new(P, 2)\n",
+            b"move 1\n",
+            NOT_YET,
+            b"refused notyet 0\n",
+        ),
+        (
+            b"class P extends process:\n    def run():\n        output(y)\ndef main():\n    a = new(P, 2)\n",
+            b"move 1\n",
+            Status::Refused {
+                kind: RefusedKind::Unknown,
+                line: 3,
+            },
+            b"refused unknown 3\n",
         ),
     ];
     for (program, schedule, status, text) in rows {
@@ -189,7 +224,7 @@ fn rows(rt: HostRuntime) -> Result<(), Fail> {
 }
 
 // The first program with other lines from the third on.
-fn changed(alloc: Global, lines: &[u8]) -> Result<Buf, NoMemory> {
+pub fn changed(alloc: Global, lines: &[u8]) -> Result<Buf, NoMemory> {
     let mut text = List::new(alloc);
     text.append(HEADING)?;
     text.append(lines)?;
@@ -198,7 +233,7 @@ fn changed(alloc: Global, lines: &[u8]) -> Result<Buf, NoMemory> {
 }
 
 // `output` of 7 in so many parentheses, those of `output` among them.
-fn in_parentheses(alloc: Global, count: u32) -> Result<Buf, NoMemory> {
+pub fn in_parentheses(alloc: Global, count: u32) -> Result<Buf, NoMemory> {
     let mut text = List::new(alloc);
     text.append(b"        output")?;
     text.append(repeated(alloc, b"(", count)?.as_slice())?;
@@ -277,6 +312,10 @@ fn refusals(rt: HostRuntime) -> Result<(), Fail> {
             replays(rt.alloc(), program.as_slice(), b"", status, text)?,
             "{text:?}"
         );
+        assert!(rt;
+            checks(rt.alloc(), program.as_slice(), status, text)?,
+            "{text:?}"
+        );
     }
     Ok(())
 }
@@ -312,6 +351,7 @@ fn refusals_of_texts(rt: HostRuntime) -> Result<(), Fail> {
             replays(rt.alloc(), program, b"", status, text)?,
             "{program:?}"
         );
+        assert!(rt; checks(rt.alloc(), program, status, text)?, "{program:?}");
     }
     Ok(())
 }
@@ -334,6 +374,14 @@ fn nesting(rt: HostRuntime) -> Result<(), Fail> {
             replays(rt.alloc(), program.as_slice(), b"move 1\n", status, text)?,
             "{count}"
         );
+        let (status, text) = match status {
+            Status::Done => (Status::Done, b"ok 1 1\n".as_slice()),
+            refused => (refused, text),
+        };
+        assert!(rt;
+            checks(rt.alloc(), program.as_slice(), status, text)?,
+            "{count}"
+        );
     }
     Ok(())
 }
@@ -341,7 +389,7 @@ fn nesting(rt: HostRuntime) -> Result<(), Fail> {
 // Words that the program does not know, names that are not there, and a refused program whose schedule is not read.
 #[test]
 fn words(rt: HostRuntime) -> Result<(), Fail> {
-    let rows: [(&[&str], &[u8], Status, &[u8]); 7] = [
+    let rows: [(&[&str], &[u8], Status, &[u8]); 13] = [
         (&["replay", "x"], ONE, Status::Words, b"words\n"),
         (&[], ONE, Status::Words, b"words\n"),
         (&["Replay", "p", "s"], ONE, Status::Words, b"words\n"),
@@ -349,6 +397,12 @@ fn words(rt: HostRuntime) -> Result<(), Fail> {
         (&["replay", "x", "s"], ONE, Status::ReadFault, b""),
         (&["replay", "p", "x"], ONE, Status::ReadFault, b""),
         (&["replay", "p", "x"], b"", NO_SYNTAX, b"refused syntax 1\n"),
+        (&["check"], ONE, Status::Words, b"words\n"),
+        (&["check", "p", "s"], ONE, Status::Words, b"words\n"),
+        (&["checks", "p"], ONE, Status::Words, b"words\n"),
+        (&["check", "x"], ONE, Status::ReadFault, b""),
+        (&["check", "p"], ONE, Status::Done, b"ok 1 1\n"),
+        (&["check", "p"], b"", NO_SYNTAX, b"refused syntax 1\n"),
     ];
     for (list, program, status, text) in rows {
         let words = words_of(rt.alloc(), list)?;
@@ -390,7 +444,7 @@ fn limits(rt: HostRuntime) -> Result<(), Fail> {
             Status::Done,
             9 + 16_384 * 8 + 6,
         ),
-        (too_many.as_slice(), b"move 1\n", NOT_YET, 17),
+        (too_many.as_slice(), b"move 1\n", ITEMS, 16),
         (
             ONE,
             schedule.as_slice(),
@@ -428,6 +482,24 @@ fn faults(rt: HostRuntime) -> Result<(), Fail> {
     for (read, write, status, text) in rows {
         let script = script_of(rt.alloc(), read)?;
         let mut files = files_of(rt.alloc(), ONE, b"move 1\n", script)?;
+        let mut out = MemSink::new(rt.alloc(), 4, script_of(rt.alloc(), write)?);
+        assert_eq!(rt;
+            dalgo(rt.alloc(), words.as_slice(), &mut files, &mut out),
+            status
+        );
+        assert!(rt; out.bytes() == text);
+    }
+    let words = words_of(rt.alloc(), &["check", "p"])?;
+    let rows: [(Option<u64>, Option<u64>, Status, &[u8]); 5] = [
+        (None, None, Status::Done, b"ok 1 1\n"),
+        (None, Some(1), Status::WriteFault, b""),
+        (None, Some(2), Status::WriteFault, b"ok 1"),
+        (Some(1), None, Status::ReadFault, b""),
+        (Some(2), None, Status::ReadFault, b""),
+    ];
+    for (read, write, status, text) in rows {
+        let script = script_of(rt.alloc(), read)?;
+        let mut files = files_of(rt.alloc(), ONE, b"", script)?;
         let mut out = MemSink::new(rt.alloc(), 4, script_of(rt.alloc(), write)?);
         assert_eq!(rt;
             dalgo(rt.alloc(), words.as_slice(), &mut files, &mut out),

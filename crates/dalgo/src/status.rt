@@ -17,8 +17,40 @@ pub enum RefusedKind {
     Syntax,
     /// A token opens a thing where 32 are open.
     Deep,
-    /// The program is of no form that can be run yet.
+    /// A form of the language that is not built yet, or a program of no form that can be run yet.
     NotYet,
+    /// A name is not in scope for its use.
+    Unknown,
+    /// A name is declared twice.
+    Twice,
+    /// A variable has the name of one in scope.
+    Shadow,
+    /// A method's call leads back to it.
+    Recursive,
+    /// A handler or `setup` comes to a label or an `await`.
+    Yield,
+    /// `setup` holds a form that is not allowed there.
+    Setup,
+    /// A class has no `run`.
+    NoRun,
+    /// A call has a wrong number of arguments.
+    Arity,
+    /// There are more than 32 classes.
+    Classes,
+    /// There are more than 64 processes.
+    Processes,
+    /// A class has more than 16,384 statements with its calls inlined.
+    Items,
+    /// More than 64 blocks stand within one another with the calls inlined.
+    Blocks,
+    /// A class has more than 1,024 slots, or a query more than 1,024 variables.
+    Variables,
+    /// A tuple or a message has more than 255 parts.
+    Parts,
+    /// A query has more than 8 generators.
+    Generators,
+    /// A rule of types is broken.
+    Types,
 }
 
 /// How a call of the program ends.

@@ -2,7 +2,7 @@ use Rattle.std.proofs.Common.{inr, ◌∙◌, subst, List, ℕ}
 use Rattle.std.specs.Prelude.{IfOk, Option}
 use Rattle.dalgo.specs.Replies.{RepliesTo}
 use Rattle.dalgo.proofs.ReplyLemmas.{may_read, replies_told, rose_later}
-use Rattle.dalgo.proofs.top.replay.Goals as goal
+use Rattle.dalgo.proofs.replaying.replay.Goals as goal
 
 pub returns-in-Ok-clause-read : goal.returns-in-Ok-clause-read
 returns-in-Ok-clause-read g c = λ failed.

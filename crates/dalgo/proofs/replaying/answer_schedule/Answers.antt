@@ -3,7 +3,7 @@ use Rattle.std.specs.Prelude.{Ok, Err}
 use Rattle.dalgo.specs.Replies.{schedule_limit}
 use Rattle.dalgo.specs.Schedule.{schedule_events, IsRead}
 use Rattle.dalgo.proofs.ReplyLemmas.{take_within, take_beyond, answers_bad, answers_ran, schedule_within}
-use Rattle.dalgo.proofs.top.answer_schedule.Goals as goal
+use Rattle.dalgo.proofs.replaying.answer_schedule.Goals as goal
 
 pub returns-then-text-gt-SCHEDULE_LIMIT-clause-answers : goal.returns-then-text-gt-SCHEDULE_LIMIT-clause-answers
 returns-then-text-gt-SCHEDULE_LIMIT-clause-answers g c = λ whole is.

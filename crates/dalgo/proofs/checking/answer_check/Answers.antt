@@ -1,0 +1,19 @@
+use Rattle.std.proofs.Common.{refl, ◌∙◌}
+use Rattle.dalgo.specs.declared.status.RefusedKind.TheVariants.{Size}
+use Rattle.dalgo.specs.Verdict.{program_limit}
+use Rattle.dalgo.proofs.ReplyLemmas.{take_beyond, read_within, refuses_within, checks_accepted, checks_declined}
+use Rattle.dalgo.proofs.checking.answer_check.Goals as goal
+
+pub returns-then-text-gt-PROGRAM_LIMIT-clause-checks : goal.returns-then-text-gt-PROGRAM_LIMIT-clause-checks
+returns-then-text-gt-PROGRAM_LIMIT-clause-checks g c = λ t is.
+    checks_declined t Size 0 _ _ _ (take_beyond program_limit _ t is c.if-text-gt-PROGRAM_LIMIT.true, refl) c.refuse.ensures.said
+
+pub returns-in_ok-line-in-Ok-clause-checks : goal.returns-in_ok-line-in-Ok-clause-checks
+returns-in_ok-line-in-Ok-clause-checks g c = λ t is.
+    checks_accepted t _ c.as_slice.result.now _ _ _ (read_within c.args.text.now t c.program-program.result.now c.in-Ok.read.only_run is c.if-text-gt-PROGRAM_LIMIT.false (rw c.program-program.ensures c.in-Ok.ensures.read)).accepts
+    (c.as_slice.ensures ∙ c.in_ok-line-in-Ok.ensures ∙ rw (c.len.ensures, c.len-in-Ok.ensures) refl) c.say.ensures.said
+
+pub returns-in-Err-Refused-clause-checks : goal.returns-in-Err-Refused-clause-checks
+returns-in-Err-Refused-clause-checks g c = λ t is.
+    checks_declined t c.in-Err-Refused.kind c.in-Err-Refused.line _ _ _
+    (refuses_within _ t _ _ _ is c.if-text-gt-PROGRAM_LIMIT.false c.in-Err-Refused.field-0-is c.in-Err-Refused.ensures.refused) c.refuse-in-Err-Refused.ensures.said

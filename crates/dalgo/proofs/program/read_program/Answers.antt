@@ -1,0 +1,5 @@
+use Rattle.dalgo.proofs.ReplyLemmas.{is_read}
+use Rattle.dalgo.proofs.program.read_program.Goals as goal
+
+pub returns-clause-read : goal.returns-clause-read
+returns-clause-read c = is_read _ _ _ _ _ c.in_ok-tree.ensures.ok c.in_ok-program.ensures.program c.in_ok-typed.ensures.typed c.has_only_run.ensures

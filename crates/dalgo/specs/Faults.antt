@@ -1,0 +1,18 @@
+-- The refusal of a text, from that of its names, limits or types.
+use Rattle.da_scope.specs.declared.top.ScopeFault.{ScopeFault}
+use Rattle.da_scope.specs.declared.top.ScopeFault.TheVariants as scope
+use Rattle.da_types.specs.declared.check.TypeFault.{TypeFault}
+use Rattle.da_types.specs.declared.check.TypeFault.TheVariants as types
+use Rattle.dalgo.specs.declared.program.ProgramFault.{ProgramFault}
+use Rattle.dalgo.specs.declared.program.ProgramFault.TheVariants.{Refused, Memory}
+use Rattle.dalgo.specs.declared.status.RefusedKind.TheVariants.{Types}
+use Rattle.dalgo.specs.Verdict.{kind_of_limit, kind_of_name}
+
+abbrev pub after_names : ScopeFault → ProgramFault
+after_names (scope.Refused kind line) = Refused (kind_of_name kind) line
+after_names (scope.Limit which line) = Refused (kind_of_limit which) line
+after_names scope.Memory = Memory
+
+abbrev pub after_types : TypeFault → ProgramFault
+after_types (types.Refused line) = Refused Types line
+after_types types.Memory = Memory

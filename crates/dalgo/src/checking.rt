@@ -1,0 +1,54 @@
+//! The command `check`.
+ghost use Rattle.da_outside.specs.Outside.{Rose};
+ghost use Rattle.dalgo.specs.Replies.{Checks, ChecksTold, IsCheckStatus};
+ghost use Rattle.std.specs.Prelude.{ℕ, ◌≡◌, ◌+◌, ◌≤◌, List, take, IfOk, IsErrOf};
+
+use crate::endings::{Ending, refuse, say};
+use crate::lines::accepted_line;
+use crate::program::{PROGRAM_LIMIT, ProgramFault, read_program};
+use crate::status::{RefusedKind, Status};
+use da_outside::{Files, Sink, Trouble, read_all};
+use std::alloc::Global;
+
+/// Reads the program, and refuses it or says how many classes and processes it has.
+pub fn check<F: Files, K: Sink>(
+    alloc: Global,
+    program: &str,
+    files: &mut F,
+    out: &mut K,
+) -> Result<Status, Ending>
+    ensures checks { IfOk result (λ status. ChecksTold (F.told files.old program.now) status (K.taken out.old) (K.taken out.new)) }
+    ensures status { IfOk result IsCheckStatus }
+    ensures read { IsErrOf result Ending.Read → Rose (F.faults files.old program.now) (F.faults files.new program.now) }
+    ensures write { IsErrOf result Ending.Write → Rose (K.faults out.old) (K.faults out.new) }
+    ensures unread { IsErrOf result Ending.Read → K.taken out.new ≡ K.taken out.old }
+    ensures told { (x : List ℕ) → F.told files.new x ≡ F.told files.old x }
+    ensures later { (x : List ℕ) → F.faults files.old x ≤ F.faults files.new x }
+{
+    match read_all(alloc, files, program, PROGRAM_LIMIT) {
+        Ok(text) => answer_check(alloc, text.as_slice(), out),
+        Err(Trouble::Failed) => Err(Ending::Read),
+        Err(Trouble::Memory) => Err(Ending::Memory),
+    }
+}
+
+// Refuses the program, or accepts it.
+fn answer_check<K: Sink>(alloc: Global, text: &[u8], out: &mut K) -> Result<Status, Ending>
+    ensures checks { (t : List ℕ) → text.now ≡ take (PROGRAM_LIMIT + 1) t → IfOk result (λ status. Checks t status (K.taken out.old) (K.taken out.new)) }
+    ensures status { IfOk result IsCheckStatus }
+    ensures write { IsErrOf result Ending.Write → Rose (K.faults out.old) (K.faults out.new) }
+    ensures read { IsErrOf result Ending.Read → ⊥ }
+{
+    if text.len() > PROGRAM_LIMIT {
+        return refuse(alloc, out, RefusedKind::Size, 0);
+    }
+    match read_program(alloc, text) {
+        Ok(read) => {
+            let program = read.typed.program();
+            let line = accepted_line(alloc, program.classes.len(), program.procs.len())?;
+            say(out, line.as_slice(), Status::Done)
+        }
+        Err(ProgramFault::Refused { kind, line }) => refuse(alloc, out, kind, line),
+        Err(ProgramFault::Memory) => Err(Ending::Memory),
+    }
+}

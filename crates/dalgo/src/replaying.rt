@@ -1,0 +1,125 @@
+//! The command `replay`.
+ghost use Rattle.da_lang.specs.declared.program.Program.{Program};
+ghost use Rattle.da_system.specs.Printing.{PrintsOnly};
+ghost use Rattle.da_system.specs.State.{IsNumbered};
+ghost use Rattle.da_outside.specs.Outside.{Rose};
+ghost use Rattle.dalgo.specs.Replies.{Answers, IsRefused, IsReplayStatus, Ran, ReadCause, RepliesTo, RepliesTold};
+ghost use Rattle.std.specs.Prelude.{ℕ, ◌≡◌, ◌+◌, ◌≤◌, List, take, IfOk, IsErrOf};
+
+use crate::action_text::write_actions;
+use crate::endings::{Ending, refuse, refuse_schedule, say};
+use crate::first_form::runs_today;
+use crate::program::{PROGRAM_LIMIT, ProgramFault, read_program};
+use crate::run::{run_events, status_of};
+use crate::schedule::{SchedFault, read_schedule};
+use crate::status::{RefusedKind, Status};
+use da_lang::{Event, Program};
+use da_outside::{Files, Sink, Trouble, read_all};
+use da_values::List;
+use std::alloc::Global;
+
+const SCHEDULE_LIMIT: usize = 16_777_216;
+
+/// Reads the program, refuses it or runs the schedule.
+pub fn replay<F: Files, K: Sink>(
+    alloc: Global,
+    program: &str,
+    schedule: &str,
+    files: &mut F,
+    out: &mut K,
+) -> Result<Status, Ending>
+    ensures replies { IfOk result (λ status. RepliesTold (F.told files.old program.now) (F.told files.old schedule.now) status (K.taken out.old) (K.taken out.new)) }
+    ensures read { IsErrOf result Ending.Read → ReadCause (F.told files.old program.now) (F.faults files.old) (F.faults files.new) program.now schedule.now }
+    ensures status { IfOk result IsReplayStatus }
+    ensures write { IsErrOf result Ending.Write → Rose (K.faults out.old) (K.faults out.new) }
+    ensures unread { IsErrOf result Ending.Read → K.taken out.new ≡ K.taken out.old }
+    ensures told { (x : List ℕ) → F.told files.new x ≡ F.told files.old x }
+    ensures later { (x : List ℕ) → F.faults files.old x ≤ F.faults files.new x }
+{
+    match read_all(alloc, files, program, PROGRAM_LIMIT) {
+        Ok(text) => answer_program(alloc, text.as_slice(), schedule, files, out),
+        Err(Trouble::Failed) => Err(Ending::Read),
+        Err(Trouble::Memory) => Err(Ending::Memory),
+    }
+}
+
+// Refuses the program, or reads the schedule and answers it.
+fn answer_program<F: Files, K: Sink>(
+    alloc: Global,
+    text: &[u8],
+    name: &str,
+    files: &mut F,
+    out: &mut K,
+) -> Result<Status, Ending>
+    ensures replies { (t : List ℕ) → text.now ≡ take (PROGRAM_LIMIT + 1) t → IfOk result (λ status. RepliesTo t (F.told files.old name.now) status (K.taken out.old) (K.taken out.new)) }
+    ensures refused { (t : List ℕ) → text.now ≡ take (PROGRAM_LIMIT + 1) t → IsErrOf result Ending.Read → IsRefused t → ⊥ }
+    ensures read { IsErrOf result Ending.Read → Rose (F.faults files.old name.now) (F.faults files.new name.now) }
+    ensures status { IfOk result IsReplayStatus }
+    ensures write { IsErrOf result Ending.Write → Rose (K.faults out.old) (K.faults out.new) }
+    ensures unread { IsErrOf result Ending.Read → K.taken out.new ≡ K.taken out.old }
+    ensures told { (x : List ℕ) → F.told files.new x ≡ F.told files.old x }
+    ensures later { (x : List ℕ) → F.faults files.old x ≤ F.faults files.new x }
+{
+    if text.len() > PROGRAM_LIMIT {
+        return refuse(alloc, out, RefusedKind::Size, 0);
+    }
+    let read = match read_program(alloc, text) {
+        Ok(read) => read,
+        Err(ProgramFault::Refused { kind, line }) => return refuse(alloc, out, kind, line),
+        Err(ProgramFault::Memory) => return Err(Ending::Memory),
+    };
+    let program = read.typed.program();
+    if !runs_today(read.only_run, program) {
+        return refuse(alloc, out, RefusedKind::NotYet, 0);
+    }
+    match read_all(alloc, files, name, SCHEDULE_LIMIT) {
+        Ok(schedule) => answer_schedule(alloc, program, schedule.as_slice(), out),
+        Err(Trouble::Failed) => Err(Ending::Read),
+        Err(Trouble::Memory) => Err(Ending::Memory),
+    }
+}
+
+// Refuses the schedule, or runs it.
+fn answer_schedule<K: Sink>(
+    alloc: Global,
+    program: &Program,
+    text: &[u8],
+    out: &mut K,
+) -> Result<Status, Ending>
+    requires few { IsNumbered program.now }
+    requires prints { PrintsOnly program.now }
+    ensures answers { (whole : List ℕ) → text.now ≡ take (SCHEDULE_LIMIT + 1) whole → IfOk result (λ s. Answers program.now whole s (K.taken out.old) (K.taken out.new)) }
+    ensures status { IfOk result IsReplayStatus }
+    ensures write { IsErrOf result Ending.Write → Rose (K.faults out.old) (K.faults out.new) }
+    ensures read { IsErrOf result Ending.Read → ⊥ }
+{
+    if text.len() > SCHEDULE_LIMIT {
+        return refuse_schedule(alloc, out, 0);
+    }
+    match read_schedule(alloc, text) {
+        Ok(events) => answer_events(alloc, program, events.as_slice(), out),
+        Err(SchedFault::BadLine(line)) => refuse_schedule(alloc, out, line),
+        Err(SchedFault::Memory) => Err(Ending::Memory),
+    }
+}
+
+// Runs the events, and writes their actions.
+fn answer_events<K: Sink>(
+    alloc: Global,
+    program: &Program,
+    events: &[Event],
+    out: &mut K,
+) -> Result<Status, Ending>
+    requires few { IsNumbered program.now }
+    requires prints { PrintsOnly program.now }
+    ensures ran { IfOk result (λ s. Ran program.now events.now s (K.taken out.old) (K.taken out.new)) }
+    ensures status { IfOk result IsReplayStatus }
+    ensures write { IsErrOf result Ending.Write → Rose (K.faults out.old) (K.faults out.new) }
+    ensures read { IsErrOf result Ending.Read → ⊥ }
+{
+    let actions = run_events(alloc, program, events)?;
+    let done = actions.as_slice();
+    let mut text = List::new(alloc);
+    write_actions(done, &mut text)?;
+    say(out, text.as_slice(), status_of(done))
+}
