@@ -19,9 +19,9 @@ use Rattle.da_parse.specs.declared.whole.ParseFault.TheVariants as parse_fault
 use Rattle.da_scope.specs.declared.top.ScopeFault.{ScopeFault}
 use Rattle.da_scope.specs.declared.top.ScopeFault.TheVariants as scope
 use Rattle.da_scope.specs.Resolving.{IsRefusedAs as IsNotResolved}
-use Rattle.da_types.specs.declared.check.TypeFault.{TypeFault}
-use Rattle.da_types.specs.declared.check.TypeFault.TheVariants as types
-use Rattle.da_types.specs.Checking.{IsRefusedAs as IsNotTyped}
+use Rattle.da_types.specs.declared.top.TypeFault.{TypeFault}
+use Rattle.da_types.specs.declared.top.TypeFault.TheVariants as types
+use Rattle.da_types.specs.Refusing.{IsRefusedAs as IsNotTyped}
 use Rattle.dalgo.specs.declared.program.ProgramFault.{ProgramFault}
 use Rattle.dalgo.specs.Faults.{after_names, after_types}
 use Rattle.dalgo.specs.Verdict.{HasTree, HasNoTree, IsMisnamed, IsRefusedAs, IsTooLarge, Refuses, kind_after, kind_of_limit, kind_of_name, program_limit}

@@ -1,8 +1,8 @@
 -- The refusal of a text, from that of its names, limits or types.
 use Rattle.da_scope.specs.declared.top.ScopeFault.{ScopeFault}
 use Rattle.da_scope.specs.declared.top.ScopeFault.TheVariants as scope
-use Rattle.da_types.specs.declared.check.TypeFault.{TypeFault}
-use Rattle.da_types.specs.declared.check.TypeFault.TheVariants as types
+use Rattle.da_types.specs.declared.top.TypeFault.{TypeFault}
+use Rattle.da_types.specs.declared.top.TypeFault.TheVariants as types
 use Rattle.dalgo.specs.declared.program.ProgramFault.{ProgramFault}
 use Rattle.dalgo.specs.declared.program.ProgramFault.TheVariants.{Refused, Memory}
 use Rattle.dalgo.specs.declared.status.RefusedKind.TheVariants.{Types}
