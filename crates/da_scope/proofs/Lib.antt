@@ -7,9 +7,11 @@ pub mod CopiesAt
 pub mod FoundAt
 pub mod GensAt
 pub mod MakingAt
+pub mod MethodLaws
 pub mod NumbersOn
 pub mod OutsideAt
 pub mod PatternsAt
+pub mod ScopeIndexLaws
 pub mod SlotLaws
 pub mod SlotScopeLaws
 pub mod StatementsAt

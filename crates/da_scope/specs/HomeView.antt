@@ -1,18 +1,17 @@
 -- The bodies of a class that code asks for.
-use Rattle.std.specs.Prelude.{ℕ, Bool, List, Option, find}
+use Rattle.std.specs.Prelude.{Bool, List, Option, find}
 use Rattle.da_lang.specs.declared.tree.ClassTree.{ClassTree}
 use Rattle.da_lang.specs.declared.tree.Param.{Param}
 use Rattle.da_lang.specs.declared.tree.Stmt.{Stmt}
 use Rattle.da_lang.specs.ClassParts as class
-use Rattle.da_lang.specs.ClassParts.{Place, bodies, is_setup, is_run, is_method}
+use Rattle.da_lang.specs.ClassParts.{Place, bodies, is_setup, is_run}
 use Rattle.da_scope.specs.declared.meaning.bodies.Body.{Body}
 use Rattle.da_scope.specs.declared.meaning.bodies.Wanted.{Wanted}
-use Rattle.da_scope.specs.declared.meaning.bodies.Wanted.TheVariants.{Setup, Run, Method}
+use Rattle.da_scope.specs.declared.meaning.bodies.Wanted.TheVariants.{Setup, Run}
 
 abbrev pub wants : Wanted → Place → Bool
 wants Setup = is_setup
 wants Run = is_run
-wants (Method name) = is_method name.now
 
 -- the first body that is wanted
 abbrev pub wanted_of : Wanted → ClassTree → Option class.Body

@@ -12,6 +12,7 @@ pub mod handler;
 pub mod home;
 pub mod inliner;
 pub mod making;
+pub mod methods;
 pub mod numbers;
 pub mod pattern;
 pub mod program;

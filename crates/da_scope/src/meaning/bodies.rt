@@ -8,13 +8,11 @@ use da_lang::{ClassTree, Member, Param, Stmt};
 
 /// A body that is asked for.
 #[derive(Clone, Copy)]
-pub enum Wanted<'n> {
+pub enum Wanted {
     /// That of `setup`.
     Setup,
     /// That of `run`.
     Run,
-    /// That of the method of this name.
-    Method(&'n [u8]),
 }
 
 /// The parameters and the statements of a body.
@@ -25,9 +23,9 @@ pub struct Body<'t> {
 }
 
 /// The first body of a class that is wanted, which is empty where there is none.
-pub fn first_body<'t>(class: &'t ClassTree, wanted: Wanted<'_>) -> Body<'t>
-    ensures params { result.params.now ≡ params_if (wanted_of wanted.entry class.now) }
-    ensures stmts { result.stmts.now ≡ stmts_if (wanted_of wanted.entry class.now) }
+pub fn first_body<'t>(class: &'t ClassTree, wanted: Wanted) -> Body<'t>
+    ensures params { result.params.now ≡ params_if (wanted_of wanted class.now) }
+    ensures stmts { result.stmts.now ≡ stmts_if (wanted_of wanted class.now) }
 {
     for member in class.members.as_slice() {
         if let Some(body) = body_of(member, wanted) {
@@ -40,9 +38,38 @@ pub fn first_body<'t>(class: &'t ClassTree, wanted: Wanted<'_>) -> Body<'t>
     }
 }
 
+/// The body of a member, which is empty where it has none.
+pub fn whole_body<'t>(member: &'t Member) -> Body<'t>
+    ensures params { result.params.now ≡ params_if (body_in member.now) }
+    ensures stmts { result.stmts.now ≡ stmts_if (body_in member.now) }
+{
+    match member {
+        Member::Var { .. } => Body {
+            params: &[],
+            stmts: &[],
+        },
+        Member::Setup { params, body, .. } => Body {
+            params: params.as_slice(),
+            stmts: body.as_slice(),
+        },
+        Member::Run { body, .. } => Body {
+            params: &[],
+            stmts: body.as_slice(),
+        },
+        Member::Method { params, body, .. } => Body {
+            params: params.as_slice(),
+            stmts: body.as_slice(),
+        },
+        Member::Receive { body, .. } => Body {
+            params: &[],
+            stmts: body.as_slice(),
+        },
+    }
+}
+
 // The body of a member that is wanted.
-fn body_of<'t>(member: &'t Member, wanted: Wanted<'_>) -> Option<Body<'t>>
-    ensures { option_map parts_in result ≡ option_map parts (find (λ b. wants wanted.entry b.place) (filter_map body_in (member.now ∷ []))) }
+fn body_of<'t>(member: &'t Member, wanted: Wanted) -> Option<Body<'t>>
+    ensures { option_map parts_in result ≡ option_map parts (find (λ b. wants wanted b.place) (filter_map body_in (member.now ∷ []))) }
 {
     match member {
         Member::Setup { params, body, .. } => match wanted {
@@ -50,32 +77,15 @@ fn body_of<'t>(member: &'t Member, wanted: Wanted<'_>) -> Option<Body<'t>>
                 params: params.as_slice(),
                 stmts: body.as_slice(),
             }),
-            Wanted::Run | Wanted::Method(_) => None,
+            Wanted::Run => None,
         },
         Member::Run { body, .. } => match wanted {
             Wanted::Run => Some(Body {
                 params: &[],
                 stmts: body.as_slice(),
             }),
-            Wanted::Setup | Wanted::Method(_) => None,
+            Wanted::Setup => None,
         },
-        Member::Method {
-            name,
-            params,
-            body,
-            ..
-        } => match wanted {
-            Wanted::Method(other) => {
-                if name.as_slice() != other {
-                    return None;
-                }
-                Some(Body {
-                    params: params.as_slice(),
-                    stmts: body.as_slice(),
-                })
-            }
-            Wanted::Setup | Wanted::Run => None,
-        },
-        Member::Var { .. } | Member::Receive { .. } => None,
+        Member::Var { .. } | Member::Method { .. } | Member::Receive { .. } => None,
     }
 }

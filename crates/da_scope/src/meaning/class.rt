@@ -6,6 +6,7 @@ use crate::meaning::bodies::{Wanted, first_body};
 use crate::meaning::copying::body;
 use crate::meaning::handler::add_handlers;
 use crate::meaning::home::Home;
+use crate::meaning::methods::places_of;
 use crate::meaning::scope::Scope;
 use crate::meaning::slots::{declare_params, declare_variables};
 use crate::meaning::tables::Tables;
@@ -41,7 +42,7 @@ pub fn build_class(alloc: Global, class: &ClassTree) -> Result<Class, NoMemory>
     })
 }
 
-// The class with its variables, which get the first slots.
+// The class with its variables, which get the first slots, and the places of its methods.
 fn home_of<'t>(
     alloc: Global,
     class: &'t ClassTree,
@@ -53,5 +54,10 @@ fn home_of<'t>(
 {
     let mut scope = Scope::new(alloc);
     declare_variables(alloc, class.members.as_slice(), &mut scope, tables)?;
-    Ok(Home { class, scope })
+    let places = places_of(alloc, class.members.as_slice())?;
+    Ok(Home {
+        class,
+        scope,
+        places,
+    })
 }

@@ -3,7 +3,6 @@ ghost use Rattle.da_lang.specs.BodyMeaning.{body_of, copies};
 ghost use Rattle.std.specs.Prelude.{◌≡◌, IfOk, OnOk};
 
 use crate::meaning::arguments::bind_args;
-use crate::meaning::bodies::{Wanted, first_body};
 use crate::meaning::home::Home;
 use crate::meaning::inliner::Inliner;
 use crate::meaning::scope::Scope;
@@ -48,7 +47,7 @@ pub fn copy_body(
     let Some(fewer) = most.checked_sub(1) else {
         return Ok(ItemKind::Pass);
     };
-    let method = first_body(home.class, Wanted::Method(name));
+    let method = home.method(name);
     let mut scope = home.scope.copy(alloc)?;
     let slots = declare_params(alloc, method.params, &mut scope, tables)?;
     let inner = Inliner {

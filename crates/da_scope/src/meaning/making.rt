@@ -10,7 +10,7 @@ use da_lang::{ClassTree, Expr, MainLine, ProcDecl, RExpr, SetupCall, Tree};
 use da_values::{List, NoMemory};
 use std::alloc::Global;
 
-/// The names that lines of `main` make, of which the first counts.
+/// The names that lines of `main` make, of which the first counts. They are as many as the lines, so they have a map.
 pub fn names_made<'t>(alloc: Global, lines: &'t [MainLine]) -> Result<Scope<'t>, NoMemory>
     ensures { IfOk result (λ scope. scope ≡ made 0 lines.now) }
 {
@@ -22,7 +22,7 @@ pub fn names_made<'t>(alloc: Global, lines: &'t [MainLine]) -> Result<Scope<'t>,
         enter_line(before, line, &mut scope)?;
         rest = earlier;
     }
-    Ok(scope)
+    scope.with_index(alloc)
 }
 
 // How many processes some lines make.

@@ -3,12 +3,15 @@ ghost use Rattle.da_lang.specs.ExprMeaning.{InSlot, width, with_row};
 ghost use Rattle.da_lang.specs.Resolution.{made_as};
 ghost use Rattle.da_lang.specs.Scopes.{look};
 ghost use Rattle.da_scope.specs.MeaningView.{meaning_of};
-ghost use Rattle.std.specs.Option.{option_map};
-ghost use Rattle.std.specs.Prelude.{◌≡◌, [], ◌∷◌, IfOk, OnOk, suc};
+ghost use Rattle.da_scope.specs.ScopeIndex.{meaning_in};
+ghost use Rattle.da_scope.specs.SlotScope.{shown};
+ghost use Rattle.std.specs.Option.{option_map, option_or};
+ghost use Rattle.std.specs.Prelude.{◌≡◌, ℕ, List, None, Some, [], ◌∷◌, IfOk, OnOk, bytes_eq, if◌then◌else◌, suc};
 
 use crate::meaning::numbers::number_at;
 use da_values::{List, NoMemory};
 use std::alloc::Global;
+use std::collections::BTreeMap;
 use std::marker::Model;
 
 /// What a name stands for.
@@ -31,26 +34,79 @@ pub struct Named<'t> {
     means: Meaning,
 }
 
-/// The names in scope, with the number of parts of the row so far. Contracts see the list of the names, the innermost
-/// first.
+/// The map from names to what the innermost of each stands for.
+type Index<'t> = BTreeMap<&'t [u8], Meaning>;
+
+// No name.
+fn no_index<'t>(alloc: Global) -> Index<'t>
+    ensures { (q : List ℕ) → meaning_in result q ≡ None }
+{
+    BTreeMap::new(alloc)
+}
+
+// The map of these names, the innermost last.
+fn index_of<'t>(alloc: Global, names: &[Named<'t>]) -> Result<Index<'t>, NoMemory>
+    ensures { IfOk result (λ index. (q : List ℕ) → meaning_in index q ≡ look (shown names.now) q) }
+{
+    let mut index = no_index(alloc);
+    for named in names {
+        set_meaning(&mut index, named.name, named.means)?;
+    }
+    Ok(index)
+}
+
+// What the map says of a name.
+fn meaning_at(index: &Index<'_>, name: &[u8]) -> Option<Meaning>
+    ensures { option_map meaning_of result ≡ meaning_in index.now name.now }
+{
+    index.get(name).copied()
+}
+
+// What the innermost of a name among these stands for; where there is none, this.
+fn look_through(names: &[Named<'_>], name: &[u8], outer: Option<Meaning>) -> Option<Meaning>
+    ensures { option_map meaning_of result ≡ option_or (look (shown names.now) name.now) (option_map meaning_of outer) }
+{
+    let mut found = outer;
+    for named in names {
+        if named.name == name {
+            found = Some(named.means);
+        }
+    }
+    found
+}
+
+// This is what the name stands for in the map from now on.
+fn set_meaning<'t>(index: &mut Index<'t>, name: &'t [u8], means: Meaning) -> Result<(), NoMemory>
+    ensures { OnOk result ((q : List ℕ) → meaning_in index.new q ≡ (if bytes_eq name.now q then Some (meaning_of means) else meaning_in index.old q)) }
+{
+    match index.insert(name, means) {
+        Ok(_) => Ok(()),
+        Err(_) => Err(NoMemory),
+    }
+}
+
+/// The names in scope, with the number of parts of the row so far. The first so many names are found by a map, the
+/// others one by one. Contracts see the list of the names, the innermost first.
 #[derive(Debug, Drop)]
 pub struct Scope<'t> {
     names: List<Named<'t>>,
     parts: u16,
+    index: Index<'t>,
+    indexed: usize,
 }
 
 impl<'t> Model for Scope<'t> {
-    ghost use Rattle.da_lang.specs.ExprMeaning.{Meaning, width};
+    ghost use Rattle.da_lang.specs.ExprMeaning.{Meaning};
     ghost use Rattle.da_lang.specs.Scopes.{Scope};
-    ghost use Rattle.std.specs.Prelude.{◌≡◌};
 
     ghost Value = { Scope Meaning };
 
+    ghost use Rattle.da_scope.specs.ScopeIndex.{IsKept};
     ghost use Rattle.da_scope.specs.SlotScope.{shown};
 
     ghost view = { λ scope. shown scope.names };
 
-    ghost invariant = { λ scope. scope.parts ≡ width (shown scope.names) };
+    ghost invariant = { λ scope. IsKept scope.names scope.parts scope.index scope.indexed };
 }
 
 impl<'t> Scope<'t> {
@@ -61,20 +117,31 @@ impl<'t> Scope<'t> {
         Scope {
             names: List::new(alloc),
             parts: 0,
+            index: no_index(alloc),
+            indexed: 0,
         }
+    }
+
+    /// The same names, all of them to be found by the map.
+    pub fn with_index(self, alloc: Global) -> Result<Scope<'t>, NoMemory>
+        ensures { IfOk result (λ scope. scope ≡ self.entry) }
+    {
+        let index = index_of(alloc, self.names.as_slice())?;
+        let indexed = self.names.len();
+        Ok(Scope {
+            names: self.names,
+            parts: self.parts,
+            index,
+            indexed,
+        })
     }
 
     /// What the innermost of a name stands for.
     pub fn look(&self, name: &[u8]) -> Option<Meaning>
         ensures { option_map meaning_of result ≡ look self.now name.now }
     {
-        let mut found = None;
-        for named in self.names.as_slice() {
-            if named.name == name {
-                found = Some(named.means);
-            }
-        }
-        found
+        let outer = meaning_at(&self.index, name);
+        look_through(&self.names.as_slice()[self.indexed..], name, outer)
     }
 
     /// A name of a slot comes into scope.
@@ -140,6 +207,8 @@ impl<'t> Scope<'t> {
         Ok(Scope {
             names,
             parts: self.parts,
+            index: no_index(alloc),
+            indexed: 0,
         })
     }
 }

@@ -19,7 +19,7 @@ pub returns-clause-kind : goal.returns-clause-kind
 returns-clause-kind t c =
     let one : c.args.most ≡ suc c.in-Some.fewer = omega (arith, c.in-Some.ensures) in
     let slots = c.in_ok-slots.ensures in
-    copied_kind _ _ _ _ _ _ c.declare_params.new.tables c.first_body-method.result.params.now c.first_body-method.result.stmts.now c.in_ok-scope.scope c.declare_params.new.scope c.in_ok-slots.slots _ _ one c.first_body-method.ensures.params c.first_body-method.ensures.stmts
+    copied_kind _ _ _ _ _ _ c.declare_params.new.tables c.method-method.result.params.now c.method-method.result.stmts.now c.in_ok-scope.scope c.declare_params.new.scope c.in_ok-slots.slots _ _ one c.method-method.ensures.params c.method-method.ensures.stmts
     (c.in_ok-scope.ensures ∙ c.args.home.now.variables) slots.slots slots.scope slots.tables c.in_ok-items.ensures.items
     (c.in_ok-bind_args.ensures ∙ ap (λ ns. map bind_arg (zip ns c.args.args)) c.as_slice.ensures)
 
@@ -27,5 +27,5 @@ pub returns-clause-tables : goal.returns-clause-tables
 returns-clause-tables t c =
     let one : c.args.most ≡ suc c.in-Some.fewer = omega (arith, c.in-Some.ensures) in
     let slots = c.in_ok-slots.ensures in
-    copied_tables _ _ _ _ _ _ c.declare_params.new.tables c.block.new.tables c.first_body-method.result.params.now c.first_body-method.result.stmts.now c.in_ok-scope.scope c.declare_params.new.scope one c.first_body-method.ensures.params c.first_body-method.ensures.stmts
+    copied_tables _ _ _ _ _ _ c.declare_params.new.tables c.block.new.tables c.method-method.result.params.now c.method-method.result.stmts.now c.in_ok-scope.scope c.declare_params.new.scope one c.method-method.ensures.params c.method-method.ensures.stmts
     (c.in_ok-scope.ensures ∙ c.args.home.now.variables) slots.scope slots.tables c.in_ok-items.ensures.tables
