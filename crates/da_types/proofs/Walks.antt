@@ -1,0 +1,45 @@
+-- Steps of loops that go through a list.
+use Rattle.std.specs.Prelude.{◌≡◌, refl, ℕ, zero, suc, ◌+◌, ◌-◌, ◌<◌, ◌≤◌, Bool, true, false, cond, List, [], ◌∷◌, ◌++◌, length, map, Option, Some, None, find, slice_get}
+use Rattle.std.proofs.Common.{◌∙◌, ap, sym, get_or, drop, add-one, subst, append_assoc, arith}
+use Rattle.std.proofs.lemmas.List.{append-nil, drop_all}
+use Rattle.std.proofs.Math.Seq.{drop-cons}
+use Rattle.da_lang.specs.declared.ty.Ty.{Ty}
+use Rattle.da_lang.specs.QueryTypes.{given, all_types}
+use Rattle.da_lang.specs.World.{numbered}
+
+-- what is left at an element begins with it
+pub left_here : {A : Type 0} (xs : List A) (i : ℕ) (x : A) → i < length xs → x ≡ get_or xs i x → drop i xs ≡ x ∷ drop (i + 1) xs
+left_here xs i x within here = drop-cons xs i x within ∙ ap (λ y. y ∷ drop (suc i) xs) (sym here) ∙ ap (λ n. x ∷ drop n xs) (sym (add-one i))
+
+-- what is said of what is left at an element
+pub at_element : {A : Type 0} (P : List A → Type 0) (xs : List A) (i : ℕ) (x : A) → i < length xs → x ≡ get_or xs i x → P (drop i xs) → P (x ∷ drop (i + 1) xs)
+at_element P xs i x within here said = subst P (left_here xs i x within here) said
+
+-- what is said of what is left behind the last element
+pub at_end : {A : Type 0} (P : List A → Type 0) (xs : List A) (i : ℕ) → length xs ≤ i → P (drop i xs) → P []
+at_end P xs i past said = subst P (drop_all i xs past) said
+
+pub numbered_at : {A : Type 0} (members : List A) (number : ℕ) → 0 < number → numbered members number ≡ slice_get members (number - 1)
+numbered_at members zero some = absurd (omega arith)
+numbered_at members (suc place) some = let e : place ≡ suc place - 1 = omega arith in ap (slice_get members) e
+
+-- the types of those that are done, in front of the types of those that are left
+abbrev pub Gathers : List Ty → List (Option Ty) → Option (List Ty) → Type 0
+Gathers done left whole = given (all_types left) (λ others. Some (done ++ others)) ≡ whole
+
+gathers_in : (found : Option (List Ty)) → given found (λ others. Some ([] ++ others)) ≡ found
+gathers_in None = refl
+gathers_in (Some types) = refl
+
+pub gathers_first : (all : List (Option Ty)) → Gathers [] all (all_types all)
+gathers_first all = gathers_in (all_types all)
+
+one_more : (done : List Ty) (ty : Ty) (rest : Option (List Ty)) → given (given rest (λ others. Some (ty ∷ others))) (λ others. Some (done ++ others)) ≡ given rest (λ others. Some ((done ++ ty ∷ []) ++ others))
+one_more done ty None = refl
+one_more done ty (Some others) = ap (λ (types : List Ty). Some types) (sym (append_assoc done (ty ∷ []) others))
+
+pub gathers_more : (done : List Ty) (ty : Ty) (left : List (Option Ty)) (whole : Option (List Ty)) → Gathers done (Some ty ∷ left) whole → Gathers (done ++ ty ∷ []) left whole
+gathers_more done ty left whole so_far = sym (one_more done ty (all_types left)) ∙ so_far
+
+pub gathers_last : (done : List Ty) (whole : Option (List Ty)) → Gathers done [] whole → Some done ≡ whole
+gathers_last done whole so_far = ap (λ (types : List Ty). Some types) (sym (append-nil done)) ∙ so_far

@@ -1,0 +1,444 @@
+//! Types of expressions outside queries.
+ghost use Rattle.da_lang.specs.declared.ty.Ty.TheVariants.{Bool, Set};
+ghost use Rattle.da_lang.specs.ExprTypes.{comparison, int, is_for_sets as sets_take, member as member_of, parts_fit as fit_parts, set_type as type_of_set, takes as type_takes, truth as truth_of, typing};
+ghost use Rattle.da_lang.specs.QueryTypes.{all_types, flat as flat_where, given, is_typed as typed_as, query_type as type_of_query, slot_type as type_of_slot, when};
+ghost use Rattle.da_lang.specs.World.{numbered};
+ghost use Rattle.da_types.specs.Chains.{chain_holds};
+ghost use Rattle.da_types.specs.KnownView.{known_of};
+ghost use Rattle.std.specs.List.{list_all};
+ghost use Rattle.std.specs.Prelude.{◌≡◌, IfOk, map};
+
+use crate::known::{Known, member};
+use crate::queries::query_type;
+use crate::sides::asks_order;
+use crate::terms::literal_type;
+use crate::types::{
+    element_of, flat, flat_copy, flat_of, is_bool, is_flat, is_int, is_ordered, is_set, is_typed,
+    parts_of,
+};
+use da_lang::{ArithOp, ChainPart, CmpOp, Query, RExpr, Ty};
+use da_values::{Boxed, List, NoMemory};
+use std::alloc::Global;
+
+/// The type of an expression by itself: of at most 32 levels, and none where a rule is broken.
+#[cycle(expressions)]
+#[tactic(auto, using(crate::proofs::ExprForms::type_rules))]
+pub fn expr_type(
+    alloc: Global,
+    known: &Known<'_>,
+    queries: &[Query],
+    x: &RExpr,
+) -> Result<Option<Ty>, NoMemory>
+    ensures { IfOk result (λ found. found ≡ (typing (known_of known.now) queries.now x.now).type_) }
+{
+    match x {
+        RExpr::Const(value) => Ok(flat_of(literal_type(value))),
+        RExpr::Procs(_) => set_where(alloc, true, Ty::Proc),
+        RExpr::Me => Ok(flat(Ty::Proc)),
+        RExpr::Slot(slot) => slot_type(alloc, known, *slot),
+        RExpr::Clock => Ok(flat(Ty::Int)),
+        RExpr::Ask(query) => asked_type(alloc, known, queries, *query),
+        RExpr::Range(first, end) => {
+            let holds = is_integer(alloc, known, queries, first.get())?
+                && is_integer(alloc, known, queries, end.get())?;
+            set_where(alloc, holds, Ty::Int)
+        }
+        RExpr::Tuple(parts) => match expr_types(alloc, known, queries, parts.as_slice())? {
+            None => Ok(None),
+            Some(types) => Ok(flat(Ty::Tuple(types))),
+        },
+        RExpr::SetOf(parts) => set_type(alloc, known, queries, parts.as_slice()),
+        RExpr::Or(parts) => Ok(truth_where(are_truths(alloc, known, queries, parts.as_slice())?)),
+        RExpr::And(parts) => Ok(truth_where(are_truths(alloc, known, queries, parts.as_slice())?)),
+        RExpr::Not(part) => Ok(truth_where(is_truth(alloc, known, queries, part.get())?)),
+        RExpr::Cmp(op, left, right) => Ok(truth_where(compares(
+            alloc,
+            known,
+            queries,
+            *op,
+            left.get(),
+            right.get(),
+        )?)),
+        RExpr::Member(left, right) => Ok(truth_where(is_member(
+            alloc,
+            known,
+            queries,
+            left.get(),
+            right.get(),
+        )?)),
+        RExpr::Chain(first, more) => Ok(flat_of(chain_type(
+            alloc,
+            known,
+            queries,
+            first.get(),
+            more.as_slice(),
+        )?)),
+    }
+}
+
+/// Whether an expression fits a place that asks for a type.
+#[cycle(expressions)]
+#[tactic(auto, using(crate::proofs::ExprForms::fit_rules))]
+pub fn expr_fits(
+    alloc: Global,
+    known: &Known<'_>,
+    queries: &[Query],
+    x: &RExpr,
+    asked: &Ty,
+) -> Result<bool, NoMemory>
+    ensures { IfOk result (λ holds. holds ≡ (typing (known_of known.now) queries.now x.now).fits asked.now) }
+{
+    match x {
+        RExpr::Tuple(parts) => {
+            if !is_flat(asked) {
+                return Ok(false);
+            }
+            match parts_of(asked) {
+                None => Ok(false),
+                Some(types) => parts_fit(alloc, known, queries, parts.as_slice(), types),
+            }
+        }
+        RExpr::SetOf(parts) => {
+            if !is_flat(asked) {
+                return Ok(false);
+            }
+            match element_of(asked) {
+                None => Ok(false),
+                Some(element) => all_fit(alloc, known, queries, parts.as_slice(), element),
+            }
+        }
+        RExpr::Const(_)
+        | RExpr::Procs(_)
+        | RExpr::Me
+        | RExpr::Slot(_)
+        | RExpr::Clock
+        | RExpr::Ask(_)
+        | RExpr::Range(_, _)
+        | RExpr::Or(_)
+        | RExpr::And(_)
+        | RExpr::Not(_)
+        | RExpr::Cmp(_, _, _)
+        | RExpr::Member(_, _)
+        | RExpr::Chain(_, _) => has_type(alloc, known, queries, x, asked),
+    }
+}
+
+/// Whether an expression is by itself of a type.
+#[cycle(expressions)]
+pub fn has_type(
+    alloc: Global,
+    known: &Known<'_>,
+    queries: &[Query],
+    x: &RExpr,
+    asked: &Ty,
+) -> Result<bool, NoMemory>
+    ensures { IfOk result (λ holds. holds ≡ typed_as (typing (known_of known.now) queries.now x.now).type_ asked.now) }
+{
+    let found = expr_type(alloc, known, queries, x)?;
+    Ok(is_typed(&found, asked))
+}
+
+// The type of a slot.
+fn slot_type(alloc: Global, known: &Known<'_>, slot: u16) -> Result<Option<Ty>, NoMemory>
+    ensures { IfOk result (λ found. found ≡ given (type_of_slot (known_of known.now) slot) flat_where) }
+{
+    match known.slot_type(slot) {
+        None => Ok(None),
+        Some(ty) => flat_copy(alloc, ty),
+    }
+}
+
+// The type of a numbered query.
+fn asked_type(
+    alloc: Global,
+    known: &Known<'_>,
+    queries: &[Query],
+    query: u32,
+) -> Result<Option<Ty>, NoMemory>
+    ensures { IfOk result (λ found. found ≡ given (given (numbered queries.now query) (type_of_query (known_of known.now))) flat_where) }
+{
+    match member(queries, query as usize) {
+        None => Ok(None),
+        Some(query) => Ok(flat_of(query_type(alloc, known, query)?)),
+    }
+}
+
+// The type of sets with these elements, where a test holds.
+fn set_where(alloc: Global, holds: bool, element: Ty) -> Result<Option<Ty>, NoMemory>
+    ensures { IfOk result (λ found. found ≡ given (when holds (Set element)) flat_where) }
+{
+    if holds {
+        Ok(flat(Ty::Set(Boxed::new(alloc, element)?)))
+    } else {
+        Ok(None)
+    }
+}
+
+// The type of truth values, where a test holds.
+fn truth_where(holds: bool) -> Option<Ty>
+    ensures { result ≡ given (when holds Bool) flat_where }
+{
+    if holds { flat(Ty::Bool) } else { None }
+}
+
+/// Whether an expression is an integer.
+#[cycle(expressions)]
+fn is_integer(
+    alloc: Global,
+    known: &Known<'_>,
+    queries: &[Query],
+    x: &RExpr,
+) -> Result<bool, NoMemory>
+    ensures { IfOk result (λ holds. holds ≡ int (typing (known_of known.now) queries.now x.now)) }
+{
+    match expr_type(alloc, known, queries, x)? {
+        None => Ok(false),
+        Some(ty) => Ok(is_int(&ty)),
+    }
+}
+
+/// Whether an expression is a truth value.
+#[cycle(expressions)]
+pub fn is_truth(
+    alloc: Global,
+    known: &Known<'_>,
+    queries: &[Query],
+    x: &RExpr,
+) -> Result<bool, NoMemory>
+    ensures { IfOk result (λ holds. holds ≡ truth_of (typing (known_of known.now) queries.now x.now)) }
+{
+    match expr_type(alloc, known, queries, x)? {
+        None => Ok(false),
+        Some(ty) => Ok(is_bool(&ty)),
+    }
+}
+
+/// Whether each of these is a truth value.
+#[cycle(expressions)]
+fn are_truths(
+    alloc: Global,
+    known: &Known<'_>,
+    queries: &[Query],
+    xs: &[RExpr],
+) -> Result<bool, NoMemory>
+    ensures { IfOk result (λ holds. holds ≡ list_all (λ x. truth_of (typing (known_of known.now) queries.now x)) xs.now) }
+{
+    for x in xs {
+        if !is_truth(alloc, known, queries, x)? {
+            return Ok(false);
+        }
+    }
+    Ok(true)
+}
+
+/// The types of expressions, where each has one.
+#[cycle(expressions)]
+fn expr_types(
+    alloc: Global,
+    known: &Known<'_>,
+    queries: &[Query],
+    xs: &[RExpr],
+) -> Result<Option<List<Ty>>, NoMemory>
+    ensures { IfOk result (λ found. found ≡ all_types (map (λ x. (typing (known_of known.now) queries.now x).type_) xs.now)) }
+{
+    let mut types = List::new(alloc);
+    for x in xs {
+        match expr_type(alloc, known, queries, x)? {
+            None => return Ok(None),
+            Some(ty) => types.push(ty)?,
+        }
+    }
+    Ok(Some(types))
+}
+
+/// The type of a set of these, which are all of the type of the first.
+#[cycle(expressions)]
+fn set_type(
+    alloc: Global,
+    known: &Known<'_>,
+    queries: &[Query],
+    xs: &[RExpr],
+) -> Result<Option<Ty>, NoMemory>
+    ensures { IfOk result (λ found. found ≡ type_of_set (map (typing (known_of known.now) queries.now) xs.now)) }
+{
+    match xs {
+        [] => Ok(None),
+        [first, others @ ..] => match expr_type(alloc, known, queries, first)? {
+            None => Ok(None),
+            Some(ty) => {
+                let holds = are_typed(alloc, known, queries, others, &ty)?;
+                set_where(alloc, holds, ty)
+            }
+        },
+    }
+}
+
+/// Whether each of these is by itself of a type.
+#[cycle(expressions)]
+fn are_typed(
+    alloc: Global,
+    known: &Known<'_>,
+    queries: &[Query],
+    xs: &[RExpr],
+    ty: &Ty,
+) -> Result<bool, NoMemory>
+    ensures { IfOk result (λ holds. holds ≡ list_all (λ x. typed_as (typing (known_of known.now) queries.now x).type_ ty.now) xs.now) }
+{
+    for x in xs {
+        if !has_type(alloc, known, queries, x, ty)? {
+            return Ok(false);
+        }
+    }
+    Ok(true)
+}
+
+/// Whether the parts of a tuple fit these types, one each.
+#[cycle(expressions)]
+fn parts_fit(
+    alloc: Global,
+    known: &Known<'_>,
+    queries: &[Query],
+    xs: &[RExpr],
+    types: &[Ty],
+) -> Result<bool, NoMemory>
+    ensures { IfOk result (λ holds. holds ≡ fit_parts (map (typing (known_of known.now) queries.now) xs.now) types.now) }
+{
+    let mut rest = types;
+    for x in xs {
+        match rest {
+            [] => return Ok(false),
+            [ty, others @ ..] => {
+                if !expr_fits(alloc, known, queries, x, ty)? {
+                    return Ok(false);
+                }
+                rest = others;
+            }
+        }
+    }
+    Ok(rest.is_empty())
+}
+
+/// Whether each of these fits a type.
+#[cycle(expressions)]
+fn all_fit(
+    alloc: Global,
+    known: &Known<'_>,
+    queries: &[Query],
+    xs: &[RExpr],
+    ty: &Ty,
+) -> Result<bool, NoMemory>
+    ensures { IfOk result (λ holds. holds ≡ list_all (λ x. (typing (known_of known.now) queries.now x).fits ty.now) xs.now) }
+{
+    for x in xs {
+        if !expr_fits(alloc, known, queries, x, ty)? {
+            return Ok(false);
+        }
+    }
+    Ok(true)
+}
+
+/// Whether a comparison keeps the rules: the right side of `==` and `!=` fits the type of the left one, others compare
+/// two of one ordered type.
+#[cycle(expressions)]
+fn compares(
+    alloc: Global,
+    known: &Known<'_>,
+    queries: &[Query],
+    op: CmpOp,
+    left: &RExpr,
+    right: &RExpr,
+) -> Result<bool, NoMemory>
+    ensures { IfOk result (λ holds. holds ≡ comparison op (typing (known_of known.now) queries.now left.now) (typing (known_of known.now) queries.now right.now)) }
+{
+    match expr_type(alloc, known, queries, left)? {
+        None => Ok(false),
+        Some(ty) => {
+            if !asks_order(op) {
+                expr_fits(alloc, known, queries, right, &ty)
+            } else if is_ordered(&ty) {
+                has_type(alloc, known, queries, right, &ty)
+            } else {
+                Ok(false)
+            }
+        }
+    }
+}
+
+/// Whether the first may be an element of the second.
+#[cycle(expressions)]
+fn is_member(
+    alloc: Global,
+    known: &Known<'_>,
+    queries: &[Query],
+    left: &RExpr,
+    right: &RExpr,
+) -> Result<bool, NoMemory>
+    ensures { IfOk result (λ holds. holds ≡ member_of (typing (known_of known.now) queries.now left.now) (typing (known_of known.now) queries.now right.now)) }
+{
+    match expr_type(alloc, known, queries, right)? {
+        None => Ok(false),
+        Some(ty) => match element_of(&ty) {
+            None => Ok(false),
+            Some(element) => has_type(alloc, known, queries, left, element),
+        },
+    }
+}
+
+/// The type of a chain: that of the first, of which each further operand is.
+#[cycle(expressions)]
+fn chain_type(
+    alloc: Global,
+    known: &Known<'_>,
+    queries: &[Query],
+    first: &RExpr,
+    more: &[ChainPart],
+) -> Result<Option<Ty>, NoMemory>
+    ensures { IfOk result (λ found. found ≡ given (typing (known_of known.now) queries.now first.now).type_ (λ ty. when (chain_holds (known_of known.now) queries.now ty more.now) ty)) }
+{
+    match expr_type(alloc, known, queries, first)? {
+        None => Ok(None),
+        Some(ty) => {
+            if are_operands(alloc, known, queries, more, &ty)? {
+                Ok(Some(ty))
+            } else {
+                Ok(None)
+            }
+        }
+    }
+}
+
+/// Whether each further operand of a chain is of a type, which its operation takes.
+#[cycle(expressions)]
+fn are_operands(
+    alloc: Global,
+    known: &Known<'_>,
+    queries: &[Query],
+    more: &[ChainPart],
+    ty: &Ty,
+) -> Result<bool, NoMemory>
+    ensures { IfOk result (λ holds. holds ≡ chain_holds (known_of known.now) queries.now ty.now more.now) }
+{
+    for part in more {
+        if !takes(part.op, ty) || !has_type(alloc, known, queries, part.operand.get(), ty)? {
+            return Ok(false);
+        }
+    }
+    Ok(true)
+}
+
+// Whether an operation of a chain takes a type.
+fn takes(op: ArithOp, ty: &Ty) -> bool
+    ensures { result ≡ type_takes op ty.now }
+{
+    is_int(ty) || (is_for_sets(op) && is_set(ty))
+}
+
+// Whether an operation is one of sets too.
+fn is_for_sets(op: ArithOp) -> bool
+    ensures { result ≡ sets_take op }
+{
+    match op {
+        ArithOp::Plus | ArithOp::Minus | ArithOp::Times => true,
+        ArithOp::Div | ArithOp::Mod => false,
+    }
+}
