@@ -43,3 +43,16 @@ gathers_more done ty left whole so_far = sym (one_more done ty (all_types left))
 
 pub gathers_last : (done : List Ty) (whole : Option (List Ty)) → Gathers done [] whole → Some done ≡ whole
 gathers_last done whole so_far = ap (λ (types : List Ty). Some types) (sym (append-nil done)) ∙ so_far
+
+pub gather_more : {A : Type 0} (f : A → Option Ty) (xs : List A) (i : ℕ) (x : A) (ty : Ty) (done more : List Ty) (whole : Option (List Ty)) → i < length xs → x ≡ get_or xs i x → Gathers done (map f (drop i xs)) whole → Some ty ≡ f x → more ≡ done ++ ty ∷ [] → Gathers more (map f (drop (i + 1) xs)) whole
+gather_more f xs i x ty done more whole within here so_far found grown =
+    let left = map f (drop (i + 1) xs) in
+    ap (λ (types : List Ty). given (all_types left) (λ others. Some (types ++ others))) grown
+    ∙ gathers_more done ty left whole (subst (λ (o : Option Ty). Gathers done (o ∷ left) whole) (sym found) (at_element (λ ys. Gathers done (map f ys) whole) xs i x within here so_far))
+
+pub gather_stop : {A : Type 0} (f : A → Option Ty) (xs : List A) (i : ℕ) (x : A) (done : List Ty) (whole : Option (List Ty)) → i < length xs → x ≡ get_or xs i x → Gathers done (map f (drop i xs)) whole → None ≡ f x → None ≡ whole
+gather_stop f xs i x done whole within here so_far none =
+    subst (λ (o : Option Ty). Gathers done (o ∷ map f (drop (i + 1) xs)) whole) (sym none) (at_element (λ ys. Gathers done (map f ys) whole) xs i x within here so_far)
+
+pub gather_last : {A : Type 0} (f : A → Option Ty) (xs : List A) (i : ℕ) (done : List Ty) (whole : Option (List Ty)) → length xs ≤ i → Gathers done (map f (drop i xs)) whole → Some done ≡ whole
+gather_last f xs i done whole past so_far = gathers_last done whole (at_end (λ ys. Gathers done (map f ys) whole) xs i past so_far)

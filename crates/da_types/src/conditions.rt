@@ -105,7 +105,8 @@ pub fn rows_where(
 ) -> Result<Option<List<Ty>>, NoMemory>
     ensures { IfOk result (λ found. found ≡ rows_of (known_of known.now) gens.now (option_map (holds_of_cond (known_of known.now)) cond.now) row) }
 {
-    match gens_row(alloc, known, gens, row)? {
+    let found = gens_row(alloc, known, gens, row)?;
+    match found {
         None => Ok(None),
         Some(found) => {
             let holds = holds_if(alloc, known, cond, found.as_slice())?;
@@ -126,7 +127,8 @@ fn has_rows(
     ensures { IfOk result (λ holds. holds ≡ rows_there (known_of known.now) gens.now (option_map (holds_of_cond (known_of known.now)) cond.now) row.now) }
 {
     let inner = copy_types(alloc, row)?;
-    match rows_where(alloc, known, gens, cond, inner)? {
+    let found = rows_where(alloc, known, gens, cond, inner)?;
+    match found {
         None => Ok(false),
         Some(_) => Ok(true),
     }
@@ -178,6 +180,7 @@ fn are_operands(
 
 /// The type of an aggregate, over a row of these types.
 #[cycle(conditions)]
+#[tactic(auto, using(crate::proofs::CondForms::side_of_aggregate))]
 pub fn agg_side(
     alloc: Global,
     known: &Known<'_>,
@@ -187,7 +190,8 @@ pub fn agg_side(
     ensures { IfOk result (λ found. option_map side_of found ≡ side_of_agg (known_of known.now) agg.now row.now) }
 {
     let inner = copy_types(alloc, row)?;
-    match rows_where(alloc, known, agg.gens.as_slice(), &agg.cond, inner)? {
+    let found = rows_where(alloc, known, agg.gens.as_slice(), &agg.cond, inner)?;
+    match found {
         None => Ok(None),
         Some(found) => agg_over(alloc, known, agg, found.as_slice(), row),
     }

@@ -43,10 +43,10 @@ pub fn expr_type(
                 && is_integer(alloc, known, queries, end.get())?;
             set_where(alloc, holds, Ty::Int)
         }
-        RExpr::Tuple(parts) => match expr_types(alloc, known, queries, parts.as_slice())? {
-            None => Ok(None),
-            Some(types) => Ok(flat(Ty::Tuple(types))),
-        },
+        RExpr::Tuple(parts) => {
+            let types = expr_types(alloc, known, queries, parts.as_slice())?;
+            Ok(tuple_of(types))
+        }
         RExpr::SetOf(parts) => set_type(alloc, known, queries, parts.as_slice()),
         RExpr::Or(parts) => Ok(truth_where(are_truths(alloc, known, queries, parts.as_slice())?)),
         RExpr::And(parts) => Ok(truth_where(are_truths(alloc, known, queries, parts.as_slice())?)),
@@ -191,7 +191,8 @@ fn is_integer(
 ) -> Result<bool, NoMemory>
     ensures { IfOk result (λ holds. holds ≡ int (typing (known_of known.now) queries.now x.now)) }
 {
-    match expr_type(alloc, known, queries, x)? {
+    let found = expr_type(alloc, known, queries, x)?;
+    match found {
         None => Ok(false),
         Some(ty) => Ok(is_int(&ty)),
     }
@@ -207,7 +208,8 @@ pub fn is_truth(
 ) -> Result<bool, NoMemory>
     ensures { IfOk result (λ holds. holds ≡ truth_of (typing (known_of known.now) queries.now x.now)) }
 {
-    match expr_type(alloc, known, queries, x)? {
+    let found = expr_type(alloc, known, queries, x)?;
+    match found {
         None => Ok(false),
         Some(ty) => Ok(is_bool(&ty)),
     }
@@ -253,6 +255,7 @@ fn expr_types(
 
 /// The type of a set of these, which are all of the type of the first.
 #[cycle(expressions)]
+#[tactic(auto, using(crate::proofs::ExprForms::typed_each))]
 fn set_type(
     alloc: Global,
     known: &Known<'_>,
@@ -263,13 +266,16 @@ fn set_type(
 {
     match xs {
         [] => Ok(None),
-        [first, others @ ..] => match expr_type(alloc, known, queries, first)? {
-            None => Ok(None),
-            Some(ty) => {
-                let holds = are_typed(alloc, known, queries, others, &ty)?;
-                set_where(alloc, holds, ty)
+        [first, others @ ..] => {
+            let found = expr_type(alloc, known, queries, first)?;
+            match found {
+                None => Ok(None),
+                Some(ty) => {
+                    let holds = are_typed(alloc, known, queries, others, &ty)?;
+                    set_where(alloc, holds, ty)
+                }
             }
-        },
+        }
     }
 }
 
@@ -350,7 +356,8 @@ fn compares(
 ) -> Result<bool, NoMemory>
     ensures { IfOk result (λ holds. holds ≡ comparison op (typing (known_of known.now) queries.now left.now) (typing (known_of known.now) queries.now right.now)) }
 {
-    match expr_type(alloc, known, queries, left)? {
+    let found = expr_type(alloc, known, queries, left)?;
+    match found {
         None => Ok(false),
         Some(ty) => {
             if !asks_order(op) {
@@ -375,7 +382,8 @@ fn is_member(
 ) -> Result<bool, NoMemory>
     ensures { IfOk result (λ holds. holds ≡ member_of (typing (known_of known.now) queries.now left.now) (typing (known_of known.now) queries.now right.now)) }
 {
-    match expr_type(alloc, known, queries, right)? {
+    let found = expr_type(alloc, known, queries, right)?;
+    match found {
         None => Ok(false),
         Some(ty) => match element_of(&ty) {
             None => Ok(false),
@@ -395,7 +403,8 @@ fn chain_type(
 ) -> Result<Option<Ty>, NoMemory>
     ensures { IfOk result (λ found. found ≡ given (typing (known_of known.now) queries.now first.now).type_ (λ ty. when (chain_holds (known_of known.now) queries.now ty more.now) ty)) }
 {
-    match expr_type(alloc, known, queries, first)? {
+    let found = expr_type(alloc, known, queries, first)?;
+    match found {
         None => Ok(None),
         Some(ty) => {
             if are_operands(alloc, known, queries, more, &ty)? {

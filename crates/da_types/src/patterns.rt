@@ -149,7 +149,8 @@ pub fn message_row(
     let Some(tag) = pattern_tag(pattern) else {
         return Ok(None);
     };
-    match known.message_type(alloc, tag)? {
+    let found = known.message_type(alloc, tag)?;
+    match found {
         None => Ok(None),
         Some(ty) => pattern_row(alloc, known, pattern, &ty, row),
     }
@@ -202,7 +203,8 @@ fn gen_row(
     ensures { IfOk result (λ found. found ≡ row_of_gen (known_of known.now) generator.now row) }
 {
     let source = generator.source;
-    match source_row(alloc, known, source, &generator.message, row)? {
+    let found = source_row(alloc, known, source, &generator.message, row)?;
+    match found {
         None => Ok(None),
         Some(row) => peer_row(alloc, known, source, &generator.peer, row),
     }

@@ -1,11 +1,13 @@
 //! Types of numbered queries.
-ghost use Rattle.da_lang.specs.declared.ty.Ty.TheVariants.{Set};
+ghost use Rattle.da_lang.specs.declared.ty.Ty.TheVariants.{Bool, Set};
 ghost use Rattle.da_lang.specs.QueryTypes.{flat as flat_where, given, query_row as row_of_query, query_type as type_of_query, rows_where as rows_of, term_type as type_of_term, written_cond};
 ghost use Rattle.da_types.specs.KnownView.{known_of};
-ghost use Rattle.std.specs.Prelude.{◌≡◌, [], IfOk};
+ghost use Rattle.da_types.specs.SideView.{side_of};
+ghost use Rattle.std.specs.Prelude.{◌≡◌, [], IfOk, option_map};
 
 use crate::conditions::{agg_side, rows_where};
 use crate::known::Known;
+use crate::sides::Side;
 use crate::terms::term_type;
 use crate::types::flat;
 use da_lang::{Cond, Query, RGen, Term, Ty};
@@ -44,20 +46,38 @@ pub fn query_type(alloc: Global, known: &Known<'_>, query: &Query) -> Result<Opt
             each: _,
             gens,
             cond,
-        } => match rows(alloc, known, gens.as_slice(), cond)? {
-            None => Ok(None),
-            Some(_) => Ok(Some(Ty::Bool)),
-        },
-        Query::Comp { term, gens, cond } => {
-            match rows(alloc, known, gens.as_slice(), cond)? {
-                None => Ok(None),
-                Some(row) => set_over(alloc, known, term, row.as_slice()),
-            }
+        } => {
+            let found = rows(alloc, known, gens.as_slice(), cond)?;
+            Ok(truth_over(&found))
         }
-        Query::Agg(agg) => match agg_side(alloc, known, agg.get(), &[])? {
-            None => Ok(None),
-            Some(side) => Ok(Some(side.ty)),
-        },
+        Query::Comp { term, gens, cond } => {
+            let found = rows(alloc, known, gens.as_slice(), cond)?;
+            set_over(alloc, known, term, &found)
+        }
+        Query::Agg(agg) => {
+            let side = agg_side(alloc, known, agg.get(), &[])?;
+            Ok(type_of_side(side))
+        }
+    }
+}
+
+// The type of truth values, where there is a row.
+fn truth_over(found: &Option<List<Ty>>) -> Option<Ty>
+    ensures { result ≡ given found.now (λ row. Some Bool) }
+{
+    match found {
+        None => None,
+        Some(_) => Some(Ty::Bool),
+    }
+}
+
+// The type of a side, if there is one.
+fn type_of_side(side: Option<Side>) -> Option<Ty>
+    ensures { result ≡ given (option_map side_of side) (λ s. Some s.ty) }
+{
+    match side {
+        None => None,
+        Some(side) => Some(side.ty),
     }
 }
 
@@ -74,16 +94,20 @@ fn rows(
     rows_where(alloc, known, gens, cond, List::new(alloc))
 }
 
-// The type of the set of a term, over a row of these types.
+// The type of the set of a term, over the row, if there is one.
 fn set_over(
     alloc: Global,
     known: &Known<'_>,
     term: &Term,
-    row: &[Ty],
+    row: &Option<List<Ty>>,
 ) -> Result<Option<Ty>, NoMemory>
-    ensures { IfOk result (λ found. found ≡ given (type_of_term (known_of known.now) term.now row.now) (λ ty. flat_where (Set ty))) }
+    ensures { IfOk result (λ found. found ≡ given (given row.now (type_of_term (known_of known.now) term.now)) (λ ty. flat_where (Set ty))) }
 {
-    match term_type(alloc, known, term, row)? {
+    let Some(row) = row else {
+        return Ok(None);
+    };
+    let found = term_type(alloc, known, term, row.as_slice())?;
+    match found {
         None => Ok(None),
         Some(ty) => Ok(flat(Ty::Set(Boxed::new(alloc, ty)?))),
     }

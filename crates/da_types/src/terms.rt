@@ -4,7 +4,7 @@ ghost use Rattle.da_types.specs.KnownView.{known_of};
 ghost use Rattle.std.specs.Prelude.{◌≡◌, IfOk, map};
 
 use crate::known::{Known, member};
-use crate::types::{flat, flat_copy, is_set};
+use crate::types::{flat_copy, is_set, tuple_of};
 use da_lang::{Term, Ty};
 use da_values::{List, NoMemory, Value, is_narrow};
 use std::alloc::Global;
@@ -31,7 +31,7 @@ pub fn literal_type(value: &Value) -> Option<Ty>
 
 /// The type of a term, over a row of these types.
 #[cycle(terms)]
-#[tactic(auto, using(da_lang::proofs::typing::QueryTypesAt::typing_terms))]
+#[tactic(auto, using(crate::proofs::TermForms::term_rules))]
 pub fn term_type(
     alloc: Global,
     known: &Known<'_>,
@@ -48,10 +48,10 @@ pub fn term_type(
             None => Ok(None),
             Some(ty) => flat_copy(alloc, ty),
         },
-        Term::Tuple(parts) => match term_types(alloc, known, parts.as_slice(), row)? {
-            None => Ok(None),
-            Some(types) => Ok(flat(Ty::Tuple(types))),
-        },
+        Term::Tuple(parts) => {
+            let types = term_types(alloc, known, parts.as_slice(), row)?;
+            Ok(tuple_of(types))
+        }
         Term::Foreign => Ok(None),
     }
 }
@@ -64,7 +64,7 @@ fn term_types(
     terms: &[Term],
     row: &[Ty],
 ) -> Result<Option<List<Ty>>, NoMemory>
-    ensures { IfOk result (λ found. found ≡ all_types (map (λ p. p row.now) (map (type_of_term (known_of known.now)) terms.now))) }
+    ensures { IfOk result (λ found. found ≡ all_types (map (λ term. type_of_term (known_of known.now) term row.now) terms.now)) }
 {
     let mut types = List::new(alloc);
     for term in terms {

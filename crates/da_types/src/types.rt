@@ -1,5 +1,5 @@
 //! Types: copies, forms, comparison, order and levels.
-ghost use Rattle.da_lang.specs.declared.ty.Ty.TheVariants.{Set};
+ghost use Rattle.da_lang.specs.declared.ty.Ty.TheVariants.{Set, Tuple};
 ghost use Rattle.da_lang.specs.QueryTypes.{flat as flat_where, given, is_typed as typed_as};
 ghost use Rattle.da_lang.specs.Types.{all_same, element_of as element_in, is_bool as bool_type, is_flat as flat_type, is_int as int_type, is_proc as proc_type, is_set as set_type, is_text as text_type, levels, ordered, parts_of as parts_in, same_type};
 ghost use Rattle.std.specs.List.{list_all};
@@ -161,7 +161,7 @@ fn same_types(first: &[Ty], second: &[Ty]) -> bool
 
 /// Whether a type is ordered.
 #[cycle(ordered)]
-#[tactic(auto, using(da_lang::proofs::typing::TypesAt::ordering))]
+#[tactic(auto, using(crate::proofs::TypeForms::ordered_rules))]
 pub fn is_ordered(ty: &Ty) -> bool
     ensures { result ≡ ordered ty.now }
 {
@@ -175,7 +175,7 @@ pub fn is_ordered(ty: &Ty) -> bool
 /// Whether each type is ordered.
 #[cycle(ordered)]
 fn are_ordered(types: &[Ty]) -> bool
-    ensures { result ≡ list_all (λ b. b) (map ordered types.now) }
+    ensures { result ≡ list_all ordered types.now }
 {
     for ty in types {
         if !is_ordered(ty) {
@@ -207,6 +207,16 @@ pub fn flat_of(found: Option<Ty>) -> Option<Ty>
     match found {
         None => None,
         Some(ty) => flat(ty),
+    }
+}
+
+/// The type of the tuples with these parts, where each has a type and it has at most 32 levels.
+pub fn tuple_of(types: Option<List<Ty>>) -> Option<Ty>
+    ensures { result ≡ given types (λ parts. flat_where (Tuple parts)) }
+{
+    match types {
+        None => None,
+        Some(parts) => flat(Ty::Tuple(parts)),
     }
 }
 

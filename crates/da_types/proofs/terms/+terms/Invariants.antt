@@ -5,5 +5,4 @@ use Rattle.da_types.proofs.Walks.{Gathers}
 use Rattle.da_types.proofs.terms.+terms.Given as goal
 
 abbrev pub invariant-term_types-loop-term : goal.invariant-term_types-loop-term
-invariant-term_types-loop-term l =
-    Gathers l.types (map (λ p. p l.row) (map (term_type (known_of l.known)) (drop l.term-index l.terms))) (all_types (map (λ p. p l.row) (map (term_type (known_of l.known)) l.terms)))
+invariant-term_types-loop-term l = Gathers l.types (map (λ x. term_type (known_of l.known) x l.row) (drop l.term-index l.terms)) (all_types (map (λ x. term_type (known_of l.known) x l.row) l.terms))
