@@ -1,12 +1,13 @@
 //! Types of expressions outside queries.
 ghost use Rattle.da_lang.specs.declared.ty.Ty.TheVariants.{Bool, Set};
-ghost use Rattle.da_lang.specs.ExprTypes.{comparison, int, is_for_sets as sets_take, member as member_of, parts_fit as fit_parts, set_type as type_of_set, takes as type_takes, truth as truth_of, typing};
-ghost use Rattle.da_lang.specs.QueryTypes.{all_types, flat as flat_where, given, is_typed as typed_as, query_type as type_of_query, slot_type as type_of_slot, when};
+ghost use Rattle.da_lang.specs.ExprTypes.{comparison, is_for_sets as sets_take, parts_fit as fit_parts, set_type as type_of_set, takes as type_takes, truth as truth_of, typing};
+ghost use Rattle.da_lang.specs.QueryTypes.{all_types, flat as flat_where, given, holds_of, is_typed as typed_as, query_type as type_of_query, slot_type as type_of_slot, when};
+ghost use Rattle.da_lang.specs.Types.{element_of as element_in, is_bool as bool_type, is_int as int_type};
 ghost use Rattle.da_lang.specs.World.{numbered};
 ghost use Rattle.da_types.specs.Chains.{chain_holds};
 ghost use Rattle.da_types.specs.KnownView.{known_of};
 ghost use Rattle.std.specs.List.{list_all};
-ghost use Rattle.std.specs.Prelude.{◌≡◌, IfOk, map};
+ghost use Rattle.std.specs.Prelude.{◌≡◌, ◌&&◌, IfOk, map};
 
 use crate::known::{Known, member};
 use crate::queries::query_type;
@@ -14,7 +15,7 @@ use crate::sides::asks_order;
 use crate::terms::literal_type;
 use crate::types::{
     element_of, flat, flat_copy, flat_of, is_bool, is_flat, is_int, is_ordered, is_set, is_typed,
-    parts_of,
+    parts_of, tuple_of,
 };
 use da_lang::{ArithOp, ChainPart, CmpOp, Query, RExpr, Ty};
 use da_values::{Boxed, List, NoMemory};
@@ -39,9 +40,9 @@ pub fn expr_type(
         RExpr::Clock => Ok(flat(Ty::Int)),
         RExpr::Ask(query) => asked_type(alloc, known, queries, *query),
         RExpr::Range(first, end) => {
-            let holds = is_integer(alloc, known, queries, first.get())?
-                && is_integer(alloc, known, queries, end.get())?;
-            set_where(alloc, holds, Ty::Int)
+            let first = expr_type(alloc, known, queries, first.get())?;
+            let end = expr_type(alloc, known, queries, end.get())?;
+            set_where(alloc, is_integer(&first) && is_integer(&end), Ty::Int)
         }
         RExpr::Tuple(parts) => {
             let types = expr_types(alloc, known, queries, parts.as_slice())?;
@@ -50,29 +51,23 @@ pub fn expr_type(
         RExpr::SetOf(parts) => set_type(alloc, known, queries, parts.as_slice()),
         RExpr::Or(parts) => Ok(truth_where(are_truths(alloc, known, queries, parts.as_slice())?)),
         RExpr::And(parts) => Ok(truth_where(are_truths(alloc, known, queries, parts.as_slice())?)),
-        RExpr::Not(part) => Ok(truth_where(is_truth(alloc, known, queries, part.get())?)),
-        RExpr::Cmp(op, left, right) => Ok(truth_where(compares(
-            alloc,
-            known,
-            queries,
-            *op,
-            left.get(),
-            right.get(),
-        )?)),
-        RExpr::Member(left, right) => Ok(truth_where(is_member(
-            alloc,
-            known,
-            queries,
-            left.get(),
-            right.get(),
-        )?)),
-        RExpr::Chain(first, more) => Ok(flat_of(chain_type(
-            alloc,
-            known,
-            queries,
-            first.get(),
-            more.as_slice(),
-        )?)),
+        RExpr::Not(part) => {
+            let found = expr_type(alloc, known, queries, part.get())?;
+            Ok(truth_where(is_truth_type(&found)))
+        }
+        RExpr::Cmp(op, left, right) => {
+            let holds = compares(alloc, known, queries, *op, left.get(), right.get())?;
+            Ok(truth_where(holds))
+        }
+        RExpr::Member(left, right) => {
+            let element = expr_type(alloc, known, queries, left.get())?;
+            let set = expr_type(alloc, known, queries, right.get())?;
+            Ok(truth_where(is_element(&element, &set)))
+        }
+        RExpr::Chain(first, more) => {
+            let found = chain_type(alloc, known, queries, first.get(), more.as_slice())?;
+            Ok(flat_of(found))
+        }
     }
 }
 
@@ -119,12 +114,14 @@ pub fn expr_fits(
         | RExpr::Not(_)
         | RExpr::Cmp(_, _, _)
         | RExpr::Member(_, _)
-        | RExpr::Chain(_, _) => has_type(alloc, known, queries, x, asked),
+        | RExpr::Chain(_, _) => {
+            let found = expr_type(alloc, known, queries, x)?;
+            Ok(is_typed(&found, asked))
+        }
     }
 }
 
 /// Whether an expression is by itself of a type.
-#[cycle(expressions)]
 pub fn has_type(
     alloc: Global,
     known: &Known<'_>,
@@ -181,25 +178,40 @@ fn truth_where(holds: bool) -> Option<Ty>
     if holds { flat(Ty::Bool) } else { None }
 }
 
-/// Whether an expression is an integer.
-#[cycle(expressions)]
-fn is_integer(
-    alloc: Global,
-    known: &Known<'_>,
-    queries: &[Query],
-    x: &RExpr,
-) -> Result<bool, NoMemory>
-    ensures { IfOk result (λ holds. holds ≡ int (typing (known_of known.now) queries.now x.now)) }
+// Whether there is a type, and it is `int`.
+fn is_integer(found: &Option<Ty>) -> bool
+    ensures { result ≡ holds_of found.now int_type }
 {
-    let found = expr_type(alloc, known, queries, x)?;
     match found {
-        None => Ok(false),
-        Some(ty) => Ok(is_int(&ty)),
+        None => false,
+        Some(ty) => is_int(ty),
+    }
+}
+
+// Whether there is a type, and it is `bool`.
+fn is_truth_type(found: &Option<Ty>) -> bool
+    ensures { result ≡ holds_of found.now bool_type }
+{
+    match found {
+        None => false,
+        Some(ty) => is_bool(ty),
+    }
+}
+
+// Whether a first type is that of the elements of a second.
+fn is_element(element: &Option<Ty>, set: &Option<Ty>) -> bool
+    ensures { result ≡ holds_of (given set.now element_in) (typed_as element.now) }
+{
+    match set {
+        None => false,
+        Some(ty) => match element_of(ty) {
+            None => false,
+            Some(asked) => is_typed(element, asked),
+        },
     }
 }
 
 /// Whether an expression is a truth value.
-#[cycle(expressions)]
 pub fn is_truth(
     alloc: Global,
     known: &Known<'_>,
@@ -209,10 +221,7 @@ pub fn is_truth(
     ensures { IfOk result (λ holds. holds ≡ truth_of (typing (known_of known.now) queries.now x.now)) }
 {
     let found = expr_type(alloc, known, queries, x)?;
-    match found {
-        None => Ok(false),
-        Some(ty) => Ok(is_bool(&ty)),
-    }
+    Ok(is_truth_type(&found))
 }
 
 /// Whether each of these is a truth value.
@@ -226,7 +235,8 @@ fn are_truths(
     ensures { IfOk result (λ holds. holds ≡ list_all (λ x. truth_of (typing (known_of known.now) queries.now x)) xs.now) }
 {
     for x in xs {
-        if !is_truth(alloc, known, queries, x)? {
+        let found = expr_type(alloc, known, queries, x)?;
+        if !is_truth_type(&found) {
             return Ok(false);
         }
     }
@@ -291,7 +301,8 @@ fn are_typed(
     ensures { IfOk result (λ holds. holds ≡ list_all (λ x. typed_as (typing (known_of known.now) queries.now x).type_ ty.now) xs.now) }
 {
     for x in xs {
-        if !has_type(alloc, known, queries, x, ty)? {
+        let found = expr_type(alloc, known, queries, x)?;
+        if !is_typed(&found, ty) {
             return Ok(false);
         }
     }
@@ -357,39 +368,14 @@ fn compares(
     ensures { IfOk result (λ holds. holds ≡ comparison op (typing (known_of known.now) queries.now left.now) (typing (known_of known.now) queries.now right.now)) }
 {
     let found = expr_type(alloc, known, queries, left)?;
-    match found {
-        None => Ok(false),
-        Some(ty) => {
-            if !asks_order(op) {
-                expr_fits(alloc, known, queries, right, &ty)
-            } else if is_ordered(&ty) {
-                has_type(alloc, known, queries, right, &ty)
-            } else {
-                Ok(false)
-            }
-        }
+    let Some(ty) = found else {
+        return Ok(false);
+    };
+    if !asks_order(op) {
+        return expr_fits(alloc, known, queries, right, &ty);
     }
-}
-
-/// Whether the first may be an element of the second.
-#[cycle(expressions)]
-fn is_member(
-    alloc: Global,
-    known: &Known<'_>,
-    queries: &[Query],
-    left: &RExpr,
-    right: &RExpr,
-) -> Result<bool, NoMemory>
-    ensures { IfOk result (λ holds. holds ≡ member_of (typing (known_of known.now) queries.now left.now) (typing (known_of known.now) queries.now right.now)) }
-{
-    let found = expr_type(alloc, known, queries, right)?;
-    match found {
-        None => Ok(false),
-        Some(ty) => match element_of(&ty) {
-            None => Ok(false),
-            Some(element) => has_type(alloc, known, queries, left, element),
-        },
-    }
+    let other = expr_type(alloc, known, queries, right)?;
+    Ok(is_ordered(&ty) && is_typed(&other, &ty))
 }
 
 /// The type of a chain: that of the first, of which each further operand is.
@@ -428,11 +414,19 @@ fn are_operands(
     ensures { IfOk result (λ holds. holds ≡ chain_holds (known_of known.now) queries.now ty.now more.now) }
 {
     for part in more {
-        if !takes(part.op, ty) || !has_type(alloc, known, queries, part.operand.get(), ty)? {
+        let found = expr_type(alloc, known, queries, part.operand.get())?;
+        if !is_further(part.op, &found, ty) {
             return Ok(false);
         }
     }
     Ok(true)
+}
+
+// Whether a further operand of a chain has a type that its operation takes.
+fn is_further(op: ArithOp, found: &Option<Ty>, ty: &Ty) -> bool
+    ensures { result ≡ (type_takes op ty.now && typed_as found.now ty.now) }
+{
+    takes(op, ty) && is_typed(found, ty)
 }
 
 // Whether an operation of a chain takes a type.

@@ -128,9 +128,9 @@ fn tell_branch(
     ensures { OnOk result (least.new ≡ telling least.old (branch_broken known.now.messages.now queries.now known.now.slots.now branch.now)) }
 {
     let binds = branch.binds.as_slice();
-    let holds = is_truth(alloc, known, queries, branch.cond.get())?
-        && have_found(alloc, known, queries, branch.found, binds)?;
-    least.tell_unless(holds, branch.line);
+    let truth = is_truth(alloc, known, queries, branch.cond.get())?;
+    let bound = have_found(alloc, known, queries, branch.found, binds)?;
+    least.tell_unless(truth && bound, branch.line);
     tell_items(alloc, known, queries, branch.body.as_slice(), least)
 }
 
@@ -164,9 +164,9 @@ fn tell_alt(
     ensures { OnOk result (least.new ≡ telling least.old (alt_broken known.now.messages.now queries.now known.now.slots.now alt.now)) }
 {
     let binds = alt.binds.as_slice();
-    let holds = cond_holds(alloc, known, alt.cond.get(), &[])?
-        && have_found(alloc, known, queries, alt.found, binds)?;
-    least.tell_unless(holds, alt.line);
+    let keeps = cond_holds(alloc, known, alt.cond.get(), &[])?;
+    let bound = have_found(alloc, known, queries, alt.found, binds)?;
+    least.tell_unless(keeps && bound, alt.line);
     tell_items(alloc, known, queries, alt.body.as_slice(), least)
 }
 

@@ -1,8 +1,9 @@
 //! Sides of comparisons.
 ghost use Rattle.da_lang.specs.QueryTypes.{agg_type as side_of_agg, asks_order as order_asked, comparable, given, is_operand as operand_side, plain as plain_side};
 ghost use Rattle.da_lang.specs.declared.query.AggOp.TheVariants.{Min, Sum};
+ghost use Rattle.da_lang.specs.declared.ty.Ty.TheVariants.{Int};
 ghost use Rattle.da_types.specs.SideView.{side_of};
-ghost use Rattle.std.specs.Prelude.{◌≡◌, Option, option_map};
+ghost use Rattle.std.specs.Prelude.{◌≡◌, if◌then◌else◌, option_map};
 
 use crate::types::{is_int, is_ordered, is_typed, same_type};
 use da_lang::{AggOp, CmpOp, Ty};
@@ -19,6 +20,13 @@ pub fn plain(ty: Ty) -> Side
     ensures { Some (side_of result) ≡ plain_side ty }
 {
     Side { ty, sum: false }
+}
+
+/// A side that is an integer and no `sum`, where a test holds.
+pub fn integer_where(holds: bool) -> Option<Side>
+    ensures { option_map side_of result ≡ (if holds then plain_side Int else None) }
+{
+    if holds { Some(plain(Ty::Int)) } else { None }
 }
 
 /// A side that is no `sum`, of a type that there may be.

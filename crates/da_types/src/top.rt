@@ -41,12 +41,12 @@ pub struct Typed {
 }
 
 impl Model for Typed {
-    ghost use Rattle.da_lang.specs.contracts.program.Program as program;
+    ghost use Rattle.da_lang.specs.contracts.program.Program as whole;
     ghost use Rattle.da_lang.specs.declared.program.Program.{Program};
 
     ghost Value = { Program };
 
-    ghost coded = { program.the_row.coded };
+    ghost coded = { whole.the_row.coded };
 
     ghost view = { λ typed. typed.program };
 }
