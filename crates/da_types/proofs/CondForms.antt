@@ -16,10 +16,10 @@ use Rattle.da_lang.specs.QueryTypes.{Known, Side, given, plain, is_operand, cond
 use Rattle.da_lang.proofs.typing.QueryTypesAt.{cond_holds_at-Truth, cond_holds_at-Cmp, cond_holds_at-Not, cond_holds_at-And, cond_holds_at-Or, cond_holds_at-Quant, operand_side_at-Term, operand_side_at-Agg, operand_side_at-Chain, agg_side_at-of, signed_side_at-of}
 use Rattle.da_types.specs.Aggregates.{agg_found}
 
-holds-And : (known : Known) (xs : List Cond) (row : List Ty) → cond_holds known (co.And xs) row ≡ list_all (λ x. cond_holds known x row) xs
+pub holds-And : (known : Known) (xs : List Cond) (row : List Ty) → cond_holds known (co.And xs) row ≡ list_all (λ x. cond_holds known x row) xs
 holds-And known xs row = cond_holds_at-And known xs row ∙ list_all-map (λ x. x row) (cond_holds known) xs
 
-holds-Or : (known : Known) (xs : List Cond) (row : List Ty) → cond_holds known (co.Or xs) row ≡ list_all (λ x. cond_holds known x row) xs
+pub holds-Or : (known : Known) (xs : List Cond) (row : List Ty) → cond_holds known (co.Or xs) row ≡ list_all (λ x. cond_holds known x row) xs
 holds-Or known xs row = cond_holds_at-Or known xs row ∙ list_all-map (λ x. x row) (cond_holds known) xs
 
 pub ruleset cond_rules = (cond_holds_at-Truth, cond_holds_at-Cmp, cond_holds_at-Not, holds-And, holds-Or, cond_holds_at-Quant)
@@ -35,7 +35,7 @@ all_signed known (s ∷ more) row =
     ap (λ side. is_operand side && list_all (λ y. is_operand (y row)) (map (signed_side known) more)) (signed_is known s row)
     ∙ ap (λ rest. is_operand (operand_side known (out-SignedOperand s).operand row) && rest) (all_signed known more row)
 
-side-Chain : (known : Known) (x : Operand) (more : List SignedOperand) (row : List Ty) → operand_side known (od.Chain x more) row ≡ (if is_operand (operand_side known x row) && list_all (λ s. is_operand (operand_side known (out-SignedOperand s).operand row)) more then plain t.Int else None)
+pub side-Chain : (known : Known) (x : Operand) (more : List SignedOperand) (row : List Ty) → operand_side known (od.Chain x more) row ≡ (if is_operand (operand_side known x row) && list_all (λ s. is_operand (operand_side known (out-SignedOperand s).operand row)) more then plain t.Int else None)
 side-Chain known x more row =
     operand_side_at-Chain known x more row
     ∙ ap (λ rest. if is_operand (operand_side known x row) && rest then plain t.Int else None) (all_signed known more row)

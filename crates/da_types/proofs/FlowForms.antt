@@ -15,7 +15,7 @@ use Rattle.da_lang.proofs.typing.TypingAt.{kind_flow_at-Assign, kind_flow_at-Add
 use Rattle.da_types.proofs.SlotLaws.{in_turn-append}
 
 module _ (messages : List MessageDecl) (queries : List Query) where
-  flow-If : (branches : List RBranch) (other : List Item) (slots : Slots) → kind_flow messages queries (it.If branches other) slots ≡ in_turn (map (item_types messages queries) other) (in_turn (map (branch_flow messages queries) branches) slots)
+  pub flow-If : (branches : List RBranch) (other : List Item) (slots : Slots) → kind_flow messages queries (it.If branches other) slots ≡ in_turn (map (item_types messages queries) other) (in_turn (map (branch_flow messages queries) branches) slots)
   flow-If branches other slots = kind_flow_at-If messages queries branches other slots ∙ in_turn-append (map (branch_flow messages queries) branches) (map (item_types messages queries) other) slots
 
   pub item_flow : (i : Item) (slots : Slots) → item_types messages queries i slots ≡ kind_flow messages queries (out-Item i).kind slots

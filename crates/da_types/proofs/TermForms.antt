@@ -12,7 +12,7 @@ types_over : (known : Known) (row : List Ty) (terms : List Term) → map (λ (p 
 types_over known row [] = refl
 types_over known row (x ∷ terms) = ap (λ (types : List (Option Ty)). term_type known x row ∷ types) (types_over known row terms)
 
-term-parts : (known : Known) (parts : List Term) (row : List Ty) → term_type known (te.Tuple parts) row ≡ given (all_types (map (λ x. term_type known x row) parts)) (λ types. flat (t.Tuple types))
+pub term-parts : (known : Known) (parts : List Term) (row : List Ty) → term_type known (te.Tuple parts) row ≡ given (all_types (map (λ x. term_type known x row) parts)) (λ types. flat (t.Tuple types))
 term-parts known parts row = term_type_at-Tuple known parts row ∙ ap (λ found. given (all_types found) (λ types. flat (t.Tuple types))) (types_over known row parts)
 
 pub ruleset term_rules = (term_type_at-Const, term_type_at-Me, term_type_at-Slot, term_type_at-Part, term-parts, term_type_at-Foreign)

@@ -10,7 +10,7 @@ use Rattle.da_lang.proofs.typing.TypesAt.{ordered-Int, ordered-Bool, ordered-Tex
 
 pub ruleset type_forms = (t.outs-Int, t.outs-Bool, t.outs-Text, t.outs-Proc, t.outs-Tuple, t.outs-Set)
 
-ordered-parts : (parts : List Ty) → ordered (t.Tuple parts) ≡ list_all ordered parts
+pub ordered-parts : (parts : List Ty) → ordered (t.Tuple parts) ≡ list_all ordered parts
 ordered-parts parts = ordered-Tuple parts ∙ list_all-map (λ (b : Bool). b) ordered parts
 
 pub ruleset ordered_rules = (ordered-Int, ordered-Bool, ordered-Text, ordered-Proc, ordered-parts, ordered-Set)

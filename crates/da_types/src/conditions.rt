@@ -11,7 +11,7 @@ ghost use Rattle.std.specs.Prelude.{◌≡◌, IfOk, map, option_map};
 
 use crate::known::Known;
 use crate::patterns::{gens_row, row_where};
-use crate::sides::{Side, agg_type, are_comparable, integer_where, is_operand, plain_of};
+use crate::sides::{Side, agg_type, are_comparable, chain_side, is_operand, plain_of};
 use crate::terms::term_type;
 use crate::types::{copy_types, is_bool, is_flat_set};
 use da_lang::{Agg, Cond, Operand, RGen, SignedOperand, Term, Ty};
@@ -151,7 +151,7 @@ fn operand_side(
         Operand::Chain(first, more) => {
             let side = operand_side(alloc, known, first.get(), row)?;
             let holds = are_operands(alloc, known, more.as_slice(), row)?;
-            Ok(integer_where(is_operand(&side) && holds))
+            Ok(chain_side(&side, holds))
         }
     }
 }

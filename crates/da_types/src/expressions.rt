@@ -1,10 +1,10 @@
 //! Types of expressions outside queries.
 ghost use Rattle.da_lang.specs.declared.ty.Ty.TheVariants.{Bool, Set};
-ghost use Rattle.da_lang.specs.ExprTypes.{comparison, is_for_sets as sets_take, parts_fit as fit_parts, set_type as type_of_set, takes as type_takes, truth as truth_of, typing};
+ghost use Rattle.da_lang.specs.ExprTypes.{is_for_sets as sets_take, parts_fit as fit_parts, takes as type_takes, truth as truth_of, typing};
 ghost use Rattle.da_lang.specs.QueryTypes.{all_types, flat as flat_where, given, holds_of, is_typed as typed_as, query_type as type_of_query, slot_type as type_of_slot, when};
-ghost use Rattle.da_lang.specs.Types.{element_of as element_in, is_bool as bool_type, is_int as int_type};
+ghost use Rattle.da_lang.specs.Types.{element_of as element_in, is_bool as bool_type, is_int as int_type, same_type as same_as};
 ghost use Rattle.da_lang.specs.World.{numbered};
-ghost use Rattle.da_types.specs.Chains.{chain_holds};
+ghost use Rattle.da_types.specs.Chains.{chain_holds, chained, compared, set_over};
 ghost use Rattle.da_types.specs.KnownView.{known_of};
 ghost use Rattle.std.specs.List.{list_all};
 ghost use Rattle.std.specs.Prelude.{◌≡◌, ◌&&◌, IfOk, map};
@@ -14,8 +14,8 @@ use crate::queries::query_type;
 use crate::sides::asks_order;
 use crate::terms::literal_type;
 use crate::types::{
-    element_of, flat, flat_copy, flat_of, is_bool, is_flat, is_int, is_ordered, is_set, is_typed,
-    parts_of, tuple_of,
+    copy_type, element_of, flat, flat_copy, flat_of, is_bool, is_flat, is_int, is_ordered, is_set,
+    is_typed, parts_of, same_type, tuple_of,
 };
 use da_lang::{ArithOp, ChainPart, CmpOp, Query, RExpr, Ty};
 use da_values::{Boxed, List, NoMemory};
@@ -48,7 +48,10 @@ pub fn expr_type(
             let types = expr_types(alloc, known, queries, parts.as_slice())?;
             Ok(tuple_of(types))
         }
-        RExpr::SetOf(parts) => set_type(alloc, known, queries, parts.as_slice()),
+        RExpr::SetOf(parts) => {
+            let types = expr_types(alloc, known, queries, parts.as_slice())?;
+            set_of(alloc, &types)
+        }
         RExpr::Or(parts) => Ok(truth_where(are_truths(alloc, known, queries, parts.as_slice())?)),
         RExpr::And(parts) => Ok(truth_where(are_truths(alloc, known, queries, parts.as_slice())?)),
         RExpr::Not(part) => {
@@ -56,7 +59,8 @@ pub fn expr_type(
             Ok(truth_where(is_truth_type(&found)))
         }
         RExpr::Cmp(op, left, right) => {
-            let holds = compares(alloc, known, queries, *op, left.get(), right.get())?;
+            let found = expr_type(alloc, known, queries, left.get())?;
+            let holds = compares(alloc, known, queries, *op, &found, right.get())?;
             Ok(truth_where(holds))
         }
         RExpr::Member(left, right) => {
@@ -65,8 +69,9 @@ pub fn expr_type(
             Ok(truth_where(is_element(&element, &set)))
         }
         RExpr::Chain(first, more) => {
-            let found = chain_type(alloc, known, queries, first.get(), more.as_slice())?;
-            Ok(flat_of(found))
+            let found = expr_type(alloc, known, queries, first.get())?;
+            let holds = are_operands(alloc, known, queries, more.as_slice(), &found)?;
+            Ok(chain_where(holds, found))
         }
     }
 }
@@ -263,50 +268,49 @@ fn expr_types(
     Ok(Some(types))
 }
 
-/// The type of a set of these, which are all of the type of the first.
-#[cycle(expressions)]
-#[tactic(auto, using(crate::proofs::ExprForms::typed_each))]
-fn set_type(
-    alloc: Global,
-    known: &Known<'_>,
-    queries: &[Query],
-    xs: &[RExpr],
-) -> Result<Option<Ty>, NoMemory>
-    ensures { IfOk result (λ found. found ≡ type_of_set (map (typing (known_of known.now) queries.now) xs.now)) }
+// The type of the sets with elements of these types, which are all that of the first.
+fn set_of(alloc: Global, types: &Option<List<Ty>>) -> Result<Option<Ty>, NoMemory>
+    ensures { IfOk result (λ found. found ≡ given types.now set_over) }
 {
-    match xs {
+    match types {
+        None => Ok(None),
+        Some(types) => set_of_all(alloc, types.as_slice()),
+    }
+}
+
+// The type of the sets with elements of these types.
+fn set_of_all(alloc: Global, types: &[Ty]) -> Result<Option<Ty>, NoMemory>
+    ensures { IfOk result (λ found. found ≡ set_over types.now) }
+{
+    match types {
         [] => Ok(None),
         [first, others @ ..] => {
-            let found = expr_type(alloc, known, queries, first)?;
-            match found {
-                None => Ok(None),
-                Some(ty) => {
-                    let holds = are_typed(alloc, known, queries, others, &ty)?;
-                    set_where(alloc, holds, ty)
-                }
-            }
+            let element = copy_type(alloc, first)?;
+            set_where(alloc, all_same(others, first), element)
         }
     }
 }
 
-/// Whether each of these is by itself of a type.
-#[cycle(expressions)]
-fn are_typed(
-    alloc: Global,
-    known: &Known<'_>,
-    queries: &[Query],
-    xs: &[RExpr],
-    ty: &Ty,
-) -> Result<bool, NoMemory>
-    ensures { IfOk result (λ holds. holds ≡ list_all (λ x. typed_as (typing (known_of known.now) queries.now x).type_ ty.now) xs.now) }
+// Whether each of some types is this one.
+fn all_same(types: &[Ty], ty: &Ty) -> bool
+    ensures { result ≡ list_all (λ other. same_as other ty.now) types.now }
 {
-    for x in xs {
-        let found = expr_type(alloc, known, queries, x)?;
-        if !is_typed(&found, ty) {
-            return Ok(false);
+    for other in types {
+        if !same_type(other, ty) {
+            return false;
         }
     }
-    Ok(true)
+    true
+}
+
+// The type of a chain whose first operand has this type, where those behind it are of it.
+fn chain_where(holds: bool, found: Option<Ty>) -> Option<Ty>
+    ensures { result ≡ chained holds found }
+{
+    match found {
+        None => None,
+        Some(ty) => { if holds { flat(ty) } else { None } }
+    }
 }
 
 /// Whether the parts of a tuple fit these types, one each.
@@ -354,65 +358,43 @@ fn all_fit(
     Ok(true)
 }
 
-/// Whether a comparison keeps the rules: the right side of `==` and `!=` fits the type of the left one, others compare
-/// two of one ordered type.
+/// Whether the right side of a comparison keeps the rules, where the left one has this type: that of `==` and `!=` fits
+/// it, of others it is of the same ordered type.
 #[cycle(expressions)]
 fn compares(
     alloc: Global,
     known: &Known<'_>,
     queries: &[Query],
     op: CmpOp,
-    left: &RExpr,
+    found: &Option<Ty>,
     right: &RExpr,
 ) -> Result<bool, NoMemory>
-    ensures { IfOk result (λ holds. holds ≡ comparison op (typing (known_of known.now) queries.now left.now) (typing (known_of known.now) queries.now right.now)) }
+    ensures { IfOk result (λ holds. holds ≡ compared op found.now (typing (known_of known.now) queries.now right.now)) }
 {
-    let found = expr_type(alloc, known, queries, left)?;
     let Some(ty) = found else {
         return Ok(false);
     };
     if !asks_order(op) {
-        return expr_fits(alloc, known, queries, right, &ty);
+        return expr_fits(alloc, known, queries, right, ty);
     }
     let other = expr_type(alloc, known, queries, right)?;
-    Ok(is_ordered(&ty) && is_typed(&other, &ty))
+    Ok(is_ordered(ty) && is_typed(&other, ty))
 }
 
-/// The type of a chain: that of the first, of which each further operand is.
-#[cycle(expressions)]
-fn chain_type(
-    alloc: Global,
-    known: &Known<'_>,
-    queries: &[Query],
-    first: &RExpr,
-    more: &[ChainPart],
-) -> Result<Option<Ty>, NoMemory>
-    ensures { IfOk result (λ found. found ≡ given (typing (known_of known.now) queries.now first.now).type_ (λ ty. when (chain_holds (known_of known.now) queries.now ty more.now) ty)) }
-{
-    let found = expr_type(alloc, known, queries, first)?;
-    match found {
-        None => Ok(None),
-        Some(ty) => {
-            if are_operands(alloc, known, queries, more, &ty)? {
-                Ok(Some(ty))
-            } else {
-                Ok(None)
-            }
-        }
-    }
-}
-
-/// Whether each further operand of a chain is of a type, which its operation takes.
+/// Whether each further operand of a chain is of the type of the first, which its operation takes.
 #[cycle(expressions)]
 fn are_operands(
     alloc: Global,
     known: &Known<'_>,
     queries: &[Query],
     more: &[ChainPart],
-    ty: &Ty,
+    first: &Option<Ty>,
 ) -> Result<bool, NoMemory>
-    ensures { IfOk result (λ holds. holds ≡ chain_holds (known_of known.now) queries.now ty.now more.now) }
+    ensures { IfOk result (λ holds. holds ≡ holds_of first.now (λ ty. chain_holds (known_of known.now) queries.now ty more.now)) }
 {
+    let Some(ty) = first else {
+        return Ok(false);
+    };
     for part in more {
         let found = expr_type(alloc, known, queries, part.operand.get())?;
         if !is_further(part.op, &found, ty) {

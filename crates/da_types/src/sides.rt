@@ -3,7 +3,7 @@ ghost use Rattle.da_lang.specs.QueryTypes.{agg_type as side_of_agg, asks_order a
 ghost use Rattle.da_lang.specs.declared.query.AggOp.TheVariants.{Min, Sum};
 ghost use Rattle.da_lang.specs.declared.ty.Ty.TheVariants.{Int};
 ghost use Rattle.da_types.specs.SideView.{side_of};
-ghost use Rattle.std.specs.Prelude.{◌≡◌, if◌then◌else◌, option_map};
+ghost use Rattle.std.specs.Prelude.{◌≡◌, ◌&&◌, if◌then◌else◌, option_map};
 
 use crate::types::{is_int, is_ordered, is_typed, same_type};
 use da_lang::{AggOp, CmpOp, Ty};
@@ -22,11 +22,15 @@ pub fn plain(ty: Ty) -> Side
     Side { ty, sum: false }
 }
 
-/// A side that is an integer and no `sum`, where a test holds.
-pub fn integer_where(holds: bool) -> Option<Side>
-    ensures { option_map side_of result ≡ (if holds then plain_side Int else None) }
+/// The side of a chain whose first operand is this side, where those behind it may stand in a chain.
+pub fn chain_side(first: &Option<Side>, holds: bool) -> Option<Side>
+    ensures { option_map side_of result ≡ (if operand_side (option_map side_of first.now) && holds then plain_side Int else None) }
 {
-    if holds { Some(plain(Ty::Int)) } else { None }
+    if is_operand(first) && holds {
+        Some(plain(Ty::Int))
+    } else {
+        None
+    }
 }
 
 /// A side that is no `sum`, of a type that there may be.

@@ -1,7 +1,7 @@
 use Rattle.std.proofs.Common.{◌≡◌, true, map, take, drop}
 use Rattle.std.specs.List.{list_all}
 use Rattle.da_lang.specs.ExprTypes.{parts_fit, truth, typing}
-use Rattle.da_lang.specs.QueryTypes.{all_types, is_typed}
+use Rattle.da_lang.specs.QueryTypes.{all_types}
 use Rattle.da_types.specs.Chains.{chain_holds}
 use Rattle.da_types.specs.KnownView.{known_of}
 use Rattle.da_types.proofs.Walks.{Gathers}
@@ -9,9 +9,6 @@ use Rattle.da_types.proofs.expressions.+expressions.Given as goal
 
 abbrev pub invariant-are_truths-loop-x : goal.invariant-are_truths-loop-x
 invariant-are_truths-loop-x l = list_all (λ x. truth (typing (known_of l.known) l.queries x)) (take l.x-index l.xs) ≡ true
-
-abbrev pub invariant-are_typed-loop-x : goal.invariant-are_typed-loop-x
-invariant-are_typed-loop-x l = list_all (λ x. is_typed (typing (known_of l.known) l.queries x).type_ l.ty) (take l.x-index l.xs) ≡ true
 
 abbrev pub invariant-all_fit-loop-x : goal.invariant-all_fit-loop-x
 invariant-all_fit-loop-x l = list_all (λ x. (typing (known_of l.known) l.queries x).fits l.ty) (take l.x-index l.xs) ≡ true
