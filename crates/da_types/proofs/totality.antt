@@ -10,6 +10,7 @@ pub mod MatchesFit
 pub mod QueriesFit
 pub mod QueriesKept
 pub mod RowsFit
+pub mod StrictExamples
 pub mod TermLaws
 pub mod WholeValues
 pub mod Worlds

@@ -1,14 +1,15 @@
 -- Queries and conditions read strictly: nothing stands in for a value that is not there. A slot or a part that is
 -- missing has no value, nor has an expression of no form of queries, an operand that is no integer, a condition that is
--- no truth value or a source that is no set. In a typed program every query and every condition of an `await` has one.
-use Rattle.std.specs.Prelude.{◌≡◌, ℕ, ℤ, pos, ◌+ℤ◌, neg_ℤ, Bool, true, false, not, if◌then◌else◌, List, [], ◌∷◌, ◌++◌, map, Option, Some, None, Result, Ok, Err, length}
+-- no truth value, a comparison of two kinds, or a source that is no set. In a typed program every query and every
+-- condition of an `await` has one.
+use Rattle.std.specs.Prelude.{◌≡◌, ℕ, ℤ, pos, ◌+ℤ◌, neg_ℤ, Bool, true, false, not, if◌then◌else◌, List, [], ◌∷◌, ◌++◌, map, Option, Some, None, Result, Ok, Err, length, nat_eq}
 use Rattle.std.specs.List.{list_any, list_all, filter_map, flat_map}
 use Rattle.da_values.specs.declared.val.Val.{Val, out-Val}
 use Rattle.da_values.specs.declared.val.Val.TheVariants as val
 use Rattle.da_values.specs.declared.val.Val.TheOpen as vo
 use Rattle.da_values.specs.declared.value.Value.{Value}
 use Rattle.da_values.specs.Narrow.{is_narrow}
-use Rattle.da_values.specs.Order.{val_cmp}
+use Rattle.da_values.specs.Order.{kind, val_cmp}
 use Rattle.da_values.specs.Proper.{IsValue}
 use Rattle.da_values.specs.Sets.{Has, canon}
 use Rattle.da_values.specs.Value.{val_of}
@@ -39,17 +40,18 @@ use Rattle.da_lang.specs.declared.query.Source.TheVariants as source
 use Rattle.da_lang.specs.declared.query.Term.{Term}
 use Rattle.da_lang.specs.declared.query.Term.TheFolds.{fold-Term}
 use Rattle.da_lang.specs.declared.query.Term.TheOpen as term
+use Rattle.da_lang.specs.declared.tree.CmpOp.{CmpOp}
 use Rattle.da_lang.specs.declared.ty.Ty.{Ty}
 use Rattle.da_lang.specs.Arithmetic.{Outcome}
 use Rattle.da_lang.specs.Evaluation.{asked}
 use Rattle.da_lang.specs.Matching.{Row, is_same, where_true}
 use Rattle.da_lang.specs.Queries.{compares, entry_parts, first_or, holds, last_or, query_value, total}
 use Rattle.da_lang.specs.QueryTypes.{given, is_any, query_type}
-use Rattle.da_lang.specs.Shaped.{IsItemOf, has_processes}
+use Rattle.da_lang.specs.Shaped.{Shaped, IsItemOf, has_processes}
 use Rattle.da_lang.specs.Turns.{kind_of}
 use Rattle.da_lang.specs.Types.{is_of}
 use Rattle.da_lang.specs.Typing.{known}
-use Rattle.da_lang.specs.World.{Data, numbered}
+use Rattle.da_lang.specs.World.{Data, World, numbered}
 
 -- all of them, where each is there
 abbrev pub all_there : {A : Type 0} → List (Option A) → Option (List A)
@@ -68,6 +70,10 @@ truth _ = None
 abbrev pub elements : vo.Val-F Val → Option (List Val)
 elements (vo.Set members) = Some members
 elements _ = None
+
+-- a comparison of two values of one kind
+abbrev pub compared : CmpOp → Val → Val → Option Bool
+compared op v w = if nat_eq (kind (out-Val v)) (kind (out-Val w)) then Some (compares op (val_cmp v w)) else None
 
 module _ (d : Data) where
   -- the value of a term in a row, if it has one
@@ -163,7 +169,7 @@ module _ (d : Data) where
 
   abbrev pub cond_found : Cond-F Test Meant Meant Number → Test
   cond_found (Cond-F.Truth t) row = given (found_term row t) (λ v. truth (out-Val v))
-  cond_found (Cond-F.Cmp op a b) row = given (a row) (λ v. given (b row) (λ w. Some (compares op (val_cmp v w))))
+  cond_found (Cond-F.Cmp op a b) row = given (a row) (λ v. given (b row) (compared op v))
   cond_found (Cond-F.Not b) row = given (b row) (λ v. Some (not v))
   cond_found (Cond-F.And bs) row = given (all_there (map (λ b. b row) bs)) (λ vs. Some (list_all (λ v. v) vs))
   cond_found (Cond-F.Or bs) row = given (all_there (map (λ b. b row) bs)) (λ vs. Some (list_any (λ v. v) vs))
@@ -276,6 +282,10 @@ IsAnswer q ty (Err kind) = (kind ≡ Overflow) × (counts q ≡ true)
 -- In a class of a program, with what a process of the class knows: each numbered query has a type, and a value of it; and
 -- the condition of each alternative of an `await` has a value, which is the one that it has when missing values are stood
 -- in for.
-pub record HasValues (p : Program) (c : Class) (d : Data) : Type 0 where
+pub record AllHaveValues (p : Program) (c : Class) (d : Data) : Type 0 where
   pub queries : (n : ℕ) (q : Query) → numbered c.queries n ≡ Some q → (ty : Ty) × (query_type (known p.messages c.queries c.slots) q ≡ Some ty) × HasValue d q ty (query_value c.queries n d) × IsAnswer q ty (asked (query_value c.queries n d))
   pub conditions : (i : Item) (alts : List Alt) (a : Alt) → IsItemOf c i → kind_of i ≡ Await alts → Has alts a → found_holds d (out-Alt a).cond [] ≡ Some (holds d (out-Alt a).cond [])
+
+-- What is shown of each typed program: in every shaped world all of its process's class have values.
+abbrev pub NothingIsMissing : Program → Type 0
+NothingIsMissing p = (w : World) (s : Shaped p w) → AllHaveValues p s.class w.data'

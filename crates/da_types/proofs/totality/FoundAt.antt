@@ -30,7 +30,7 @@ use Rattle.da_lang.specs.Matching.{Row, is_same, where_true}
 use Rattle.da_lang.specs.Queries.{compares, total}
 use Rattle.da_lang.specs.QueryTypes.{given}
 use Rattle.da_lang.specs.World.{Data, numbered}
-use Rattle.da_types.specs.Totality.{Finds, Test, Meant, Number, all_there, truth, term_found, found_term, pattern_found, found_match, tuple_found, parts_found, extensions_found, test_found, cond_found, operand_found, agg_found, signed_found, found_holds, found_operand, found_agg, found_signed, found_where, integer_found, set_found, aggregate_found, other_found}
+use Rattle.da_types.specs.Totality.{compared, Finds, Test, Meant, Number, all_there, truth, term_found, found_term, pattern_found, found_match, tuple_found, parts_found, extensions_found, test_found, cond_found, operand_found, agg_found, signed_found, found_holds, found_operand, found_agg, found_signed, found_where, integer_found, set_found, aggregate_found, other_found}
 
 -- functions of a row, each at one row
 pub at_row : {A B : Type 0} (f : A → Row → B) (xs : List A) (row : Row) → map (λ (g : Row → B). g row) (map f xs) ≡ map (λ x. f x row) xs
@@ -52,6 +52,9 @@ module _ (d : Data) (row : Row) where
 
   pub found_term-Tuple : (parts : List Term) → found_term d row (te.Tuple parts) ≡ given (all_there (map (found_term d row) parts)) (λ vs. Some (val.Tuple vs))
   found_term-Tuple parts = ap (found_term d row) (sym (te.rolls-Tuple parts)) ∙ fold-roll-Term (Option Val) (term_found d row) (Term-F.Tuple parts)
+
+  pub found_term-Foreign : found_term d row te.Foreign ≡ None
+  found_term-Foreign = ap (found_term d row) (sym te.rolls-Foreign) ∙ fold-roll-Term (Option Val) (term_found d row) Term-F.Foreign
 
 module _ (d : Data) (x : Val) (row : Row) where
   abbrev match_at : Pattern → Option (Option Row)
@@ -91,7 +94,7 @@ module _ (d : Data) (row : Row) where
   pub found_holds-Truth : (y : Term) → found_holds d (co.Truth y) row ≡ given (found_term d row y) (λ v. truth (out-Val v))
   found_holds-Truth y = ap cond_at (sym (co.rolls-Truth y)) ∙ cond_layer (Cond-F.Truth y)
 
-  pub found_holds-Cmp : (op : CmpOp) (a b : Operand) → found_holds d (co.Cmp op a b) row ≡ given (found_operand d a row) (λ v. given (found_operand d b row) (λ w. Some (compares op (val_cmp v w))))
+  pub found_holds-Cmp : (op : CmpOp) (a b : Operand) → found_holds d (co.Cmp op a b) row ≡ given (found_operand d a row) (λ v. given (found_operand d b row) (compared op v))
   found_holds-Cmp op a b = ap cond_at (sym (co.rolls-Cmp op a b)) ∙ cond_layer (Cond-F.Cmp op a b)
 
   pub found_holds-Not : (b : Cond) → found_holds d (co.Not b) row ≡ given (found_holds d b row) (λ v. Some (not v))
@@ -124,3 +127,5 @@ module _ (d : Data) (row : Row) where
   pub found_agg-of : (op : AggOp) (gens : List RGen) (b : Option Cond) (y : Term) (other : Option Term) → found_agg d (roll-Agg (record { op = op; gens = gens; cond = b; term = y; other = other })) row ≡ given (set_found d gens (found_where d b) y row) (aggregate_found d op (other_found d row other))
   found_agg-of op gens None y other = ap (λ (f : Meant d). f row) (fold-roll-Agg (Test d) (Meant d) (Meant d) (Number d) (cond_found d) (operand_found d) (agg_found d) (signed_found d) (record { op = op; gens = gens; cond = None; term = y; other = other }))
   found_agg-of op gens (Some b) y other = ap (λ (f : Meant d). f row) (fold-roll-Agg (Test d) (Meant d) (Meant d) (Number d) (cond_found d) (operand_found d) (agg_found d) (signed_found d) (record { op = op; gens = gens; cond = Some b; term = y; other = other }))
+
+pub ruleset finding = (found_term-Const, found_term-Me, found_term-Slot, found_term-Part, found_term-Tuple, found_term-Foreign, found_match-Any, found_match-Bind, found_match-Const, found_match-Me, found_match-Equal, found_match-Tuple, found_holds-Truth, found_holds-Cmp, found_holds-Not, found_holds-And, found_holds-Or, found_holds-Quant, found_operand-Term, found_operand-Agg, found_operand-Chain, found_signed-of, found_agg-of)

@@ -3,10 +3,10 @@ use Rattle.std.specs.Prelude.{◌≡◌, refl, ℕ, ℤ, pos, ◌+ℤ◌, neg_�
 use Rattle.std.specs.List.{AllByRecursion, filter, list_all, list_any}
 use Rattle.std.specs.Option.{option_map}
 use Rattle.std.proofs.Common.{◌∙◌, ap, sym, subst, inl, inr}
-use Rattle.std.proofs.lemmas.Bool.{false≢true, and_parts}
+use Rattle.std.proofs.lemmas.Bool.{false≢true, and_parts, eq-eqb}
 use Rattle.da_values.specs.declared.val.Val.{Val, out-Val}
 use Rattle.da_values.specs.declared.val.Val.TheVariants as val
-use Rattle.da_values.specs.Order.{val_cmp}
+use Rattle.da_values.specs.Order.{kind, val_cmp}
 use Rattle.da_values.specs.Sets.{Has, canon}
 use Rattle.da_values.specs.Views.{int_of, truth_of}
 use Rattle.da_values.proofs.Members.{of_filter, each_from_all}
@@ -31,10 +31,11 @@ use Rattle.da_lang.specs.Types.{is_of, is_bool, is_int, ordered, same_type}
 use Rattle.da_lang.specs.World.{Data}
 use Rattle.da_lang.proofs.CondInduction.{Where, Cases, cond_induction, agg_induction}
 use Rattle.da_lang.proofs.QueryLaws.{holds-Truth, holds-Cmp, holds-Not, holds-And, holds-Or, holds-Some, holds-Each, operand-Term, operand-Agg, operand-Chain, signed-made, agg-made}
+use Rattle.da_lang.proofs.typing.SameTypes.{same_types_equal}
 use Rattle.da_lang.proofs.typing.QueryTypesAt.{cond_holds_at-Truth, cond_holds_at-Cmp, cond_holds_at-Not, cond_holds_at-And, cond_holds_at-Or, cond_holds_at-Quant, operand_side_at-Term, operand_side_at-Agg, operand_side_at-Chain, signed_side_at-of}
-use Rattle.da_types.specs.Totality.{Test, all_there, truth, integer, found_term, extensions_found, test_found, with_row, rows_found, cond_found, integer_found, aggregate_found, other_found, terms_found, set_found, found_holds, found_operand, found_agg, found_signed, found_where}
+use Rattle.da_types.specs.Totality.{compared, Test, all_there, truth, integer, found_term, extensions_found, test_found, with_row, rows_found, cond_found, integer_found, aggregate_found, other_found, terms_found, set_found, found_holds, found_operand, found_agg, found_signed, found_where}
 use Rattle.da_types.proofs.totality.FoundAt.{at_row, found_holds-Truth, found_holds-Cmp, found_holds-Not, found_holds-And, found_holds-Or, found_holds-Quant, found_operand-Term, found_operand-Agg, found_operand-Chain, found_signed-of, found_agg-of}
-use Rattle.da_types.proofs.totality.KindLaws.{given_parts, when_parts, if_parts, holds_parts, is_typed_parts, bool_type, int_type, int_of_type, bool_of_type, is_int_value}
+use Rattle.da_types.proofs.totality.KindLaws.{given_parts, when_parts, if_parts, holds_parts, is_typed_parts, bool_type, int_type, int_of_type, bool_of_type, is_int_value, one_kind}
 use Rattle.da_types.proofs.totality.Keeping.{Keeping, Fits, RowFits, Knows}
 use Rattle.da_types.proofs.totality.TermLaws.{term_fits}
 use Rattle.da_types.proofs.totality.RowsFit.{rows_fit}
@@ -110,11 +111,22 @@ module _ (k : Keeping) (good : (x : Term) → k.Good x) (known : Known) (d : Dat
       ∙ truth_is (value_at d row x) (subst (λ z. is_of z (value_at d row x) ≡ true) (bool_type ty boolean) fit.0)
       ∙ ap Some (sym (holds-Truth d row x))
 
+  compared_is : (op : CmpOp) (v w' : Val) → kind (out-Val v) ≡ kind (out-Val w') → compared op v w' ≡ Some (compares op (val_cmp v w'))
+  compared_is op v w' same = rw (eq-eqb (kind (out-Val v)) (kind (out-Val w')) same) refl
+
   cmp_case : (op : CmpOp) (a b : Operand) → OperandThere a → OperandThere b → CondThere (co.Cmp op a b)
   cmp_case op a b first second types row e fits =
       let (x, left, more) = holds_parts (operand_side known a types) _ (sym (cond_holds_at-Cmp known op a b types) ∙ e) in
-      let (y, right, same) = holds_parts (operand_side known b types) _ more in
-      found_holds-Cmp d row op a b ∙ rw ((first types row x left fits).0, (second types row y right fits).0) refl ∙ ap Some (sym (holds-Cmp d row op a b))
+      let (y, right, both) = holds_parts (operand_side known b types) _ more in
+      let (same, in_order) = and_parts (same_type x.ty y.ty) (compares_types op x.ty) both in
+      let one = first types row x left fits in
+      let other = second types row y right fits in
+      let alike = one_kind y.ty (operand_value d a row) (operand_value d b row) (subst (λ z. is_of z (operand_value d a row) ≡ true) (same_types_equal x.ty y.ty same) one.1) other.1 in
+      found_holds-Cmp d row op a b
+      ∙ ap (λ z. given z (λ v. given (found_operand d b row) (compared op v))) one.0
+      ∙ ap (λ z. given z (compared op (operand_value d a row))) other.0
+      ∙ compared_is op (operand_value d a row) (operand_value d b row) alike
+      ∙ ap Some (sym (holds-Cmp d row op a b))
 
   not_case : (b : Cond) → CondThere b → CondThere (co.Not b)
   not_case b there types row e fits =

@@ -65,19 +65,23 @@ module _ (k : Keeping) (known : Known) (d : Data) (w : Knows k known d) where
   abbrev StepThere : RGen → Source → Row → Type 0
   StepThere g s row = given (source_found d s) (λ cs. given (all_there (map (both_found d g row) cs)) (λ rs. Some (filter_map (λ r. r) rs))) ≡ Some (filter_map (lenient g row) (candidates d s))
 
+  abbrev steps_of : RGen → Row → Option (List (Val × Option Val)) → Option (List Row)
+  steps_of g row found = given found (λ cs. given (all_there (map (both_found d g row) cs)) (λ rs. Some (filter_map (λ r. r) rs)))
+
+  set_there : (g : RGen) (slot : ℕ) (vs : List Val) → numbered d.slots slot ≡ Some (val.Set vs) → elements_of (slot_of d slot) ≡ vs → (row : Row) → steps_of g row (Some (map (alone d) vs)) ≡ Some (filter_map (lenient g row) (map (λ x. (x, nothing)) vs)) → StepThere g (source.Slot slot) row
+  set_there g slot vs there listed row steps =
+      ap (λ z. steps_of g row (given z (λ v. given (elements (out-Val v)) (λ members. Some (map (alone d) members))))) there
+      ∙ ap (λ z. steps_of g row (given (elements z) (λ members. Some (map (alone d) members)))) (val.outs-Set vs)
+      ∙ steps
+      ∙ ap (λ z. Some (filter_map (lenient g row) (map (λ x. (x, nothing)) z))) (sym listed)
+
   slot_there : (g : RGen) (slot : ℕ) (types found : List Ty) (row : Row) → given (source_row known (source.Slot slot) g.message types) (peer_row known (source.Slot slot) g.peer) ≡ Some found → RowFits k types row → StepThere g (source.Slot slot) row
   slot_there g slot types found row typed fits =
       let (mid, first, second) = given_parts (source_row known (source.Slot slot) g.message types) (peer_row known (source.Slot slot) g.peer) found typed in
       let (element, of_slot, over) = given_parts (given (slot_type known slot) element_of) (λ element. matched_row known g.message element types) mid first in
       let (ty, known_type, is_set) = given_parts (slot_type known slot) element_of element of_slot in
       let (vs, is, each) = members_are k known d w slot ty element known_type is_set in
-      let there : numbered d.slots slot ≡ Some (val.Set vs) = w.there slot ty known_type ∙ ap Some is in
-      let listed : elements_of (slot_of d slot) ≡ vs = ap elements_of is ∙ elements_of-Set vs in
-      let go_on : Option (List (Val × Option Val)) → Option (List Row) = λ cs. given cs (λ cs. given (all_there (map (both_found d g row) cs)) (λ rs. Some (filter_map (λ r. r) rs))) in
-      ap (λ z. go_on (given z (λ v. given (elements (out-Val v)) (λ members. Some (map (alone d) members))))) there
-      ∙ ap (λ z. go_on (given (elements z) (λ members. Some (map (alone d) members)))) (val.outs-Set vs)
-      ∙ members_there g element vs each types mid found row over second fits
-      ∙ ap (λ z. Some (filter_map (lenient g row) (map (λ x. (x, nothing)) z))) (sym listed)
+      set_there g slot vs (w.there slot ty known_type ∙ ap Some is) (ap elements_of is ∙ elements_of-Set vs) row (members_there g element vs each types mid found row over second fits)
 
   source_there : (g : RGen) (s : Source) (types found : List Ty) (row : Row) → given (source_row known s g.message types) (peer_row known s g.peer) ≡ Some found → RowFits k types row → StepThere g s row
   source_there g source.Received types found row typed fits = history_there g d.received w.received types found row typed fits

@@ -38,7 +38,7 @@ use Rattle.da_lang.specs.Types.{is_of, is_flat, is_int}
 use Rattle.da_lang.specs.Typing.{IsTyped, known, has_queries}
 use Rattle.da_lang.specs.World.{Data, World, numbered}
 use Rattle.da_lang.proofs.RowLaws.{of_rows, terms_of_rows, least_there}
-use Rattle.da_types.specs.Totality.{HasValue, HasValues, IsAnswer, counts, counts_by, found_agg, found_where, found_query, set_found, cond_found}
+use Rattle.da_types.specs.Totality.{HasValue, AllHaveValues, NothingIsMissing, IsAnswer, counts, counts_by, found_agg, found_where, found_query, set_found, cond_found}
 use Rattle.da_types.proofs.totality.Awaits.{condition_holds}
 use Rattle.da_types.proofs.totality.FoundAt.{found_holds-Quant}
 use Rattle.da_types.proofs.totality.FoundConds.{agg_there, cond_there, each_cond_there, quant_there, set_there}
@@ -168,9 +168,12 @@ module _ (p : Program) (w : World) (typed : IsTyped p) (s : Shaped p w) where
       let k = knows_here p w s in
       subst (QueryHas q) (sym (ap (value_of_numbered w.data') e)) (ty, is, query_has here w.data' k q ty is, query_answer here w.data' k q ty is)
 
-  -- THE THEOREM OF TYPES
-  pub typed_has_values : HasValues p s.class w.data'
-  typed_has_values = record {
+  all_have_values : AllHaveValues p s.class w.data'
+  all_have_values = record {
     queries = numbered_query;
     conditions = λ i alts a is await h. cond_there narrow (λ x. tt) here w.data' (knows_here p w s) (out-Alt a).cond [] [] (condition_holds p s.class typed.keeps (class_has p w.data'.me s.class s.is_class) i is alts a await h) tt;
   }
+
+-- THE THEOREM OF TYPES
+pub nothing_is_missing : (p : Program) → IsTyped p → NothingIsMissing p
+nothing_is_missing p typed w s = all_have_values p w typed s

@@ -7,12 +7,14 @@ use Rattle.da_values.specs.declared.val.Val.{Val, out-Val, roll-Val, roll-out-Va
 use Rattle.da_values.specs.declared.val.Val.TheVariants as val
 use Rattle.da_values.specs.declared.val.Val.TheOpen as vo
 use Rattle.da_values.specs.declared.val.Val.TheOpen.{Val-F}
+use Rattle.da_values.specs.Order.{kind}
 use Rattle.da_lang.specs.declared.ty.Ty.{Ty, out-Ty, roll-Ty, roll-out-Ty}
 use Rattle.da_lang.specs.declared.ty.Ty.TheVariants as t
 use Rattle.da_lang.specs.declared.ty.Ty.TheOpen as to
 use Rattle.da_lang.specs.declared.ty.Ty.TheOpen.{Ty-F}
 use Rattle.da_lang.specs.QueryTypes.{given, holds_of, when, is_typed}
-use Rattle.da_lang.specs.Types.{is_of, is_int, is_bool, int_in, bool_in, all_of, int_value, bool_value, proc_value, tuple_value, set_value, parts_of, parts_in, element_of, element_in}
+use Rattle.da_lang.specs.Types.{is_of, is_int, is_bool, int_in, bool_in, all_of, int_value, bool_value, text_value, proc_value, tuple_value, set_value, parts_of, parts_in, element_of, element_in}
+use Rattle.da_lang.proofs.WorldLaws.{ty_induction}
 use Rattle.da_lang.proofs.typing.SameTypes.{same_types_equal}
 use Rattle.da_lang.proofs.typing.TypesAt.{is_of_at-Int, is_of_at-Bool, is_of_at-Text, is_of_at-Proc, is_of_at-Tuple, is_of_at-Set}
 
@@ -48,6 +50,14 @@ int_layer _ e = absurd (false≢true e)
 bool_layer : (x : Val-F Val) → bool_value x ≡ true → (b : Bool) × (x ≡ vo.Bool b)
 bool_layer (vo.Bool b) e = (b, refl)
 bool_layer _ e = absurd (false≢true e)
+
+text_layer : (x : Val-F Val) → text_value x ≡ true → kind x ≡ 2
+text_layer (vo.Text bytes) e = refl
+text_layer _ e = absurd (false≢true e)
+
+proc_layer : (x : Val-F Val) → proc_value x ≡ true → kind x ≡ 3
+proc_layer (vo.Proc process) e = refl
+proc_layer _ e = absurd (false≢true e)
 
 tuple_layer : (tests : List (Val → Bool)) (x : Val-F Val) → tuple_value tests x ≡ true → (vs : List Val) × (x ≡ vo.Tuple vs) × (all_of tests vs ≡ true)
 tuple_layer tests (vo.Tuple vs) e = (vs, refl, e)
@@ -127,3 +137,20 @@ tuple_type ty types e = type_from_layer ty (to.Tuple types) (parts_layer (out-Ty
 
 pub set_type : (ty element : Ty) → element_of ty ≡ Some element → ty ≡ t.Set element
 set_type ty element e = type_from_layer ty (to.Set element) (element_layer (out-Ty ty) element e) ∙ t.rolls-Set element
+
+-- two values of one type are of one kind
+abbrev OneKind : Ty → Type 0
+OneKind ty = (n : ℕ) × ((v : Val) → is_of ty v ≡ true → kind (out-Val v) ≡ n)
+
+kind_of_type : (ty : Ty) → OneKind ty
+kind_of_type =
+    ty_induction OneKind
+    (0, λ v e. ap kind (int_layer (out-Val v) (sym (is_of_at-Int v) ∙ e)).1)
+    (1, λ v e. ap kind (bool_layer (out-Val v) (sym (is_of_at-Bool v) ∙ e)).1)
+    (2, λ v e. text_layer (out-Val v) (sym (is_of_at-Text v) ∙ e))
+    (3, λ v e. proc_layer (out-Val v) (sym (is_of_at-Proc v) ∙ e))
+    (λ types each. (4, λ v e. ap kind (tuple_layer (map is_of types) (out-Val v) (sym (is_of_at-Tuple types v) ∙ e)).1))
+    (λ element one. (5, λ v e. ap kind (set_layer (is_of element) (out-Val v) (sym (is_of_at-Set element v) ∙ e)).1))
+
+pub one_kind : (ty : Ty) (v w : Val) → is_of ty v ≡ true → is_of ty w ≡ true → kind (out-Val v) ≡ kind (out-Val w)
+one_kind ty v w e f = let (n, at) = kind_of_type ty in at v e ∙ sym (at w f)

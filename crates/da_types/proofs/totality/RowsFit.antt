@@ -55,7 +55,7 @@ module _ (k : Keeping) (known : Known) (d : Data) (w : Knows k known d) where
       let is = message_is known tag ty e.message entry.0 (tag_matched d.me d.slots message tag e.message row s tagged there) of_tag in
       match_fits k known d message ty types mid e.message row s over (is, entry.1) fits there
 
-  entry_fits : (e : Entry) → EntryFits k known e → (message peer : Pattern) (types found : List Ty) (row r : Row) → given (message_row known message types) (pattern_row known peer t.Proc) ≡ Some found → RowFits k types row → matched_both d message peer e.message (val.Proc e.peer) row ≡ Some r → RowFits k found r
+  pub entry_fits : (e : Entry) → EntryFits k known e → (message peer : Pattern) (types found : List Ty) (row r : Row) → given (message_row known message types) (pattern_row known peer t.Proc) ≡ Some found → RowFits k types row → matched_both d message peer e.message (val.Proc e.peer) row ≡ Some r → RowFits k found r
   entry_fits e entry message peer types found row r typed fits f =
       let (mid, first, second) = given_parts (message_row known message types) (pattern_row known peer t.Proc) found typed in
       let (s, there, rest) = then_parts (matched d.me d.slots message e.message row) (matched d.me d.slots peer (val.Proc e.peer)) r f in
