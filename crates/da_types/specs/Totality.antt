@@ -2,7 +2,7 @@
 -- missing has no value, nor has an expression of no form of queries, an operand that is no integer, a condition that is
 -- no truth value, a comparison of two kinds, or a source that is no set. In a typed program every query and every
 -- condition of an `await` has one.
-use Rattle.std.specs.Prelude.{◌≡◌, ℕ, ℤ, pos, ◌+ℤ◌, neg_ℤ, Bool, true, false, not, if◌then◌else◌, List, [], ◌∷◌, ◌++◌, map, Option, Some, None, Result, Ok, Err, length, nat_eq}
+use Rattle.std.specs.Prelude.{◌≡◌, ℕ, ℤ, pos, ◌+ℤ◌, neg_ℤ, Bool, true, false, not, if◌then◌else◌, List, [], ◌∷◌, ◌++◌, map, Option, Some, None, Ok, Err, length, nat_eq}
 use Rattle.std.specs.List.{list_any, list_all, filter_map, flat_map}
 use Rattle.da_values.specs.declared.val.Val.{Val, out-Val}
 use Rattle.da_values.specs.declared.val.Val.TheVariants as val

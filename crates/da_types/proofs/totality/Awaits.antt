@@ -1,5 +1,5 @@
 -- In a program that keeps the rules of types, the condition of each alternative of each `await` keeps them.
-use Rattle.std.specs.Prelude.{◌≡◌, refl, ℕ, Bool, true, false, ◌&&◌, List, [], ◌∷◌, ◌++◌, map, flat_map, Option, Some, None}
+use Rattle.std.specs.Prelude.{◌≡◌, refl, ℕ, Bool, true, false, ◌&&◌, List, [], ◌∷◌, ◌++◌, map, flat_map}
 use Rattle.std.proofs.Common.{◌∙◌, ap, sym, subst, inl, inr}
 use Rattle.std.proofs.lemmas.Bool.{and_parts}
 use Rattle.da_values.specs.Sets.{Has}
@@ -18,7 +18,7 @@ use Rattle.da_lang.specs.declared.query.Query.{Query}
 use Rattle.da_lang.specs.declared.tree.MessageDecl.{MessageDecl}
 use Rattle.da_lang.specs.Limits.{item_lists}
 use Rattle.da_lang.specs.QueryTypes.{cond_holds}
-use Rattle.da_lang.specs.Shaped.{IsItemOf, Within, here, deeper, blocks_of, blocks_in}
+use Rattle.da_lang.specs.Shaped.{IsItemOf, Within, here, deeper, blocks_in}
 use Rattle.da_lang.specs.Turns.{kind_of}
 use Rattle.da_lang.specs.Typing.{Slots, Breaks, all, unless, known, have_found, handler_breaks, class_breaks, breaks_in, kind_broken, alt_broken, item_breaks, branch_broken, kind_breaks, alt_breaks, item_breaks_step, branch_breaks}
 
@@ -93,14 +93,14 @@ module _ (messages : List MessageDecl) (queries : List Query) (slots : Slots) wh
   branch_block branches other body e h j k =
       elim (of_append (map (λ b. (out-RBranch b).body) branches) (other ∷ []) body h) [
         | inl there ↦ (
-          let (b, among, is) = of_map (λ b. (out-RBranch b).body) branches body there in
-          let none : branch b ≡ [] = none_of (λ part. part) (map branch branches ++ map item other) e (branch b) (Has-append_left (map branch branches) (map item other) (branch b) (Has-map branch branches b among)) in
-          each_keeps (out-RBranch b).body (branch_ends b none) j (subst (λ z. Has z j) is k))
+            let (b, among, is) = of_map (λ b. (out-RBranch b).body) branches body there in
+            let none : branch b ≡ [] = none_of (λ part. part) (map branch branches ++ map item other) e (branch b) (Has-append_left (map branch branches) (map item other) (branch b) (Has-map branch branches b among)) in
+            each_keeps (out-RBranch b).body (branch_ends b none) j (subst (λ z. Has z j) is k))
         | inr there ↦ (
-          elim there [
-            | inl is ↦ none_of (λ part. part) (map branch branches ++ map item other) e (item j) (Has-append_right (map branch branches) (map item other) (item j) (Has-map item other j (subst (λ z. Has z j) is k)))
-            | inr none ↦ absurd none
-          ])
+            elim there [
+              | inl is ↦ none_of (λ part. part) (map branch branches ++ map item other) e (item j) (Has-append_right (map branch branches) (map item other) (item j) (Has-map item other j (subst (λ z. Has z j) is k)))
+              | inr none ↦ absurd none
+            ])
       ]
 
   alt_keeps : (alts : List Alt) → all (map alt alts) ≡ [] → (a : Alt) → Has alts a → alt a ≡ []

@@ -1,11 +1,10 @@
 -- What is found strictly, one equation for each form.
-use Rattle.std.specs.Prelude.{◌≡◌, refl, ℕ, pos, ◌+ℤ◌, neg_ℤ, Bool, not, if◌then◌else◌, List, [], ◌∷◌, ◌++◌, map, Option, Some, None}
+use Rattle.std.specs.Prelude.{◌≡◌, refl, ℕ, ◌+ℤ◌, neg_ℤ, Bool, not, if◌then◌else◌, List, [], ◌∷◌, ◌++◌, map, Option, Some, None}
 use Rattle.std.specs.List.{list_any, list_all}
 use Rattle.std.proofs.Common.{◌∙◌, ap, sym}
 use Rattle.da_values.specs.declared.val.Val.{Val, out-Val}
 use Rattle.da_values.specs.declared.val.Val.TheVariants as val
 use Rattle.da_values.specs.declared.value.Value.{Value}
-use Rattle.da_values.specs.Order.{val_cmp}
 use Rattle.da_values.specs.Value.{val_of}
 use Rattle.da_lang.specs.declared.query.Agg.{Agg, roll-Agg}
 use Rattle.da_lang.specs.declared.query.AggOp.{AggOp}
@@ -27,10 +26,10 @@ use Rattle.da_lang.specs.declared.query.Term.TheOpen.{Term-F}
 use Rattle.da_lang.specs.declared.query.Term.TheFolds.{fold-roll-Term}
 use Rattle.da_lang.specs.declared.tree.CmpOp.{CmpOp}
 use Rattle.da_lang.specs.Matching.{Row, is_same, where_true}
-use Rattle.da_lang.specs.Queries.{compares, total}
+use Rattle.da_lang.specs.Queries.{total}
 use Rattle.da_lang.specs.QueryTypes.{given}
 use Rattle.da_lang.specs.World.{Data, numbered}
-use Rattle.da_types.specs.Totality.{compared, Finds, Test, Meant, Number, all_there, truth, term_found, found_term, pattern_found, found_match, tuple_found, parts_found, extensions_found, test_found, cond_found, operand_found, agg_found, signed_found, found_holds, found_operand, found_agg, found_signed, found_where, integer_found, set_found, aggregate_found, other_found}
+use Rattle.da_types.specs.Totality.{compared, Finds, Test, Meant, Number, all_there, truth, term_found, found_term, pattern_found, found_match, tuple_found, cond_found, operand_found, agg_found, signed_found, found_holds, found_operand, found_agg, found_signed, found_where, integer_found, set_found, aggregate_found, other_found}
 
 -- functions of a row, each at one row
 pub at_row : {A B : Type 0} (f : A → Row → B) (xs : List A) (row : Row) → map (λ (g : Row → B). g row) (map f xs) ≡ map (λ x. f x row) xs

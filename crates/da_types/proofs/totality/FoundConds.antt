@@ -1,5 +1,5 @@
 -- Typed conditions, operands and queries are found strictly, and an operand is of its type.
-use Rattle.std.specs.Prelude.{◌≡◌, refl, ℕ, ℤ, pos, ◌+ℤ◌, neg_ℤ, Bool, true, false, ◌&&◌, not, cond, if◌then◌else◌, List, [], ◌∷◌, map, Option, Some, None, length}
+use Rattle.std.specs.Prelude.{◌≡◌, refl, ℤ, ◌+ℤ◌, neg_ℤ, Bool, true, false, ◌&&◌, not, if◌then◌else◌, List, [], ◌∷◌, map, Option, Some, None}
 use Rattle.std.specs.List.{AllByRecursion, filter, list_all, list_any}
 use Rattle.std.specs.Option.{option_map}
 use Rattle.std.proofs.Common.{◌∙◌, ap, sym, subst, inl, inr}
@@ -26,22 +26,22 @@ use Rattle.da_lang.specs.declared.ty.Ty.{Ty}
 use Rattle.da_lang.specs.declared.ty.Ty.TheVariants as t
 use Rattle.da_lang.specs.Matching.{Row}
 use Rattle.da_lang.specs.Queries.{compares, aggregate, agg_value, extensions, holds, holds_where, operand_value, other_value, signed_value, term_set, total, value_at}
-use Rattle.da_lang.specs.QueryTypes.{Known, Holds, Side, Sided, given, holds_of, plain, is_operand, is_typed, agg_type, agg_side, comparable, compares as compares_types, cond_holds, operand_side, signed_side, gens_row, holds_if, has_rows, other_type, rows_where, term_type}
+use Rattle.da_lang.specs.QueryTypes.{Known, Holds, Side, Sided, given, plain, is_operand, is_typed, agg_type, agg_side, compares as compares_types, cond_holds, operand_side, signed_side, gens_row, holds_if, other_type, rows_where, term_type}
 use Rattle.da_lang.specs.Types.{is_of, is_bool, is_int, ordered, same_type}
 use Rattle.da_lang.specs.World.{Data}
 use Rattle.da_lang.proofs.CondInduction.{Where, Cases, cond_induction, agg_induction}
 use Rattle.da_lang.proofs.QueryLaws.{holds-Truth, holds-Cmp, holds-Not, holds-And, holds-Or, holds-Some, holds-Each, operand-Term, operand-Agg, operand-Chain, signed-made, agg-made}
 use Rattle.da_lang.proofs.typing.SameTypes.{same_types_equal}
 use Rattle.da_lang.proofs.typing.QueryTypesAt.{cond_holds_at-Truth, cond_holds_at-Cmp, cond_holds_at-Not, cond_holds_at-And, cond_holds_at-Or, cond_holds_at-Quant, operand_side_at-Term, operand_side_at-Agg, operand_side_at-Chain, signed_side_at-of}
-use Rattle.da_types.specs.Totality.{compared, Test, all_there, truth, integer, found_term, extensions_found, test_found, with_row, rows_found, cond_found, integer_found, aggregate_found, other_found, terms_found, set_found, found_holds, found_operand, found_agg, found_signed, found_where}
-use Rattle.da_types.proofs.totality.FoundAt.{at_row, found_holds-Truth, found_holds-Cmp, found_holds-Not, found_holds-And, found_holds-Or, found_holds-Quant, found_operand-Term, found_operand-Agg, found_operand-Chain, found_signed-of, found_agg-of}
+use Rattle.da_types.specs.Totality.{compared, all_there, truth, integer, found_term, test_found, rows_found, integer_found, aggregate_found, other_found, terms_found, set_found, found_holds, found_operand, found_agg, found_signed, found_where}
+use Rattle.da_types.proofs.totality.FoundAt.{found_holds-Truth, found_holds-Cmp, found_holds-Not, found_holds-And, found_holds-Or, found_holds-Quant, found_operand-Term, found_operand-Agg, found_operand-Chain, found_signed-of, found_agg-of}
 use Rattle.da_types.proofs.totality.KindLaws.{given_parts, when_parts, if_parts, holds_parts, is_typed_parts, bool_type, int_type, int_of_type, bool_of_type, is_int_value, one_kind}
 use Rattle.da_types.proofs.totality.Keeping.{Keeping, Fits, RowFits, Knows}
 use Rattle.da_types.proofs.totality.TermLaws.{term_fits}
 use Rattle.da_types.proofs.totality.RowsFit.{rows_fit}
 use Rattle.da_types.proofs.totality.FoundMatches.{all_there_are, term_there}
 use Rattle.da_types.proofs.totality.FoundRows.{rows_there}
-use Rattle.da_types.proofs.totality.QueriesFit.{OtherGood, AggTyped, agg_typed, members_fit, agg_fits, plain_is, rows_where_parts}
+use Rattle.da_types.proofs.totality.QueriesFit.{OtherGood, agg_typed, members_fit, agg_fits, plain_is, rows_where_parts}
 
 -- of the values of a test at each of some rows
 all_true_at : {A : Type 0} (f : A → Bool) (xs : List A) → list_all (λ v. v) (map f xs) ≡ list_all f xs
@@ -185,9 +185,10 @@ module _ (k : Keeping) (good : (x : Term) → k.Good x) (known : Known) (d : Dat
   term_case : (x : Term) → OperandThere (od.Term x)
   term_case x types row side e fits =
       let (ty, of_term, same) = given_parts (term_type known x types) plain side (sym (operand_side_at-Term known x types) ∙ e) in
-      let fit = term_fits k known d w x ty types row of_term fits (good x) in
-      (found_operand-Term d row x ∙ term_there k known d w x ty types row of_term fits ∙ ap Some (sym (operand-Term d row x)),
-      subst (λ z. is_of side.ty z ≡ true) (sym (operand-Term d row x)) (subst (λ z. is_of z (value_at d row x) ≡ true) (plain_is ty side same) fit.0))
+      let fit = term_fits k known d w x ty types row of_term fits (good x) in (
+        found_operand-Term d row x ∙ term_there k known d w x ty types row of_term fits ∙ ap Some (sym (operand-Term d row x)),
+        subst (λ z. is_of side.ty z ≡ true) (sym (operand-Term d row x)) (subst (λ z. is_of z (value_at d row x) ≡ true) (plain_is ty side same) fit.0),
+      )
 
   agg_case : (a : Agg) → AggThere a → OperandThere (od.Agg a)
   agg_case a there types row side e fits =
@@ -207,10 +208,11 @@ module _ (k : Keeping) (good : (x : Term) → k.Good x) (known : Known) (d : Dat
       let (both, one) = if_parts _ (plain t.Int) side (sym (operand_side_at-Chain known a more types) ∙ e) in
       let (first, rest) = and_parts (is_operand (operand_side known a types)) _ both in
       let others : all_there (map (λ s. found_signed d s row) more) ≡ Some (map (λ s. signed_value d s row) more) =
-          all_there_are (λ s. found_signed d s row) (λ s. signed_value d s row) more
-          (λ s h. each_has SignedThere more each s h types row (each_from_all (λ s. is_operand (signed_side known s types)) more s (sym (operands_all (signed_side known) types more) ∙ rest) h) fits) in
-      (found_operand-Chain d row a more ∙ rw (operand_integer a there types row first fits, others) refl ∙ ap Some (sym (operand-Chain d row a more)),
-      subst (λ z. is_of side.ty z ≡ true) (sym (operand-Chain d row a more)) (subst (λ z. is_of z (val.Int (int_of (operand_value d a row) +ℤ total (map (λ s. signed_value d s row) more))) ≡ true) (plain_is t.Int side one) (is_int_value (int_of (operand_value d a row) +ℤ total (map (λ s. signed_value d s row) more)))))
+      all_there_are (λ s. found_signed d s row) (λ s. signed_value d s row) more
+      (λ s h. each_has SignedThere more each s h types row (each_from_all (λ s. is_operand (signed_side known s types)) more s (sym (operands_all (signed_side known) types more) ∙ rest) h) fits) in (
+        found_operand-Chain d row a more ∙ rw (operand_integer a there types row first fits, others) refl ∙ ap Some (sym (operand-Chain d row a more)),
+        subst (λ z. is_of side.ty z ≡ true) (sym (operand-Chain d row a more)) (subst (λ z. is_of z (val.Int (int_of (operand_value d a row) +ℤ total (map (λ s. signed_value d s row) more))) ≡ true) (plain_is t.Int side one) (is_int_value (int_of (operand_value d a row) +ℤ total (map (λ s. signed_value d s row) more)))),
+      )
 
   signed_sign : (minus : Bool) (i : ℤ) → ◌≡◌ {A = Option ℤ} (given (Some i) (λ i. Some (if minus then neg_ℤ i else i))) (Some (if minus then neg_ℤ i else i))
   signed_sign minus i = refl
@@ -258,12 +260,13 @@ module _ (k : Keeping) (good : (x : Term) → k.Good x) (known : Known) (d : Dat
   over_case op gens b x other there types row side e fits =
       let typed = agg_typed k known d w op gens b x other types side e in
       let rs = filter (holds_where d b) (extensions d gens row) in
-      let each = members_fit k known d w x gens types typed.found row typed.ty typed.row typed.term fits (good x) rs (λ r h. (of_filter (holds_where d b) (extensions d gens row) r h).0) in
-      (found_agg-of d row op gens b x other
-      ∙ ap (λ z. given z (aggregate_found d op (other_found d row other))) (set_there gens b there x types typed.found row typed.ty typed.row typed.cond typed.term fits)
-      ∙ aggregate_there op other types row typed.ty side (term_set d x rs) typed.aggregate' fits each
-      ∙ ap Some (sym (agg-made d row op gens b x other)),
-      (agg_fits k known d w op gens b x other types row side e fits (good x) (other_good other)).0)
+      let each = members_fit k known d w x gens types typed.found row typed.ty typed.row typed.term fits (good x) rs (λ r h. (of_filter (holds_where d b) (extensions d gens row) r h).0) in (
+        found_agg-of d row op gens b x other
+            ∙ ap (λ z. given z (aggregate_found d op (other_found d row other))) (set_there gens b there x types typed.found row typed.ty typed.row typed.cond typed.term fits)
+            ∙ aggregate_there op other types row typed.ty side (term_set d x rs) typed.aggregate' fits each
+            ∙ ap Some (sym (agg-made d row op gens b x other)),
+        (agg_fits k known d w op gens b x other types row side e fits (good x) (other_good other)).0,
+      )
 
   abbrev cases : Cases
   cases = record {

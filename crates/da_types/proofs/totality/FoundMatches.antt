@@ -7,38 +7,29 @@ use Rattle.da_values.specs.declared.val.Val.{Val, out-Val}
 use Rattle.da_values.specs.declared.val.Val.TheVariants as val
 use Rattle.da_values.specs.declared.val.Val.TheOpen as vo
 use Rattle.da_values.specs.declared.val.Val.TheOpen.{Val-F}
-use Rattle.da_values.specs.declared.value.Value.{Value}
 use Rattle.da_values.specs.declared.value.Value.TheVariants as kept
 use Rattle.da_values.specs.Sets.{Has}
-use Rattle.da_values.specs.Value.{val_of}
-use Rattle.da_values.specs.Views.{elements_of}
-use Rattle.da_values.proofs.ViewLaws.{elements_of-Set}
-use Rattle.da_values.proofs.Members.{each_from_all}
 use Rattle.da_lang.specs.declared.query.Pattern.{Pattern, out-Pattern}
 use Rattle.da_lang.specs.declared.query.Pattern.TheVariants as pa
-use Rattle.da_lang.specs.declared.query.RGen.{RGen}
-use Rattle.da_lang.specs.declared.query.Source.{Source}
-use Rattle.da_lang.specs.declared.query.Source.TheVariants as source
 use Rattle.da_lang.specs.declared.query.Term.{Term}
 use Rattle.da_lang.specs.declared.query.Term.TheVariants as te
 use Rattle.da_lang.specs.declared.ty.Ty.{Ty}
-use Rattle.da_lang.specs.declared.ty.Ty.TheVariants as t
-use Rattle.da_lang.specs.Matching.{Row, is_same, and_then, where_true, match_parts, match_tuple, matched, matched_both}
-use Rattle.da_lang.specs.Queries.{candidates, entry_parts, step_rows, extensions, value_at}
-use Rattle.da_lang.specs.QueryTypes.{Known, given, when, is_any, is_typed, literal_type, each_part, all_types, term_type, pattern_row, pattern_tag, message_row, message_type, matched_row, slot_type, source_row, peer_row, gen_row, gens_row, no_set}
-use Rattle.da_lang.specs.Shaped.{tag_of, first_tag, as_tag}
-use Rattle.da_lang.specs.Types.{is_of, parts_of, element_of}
-use Rattle.da_lang.specs.World.{Entry, Data, nothing, or_nothing, numbered, slot_of}
+use Rattle.da_lang.specs.Matching.{Row, is_same, and_then, where_true, match_parts, match_tuple, matched}
+use Rattle.da_lang.specs.Queries.{value_at}
+use Rattle.da_lang.specs.QueryTypes.{Known, given, is_typed, each_part, all_types, term_type, pattern_row, pattern_tag, message_row, message_type, slot_type, no_set}
+use Rattle.da_lang.specs.Shaped.{tag_of, as_tag}
+use Rattle.da_lang.specs.Types.{is_of, parts_of}
+use Rattle.da_lang.specs.World.{Entry, Data, or_nothing, numbered}
 use Rattle.da_lang.proofs.MatchingLaws.{term-Const, term-Me, term-Slot, term-Part, term-Tuple, match-Any, match-Bind, match-Const, match-Me, match-Equal, match-Tuple, match-tuples}
 use Rattle.da_lang.proofs.TermInduction.{term_induction, pattern_induction}
 use Rattle.da_lang.proofs.typing.QueryTypesAt.{term_type_at-Slot, term_type_at-Part, term_type_at-Tuple, term_type_at-Foreign, pattern_row_at-Equal, pattern_row_at-Tuple}
-use Rattle.da_types.specs.Totality.{all_there, elements, found_term, and_finds, parts_found, tuple_found, found_match, with_peer, alone, source_found, peer_found, both_found, steps_found, extensions_found}
+use Rattle.da_types.specs.Totality.{all_there, found_term, and_finds, parts_found, tuple_found, found_match}
 use Rattle.da_types.proofs.totality.FoundAt.{found_term-Const, found_term-Me, found_term-Slot, found_term-Part, found_term-Tuple, found_match-Any, found_match-Bind, found_match-Const, found_match-Me, found_match-Equal, found_match-Tuple}
-use Rattle.da_types.proofs.totality.KindLaws.{given_parts, when_parts, is_typed_parts, is_proc_value, tuple_type, tuple_of_type, set_type, set_of_type}
+use Rattle.da_types.proofs.totality.KindLaws.{given_parts, when_parts, is_typed_parts, tuple_type, tuple_of_type}
 use Rattle.da_types.proofs.totality.Keeping.{Keeping, Fits, RowFits, EntryFits, Knows, row_fits, part_fits}
 use Rattle.da_types.proofs.totality.TermLaws.{flat_is, no_set_is}
 use Rattle.da_types.proofs.totality.MatchesFit.{match_fits, same_is, tagged_is}
-use Rattle.da_types.proofs.totality.RowsFit.{any_is, matched_row_is, message_is, step_fits}
+use Rattle.da_types.proofs.totality.RowsFit.{message_is}
 
 -- where each is there, all are
 pub all_are : {A B C : Type 0} (f : A → Option B) (h : C → A) (g : C → B) (xs : List C) → ((x : C) → Has xs x → f (h x) ≡ Some (g x)) → all_there (map f (map h xs)) ≡ Some (map g xs)

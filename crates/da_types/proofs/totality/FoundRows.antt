@@ -1,14 +1,13 @@
 -- The rows of typed generators are found strictly.
-use Rattle.std.specs.Prelude.{◌≡◌, refl, ℕ, Bool, true, false, List, [], ◌∷◌, ◌++◌, map, Option, Some, None}
+use Rattle.std.specs.Prelude.{◌≡◌, refl, ℕ, true, List, [], ◌∷◌, map, Option, Some, None}
 use Rattle.std.specs.List.{filter_map, flat_map}
-use Rattle.std.proofs.Common.{◌∙◌, ap, sym, subst, inl, inr}
+use Rattle.std.proofs.Common.{◌∙◌, ap, sym}
 use Rattle.da_values.specs.declared.val.Val.{Val, out-Val}
 use Rattle.da_values.specs.declared.val.Val.TheVariants as val
 use Rattle.da_values.specs.Sets.{Has}
 use Rattle.da_values.specs.Views.{elements_of}
 use Rattle.da_values.proofs.ViewLaws.{elements_of-Set}
 use Rattle.da_lang.specs.declared.query.Pattern.{Pattern, out-Pattern}
-use Rattle.da_lang.specs.declared.query.Pattern.TheVariants as pa
 use Rattle.da_lang.specs.declared.query.RGen.{RGen}
 use Rattle.da_lang.specs.declared.query.Source.{Source}
 use Rattle.da_lang.specs.declared.query.Source.TheVariants as source
@@ -20,10 +19,10 @@ use Rattle.da_lang.specs.QueryTypes.{Known, given, when, is_any, pattern_row, me
 use Rattle.da_lang.specs.Types.{element_of}
 use Rattle.da_lang.specs.World.{Entry, Data, nothing, numbered, slot_of}
 use Rattle.da_lang.proofs.MatchingLaws.{match-Any}
-use Rattle.da_types.specs.Totality.{all_there, elements, and_finds, found_match, with_peer, alone, source_found, peer_found, both_found, steps_found, extensions_found}
+use Rattle.da_types.specs.Totality.{all_there, elements, and_finds, with_peer, alone, source_found, peer_found, both_found, steps_found, extensions_found}
 use Rattle.da_types.proofs.totality.KindLaws.{given_parts, when_parts, is_proc_value}
 use Rattle.da_types.proofs.totality.Keeping.{Keeping, Fits, RowFits, EntryFits, Knows}
-use Rattle.da_types.proofs.totality.RowsFit.{any_is, matched_row_is, message_fits, members_are, element_fits, step_fits}
+use Rattle.da_types.proofs.totality.RowsFit.{any_is, matched_row_is, message_fits, members_are, step_fits}
 use Rattle.da_types.proofs.totality.FoundMatches.{all_are, all_there_are, filtered, flattened, goes_on, match_there, message_there}
 
 module _ (k : Keeping) (known : Known) (d : Data) (w : Knows k known d) where

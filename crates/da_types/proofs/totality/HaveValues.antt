@@ -1,8 +1,7 @@
 -- In a typed program every query and every condition of an `await` has a value, in every shaped world.
-use Rattle.std.specs.Prelude.{◌≡◌, refl, ℕ, ℤ, Bool, true, false, if◌then◌else◌, List, [], ◌∷◌, map, Option, Some, None, is_some, Ok, Err}
-use Rattle.std.specs.List.{list_all, filter}
+use Rattle.std.specs.Prelude.{◌≡◌, refl, ℕ, ℤ, Bool, true, false, if◌then◌else◌, List, [], Option, Some, None, is_some, Ok, Err}
 use Rattle.std.specs.Option.{option_map}
-use Rattle.std.proofs.Common.{◌∙◌, ap, sym, subst, inl, inr}
+use Rattle.std.proofs.Common.{◌∙◌, ap, sym, subst}
 use Rattle.std.proofs.lemmas.Bool.{false≢true}
 use Rattle.da_values.specs.declared.val.Val.{Val, out-Val}
 use Rattle.da_values.specs.declared.val.Val.TheVariants as val
@@ -16,12 +15,11 @@ use Rattle.da_values.proofs.Members.{each_from_all}
 use Rattle.da_lang.specs.declared.event.FaultKind.TheVariants.{Overflow}
 use Rattle.da_lang.specs.declared.program.ItemKind.TheViews.{out-Alt}
 use Rattle.da_lang.specs.declared.program.Program.{Program}
-use Rattle.da_lang.specs.declared.query.Agg.{Agg, roll-Agg}
+use Rattle.da_lang.specs.declared.query.Agg.{Agg}
 use Rattle.da_lang.specs.declared.query.AggOp.{AggOp}
 use Rattle.da_lang.specs.declared.query.AggOp.TheVariants.{Count, Sum, Min, Max}
 use Rattle.da_lang.specs.declared.query.Cond.{Cond}
 use Rattle.da_lang.specs.declared.query.Cond.TheVariants as co
-use Rattle.da_lang.specs.declared.query.Cond.TheOpen.{Cond-F}
 use Rattle.da_lang.specs.declared.query.Cond.TheViews.{out-Agg, roll-out-Agg}
 use Rattle.da_lang.specs.declared.query.Query.{Query}
 use Rattle.da_lang.specs.declared.query.Query.TheVariants as qu
@@ -30,23 +28,21 @@ use Rattle.da_lang.specs.declared.query.Term.{Term}
 use Rattle.da_lang.specs.declared.ty.Ty.{Ty}
 use Rattle.da_lang.specs.declared.ty.Ty.TheVariants as t
 use Rattle.da_lang.specs.Evaluation.{asked, asked_layer}
-use Rattle.da_lang.specs.Matching.{Row}
-use Rattle.da_lang.specs.Queries.{agg_value, extensions, first, holds, holds_where, least_of_query, query_value, value_of_numbered, value_of_query, rows, term_set}
-use Rattle.da_lang.specs.QueryTypes.{Known, Side, given, flat, written_cond, rows_where, query_row, query_type, agg_side, agg_type, cond_holds, term_type}
+use Rattle.da_lang.specs.Queries.{agg_value, holds, query_value, value_of_numbered, value_of_query, rows, term_set}
+use Rattle.da_lang.specs.QueryTypes.{Known, Side, given, flat, written_cond, rows_where, query_type, agg_side, agg_type, cond_holds, term_type}
 use Rattle.da_lang.specs.Shaped.{Shaped}
 use Rattle.da_lang.specs.Types.{is_of, is_flat, is_int}
-use Rattle.da_lang.specs.Typing.{IsTyped, known, has_queries}
+use Rattle.da_lang.specs.Typing.{IsTyped, has_queries}
 use Rattle.da_lang.specs.World.{Data, World, numbered}
-use Rattle.da_lang.proofs.RowLaws.{of_rows, terms_of_rows, least_there}
-use Rattle.da_types.specs.Totality.{HasValue, AllHaveValues, NothingIsMissing, IsAnswer, counts, counts_by, found_agg, found_where, found_query, set_found, cond_found}
+use Rattle.da_lang.proofs.RowLaws.{terms_of_rows}
+use Rattle.da_types.specs.Totality.{HasValue, AllHaveValues, NothingIsMissing, IsAnswer, counts, counts_by}
 use Rattle.da_types.proofs.totality.Awaits.{condition_holds}
 use Rattle.da_types.proofs.totality.FoundAt.{found_holds-Quant}
 use Rattle.da_types.proofs.totality.FoundConds.{agg_there, cond_there, each_cond_there, quant_there, set_there}
-use Rattle.da_types.proofs.totality.Keeping.{Keeping, Fits, RowFits, Knows}
+use Rattle.da_types.proofs.totality.Keeping.{Knows}
 use Rattle.da_types.proofs.totality.KindLaws.{given_parts, when_parts, int_of_type, is_bool_value, from_layer}
 use Rattle.da_types.proofs.totality.QueriesFit.{OtherGood, agg_typed, comp_fits, plain_is, rows_where_parts}
 use Rattle.da_types.proofs.totality.QueriesKept.{GoodQuery, query_kept, written}
-use Rattle.da_types.proofs.totality.RowsFit.{rows_fit}
 use Rattle.da_types.proofs.totality.Worlds.{narrow, known_here, knows_here, class_has, numbered_has}
 
 module _ (known' : Known) (d : Data) (w : Knows narrow known' d) where

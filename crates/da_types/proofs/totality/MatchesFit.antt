@@ -10,7 +10,6 @@ use Rattle.da_values.specs.declared.val.Val.{Val, out-Val}
 use Rattle.da_values.specs.declared.val.Val.TheVariants as val
 use Rattle.da_values.specs.declared.val.Val.TheOpen as vo
 use Rattle.da_values.specs.declared.val.Val.TheOpen.{Val-F}
-use Rattle.da_values.specs.declared.value.Value.{Value}
 use Rattle.da_values.specs.declared.value.Value.TheVariants as kept
 use Rattle.da_values.specs.Order.{val_cmp}
 use Rattle.da_values.specs.Value.{val_of}
@@ -19,19 +18,18 @@ use Rattle.da_lang.specs.declared.query.Pattern.{Pattern, out-Pattern, roll-Patt
 use Rattle.da_lang.specs.declared.query.Pattern.TheVariants as pa
 use Rattle.da_lang.specs.declared.query.Pattern.TheOpen as po
 use Rattle.da_lang.specs.declared.query.Pattern.TheOpen.{Pattern-F}
-use Rattle.da_lang.specs.declared.query.Term.{Term}
 use Rattle.da_lang.specs.declared.ty.Ty.{Ty}
 use Rattle.da_lang.specs.declared.ty.Ty.TheVariants as t
 use Rattle.da_lang.specs.Matching.{Row, is_same, and_then, where_true, match_parts, match_tuple, matched, term_value}
-use Rattle.da_lang.specs.QueryTypes.{Known, given, when, is_typed, each_part, literal_type, pattern_row, pattern_tag, first_pattern, text_pattern, term_type}
-use Rattle.da_lang.specs.Shaped.{tag_of, first_tag, as_tag}
+use Rattle.da_lang.specs.QueryTypes.{Known, when, is_typed, each_part, literal_type, pattern_row, pattern_tag, text_pattern, term_type}
+use Rattle.da_lang.specs.Shaped.{tag_of, as_tag}
 use Rattle.da_lang.specs.Types.{is_of, same_type, parts_of}
 use Rattle.da_lang.specs.World.{Data}
 use Rattle.da_lang.proofs.MatchingLaws.{match-Any, match-Bind, match-Const, match-Me, match-Equal, match-Tuple, match-tuples}
 use Rattle.da_lang.proofs.TermInduction.{pattern_induction}
 use Rattle.da_lang.proofs.typing.QueryTypesAt.{pattern_row_at-Any, pattern_row_at-Bind, pattern_row_at-Const, pattern_row_at-Me, pattern_row_at-Equal, pattern_row_at-Tuple}
 use Rattle.da_types.proofs.totality.KindLaws.{given_parts, tuple_type, tuple_of_type}
-use Rattle.da_types.proofs.totality.Keeping.{Keeping, Fits, RowFits, Knows, row_fits, row_more}
+use Rattle.da_types.proofs.totality.Keeping.{Keeping, Fits, RowFits, row_fits, row_more}
 
 -- the row between, where one match goes on with another
 pub then_parts : (x : Option Row) (go : Row → Option Row) (r : Row) → and_then x go ≡ Some r → (s : Row) × (x ≡ Some s) × (go s ≡ Some r)

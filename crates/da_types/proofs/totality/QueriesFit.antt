@@ -1,5 +1,5 @@
 -- The value of a typed query is of its type.
-use Rattle.std.specs.Prelude.{◌≡◌, refl, ℕ, pos, Bool, true, false, ◌&&◌, if◌then◌else◌, List, [], ◌∷◌, map, Option, Some, None, length}
+use Rattle.std.specs.Prelude.{◌≡◌, refl, pos, true, false, ◌&&◌, List, [], ◌∷◌, map, Option, Some, None, length}
 use Rattle.std.specs.List.{filter}
 use Rattle.std.specs.Option.{option_map}
 use Rattle.std.proofs.Common.{◌∙◌, ap, sym, subst, inl, inr}
@@ -7,12 +7,12 @@ use Rattle.std.proofs.lemmas.Bool.{false≢true, and_parts}
 use Rattle.da_values.specs.declared.val.Val.{Val}
 use Rattle.da_values.specs.declared.val.Val.TheVariants as val
 use Rattle.da_values.specs.Order.{val_cmp}
-use Rattle.da_values.specs.Sets.{Has, Ascends, set_image}
+use Rattle.da_values.specs.Sets.{Has, Ascends}
 use Rattle.da_values.specs.Views.{int_of}
 use Rattle.da_values.proofs.Members.{of_filter, all_from_each}
 use Rattle.da_values.proofs.OrderLaws.{val_order, same_from_val_cmp}
 use Rattle.da_values.proofs.SetLaws.{of_image, Ascends-image}
-use Rattle.da_lang.specs.declared.query.Agg.{Agg, roll-Agg}
+use Rattle.da_lang.specs.declared.query.Agg.{roll-Agg}
 use Rattle.da_lang.specs.declared.query.AggOp.{AggOp}
 use Rattle.da_lang.specs.declared.query.AggOp.TheVariants.{Count, Sum, Min, Max}
 use Rattle.da_lang.specs.declared.query.Cond.{Cond}
@@ -22,14 +22,14 @@ use Rattle.da_lang.specs.declared.ty.Ty.{Ty}
 use Rattle.da_lang.specs.declared.ty.Ty.TheVariants as t
 use Rattle.da_lang.specs.Matching.{Row}
 use Rattle.da_lang.specs.Queries.{aggregate, agg_value, extensions, first_or, last_or, holds_where, other_value, rows, term_set, total, value_at}
-use Rattle.da_lang.specs.QueryTypes.{Known, Holds, Side, given, when, flat, plain, is_typed, agg_type, agg_side, cond_holds, gens_row, holds_if, other_type, rows_where, term_type}
-use Rattle.da_lang.specs.Types.{is_of, is_flat, is_int, ordered}
+use Rattle.da_lang.specs.QueryTypes.{Known, Holds, Side, given, flat, plain, is_typed, agg_type, agg_side, cond_holds, gens_row, holds_if, other_type, rows_where, term_type}
+use Rattle.da_lang.specs.Types.{is_of, is_int, ordered}
 use Rattle.da_lang.specs.World.{Data}
 use Rattle.da_lang.proofs.QueryLaws.{agg-made}
 use Rattle.da_lang.proofs.RowLaws.{of_rows}
 use Rattle.da_lang.proofs.typing.QueryTypesAt.{agg_side_at-of}
 use Rattle.da_types.specs.Totality.{counts_by}
-use Rattle.da_types.proofs.totality.KindLaws.{given_parts, when_parts, if_parts, is_typed_parts, is_int_value, is_set_value, int_type}
+use Rattle.da_types.proofs.totality.KindLaws.{given_parts, when_parts, if_parts, is_typed_parts, is_int_value, is_set_value}
 use Rattle.da_types.proofs.totality.Keeping.{Keeping, Fits, RowFits, Knows}
 use Rattle.da_types.proofs.totality.TermLaws.{term_fits}
 use Rattle.da_types.proofs.totality.RowsFit.{rows_fit}

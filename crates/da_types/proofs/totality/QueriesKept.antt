@@ -1,18 +1,14 @@
 -- What is kept of the values that the parts of a query have is kept of its value, but for the integer of a `count` or a
 -- `sum`, and of the row that a `some` finds.
-use Rattle.std.specs.Prelude.{◌≡◌, refl, Bool, true, false, List, [], ◌∷◌, Option, Some, None}
+use Rattle.std.specs.Prelude.{◌≡◌, refl, true, false, List, [], Option, Some, None}
 use Rattle.std.specs.Option.{option_map}
-use Rattle.std.proofs.Common.{◌∙◌, ap, sym, subst}
-use Rattle.da_values.specs.declared.val.Val.{Val}
-use Rattle.da_values.specs.declared.val.Val.TheVariants as val
-use Rattle.da_lang.specs.declared.query.Agg.{Agg, roll-Agg}
+use Rattle.std.proofs.Common.{◌∙◌, ap, subst}
+use Rattle.da_lang.specs.declared.query.Agg.{roll-Agg}
 use Rattle.da_lang.specs.declared.query.Cond.{Cond}
 use Rattle.da_lang.specs.declared.query.Cond.TheVariants as co
 use Rattle.da_lang.specs.declared.query.Cond.TheViews.{out-Agg, roll-out-Agg}
 use Rattle.da_lang.specs.declared.query.Query.{Query}
 use Rattle.da_lang.specs.declared.query.Query.TheVariants as qu
-use Rattle.da_lang.specs.declared.query.RGen.{RGen}
-use Rattle.da_lang.specs.declared.query.Term.{Term}
 use Rattle.da_lang.specs.declared.ty.Ty.{Ty}
 use Rattle.da_lang.specs.declared.ty.Ty.TheVariants as t
 use Rattle.da_lang.specs.Matching.{Row}
@@ -21,7 +17,7 @@ use Rattle.da_lang.specs.QueryTypes.{Known, given, flat, written_cond, rows_wher
 use Rattle.da_lang.specs.World.{Data}
 use Rattle.da_lang.proofs.RowLaws.{of_rows, least_there}
 use Rattle.da_types.specs.Totality.{counts}
-use Rattle.da_types.proofs.totality.KindLaws.{given_parts, when_parts}
+use Rattle.da_types.proofs.totality.KindLaws.{given_parts}
 use Rattle.da_types.proofs.totality.Keeping.{Keeping, RowFits, Knows}
 use Rattle.da_types.proofs.totality.QueriesFit.{OtherGood, agg_fits, comp_fits, rows_where_parts}
 use Rattle.da_types.proofs.totality.RowsFit.{rows_fit}

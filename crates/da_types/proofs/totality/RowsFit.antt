@@ -1,6 +1,5 @@
 -- The rows of typed generators have the types that the generators give.
-use Rattle.std.specs.Prelude.{◌≡◌, refl, ℕ, Bool, true, List, [], ◌∷◌, map, Option, Some, None}
-use Rattle.std.specs.List.{AllByRecursion}
+use Rattle.std.specs.Prelude.{◌≡◌, refl, ℕ, true, List, [], ◌∷◌, Option, Some}
 use Rattle.std.proofs.Common.{◌∙◌, ap, sym, subst, inl, inr}
 use Rattle.da_values.specs.declared.val.Val.{Val, out-Val}
 use Rattle.da_values.specs.declared.val.Val.TheVariants as val
@@ -19,7 +18,7 @@ use Rattle.da_lang.specs.declared.ty.Ty.{Ty}
 use Rattle.da_lang.specs.declared.ty.Ty.TheVariants as t
 use Rattle.da_lang.specs.Matching.{Row, matched, matched_both}
 use Rattle.da_lang.specs.Queries.{candidates, entry_parts, step_rows, extensions}
-use Rattle.da_lang.specs.QueryTypes.{Known, given, holds_of, flat, when, declared, message_type, message_row, matched_row, is_any, pattern_row, pattern_tag, slot_type, source_row, peer_row, gen_row, gens_row}
+use Rattle.da_lang.specs.QueryTypes.{Known, given, holds_of, when, declared, message_type, message_row, matched_row, is_any, pattern_row, pattern_tag, slot_type, source_row, peer_row, gen_row, gens_row}
 use Rattle.da_lang.specs.Shaped.{tag_of}
 use Rattle.da_lang.specs.Types.{is_of, is_flat, element_of}
 use Rattle.da_lang.specs.World.{Entry, Data, nothing, slot_of}

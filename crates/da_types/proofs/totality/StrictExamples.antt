@@ -1,13 +1,11 @@
 -- The strict reading has no value where one is missing or of another kind, and no row is passed over: in process 1, whose
 -- slot 1 is the set {1, 2} and whose slot 2 is a text.
-use Rattle.std.specs.Prelude.{◌≡◌, refl, pos, true, false, List, [], ◌∷◌, Option, Some, None, codes}
-use Rattle.da_values.specs.declared.val.Val.{Val}
+use Rattle.std.specs.Prelude.{◌≡◌, pos, true, false, [], ◌∷◌, Some, None, codes}
 use Rattle.da_values.specs.declared.val.Val.TheVariants as val
 use Rattle.da_values.specs.declared.val.Val.TheVariants.{outs-Int, outs-Bool, outs-Text}
 use Rattle.da_values.specs.declared.value.Value.TheVariants as kept
 use Rattle.da_lang.specs.declared.query.Agg.{roll-Agg}
-use Rattle.da_lang.specs.declared.query.AggOp.TheVariants.{Count, Sum, Min}
-use Rattle.da_lang.specs.declared.query.Cond.{Cond}
+use Rattle.da_lang.specs.declared.query.AggOp.TheVariants.{Sum, Min}
 use Rattle.da_lang.specs.declared.query.Cond.TheVariants as co
 use Rattle.da_lang.specs.declared.query.Operand.TheVariants as od
 use Rattle.da_lang.specs.declared.query.Pattern.TheVariants as pa
@@ -15,7 +13,7 @@ use Rattle.da_lang.specs.declared.query.Query.TheVariants as qu
 use Rattle.da_lang.specs.declared.query.RGen.{RGen}
 use Rattle.da_lang.specs.declared.query.Source.TheVariants as source
 use Rattle.da_lang.specs.declared.query.Term.TheVariants as te
-use Rattle.da_lang.specs.declared.tree.CmpOp.TheVariants.{Eq, Lt}
+use Rattle.da_lang.specs.declared.tree.CmpOp.TheVariants.{Eq}
 use Rattle.da_lang.specs.World.{Data}
 use Rattle.da_lang.proofs.MatchingLaws.{matching}
 use Rattle.da_types.specs.Totality.{found_term, found_holds, found_query}

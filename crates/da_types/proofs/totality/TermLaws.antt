@@ -1,8 +1,7 @@
 -- A typed term has a value of its type in each row of the types that it was typed over.
-use Rattle.std.specs.Prelude.{◌≡◌, refl, ℕ, Bool, true, false, List, [], ◌∷◌, map, Option, Some, None}
+use Rattle.std.specs.Prelude.{◌≡◌, ℕ, true, List, [], ◌∷◌, map, Option, Some, None}
 use Rattle.std.specs.List.{AllByRecursion}
 use Rattle.std.proofs.Common.{◌∙◌, ap, sym, subst}
-use Rattle.da_values.specs.declared.val.Val.{Val}
 use Rattle.da_values.specs.declared.val.Val.TheVariants as val
 use Rattle.da_values.specs.declared.value.Value.{Value}
 use Rattle.da_values.specs.declared.value.Value.TheVariants as kept
@@ -15,8 +14,8 @@ use Rattle.da_lang.specs.declared.ty.Ty.TheVariants as t
 use Rattle.da_lang.specs.Matching.{Row}
 use Rattle.da_lang.specs.Queries.{value_at}
 use Rattle.da_lang.specs.QueryTypes.{Known, given, flat, no_set, all_types, literal_type, slot_type, term_type}
-use Rattle.da_lang.specs.Types.{is_of, is_flat, is_set}
-use Rattle.da_lang.specs.World.{Data, or_nothing, numbered, slot_of}
+use Rattle.da_lang.specs.Types.{is_of, is_flat}
+use Rattle.da_lang.specs.World.{Data, or_nothing, numbered}
 use Rattle.da_lang.proofs.MatchingLaws.{term-Const, term-Me, term-Slot, term-Part, term-Tuple}
 use Rattle.da_lang.proofs.TermInduction.{term_induction}
 use Rattle.da_lang.proofs.typing.QueryTypesAt.{term_type_at-Const, term_type_at-Me, term_type_at-Slot, term_type_at-Part, term_type_at-Tuple, term_type_at-Foreign}

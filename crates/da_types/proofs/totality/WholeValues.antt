@@ -1,5 +1,5 @@
 -- Where the constants of a query are values that there are, so is its value, and its processes are there.
-use Rattle.std.specs.Prelude.{◌≡◌, refl, ℕ, ◌<◌, ◌≤◌, ◌^◌, Bool, true, false, ◌&&◌, List, [], ◌∷◌, ◌++◌, map, length, nat_lt, nat_le, Option, Some, None}
+use Rattle.std.specs.Prelude.{◌≡◌, refl, ℕ, ◌<◌, ◌^◌, true, false, ◌&&◌, List, [], ◌∷◌, map, length, nat_lt, nat_le, Option, Some, None}
 use Rattle.std.specs.List.{AllByRecursion, list_all, flat_map}
 use Rattle.std.proofs.Common.{◌∙◌, ap, sym, subst, inl, inr, arith}
 use Rattle.std.proofs.lemmas.Bool.{and_parts, and_from, lt-ltb, le-leb}
@@ -29,7 +29,7 @@ use Rattle.da_lang.specs.Matching.{Row, matched_entry}
 use Rattle.da_lang.specs.Queries.{least, least_of_numbered, query_value, value_of_numbered, value_of_query}
 use Rattle.da_lang.specs.QueryTypes.{literal_type, query_row, query_type}
 use Rattle.da_lang.specs.Shaped.{Shaped, IsOf, IsEntry, IsProcess, has_processes, is_declared}
-use Rattle.da_lang.specs.Typing.{known, handler_row}
+use Rattle.da_lang.specs.Typing.{handler_row}
 use Rattle.da_lang.specs.World.{World, Entry, numbered}
 use Rattle.da_lang.proofs.typing.ShapedAt.{has_processes-Bool, has_processes-Proc, has_processes-Tuple, has_processes-Set}
 use Rattle.da_types.specs.Totality.{IsConstant, constants, constants_step, counts, other_constants, query_constants}
@@ -39,7 +39,7 @@ use Rattle.da_types.proofs.totality.Keeping.{Keeping, EntryFits, RowFits, Knows}
 use Rattle.da_types.proofs.totality.QueriesFit.{OtherGood}
 use Rattle.da_types.proofs.totality.QueriesKept.{GoodQuery, query_kept, least_fits}
 use Rattle.da_types.proofs.totality.RowsFit.{entry_fits}
-use Rattle.da_types.proofs.totality.Worlds.{narrow, known_here, knows_here, literal_narrow, of_all, slot_there}
+use Rattle.da_types.proofs.totality.Worlds.{known_here, knows_here, literal_narrow, of_all, slot_there}
 
 constants-Const : (c : Value) → constants (te.Const c) ≡ c ∷ []
 constants-Const c = ap constants (sym (te.rolls-Const c)) ∙ fold-roll-Term (List Value) constants_step (Term-F.Const c)

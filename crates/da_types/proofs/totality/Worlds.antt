@@ -1,15 +1,13 @@
 -- What a shaped world of a typed program gives: its slots and messages fit their types.
-use Rattle.std.specs.Prelude.{◌≡◌, refl, ℕ, zero, suc, pos, Bool, true, false, ◌&&◌, List, [], ◌∷◌, map, length, Option, Some, None, slice_get}
+use Rattle.std.specs.Prelude.{◌≡◌, refl, ℕ, zero, suc, true, ◌&&◌, List, [], ◌∷◌, length, Option, Some, None, slice_get}
 use Rattle.std.specs.List.{All, AllByRecursion, list_all}
 use Rattle.std.proofs.Common.{◌∙◌, ap, sym, subst, inl, inr, arith}
-use Rattle.std.proofs.lemmas.Bool.{false≢true, and_parts, and_from}
+use Rattle.std.proofs.lemmas.Bool.{and_parts, and_from}
 use Rattle.da_values.specs.declared.val.Val.{Val}
-use Rattle.da_values.specs.declared.val.Val.TheVariants as val
 use Rattle.da_values.specs.declared.value.Value.{Value}
 use Rattle.da_values.specs.declared.value.Value.TheVariants as kept
 use Rattle.da_values.specs.Narrow.{is_i64, is_narrow}
-use Rattle.da_values.specs.Order.{val_cmp}
-use Rattle.da_values.specs.Sets.{Has, Ascends}
+use Rattle.da_values.specs.Sets.{Has}
 use Rattle.da_values.specs.Value.{val_of}
 use Rattle.da_values.proofs.FoldsAt.{is_narrow_of}
 use Rattle.da_values.proofs.Members.{place_of, each_from_all, all_from_each}
@@ -17,15 +15,14 @@ use Rattle.da_lang.specs.declared.program.Class.{Class}
 use Rattle.da_lang.specs.declared.program.ProcDecl.{ProcDecl}
 use Rattle.da_lang.specs.declared.program.Program.{Program}
 use Rattle.da_lang.specs.declared.query.Term.{Term}
-use Rattle.da_lang.specs.declared.query.Term.TheVariants as te
 use Rattle.da_lang.specs.declared.ty.Ty.{Ty}
 use Rattle.da_lang.specs.declared.ty.Ty.TheVariants as t
-use Rattle.da_lang.specs.QueryTypes.{Known, given, literal_type, slot_type, type_at}
+use Rattle.da_lang.specs.QueryTypes.{Known, literal_type, type_at}
 use Rattle.da_lang.specs.Shaped.{Shaped, IsEntry, is_declared, has_processes}
 use Rattle.da_lang.specs.Typing.{known}
 use Rattle.da_lang.specs.World.{World, Entry, Data, or_nothing, numbered, slot_of, class_of, class_of_decl}
 use Rattle.da_types.proofs.totality.KindLaws.{given_parts, when_parts}
-use Rattle.da_types.proofs.totality.Keeping.{Keeping, Fits, EntryFits, Knows}
+use Rattle.da_types.proofs.totality.Keeping.{Keeping, EntryFits, Knows}
 
 pub all_narrow : (vs : List Val) → AllByRecursion (λ v. is_narrow v ≡ true) vs → list_all is_narrow vs ≡ true
 all_narrow [] each = refl
