@@ -75,55 +75,88 @@ elements _ = None
 abbrev pub compared : CmpOp → Val → Val → Option Bool
 compared op v w = if nat_eq (kind (out-Val v)) (kind (out-Val w)) then Some (compares op (val_cmp v w)) else None
 
+-- what a pattern does with a value: the row that it gives or that there is none, if each term in it has a value
+abbrev pub Finds : Type 0
+Finds = Val → Row → Option (Option Row)
+
+abbrev pub and_finds : Option Row → (Row → Option (Option Row)) → Option (Option Row)
+and_finds None go_on = Some None
+and_finds (Some row) go_on = go_on row
+
+abbrev pub parts_found : List Finds → List Val → Row → Option (Option Row)
+parts_found [] [] row = Some (Some row)
+parts_found [] (x ∷ xs) row = Some None
+parts_found (m ∷ ms) [] row = Some None
+parts_found (m ∷ ms) (x ∷ xs) row = given (m x row) (λ found. and_finds found (parts_found ms xs))
+
+abbrev pub tuple_found : List Finds → vo.Val-F Val → Row → Option (Option Row)
+tuple_found ms (vo.Tuple xs) row = parts_found ms xs row
+tuple_found ms _ row = Some None
+
+-- a candidate of a source, with the other process, which an element of a set has not
+abbrev pub with_peer : Val × Val → Val × Option Val
+with_peer c = (c.0, Some c.1)
+
+abbrev pub alone : Val → Val × Option Val
+alone x = (x, None)
+
+-- conditions, operands, and the further parts of chains, in a row
+abbrev pub Test : Type 0
+Test = Row → Option Bool
+
+abbrev pub Meant : Type 0
+Meant = Row → Option Val
+
+abbrev pub Number : Type 0
+Number = Row → Option ℤ
+
+abbrev pub test_found : Option Test → Test
+test_found None row = Some true
+test_found (Some test) row = test row
+
+-- the rows that meet a condition, which has a value in each
+abbrev pub with_row : Bool → Row → List Row → List Row
+with_row b row rows = if b then row ∷ rows else rows
+
+abbrev pub rows_found : Test → List Row → Option (List Row)
+rows_found test [] = Some []
+rows_found test (row ∷ rows) = given (test row) (λ b. given (rows_found test rows) (λ others. Some (with_row b row others)))
+
+abbrev pub integer_found : Option Val → Option ℤ
+integer_found x = given x (λ v. integer (out-Val v))
+
+-- of the elements of a set, ascending; `min` and `max` have a value for where there are none
+abbrev pub aggregate_found : AggOp → Option Val → List Val → Option Val
+aggregate_found Count other xs = Some (val.Int (pos (length xs)))
+aggregate_found Sum other xs = given (all_there (map (λ v. integer (out-Val v)) xs)) (λ is. Some (val.Int (total is)))
+aggregate_found Min other xs = given other (λ v. Some (first_or v xs))
+aggregate_found Max other xs = given other (λ v. Some (last_or v xs))
+
 module _ (d : Data) where
   -- the value of a term in a row, if it has one
-  abbrev pub term_found : Row → term.Term-F (Option Val) → Option Val
-  term_found row (term.Const c) = Some (val_of c)
-  term_found row term.Me = Some (val.Proc d.me)
-  term_found row (term.Slot s) = numbered d.slots s
-  term_found row (term.Part k) = numbered row k
-  term_found row (term.Tuple parts) = given (all_there parts) (λ vs. Some (val.Tuple vs))
-  term_found row term.Foreign = None
+  abbrev pub found_term_step : Row → term.Term-F (Option Val) → Option Val
+  found_term_step row (term.Const c) = Some (val_of c)
+  found_term_step row term.Me = Some (val.Proc d.me)
+  found_term_step row (term.Slot s) = numbered d.slots s
+  found_term_step row (term.Part k) = numbered row k
+  found_term_step row (term.Tuple parts) = given (all_there parts) (λ vs. Some (val.Tuple vs))
+  found_term_step row term.Foreign = None
 
   abbrev pub found_term : Row → Term → Option Val
-  found_term row = fold-Term (Option Val) (term_found row)
+  found_term row = fold-Term (Option Val) (found_term_step row)
 
-  -- what a pattern does with a value: the row that it gives or that there is none, if each term in it has a value
-  abbrev pub Finds : Type 0
-  Finds = Val → Row → Option (Option Row)
-
-  abbrev pub and_finds : Option Row → (Row → Option (Option Row)) → Option (Option Row)
-  and_finds None go_on = Some None
-  and_finds (Some row) go_on = go_on row
-
-  abbrev pub parts_found : List Finds → List Val → Row → Option (Option Row)
-  parts_found [] [] row = Some (Some row)
-  parts_found [] (x ∷ xs) row = Some None
-  parts_found (m ∷ ms) [] row = Some None
-  parts_found (m ∷ ms) (x ∷ xs) row = given (m x row) (λ found. and_finds found (parts_found ms xs))
-
-  abbrev pub tuple_found : List Finds → vo.Val-F Val → Row → Option (Option Row)
-  tuple_found ms (vo.Tuple xs) row = parts_found ms xs row
-  tuple_found ms _ row = Some None
-
-  abbrev pub pattern_found : pattern.Pattern-F Finds → Finds
-  pattern_found pattern.Any x row = Some (Some row)
-  pattern_found pattern.Bind x row = Some (Some (row ++ x ∷ []))
-  pattern_found (pattern.Const c) x row = Some (where_true (is_same x (val_of c)) row)
-  pattern_found pattern.Me x row = Some (where_true (is_same x (val.Proc d.me)) row)
-  pattern_found (pattern.Equal t) x row = given (found_term row t) (λ v. Some (where_true (is_same x v) row))
-  pattern_found (pattern.Tuple ms) x row = tuple_found ms (out-Val x) row
+  abbrev pub found_match_step : pattern.Pattern-F Finds → Finds
+  found_match_step pattern.Any x row = Some (Some row)
+  found_match_step pattern.Bind x row = Some (Some (row ++ x ∷ []))
+  found_match_step (pattern.Const c) x row = Some (where_true (is_same x (val_of c)) row)
+  found_match_step pattern.Me x row = Some (where_true (is_same x (val.Proc d.me)) row)
+  found_match_step (pattern.Equal t) x row = given (found_term row t) (λ v. Some (where_true (is_same x v) row))
+  found_match_step (pattern.Tuple ms) x row = tuple_found ms (out-Val x) row
 
   abbrev pub found_match : Pattern → Finds
-  found_match = fold-Pattern Finds pattern_found
+  found_match = fold-Pattern Finds found_match_step
 
-  -- all that a source has, each with the other process, which the elements of a set have not
-  abbrev pub with_peer : Val × Val → Val × Option Val
-  with_peer c = (c.0, Some c.1)
-
-  abbrev pub alone : Val → Val × Option Val
-  alone x = (x, None)
-
+  -- all that a source has
   abbrev pub source_found : Source → Option (List (Val × Option Val))
   source_found source.Received = Some (map (λ e. with_peer (entry_parts e)) d.received)
   source_found source.Sent = Some (map (λ e. with_peer (entry_parts e)) d.sent)
@@ -146,51 +179,20 @@ module _ (d : Data) where
   extensions_found (g ∷ gs) row = given (steps_found g row) (λ rs. given (all_there (map (extensions_found gs) rs)) (λ found. Some (flat_map (λ r. r) found)))
 
   -- conditions, operands, and the further parts of chains, in a row
-  abbrev pub Test : Type 0
-  Test = Row → Option Bool
-
-  abbrev pub Meant : Type 0
-  Meant = Row → Option Val
-
-  abbrev pub Number : Type 0
-  Number = Row → Option ℤ
-
-  abbrev pub test_found : Option Test → Test
-  test_found None row = Some true
-  test_found (Some test) row = test row
-
-  -- the rows that meet a condition, which has a value in each
-  abbrev pub with_row : Bool → Row → List Row → List Row
-  with_row b row rows = if b then row ∷ rows else rows
-
-  abbrev pub rows_found : Test → List Row → Option (List Row)
-  rows_found test [] = Some []
-  rows_found test (row ∷ rows) = given (test row) (λ b. given (rows_found test rows) (λ others. Some (with_row b row others)))
-
-  abbrev pub cond_found : Cond-F Test Meant Meant Number → Test
-  cond_found (Cond-F.Truth t) row = given (found_term row t) (λ v. truth (out-Val v))
-  cond_found (Cond-F.Cmp op a b) row = given (a row) (λ v. given (b row) (compared op v))
-  cond_found (Cond-F.Not b) row = given (b row) (λ v. Some (not v))
-  cond_found (Cond-F.And bs) row = given (all_there (map (λ b. b row) bs)) (λ vs. Some (list_all (λ v. v) vs))
-  cond_found (Cond-F.Or bs) row = given (all_there (map (λ b. b row) bs)) (λ vs. Some (list_any (λ v. v) vs))
-  cond_found (Cond-F.Quant each gens b) row =
+  abbrev pub found_cond_step : Cond-F Test Meant Meant Number → Test
+  found_cond_step (Cond-F.Truth t) row = given (found_term row t) (λ v. truth (out-Val v))
+  found_cond_step (Cond-F.Cmp op a b) row = given (a row) (λ v. given (b row) (compared op v))
+  found_cond_step (Cond-F.Not b) row = given (b row) (λ v. Some (not v))
+  found_cond_step (Cond-F.And bs) row = given (all_there (map (λ b. b row) bs)) (λ vs. Some (list_all (λ v. v) vs))
+  found_cond_step (Cond-F.Or bs) row = given (all_there (map (λ b. b row) bs)) (λ vs. Some (list_any (λ v. v) vs))
+  found_cond_step (Cond-F.Quant each gens b) row =
       given (extensions_found gens row) (λ rs. given (all_there (map (test_found b) rs)) (λ vs. Some (if each then list_all (λ v. v) vs else list_any (λ v. v) vs)))
 
-  abbrev pub integer_found : Option Val → Option ℤ
-  integer_found x = given x (λ v. integer (out-Val v))
-
-  abbrev pub operand_found : Operand-F Test Meant Meant Number → Meant
-  operand_found (Operand-F.Term t) row = found_term row t
-  operand_found (Operand-F.Agg a) row = a row
-  operand_found (Operand-F.Chain a more) row =
+  abbrev pub found_operand_step : Operand-F Test Meant Meant Number → Meant
+  found_operand_step (Operand-F.Term t) row = found_term row t
+  found_operand_step (Operand-F.Agg a) row = a row
+  found_operand_step (Operand-F.Chain a more) row =
       given (integer_found (a row)) (λ first. given (all_there (map (λ n. n row) more)) (λ others. Some (val.Int (first +ℤ total others))))
-
-  -- of the elements of a set, ascending; `min` and `max` have a value for where there are none
-  abbrev pub aggregate_found : AggOp → Option Val → List Val → Option Val
-  aggregate_found Count other xs = Some (val.Int (pos (length xs)))
-  aggregate_found Sum other xs = given (all_there (map (λ v. integer (out-Val v)) xs)) (λ is. Some (val.Int (total is)))
-  aggregate_found Min other xs = given other (λ v. Some (first_or v xs))
-  aggregate_found Max other xs = given other (λ v. Some (last_or v xs))
 
   abbrev pub other_found : Row → Option Term → Option Val
   other_found row None = None
@@ -203,24 +205,24 @@ module _ (d : Data) where
   abbrev pub set_found : List RGen → Option Test → Term → Row → Option (List Val)
   set_found gens b t row = given (given (extensions_found gens row) (rows_found (test_found b))) (terms_found t)
 
-  abbrev pub agg_found : Agg-F Test Meant Meant Number → Meant
-  agg_found a row = given (set_found a.gens a.cond a.term row) (aggregate_found a.op (other_found row a.other))
+  abbrev pub found_agg_step : Agg-F Test Meant Meant Number → Meant
+  found_agg_step a row = given (set_found a.gens a.cond a.term row) (aggregate_found a.op (other_found row a.other))
 
-  abbrev pub signed_found : SignedOperand-F Test Meant Meant Number → Number
-  signed_found s row = given (integer_found (s.operand row)) (λ i. Some (if s.minus then neg_ℤ i else i))
+  abbrev pub found_signed_step : SignedOperand-F Test Meant Meant Number → Number
+  found_signed_step s row = given (integer_found (s.operand row)) (λ i. Some (if s.minus then neg_ℤ i else i))
 
   -- whether a condition holds of a row, if it has a value there
   abbrev pub found_holds : Cond → Test
-  found_holds = fold-Cond Test Meant Meant Number cond_found operand_found agg_found signed_found
+  found_holds = fold-Cond Test Meant Meant Number found_cond_step found_operand_step found_agg_step found_signed_step
 
   abbrev pub found_operand : Operand → Meant
-  found_operand = fold-Operand Test Meant Meant Number cond_found operand_found agg_found signed_found
+  found_operand = fold-Operand Test Meant Meant Number found_cond_step found_operand_step found_agg_step found_signed_step
 
   abbrev pub found_agg : Agg → Meant
-  found_agg = fold-Agg Test Meant Meant Number cond_found operand_found agg_found signed_found
+  found_agg = fold-Agg Test Meant Meant Number found_cond_step found_operand_step found_agg_step found_signed_step
 
   abbrev pub found_signed : SignedOperand → Number
-  found_signed = fold-SignedOperand Test Meant Meant Number cond_found operand_found agg_found signed_found
+  found_signed = fold-SignedOperand Test Meant Meant Number found_cond_step found_operand_step found_agg_step found_signed_step
 
   abbrev pub found_where : Option Cond → Option Test
   found_where None = None
@@ -228,7 +230,7 @@ module _ (d : Data) where
 
   -- what a query gives, if it has a value
   abbrev pub found_query : Query → Option Val
-  found_query (query.Quant each gens b) = given (cond_found (Cond-F.Quant each gens (found_where b)) []) (λ v. Some (val.Bool v))
+  found_query (query.Quant each gens b) = given (found_cond_step (Cond-F.Quant each gens (found_where b)) []) (λ v. Some (val.Bool v))
   found_query (query.Comp t gens b) = given (set_found gens (found_where b) t []) (λ vs. Some (val.Set vs))
   found_query (query.Agg a) = found_agg a []
 
@@ -273,19 +275,22 @@ pub record HasValue (d : Data) (q : Query) (ty : Ty) (v : Val) : Type 0 where
   pub typed : is_of ty v ≡ true
   pub narrow : counts q ≡ false → is_narrow v ≡ true
 
--- what an expression that asks it gives: a value of its type, or the fault that the integer of a `count` or a `sum` is
--- too large
-abbrev pub IsAnswer : Query → Ty → Outcome → Type 0
-IsAnswer q ty (Ok v) = (is_of ty v ≡ true) × (is_narrow v ≡ true)
-IsAnswer q ty (Err kind) = (kind ≡ Overflow) × (counts q ≡ true)
+-- what an expression that asks it gives: this value, or the fault that the integer of a `count` or a `sum` lies outside an
+-- i64
+abbrev pub IsAnswer : Query → Val → Outcome → Type 0
+IsAnswer q v (Ok w) = (w ≡ v) × (is_narrow v ≡ true)
+IsAnswer q v (Err kind) = (kind ≡ Overflow) × (counts q ≡ true) × (is_narrow v ≡ false)
 
--- In a class of a program, with what a process of the class knows: each numbered query has a type, and a value of it; and
--- the condition of each alternative of an `await` has a value, which is the one that it has when missing values are stood
--- in for.
+-- it has a type and a value of this type, also in an expression
+abbrev pub QueryHas : Program → Class → Data → Query → Val → Type 0
+QueryHas p c d q v = (ty : Ty) × (query_type (known p.messages c.queries c.slots) q ≡ Some ty) × HasValue d q ty v × IsAnswer q v (asked v)
+
+-- In a class of a program, with what a process of the class knows: each numbered query has a value, and so has the
+-- condition of each alternative of an `await`. It is the one that they have where other values stand in for missing ones.
 pub record AllHaveValues (p : Program) (c : Class) (d : Data) : Type 0 where
-  pub queries : (n : ℕ) (q : Query) → numbered c.queries n ≡ Some q → (ty : Ty) × (query_type (known p.messages c.queries c.slots) q ≡ Some ty) × HasValue d q ty (query_value c.queries n d) × IsAnswer q ty (asked (query_value c.queries n d))
+  pub queries : (n : ℕ) (q : Query) → numbered c.queries n ≡ Some q → QueryHas p c d q (query_value c.queries n d)
   pub conditions : (i : Item) (alts : List Alt) (a : Alt) → IsItemOf c i → kind_of i ≡ Await alts → Has alts a → found_holds d (out-Alt a).cond [] ≡ Some (holds d (out-Alt a).cond [])
 
--- What is shown of each typed program: in every shaped world all of its process's class have values.
+-- What is shown of each typed program: in every shaped world all of the class of its process have values.
 abbrev pub NothingIsMissing : Program → Type 0
 NothingIsMissing p = (w : World) (s : Shaped p w) → AllHaveValues p s.class w.data'

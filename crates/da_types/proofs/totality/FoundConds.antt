@@ -1,5 +1,5 @@
 -- Typed conditions, operands and queries are found strictly, and an operand is of its type.
-use Rattle.std.specs.Prelude.{◌≡◌, refl, ℤ, ◌+ℤ◌, neg_ℤ, Bool, true, false, ◌&&◌, not, if◌then◌else◌, List, [], ◌∷◌, map, Option, Some, None}
+use Rattle.std.specs.Prelude.{◌≡◌, refl, ◌+ℤ◌, neg_ℤ, Bool, true, false, ◌&&◌, not, if◌then◌else◌, List, [], ◌∷◌, map, Option, Some, None}
 use Rattle.std.specs.List.{AllByRecursion, filter, list_all, list_any}
 use Rattle.std.specs.Option.{option_map}
 use Rattle.std.proofs.Common.{◌∙◌, ap, sym, subst, inl, inr}
@@ -33,7 +33,7 @@ use Rattle.da_lang.proofs.CondInduction.{Where, Cases, cond_induction, agg_induc
 use Rattle.da_lang.proofs.QueryLaws.{holds-Truth, holds-Cmp, holds-Not, holds-And, holds-Or, holds-Some, holds-Each, operand-Term, operand-Agg, operand-Chain, signed-made, agg-made}
 use Rattle.da_lang.proofs.typing.SameTypes.{same_types_equal}
 use Rattle.da_lang.proofs.typing.QueryTypesAt.{cond_holds_at-Truth, cond_holds_at-Cmp, cond_holds_at-Not, cond_holds_at-And, cond_holds_at-Or, cond_holds_at-Quant, operand_side_at-Term, operand_side_at-Agg, operand_side_at-Chain, signed_side_at-of}
-use Rattle.da_types.specs.Totality.{compared, all_there, truth, integer, found_term, test_found, rows_found, integer_found, aggregate_found, other_found, terms_found, set_found, found_holds, found_operand, found_agg, found_signed, found_where}
+use Rattle.da_types.specs.Totality.{Test, compared, all_there, truth, integer, found_term, test_found, rows_found, integer_found, aggregate_found, other_found, terms_found, set_found, found_holds, found_operand, found_agg, found_signed, found_where}
 use Rattle.da_types.proofs.totality.FoundAt.{found_holds-Truth, found_holds-Cmp, found_holds-Not, found_holds-And, found_holds-Or, found_holds-Quant, found_operand-Term, found_operand-Agg, found_operand-Chain, found_signed-of, found_agg-of}
 use Rattle.da_types.proofs.totality.KindLaws.{given_parts, when_parts, if_parts, holds_parts, is_typed_parts, bool_type, int_type, int_of_type, bool_of_type, is_int_value, one_kind}
 use Rattle.da_types.proofs.totality.Keeping.{Keeping, Fits, RowFits, Knows}
@@ -57,10 +57,6 @@ each_has P [] each x h = absurd h
 each_has P (y ∷ ys) each x (inl is) = subst P (sym is) each.0
 each_has P (y ∷ ys) each x (inr h) = each_has P ys each.1 x h
 
-all_typed : {A : Type 0} (f : A → Bool) (xs : List A) → list_all f xs ≡ true → AllByRecursion (λ x. f x ≡ true) xs
-all_typed f [] e = tt
-all_typed f (x ∷ xs) e = let both = and_parts (f x) (list_all f xs) e in (both.0, all_typed f xs both.1)
-
 list_all_map : {A : Type 0} (f : A → List Ty → Bool) (types : List Ty) (xs : List A) → list_all (λ (g : Holds). g types) (map f xs) ≡ list_all (λ x. f x types) xs
 list_all_map f types [] = refl
 list_all_map f types (x ∷ xs) = ap (λ z. f x types && z) (list_all_map f types xs)
@@ -69,14 +65,10 @@ operands_all : {A : Type 0} (f : A → Sided) (types : List Ty) (xs : List A) �
 operands_all f types [] = refl
 operands_all f types (x ∷ xs) = ap (λ z. is_operand (f x types) && z) (operands_all f types xs)
 
--- a fact that each member of a list has where a test is true of it
-each_where : {A : Type 0} (P : A → Type 0) (f : A → Bool) (xs : List A) → AllByRecursion (λ x. f x ≡ true → P x) xs → list_all f xs ≡ true → (x : A) → Has xs x → P x
-each_where P f xs each e x h = each_has (λ x. f x ≡ true → P x) xs each x h (each_from_all f xs x e h)
-
 -- the rows that meet a condition
-kept_rows : (test : Row → Option Bool) (f : Row → Bool) (rs : List Row) → ((r : Row) → Has rs r → test r ≡ Some (f r)) → (d : Data) → rows_found d test rs ≡ Some (filter f rs)
-kept_rows test f [] each d = refl
-kept_rows test f (r ∷ rs) each d = rw (each r (inl refl), kept_rows test f rs (λ z h. each z (inr h)) d) refl
+kept_rows : (test : Test) (f : Row → Bool) (rs : List Row) → ((r : Row) → Has rs r → test r ≡ Some (f r)) → rows_found test rs ≡ Some (filter f rs)
+kept_rows test f [] each = refl
+kept_rows test f (r ∷ rs) each = rw (each r (inl refl), kept_rows test f rs (λ z h. each z (inr h))) refl
 
 module _ (k : Keeping) (good : (x : Term) → k.Good x) (known : Known) (d : Data) (w : Knows k known d) where
   abbrev CondThere : Cond → Type 0
@@ -135,9 +127,6 @@ module _ (k : Keeping) (good : (x : Term) → k.Good x) (known : Known) (d : Dat
       ∙ ap Some (sym (holds-Not d row b))
 
   -- of several conditions
-  abbrev AtRow : List Ty → Row → Cond → Type 0
-  AtRow types row b = found_holds d b row ≡ Some (holds d b row)
-
   several : (bs : List Cond) → AllByRecursion CondThere bs → (types : List Ty) (row : Row) → list_all (λ b. cond_holds known b types) bs ≡ true → RowFits k types row → all_there (map (λ b. found_holds d b row) bs) ≡ Some (map (λ b. holds d b row) bs)
   several bs each types row e fits =
       all_there_are (λ b. found_holds d b row) (λ b. holds d b row) bs
@@ -156,12 +145,12 @@ module _ (k : Keeping) (good : (x : Term) → k.Good x) (known : Known) (d : Dat
       ∙ ap Some (any_true_at (λ b. holds d b row) bs ∙ sym (holds-Or d row bs))
 
   -- a condition that may be left out
-  where_there : (b : Option Cond) → Where CondThere b → (types : List Ty) (row : Row) → holds_if (option_map (cond_holds known) b) types ≡ true → RowFits k types row → test_found d (found_where d b) row ≡ Some (holds_where d b row)
+  where_there : (b : Option Cond) → Where CondThere b → (types : List Ty) (row : Row) → holds_if (option_map (cond_holds known) b) types ≡ true → RowFits k types row → test_found (found_where d b) row ≡ Some (holds_where d b row)
   where_there None there types row e fits = refl
   where_there (Some b) there types row e fits = there types row e fits
 
   -- the condition in each row of generators
-  tests_there : (gens : List RGen) (b : Option Cond) → Where CondThere b → (types found : List Ty) (row : Row) → gens_row known gens types ≡ Some found → holds_if (option_map (cond_holds known) b) found ≡ true → RowFits k types row → (r : Row) → Has (extensions d gens row) r → test_found d (found_where d b) r ≡ Some (holds_where d b r)
+  tests_there : (gens : List RGen) (b : Option Cond) → Where CondThere b → (types found : List Ty) (row : Row) → gens_row known gens types ≡ Some found → holds_if (option_map (cond_holds known) b) found ≡ true → RowFits k types row → (r : Row) → Has (extensions d gens row) r → test_found (found_where d b) r ≡ Some (holds_where d b r)
   tests_there gens b there types found row typed e fits r h = where_there b there found r e (rows_fit k known d w gens types found row r typed fits h)
 
   quantified : (each : Bool) (gens : List RGen) (b : Option Cond) (row : Row) → holds d (co.Quant each gens b) row ≡ (if each then list_all (λ v. v) (map (holds_where d b) (extensions d gens row)) else list_any (λ v. v) (map (holds_where d b) (extensions d gens row)))
@@ -173,8 +162,8 @@ module _ (k : Keeping) (good : (x : Term) → k.Good x) (known : Known) (d : Dat
       let (typed, cond_typed) = rows_where_parts known gens (option_map (cond_holds known) b) types found e in
       let finish : List Bool → Option Bool = λ vs. Some (if each then list_all (λ v. v) vs else list_any (λ v. v) vs) in
       found_holds-Quant d row each gens b
-      ∙ ap (λ z. given z (λ rs. given (all_there (map (test_found d (found_where d b)) rs)) finish)) (rows_there k known d w gens types found row typed fits)
-      ∙ ap (λ z. given z finish) (all_there_are (test_found d (found_where d b)) (holds_where d b) (extensions d gens row) (tests_there gens b there types found row typed cond_typed fits))
+      ∙ ap (λ z. given z (λ rs. given (all_there (map (test_found (found_where d b)) rs)) finish)) (rows_there k known d w gens types found row typed fits)
+      ∙ ap (λ z. given z finish) (all_there_are (test_found (found_where d b)) (holds_where d b) (extensions d gens row) (tests_there gens b there types found row typed cond_typed fits))
       ∙ ap Some (sym (quantified each gens b row))
 
   quant_case : (each : Bool) (gens : List RGen) (b : Option Cond) → Where CondThere b → CondThere (co.Quant each gens b)
@@ -196,12 +185,12 @@ module _ (k : Keeping) (good : (x : Term) → k.Good x) (known : Known) (d : Dat
       (found_operand-Agg d row a ∙ both.0 ∙ ap Some (sym (operand-Agg d row a)), subst (λ z. is_of side.ty z ≡ true) (sym (operand-Agg d row a)) both.1)
 
   -- an operand of a chain is an integer
-  operand_integer : (a : Operand) → OperandThere a → (types : List Ty) (row : Row) → is_operand (operand_side known a types) ≡ true → RowFits k types row → integer_found d (found_operand d a row) ≡ Some (int_of (operand_value d a row))
+  operand_integer : (a : Operand) → OperandThere a → (types : List Ty) (row : Row) → is_operand (operand_side known a types) ≡ true → RowFits k types row → integer_found (found_operand d a row) ≡ Some (int_of (operand_value d a row))
   operand_integer a there types row e fits =
       let (side, is, both) = holds_parts (operand_side known a types) _ e in
       let (integral, plain') = and_parts (is_int side.ty) _ both in
       let found = there types row side is fits in
-      ap (integer_found d) found.0 ∙ integer_is (operand_value d a row) (subst (λ z. is_of z (operand_value d a row) ≡ true) (int_type side.ty integral) found.1)
+      ap (integer_found) found.0 ∙ integer_is (operand_value d a row) (subst (λ z. is_of z (operand_value d a row) ≡ true) (int_type side.ty integral) found.1)
 
   chain_case : (a : Operand) (more : List SignedOperand) → OperandThere a → AllByRecursion SignedThere more → OperandThere (od.Chain a more)
   chain_case a more there each types row side e fits =
@@ -214,9 +203,6 @@ module _ (k : Keeping) (good : (x : Term) → k.Good x) (known : Known) (d : Dat
         subst (λ z. is_of side.ty z ≡ true) (sym (operand-Chain d row a more)) (subst (λ z. is_of z (val.Int (int_of (operand_value d a row) +ℤ total (map (λ s. signed_value d s row) more))) ≡ true) (plain_is t.Int side one) (is_int_value (int_of (operand_value d a row) +ℤ total (map (λ s. signed_value d s row) more)))),
       )
 
-  signed_sign : (minus : Bool) (i : ℤ) → ◌≡◌ {A = Option ℤ} (given (Some i) (λ i. Some (if minus then neg_ℤ i else i))) (Some (if minus then neg_ℤ i else i))
-  signed_sign minus i = refl
-
   signed_case : (minus : Bool) (a : Operand) → OperandThere a → SignedThere (roll-SignedOperand (record { minus = minus; operand = a }))
   signed_case minus a there types row e fits =
       found_signed-of d row minus a
@@ -228,7 +214,7 @@ module _ (k : Keeping) (good : (x : Term) → k.Good x) (known : Known) (d : Dat
   other_there None types row ty e fits = absurd (false≢true e)
   other_there (Some x) types row ty e fits = term_there k known d w x ty types row (is_typed_parts (term_type known x types) ty e) fits
 
-  aggregate_there : (op : AggOp) (other : Option Term) (types : List Ty) (row : Row) (ty : Ty) (side : Side) (vs : List Val) → agg_type op ty (other_type known other types) ≡ Some side → RowFits k types row → ((v : Val) → Has vs v → Fits k ty v) → aggregate_found d op (other_found d row other) vs ≡ Some (aggregate op (other_value d row other) vs)
+  aggregate_there : (op : AggOp) (other : Option Term) (types : List Ty) (row : Row) (ty : Ty) (side : Side) (vs : List Val) → agg_type op ty (other_type known other types) ≡ Some side → RowFits k types row → ((v : Val) → Has vs v → Fits k ty v) → aggregate_found op (other_found d row other) vs ≡ Some (aggregate op (other_value d row other) vs)
   aggregate_there Count other types row ty side vs e fits each = refl
   aggregate_there Sum other types row ty side vs e fits each =
       let (integral, same) = when_parts (is_int ty) _ side e in
@@ -247,8 +233,8 @@ module _ (k : Keeping) (good : (x : Term) → k.Good x) (known : Known) (d : Dat
   pub set_there : (gens : List RGen) (b : Option Cond) → Where CondThere b → (x : Term) (types found : List Ty) (row : Row) (ty : Ty) → gens_row known gens types ≡ Some found → holds_if (option_map (cond_holds known) b) found ≡ true → term_type known x found ≡ Some ty → RowFits k types row → set_found d gens (found_where d b) x row ≡ Some (term_set d x (filter (holds_where d b) (extensions d gens row)))
   set_there gens b there x types found row ty typed cond_typed of_term fits =
       let rs = filter (holds_where d b) (extensions d gens row) in
-      ap (λ z. given (given z (rows_found d (test_found d (found_where d b)))) (terms_found d x)) (rows_there k known d w gens types found row typed fits)
-      ∙ ap (λ z. given z (terms_found d x)) (kept_rows (test_found d (found_where d b)) (holds_where d b) (extensions d gens row) (tests_there gens b there types found row typed cond_typed fits) d)
+      ap (λ z. given (given z (rows_found (test_found (found_where d b)))) (terms_found d x)) (rows_there k known d w gens types found row typed fits)
+      ∙ ap (λ z. given z (terms_found d x)) (kept_rows (test_found (found_where d b)) (holds_where d b) (extensions d gens row) (tests_there gens b there types found row typed cond_typed fits))
       ∙ ap (λ z. given z (λ vs. Some (canon val_cmp vs)))
       (all_there_are (λ r. found_term d r x) (λ r. value_at d r x) rs (λ r h. term_there k known d w x ty found r of_term (rows_fit k known d w gens types found row r typed fits (of_filter (holds_where d b) (extensions d gens row) r h).0)))
 
@@ -262,7 +248,7 @@ module _ (k : Keeping) (good : (x : Term) → k.Good x) (known : Known) (d : Dat
       let rs = filter (holds_where d b) (extensions d gens row) in
       let each = members_fit k known d w x gens types typed.found row typed.ty typed.row typed.term fits (good x) rs (λ r h. (of_filter (holds_where d b) (extensions d gens row) r h).0) in (
         found_agg-of d row op gens b x other
-            ∙ ap (λ z. given z (aggregate_found d op (other_found d row other))) (set_there gens b there x types typed.found row typed.ty typed.row typed.cond typed.term fits)
+            ∙ ap (λ z. given z (aggregate_found op (other_found d row other))) (set_there gens b there x types typed.found row typed.ty typed.row typed.cond typed.term fits)
             ∙ aggregate_there op other types row typed.ty side (term_set d x rs) typed.aggregate' fits each
             ∙ ap Some (sym (agg-made d row op gens b x other)),
         (agg_fits k known d w op gens b x other types row side e fits (good x) (other_good other)).0,

@@ -88,11 +88,11 @@ module _ (k : Keeping) (known : Known) (d : Data) (w : Knows k known d) where
   MatchFound p = (ty : Ty) (types found : List Ty) (x : Val) (row : Row) → pattern_row known p ty types ≡ Some found → Fits k ty x → RowFits k types row → found_match d p x row ≡ Some (matched d.me d.slots p x row)
 
   -- one match goes on with another in the row that it gives, if there is one
-  pub goes_on : (m : Option Row) (strict : Row → Option (Option Row)) (go : Row → Option Row) → ((s : Row) → m ≡ Some s → strict s ≡ Some (go s)) → and_finds d m strict ≡ Some (and_then m go)
+  pub goes_on : (m : Option Row) (strict : Row → Option (Option Row)) (go : Row → Option Row) → ((s : Row) → m ≡ Some s → strict s ≡ Some (go s)) → and_finds m strict ≡ Some (and_then m go)
   goes_on None strict go each = refl
   goes_on (Some s) strict go each = each s refl
 
-  match_parts_there : (ps : List Pattern) → AllByRecursion MatchFound ps → (tys types found : List Ty) (xs : List Val) (row : Row) → each_part (map (pattern_row known) ps) tys types ≡ Some found → RowFits k tys xs → RowFits k types row → parts_found d (map (found_match d) ps) xs row ≡ Some (match_parts (map (matched d.me d.slots) ps) xs row)
+  match_parts_there : (ps : List Pattern) → AllByRecursion MatchFound ps → (tys types found : List Ty) (xs : List Val) (row : Row) → each_part (map (pattern_row known) ps) tys types ≡ Some found → RowFits k tys xs → RowFits k types row → parts_found (map (found_match d) ps) xs row ≡ Some (match_parts (map (matched d.me d.slots) ps) xs row)
   match_parts_there [] each [] types found [] row e fit fits = refl
   match_parts_there [] each [] types found (x ∷ xs) row e fit fits = absurd fit
   match_parts_there [] each (ty ∷ tys) types found xs row e fit fits = absurd (cc)
@@ -100,8 +100,8 @@ module _ (k : Keeping) (known : Known) (d : Data) (w : Knows k known d) where
   match_parts_there (p ∷ ps) each (ty ∷ tys) types found [] row e fit fits = absurd fit
   match_parts_there (p ∷ ps) each (ty ∷ tys) types found (x ∷ xs) row e fit fits =
       let (mid, is, more) = given_parts (pattern_row known p ty types) (each_part (map (pattern_row known) ps) tys) found e in
-      ap (λ z. given z (λ m. and_finds d m (parts_found d (map (found_match d) ps) xs))) (each.0 ty types mid x row is fit.0 fits)
-      ∙ goes_on (matched d.me d.slots p x row) (parts_found d (map (found_match d) ps) xs) (match_parts (map (matched d.me d.slots) ps) xs)
+      ap (λ z. given z (λ m. and_finds m (parts_found (map (found_match d) ps) xs))) (each.0 ty types mid x row is fit.0 fits)
+      ∙ goes_on (matched d.me d.slots p x row) (parts_found (map (found_match d) ps) xs) (match_parts (map (matched d.me d.slots) ps) xs)
       (λ s there. match_parts_there ps each.1 tys mid found xs s more fit.1 (match_fits k known d p ty types mid x row s is fit.0 fits there))
 
   match_tuple_case : (ps : List Pattern) → AllByRecursion MatchFound ps → MatchFound (pa.Tuple ps)
@@ -109,7 +109,7 @@ module _ (k : Keeping) (known : Known) (d : Data) (w : Knows k known d) where
       let (tys, are, more) = given_parts (parts_of ty) (λ tys. each_part (map (pattern_row known) ps) tys types) found (sym (pattern_row_at-Tuple known ps ty types) ∙ e) in
       let (xs, is, each_of) = tuple_of_type tys x (subst (λ z. is_of z x ≡ true) (tuple_type ty tys are) fit.0) in
       let by_parts = match_parts_there ps each tys types found xs row more (row_fits k tys xs each_of (k.parts xs (subst k.Kept is fit.1))) fits in
-      let strict : found_match d (pa.Tuple ps) (val.Tuple xs) row ≡ parts_found d (map (found_match d) ps) xs row = found_match-Tuple d (val.Tuple xs) row ps ∙ ap (λ z. tuple_found d (map (found_match d) ps) z row) (val.outs-Tuple xs) in
+      let strict : found_match d (pa.Tuple ps) (val.Tuple xs) row ≡ parts_found (map (found_match d) ps) xs row = found_match-Tuple d (val.Tuple xs) row ps ∙ ap (λ z. tuple_found (map (found_match d) ps) z row) (val.outs-Tuple xs) in
       ap (λ z. found_match d (pa.Tuple ps) z row) is ∙ strict ∙ by_parts ∙ ap Some (sym (match-tuples d.me d.slots xs row ps) ∙ ap (λ z. matched d.me d.slots (pa.Tuple ps) z row) (sym is))
 
   match_equal_case : (y : Term) → MatchFound (pa.Equal y)
@@ -133,14 +133,14 @@ module _ (k : Keeping) (known : Known) (d : Data) (w : Knows k known d) where
   tagged tag qs = pa.Tuple (pa.Const (kept.Text tag) ∷ qs)
 
   tagged_parts : (tag : List ℕ) (qs : List Pattern) (v : Val) (vs : List Val) (row : Row) (b : Bool) → is_same v (val.Text tag) ≡ b
-      → (b ≡ true → parts_found d (map (found_match d) (pa.Const (kept.Text tag) ∷ qs)) (v ∷ vs) row ≡ Some (match_parts (map (matched d.me d.slots) (pa.Const (kept.Text tag) ∷ qs)) (v ∷ vs) row))
-      → parts_found d (map (found_match d) (pa.Const (kept.Text tag) ∷ qs)) (v ∷ vs) row ≡ Some (match_parts (map (matched d.me d.slots) (pa.Const (kept.Text tag) ∷ qs)) (v ∷ vs) row)
+      → (b ≡ true → parts_found (map (found_match d) (pa.Const (kept.Text tag) ∷ qs)) (v ∷ vs) row ≡ Some (match_parts (map (matched d.me d.slots) (pa.Const (kept.Text tag) ∷ qs)) (v ∷ vs) row))
+      → parts_found (map (found_match d) (pa.Const (kept.Text tag) ∷ qs)) (v ∷ vs) row ≡ Some (match_parts (map (matched d.me d.slots) (pa.Const (kept.Text tag) ∷ qs)) (v ∷ vs) row)
   tagged_parts tag qs v vs row true is if_same = if_same refl
   tagged_parts tag qs v vs row false is if_same = rw (found_match-Const d v row (kept.Text tag), match-Const d.me d.slots v row (kept.Text tag), is) refl
 
   tagged_layer : (tag : List ℕ) (qs : List Pattern) (x : Val-F Val) (row : Row)
-      → (tag_of x ≡ Some tag → tuple_found d (map (found_match d) (pa.Const (kept.Text tag) ∷ qs)) x row ≡ Some (match_tuple (map (matched d.me d.slots) (pa.Const (kept.Text tag) ∷ qs)) x row))
-      → tuple_found d (map (found_match d) (pa.Const (kept.Text tag) ∷ qs)) x row ≡ Some (match_tuple (map (matched d.me d.slots) (pa.Const (kept.Text tag) ∷ qs)) x row)
+      → (tag_of x ≡ Some tag → tuple_found (map (found_match d) (pa.Const (kept.Text tag) ∷ qs)) x row ≡ Some (match_tuple (map (matched d.me d.slots) (pa.Const (kept.Text tag) ∷ qs)) x row))
+      → tuple_found (map (found_match d) (pa.Const (kept.Text tag) ∷ qs)) x row ≡ Some (match_tuple (map (matched d.me d.slots) (pa.Const (kept.Text tag) ∷ qs)) x row)
   tagged_layer tag qs (vo.Tuple []) row if_tagged = refl
   tagged_layer tag qs (vo.Tuple (v ∷ vs)) row if_tagged =
       tagged_parts tag qs v vs row (is_same v (val.Text tag)) refl

@@ -27,20 +27,20 @@ use Rattle.da_types.proofs.totality.FoundMatches.{all_are, all_there_are, filter
 
 module _ (k : Keeping) (known : Known) (d : Data) (w : Knows k known d) where
   -- of one message, of one element
-  entry_there : (g : RGen) (e : Entry) → EntryFits k known e → (types found : List Ty) (row : Row) → given (message_row known g.message types) (pattern_row known g.peer t.Proc) ≡ Some found → RowFits k types row → both_found d g row (with_peer d (entry_parts e)) ≡ Some (matched_both d g.message g.peer e.message (val.Proc e.peer) row)
+  entry_there : (g : RGen) (e : Entry) → EntryFits k known e → (types found : List Ty) (row : Row) → given (message_row known g.message types) (pattern_row known g.peer t.Proc) ≡ Some found → RowFits k types row → both_found d g row (with_peer (entry_parts e)) ≡ Some (matched_both d g.message g.peer e.message (val.Proc e.peer) row)
   entry_there g e entry types found row typed fits =
       let (mid, first, second) = given_parts (message_row known g.message types) (pattern_row known g.peer t.Proc) found typed in
-      ap (λ z. given z (λ m. and_finds d m (peer_found d g.peer (Some (val.Proc e.peer))))) (message_there k known d w e entry g.message types mid row first fits)
+      ap (λ z. given z (λ m. and_finds m (peer_found d g.peer (Some (val.Proc e.peer))))) (message_there k known d w e entry g.message types mid row first fits)
       ∙ goes_on k known d w (matched d.me d.slots g.message e.message row) (peer_found d g.peer (Some (val.Proc e.peer))) (matched d.me d.slots g.peer (val.Proc e.peer))
       (λ s there. match_there k known d w g.peer t.Proc mid found (val.Proc e.peer) s second (is_proc_value e.peer, entry.2) (message_fits k known d w e entry g.message types mid row s first fits there))
 
   any_there : (p : Pattern) (s : Row) → is_any (out-Pattern p) ≡ true → peer_found d p None s ≡ Some (matched d.me d.slots p nothing s)
   any_there p s any = rw any (ap Some (sym (match-Any d.me d.slots nothing s)) ∙ ap (λ z. Some (matched d.me d.slots z nothing s)) (sym (any_is p any)))
 
-  member_there : (g : RGen) (element : Ty) (x : Val) → Fits k element x → (types mid found : List Ty) (row : Row) → matched_row known g.message element types ≡ Some mid → when (is_any (out-Pattern g.peer)) mid ≡ Some found → RowFits k types row → both_found d g row (alone d x) ≡ Some (matched_both d g.message g.peer x nothing row)
+  member_there : (g : RGen) (element : Ty) (x : Val) → Fits k element x → (types mid found : List Ty) (row : Row) → matched_row known g.message element types ≡ Some mid → when (is_any (out-Pattern g.peer)) mid ≡ Some found → RowFits k types row → both_found d g row (alone x) ≡ Some (matched_both d g.message g.peer x nothing row)
   member_there g element x fit types mid found row over second fits =
       let (any, same) = when_parts (is_any (out-Pattern g.peer)) mid found second in
-      ap (λ z. given z (λ m. and_finds d m (peer_found d g.peer None))) (match_there k known d w g.message element types mid x row (matched_row_is known g.message element types mid over) fit fits)
+      ap (λ z. given z (λ m. and_finds m (peer_found d g.peer None))) (match_there k known d w g.message element types mid x row (matched_row_is known g.message element types mid over) fit fits)
       ∙ goes_on k known d w (matched d.me d.slots g.message x row) (peer_found d g.peer None) (matched d.me d.slots g.peer nothing) (λ s there. any_there g.peer s any)
 
   abbrev lenient : RGen → Row → Val × Val → Option Row
@@ -48,17 +48,17 @@ module _ (k : Keeping) (known : Known) (d : Data) (w : Knows k known d) where
 
   -- of all messages of a history
   history_there : (g : RGen) (es : List Entry) → ((e : Entry) → Has es e → EntryFits k known e) → (types found : List Ty) (row : Row) → given (message_row known g.message types) (pattern_row known g.peer t.Proc) ≡ Some found → RowFits k types row
-      → given (all_there (map (both_found d g row) (map (λ e. with_peer d (entry_parts e)) es))) (λ rs. Some (filter_map (λ r. r) rs)) ≡ Some (filter_map (lenient g row) (map entry_parts es))
+      → given (all_there (map (both_found d g row) (map (λ e. with_peer (entry_parts e)) es))) (λ rs. Some (filter_map (λ r. r) rs)) ≡ Some (filter_map (lenient g row) (map entry_parts es))
   history_there g es entries types found row typed fits =
       ap (λ z. given z (λ rs. Some (filter_map (λ r. r) rs)))
-      (all_are (both_found d g row) (λ e. with_peer d (entry_parts e)) (λ (e : Entry). lenient g row (entry_parts e)) es (λ e among. entry_there g e (entries e among) types found row typed fits))
+      (all_are (both_found d g row) (λ e. with_peer (entry_parts e)) (λ (e : Entry). lenient g row (entry_parts e)) es (λ e among. entry_there g e (entries e among) types found row typed fits))
       ∙ ap Some (filtered (lenient g row) entry_parts es)
 
   members_there : (g : RGen) (element : Ty) (vs : List Val) → ((x : Val) → Has vs x → Fits k element x) → (types mid found : List Ty) (row : Row) → matched_row known g.message element types ≡ Some mid → when (is_any (out-Pattern g.peer)) mid ≡ Some found → RowFits k types row
-      → given (all_there (map (both_found d g row) (map (alone d) vs))) (λ rs. Some (filter_map (λ r. r) rs)) ≡ Some (filter_map (lenient g row) (map (λ x. (x, nothing)) vs))
+      → given (all_there (map (both_found d g row) (map (alone) vs))) (λ rs. Some (filter_map (λ r. r) rs)) ≡ Some (filter_map (lenient g row) (map (λ x. (x, nothing)) vs))
   members_there g element vs each types mid found row over second fits =
       ap (λ z. given z (λ rs. Some (filter_map (λ r. r) rs)))
-      (all_are (both_found d g row) (alone d) (λ x. lenient g row (x, nothing)) vs (λ x among. member_there g element x (each x among) types mid found row over second fits))
+      (all_are (both_found d g row) (alone) (λ x. lenient g row (x, nothing)) vs (λ x among. member_there g element x (each x among) types mid found row over second fits))
       ∙ ap Some (filtered (lenient g row) (λ x. (x, nothing)) vs)
 
   abbrev StepThere : RGen → Source → Row → Type 0
@@ -67,10 +67,10 @@ module _ (k : Keeping) (known : Known) (d : Data) (w : Knows k known d) where
   abbrev steps_of : RGen → Row → Option (List (Val × Option Val)) → Option (List Row)
   steps_of g row found = given found (λ cs. given (all_there (map (both_found d g row) cs)) (λ rs. Some (filter_map (λ r. r) rs)))
 
-  set_there : (g : RGen) (slot : ℕ) (vs : List Val) → numbered d.slots slot ≡ Some (val.Set vs) → elements_of (slot_of d slot) ≡ vs → (row : Row) → steps_of g row (Some (map (alone d) vs)) ≡ Some (filter_map (lenient g row) (map (λ x. (x, nothing)) vs)) → StepThere g (source.Slot slot) row
+  set_there : (g : RGen) (slot : ℕ) (vs : List Val) → numbered d.slots slot ≡ Some (val.Set vs) → elements_of (slot_of d slot) ≡ vs → (row : Row) → steps_of g row (Some (map (alone) vs)) ≡ Some (filter_map (lenient g row) (map (λ x. (x, nothing)) vs)) → StepThere g (source.Slot slot) row
   set_there g slot vs there listed row steps =
-      ap (λ z. steps_of g row (given z (λ v. given (elements (out-Val v)) (λ members. Some (map (alone d) members))))) there
-      ∙ ap (λ z. steps_of g row (given (elements z) (λ members. Some (map (alone d) members)))) (val.outs-Set vs)
+      ap (λ z. steps_of g row (given z (λ v. given (elements (out-Val v)) (λ members. Some (map (alone) members))))) there
+      ∙ ap (λ z. steps_of g row (given (elements z) (λ members. Some (map (alone) members)))) (val.outs-Set vs)
       ∙ steps
       ∙ ap (λ z. Some (filter_map (lenient g row) (map (λ x. (x, nothing)) z))) (sym listed)
 

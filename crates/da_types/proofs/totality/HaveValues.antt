@@ -27,6 +27,7 @@ use Rattle.da_lang.specs.declared.query.RGen.{RGen}
 use Rattle.da_lang.specs.declared.query.Term.{Term}
 use Rattle.da_lang.specs.declared.ty.Ty.{Ty}
 use Rattle.da_lang.specs.declared.ty.Ty.TheVariants as t
+use Rattle.da_lang.specs.Arithmetic.{fitted}
 use Rattle.da_lang.specs.Evaluation.{asked, asked_layer}
 use Rattle.da_lang.specs.Queries.{agg_value, holds, query_value, value_of_numbered, value_of_query, rows, term_set}
 use Rattle.da_lang.specs.QueryTypes.{Known, Side, given, flat, written_cond, rows_where, query_type, agg_side, agg_type, cond_holds, term_type}
@@ -35,7 +36,7 @@ use Rattle.da_lang.specs.Types.{is_of, is_flat, is_int}
 use Rattle.da_lang.specs.Typing.{IsTyped, has_queries}
 use Rattle.da_lang.specs.World.{Data, World, numbered}
 use Rattle.da_lang.proofs.RowLaws.{terms_of_rows}
-use Rattle.da_types.specs.Totality.{HasValue, AllHaveValues, NothingIsMissing, IsAnswer, counts, counts_by}
+use Rattle.da_types.specs.Totality.{HasValue, AllHaveValues, NothingIsMissing, IsAnswer, QueryHas, counts, counts_by}
 use Rattle.da_types.proofs.totality.Awaits.{condition_holds}
 use Rattle.da_types.proofs.totality.FoundAt.{found_holds-Quant}
 use Rattle.da_types.proofs.totality.FoundConds.{agg_there, cond_there, each_cond_there, quant_there, set_there}
@@ -121,25 +122,24 @@ module _ (known' : Known) (d : Data) (w : Knows narrow known' d) where
       sym same ∙ agg_counted a side typed c
 
   -- what an expression that asks a query gives
-  number_answer : (q : Query) (ty : Ty) (z : ℤ) → is_of ty (val.Int z) ≡ true → (counts q ≡ false → is_narrow (val.Int z) ≡ true) → (b : Bool) → is_i64 z ≡ b → (c : Bool) → counts q ≡ c → IsAnswer q ty (if b then Ok (val.Int z) else Err Overflow)
-  number_answer q ty z typed small true is c counted = (typed, is_narrow_of (kept.Int z) ∙ is)
-  number_answer q ty z typed small false is true counted = (refl, counted)
-  number_answer q ty z typed small false is false counted = absurd (false≢true (sym is ∙ sym (is_narrow_of (kept.Int z)) ∙ small counted))
+  number_answer : (q : Query) (z : ℤ) → (counts q ≡ false → is_narrow (val.Int z) ≡ true) → (b : Bool) → is_i64 z ≡ b → (c : Bool) → counts q ≡ c → IsAnswer q (val.Int z) (if b then Ok (val.Int z) else Err Overflow)
+  number_answer q z small true is c counted = (refl, is_narrow_of (kept.Int z) ∙ is)
+  number_answer q z small false is true counted = (refl, counted, is_narrow_of (kept.Int z) ∙ is)
+  number_answer q z small false is false counted = absurd (false≢true (sym is ∙ sym (is_narrow_of (kept.Int z)) ∙ small counted))
 
-  plain_answer : (q : Query) (ty : Ty) (v : Val) → HasValue d q ty v → counts q ≡ false → (x : Val-F Val) → out-Val v ≡ x → IsAnswer q ty (asked_layer x v)
-  plain_answer q ty v has c (vo.Int z) is =
+  plain_answer : (q : Query) (v : Val) → is_narrow v ≡ true → counts q ≡ false → (x : Val-F Val) → out-Val v ≡ x → IsAnswer q v (asked_layer x v)
+  plain_answer q v small c (vo.Int z) is =
       let same : v ≡ val.Int z = from_layer v (vo.Int z) is ∙ val.rolls-Int z in
-      number_answer q ty z (subst (λ u. is_of ty u ≡ true) same has.typed) (λ f. subst (λ u. is_narrow u ≡ true) same (has.narrow f)) (is_i64 z) refl false c
-  plain_answer q ty v has c _ is = (has.typed, has.narrow c)
+      subst (λ u. IsAnswer q u (fitted z)) (sym same) (number_answer q z (λ f. subst (λ u. is_narrow u ≡ true) same small) (is_i64 z) refl false c)
+  plain_answer q v small c _ is = (refl, small)
 
-  answer_by : (q : Query) (ty : Ty) (v : Val) → query_type known' q ≡ Some ty → HasValue d q ty v → (c : Bool) → counts q ≡ c → IsAnswer q ty (asked v)
-  answer_by q ty v e has false c = plain_answer q ty v has c (out-Val v) refl
+  answer_by : (q : Query) (ty : Ty) (v : Val) → query_type known' q ≡ Some ty → HasValue d q ty v → (c : Bool) → counts q ≡ c → IsAnswer q v (asked v)
+  answer_by q ty v e has false c = plain_answer q v (has.narrow c) c (out-Val v) refl
   answer_by q ty v e has true c =
       let (z, same) = int_of_type v (subst (λ u. is_of u v ≡ true) (counted_int q ty e c) has.typed) in
-      subst (λ u. IsAnswer q ty (asked u)) (sym same)
-      (rw (val.outs-Int z) (number_answer q ty z (subst (λ u. is_of ty u ≡ true) same has.typed) (λ f. absurd (false≢true (sym f ∙ c))) (is_i64 z) refl true c))
+      subst (λ u. IsAnswer q u (asked u)) (sym same) (rw (val.outs-Int z) (number_answer q z (λ f. absurd (false≢true (sym f ∙ c))) (is_i64 z) refl true c))
 
-  pub query_answer : (q : Query) (ty : Ty) → query_type known' q ≡ Some ty → IsAnswer q ty (asked (value_of_query d q))
+  pub query_answer : (q : Query) (ty : Ty) → query_type known' q ≡ Some ty → IsAnswer q (value_of_query d q) (asked (value_of_query d q))
   query_answer q ty e = answer_by q ty (value_of_query d q) e (query_has q ty e) (counts q) refl
 
 there_is : {A : Type 0} (x : Option A) → is_some x ≡ true → (a : A) × (x ≡ Some a)
@@ -155,14 +155,11 @@ module _ (p : Program) (w : World) (typed : IsTyped p) (s : Shaped p w) where
       let in_class = each_from_all (has_queries p.messages) p.classes s.class typed.asked (class_has p w.data'.me s.class s.is_class) in
       there_is (query_type here q) (each_from_all (λ q. is_some (query_type here q)) s.class.queries q in_class h)
 
-  abbrev QueryHas : Query → Val → Type 0
-  QueryHas q v = (ty : Ty) × (query_type here q ≡ Some ty) × HasValue w.data' q ty v × IsAnswer q ty (asked v)
-
-  numbered_query : (n : ℕ) (q : Query) → numbered s.class.queries n ≡ Some q → QueryHas q (query_value s.class.queries n w.data')
+  numbered_query : (n : ℕ) (q : Query) → numbered s.class.queries n ≡ Some q → QueryHas p s.class w.data' q (query_value s.class.queries n w.data')
   numbered_query n q e =
       let (ty, is) = has_type q (numbered_has s.class.queries n q e) in
       let k = knows_here p w s in
-      subst (QueryHas q) (sym (ap (value_of_numbered w.data') e)) (ty, is, query_has here w.data' k q ty is, query_answer here w.data' k q ty is)
+      subst (QueryHas p s.class w.data' q) (sym (ap (value_of_numbered w.data') e)) (ty, is, query_has here w.data' k q ty is, query_answer here w.data' k q ty is)
 
   all_have_values : AllHaveValues p s.class w.data'
   all_have_values = record {
