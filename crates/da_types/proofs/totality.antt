@@ -7,6 +7,7 @@ pub mod HaveValues
 pub mod Keeping
 pub mod KindLaws
 pub mod MatchesFit
+pub mod OpeningWorlds
 pub mod QueriesFit
 pub mod QueriesKept
 pub mod RowsFit

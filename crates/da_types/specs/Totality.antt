@@ -51,7 +51,7 @@ use Rattle.da_lang.specs.Shaped.{Shaped, IsItemOf, has_processes}
 use Rattle.da_lang.specs.Turns.{kind_of}
 use Rattle.da_lang.specs.Types.{is_of}
 use Rattle.da_lang.specs.Typing.{known}
-use Rattle.da_lang.specs.World.{Data, World, numbered}
+use Rattle.da_lang.specs.World.{Data, World, class_of, numbered}
 
 -- all of them, where each is there
 abbrev pub all_there : {A : Type 0} → List (Option A) → Option (List A)
@@ -293,4 +293,4 @@ pub record AllHaveValues (p : Program) (c : Class) (d : Data) : Type 0 where
 
 -- What is shown of each typed program: in every shaped world all of the class of its process have values.
 abbrev pub NothingIsMissing : Program → Type 0
-NothingIsMissing p = (w : World) (s : Shaped p w) → AllHaveValues p s.class w.data'
+NothingIsMissing p = (w : World) (c : Class) → Shaped p w → class_of p w.data'.me ≡ Some c → AllHaveValues p c w.data'

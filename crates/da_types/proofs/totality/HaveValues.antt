@@ -13,6 +13,7 @@ use Rattle.da_values.specs.Sets.{Has}
 use Rattle.da_values.proofs.FoldsAt.{is_narrow_of}
 use Rattle.da_values.proofs.Members.{each_from_all}
 use Rattle.da_lang.specs.declared.event.FaultKind.TheVariants.{Overflow}
+use Rattle.da_lang.specs.declared.program.Class.{Class}
 use Rattle.da_lang.specs.declared.program.ItemKind.TheViews.{out-Alt}
 use Rattle.da_lang.specs.declared.program.Program.{Program}
 use Rattle.da_lang.specs.declared.query.Agg.{Agg}
@@ -169,4 +170,7 @@ module _ (p : Program) (w : World) (typed : IsTyped p) (s : Shaped p w) where
 
 -- THE THEOREM OF TYPES
 pub nothing_is_missing : (p : Program) → IsTyped p → NothingIsMissing p
-nothing_is_missing p typed w s = all_have_values p w typed s
+nothing_is_missing p typed w c s is =
+    let both : ◌≡◌ {A = Option Class} (Some s.class) (Some c) = sym s.is_class ∙ is in
+    let same : s.class ≡ c = cc in
+    subst (λ z. AllHaveValues p z w.data') same (all_have_values p w typed s)
