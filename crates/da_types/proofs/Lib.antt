@@ -1,1 +1,2 @@
+pub mod resolved
 pub mod totality

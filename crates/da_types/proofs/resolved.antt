@@ -1,0 +1,2 @@
+pub mod CoveredTables
+pub mod FineExprs
