@@ -1,2 +1,3 @@
 pub mod CoveredTables
 pub mod FineExprs
+pub mod MeantFills
