@@ -23,20 +23,20 @@ use Rattle.da_lang.specs.Turns.{kind_of}
 use Rattle.da_lang.specs.Typing.{Slots, Breaks, all, unless, known, have_found, handler_breaks, class_breaks, breaks_in, kind_broken, alt_broken, item_breaks, branch_broken, kind_breaks, alt_breaks, item_breaks_step, branch_breaks}
 
 -- lists that are joined to nothing
-no_left : {A : Type 0} (xs ys : List A) → xs ++ ys ≡ [] → xs ≡ []
+pub no_left : {A : Type 0} (xs ys : List A) → xs ++ ys ≡ [] → xs ≡ []
 no_left [] ys e = refl
 no_left (x ∷ xs) ys e = absurd (cc)
 
-no_right : {A : Type 0} (xs ys : List A) → xs ++ ys ≡ [] → ys ≡ []
+pub no_right : {A : Type 0} (xs ys : List A) → xs ++ ys ≡ [] → ys ≡ []
 no_right [] ys e = e
 no_right (x ∷ xs) ys e = absurd (cc)
 
-none_of : {A B : Type 0} (f : A → List B) (xs : List A) → flat_map f xs ≡ [] → (x : A) → Has xs x → f x ≡ []
+pub none_of : {A B : Type 0} (f : A → List B) (xs : List A) → flat_map f xs ≡ [] → (x : A) → Has xs x → f x ≡ []
 none_of f [] e x h = absurd h
 none_of f (y ∷ ys) e x (inl is) = ap f is ∙ no_left (f y) (flat_map f ys) e
 none_of f (y ∷ ys) e x (inr h) = none_of f ys (no_right (f y) (flat_map f ys) e) x h
 
-keeps_rule : (line : ℕ) (b : Bool) → unless line b ≡ [] → b ≡ true
+pub keeps_rule : (line : ℕ) (b : Bool) → unless line b ≡ [] → b ≡ true
 keeps_rule line true e = refl
 keeps_rule line false e = absurd (cc)
 
