@@ -1,5 +1,9 @@
 pub mod BlocksFill
+pub mod CallsAllowed
+pub mod ClassesFill
+pub mod CopiesFill
 pub mod CoveredTables
 pub mod ExprsFill
 pub mod FineExprs
 pub mod MeantFills
+pub mod StatementsFill
