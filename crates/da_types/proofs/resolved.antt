@@ -6,4 +6,5 @@ pub mod CoveredTables
 pub mod ExprsFill
 pub mod FineExprs
 pub mod MeantFills
+pub mod ResolvedTyped
 pub mod StatementsFill

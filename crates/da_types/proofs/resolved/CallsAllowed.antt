@@ -19,7 +19,7 @@ use Rattle.da_lang.specs.NameRules.{all_deeds, calls_none, class_refusals, fits_
 use Rattle.da_lang.specs.Scopes.{at_lines}
 use Rattle.da_types.proofs.resolved.ClassesFill.{CallsOk, find_has}
 use Rattle.da_types.proofs.resolved.CopiesFill.{OkWithin}
-use Rattle.da_types.proofs.resolved.StatementsFill.{AllOk}
+use Rattle.da_types.proofs.resolved.StatementsFill.{OkAt, AllOk}
 use Rattle.da_types.proofs.totality.Awaits.{no_left, no_right, none_of}
 
 same_name : (a b : List ℕ) → bytes_eq a b ≡ true → a ≡ b
@@ -213,7 +213,7 @@ not_false false e = absurd (true≢false e)
 module _ (c : ClassTree) (unknown : lines_where (λ (d : Deed). calls_none c d.does) (all_deeds c) ≡ []) (misfit : lines_where (λ (d : Deed). misfits c d d.does) (all_deeds c) ≡ []) (back : flat_map (recursive_in c) (method_names c) ≡ []) where
   fits_by : (d : Deed) (name : List ℕ) (m : Option Body) → method_of c name ≡ m → is_none m ≡ false → list_any (λ (b : Body). not (fits_params d.says b)) (option_to_list m) ≡ false → (b : Body) × (method_of c name ≡ Some b) × (length b.params ≡ length d.says)
   fits_by d name None is some fit = absurd (true≢false some)
-  fits_by d name (Some b) is some fit = (b, is, sym (eqb-true (not_false (fits_params d.says b) fit)))
+  fits_by d name (Some b) is some fit = (b, is, sym (eqb-true _ _ (not_false (fits_params d.says b) fit)))
 
   pub allowed : Allows c
   allowed = record {
