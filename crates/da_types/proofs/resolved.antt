@@ -4,6 +4,7 @@ pub mod ClassesFill
 pub mod CopiesFill
 pub mod CoveredTables
 pub mod ExprsFill
+pub mod FewProcesses
 pub mod FineExprs
 pub mod MeantFills
 pub mod ResolvedTyped

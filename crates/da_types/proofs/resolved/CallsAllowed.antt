@@ -187,7 +187,7 @@ module _ (c : ClassTree) (allows : Allows c) where
       ok_call (length c.members) zero (method_names c) name (length d.says) m (omega arith) (few_names c) is fit (named c name m is) (λ p h. inl h))
 
 -- from the refusals
-map_none : {A B : Type 0} (f : A → B) (xs : List A) → map f xs ≡ [] → xs ≡ []
+pub map_none : {A B : Type 0} (f : A → B) (xs : List A) → map f xs ≡ [] → xs ≡ []
 map_none f [] e = refl
 map_none f (x ∷ xs) e = absurd (cc)
 
