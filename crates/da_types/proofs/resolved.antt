@@ -1,11 +1,13 @@
 pub mod BlocksFill
 pub mod CallsAllowed
 pub mod ClassesFill
+pub mod ConstantsAt
 pub mod CopiesFill
 pub mod CoveredTables
 pub mod ExprsFill
 pub mod FewProcesses
 pub mod FineExprs
+pub mod LiteralsAt
 pub mod MeantFills
 pub mod ResolvedTyped
 pub mod StatementsFill
