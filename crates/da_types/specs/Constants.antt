@@ -1,14 +1,25 @@
 -- The values that are written in a tree, and the constants of the expressions of a resolved program.
-use Rattle.std.specs.Prelude.{ℕ, List, [], ◌∷◌, ◌++◌, map, Option, flat_map, option_to_list}
+use Rattle.std.specs.Prelude.{◌≡◌, ℕ, List, [], ◌∷◌, ◌++◌, map, Option, Some, flat_map, option_to_list}
 use Rattle.da_values.specs.declared.value.Value.{Value}
 use Rattle.da_values.specs.declared.value.Value.TheVariants as kept
 use Rattle.da_values.specs.Proper.{IsValue}
 use Rattle.da_values.specs.Sets.{Has}
 use Rattle.da_values.specs.Value.{val_of}
+use Rattle.da_lang.specs.declared.program.Alt.{Alt}
 use Rattle.da_lang.specs.declared.program.ChainPart.{ChainPart}
+use Rattle.da_lang.specs.declared.program.Class.{Class}
+use Rattle.da_lang.specs.declared.program.Item.{Item}
+use Rattle.da_lang.specs.declared.program.ItemKind.{ItemKind}
+use Rattle.da_lang.specs.declared.program.ItemKind.TheOpen.{ItemKind-F}
+use Rattle.da_lang.specs.declared.program.ItemKind.TheViews.{out-RBranch}
+use Rattle.da_lang.specs.declared.program.ProcDecl.{ProcDecl}
+use Rattle.da_lang.specs.declared.program.Program.{Program}
+use Rattle.da_lang.specs.declared.program.RBranch.{RBranch}
 use Rattle.da_lang.specs.declared.program.RExpr.{RExpr}
 use Rattle.da_lang.specs.declared.program.RExpr.TheFolds.{fold-RExpr, fold-ChainPart}
 use Rattle.da_lang.specs.declared.program.RExpr.TheOpen.{RExpr-F, ChainPart-F}
+use Rattle.da_lang.specs.declared.program.SetupCall.{SetupCall}
+use Rattle.da_lang.specs.declared.query.Query.{Query}
 use Rattle.da_lang.specs.declared.tree.ChainTree.{ChainTree}
 use Rattle.da_lang.specs.declared.tree.ClassTree.{ClassTree}
 use Rattle.da_lang.specs.declared.tree.Expr.{Expr}
@@ -22,6 +33,9 @@ use Rattle.da_lang.specs.declared.tree.PeerTree.{PeerTree}
 use Rattle.da_lang.specs.declared.tree.Tree.{Tree}
 use Rattle.da_lang.specs.ClassParts.{Body, Place, InHandler, bodies}
 use Rattle.da_lang.specs.Deeds.{Deed, deeds}
+use Rattle.da_lang.specs.Shaped.{IsItemOf}
+use Rattle.da_lang.specs.Turns.{kind_of}
+use Rattle.da_types.specs.Totality.{IsConstant, query_constants}
 
 -- the values of all parts
 abbrev pub Written : Type 0
@@ -140,3 +154,27 @@ expr_constants = fold-RExpr Written Written expr_constants_step part_constants_s
 
 unfoldable pub part_constants : ChainPart → Written
 part_constants = fold-ChainPart Written Written expr_constants_step part_constants_step
+
+-- the expressions of a statement, but for those in its blocks
+abbrev pub exprs_in : ItemKind-F ItemKind Alt Item RBranch → List RExpr
+exprs_in (ItemKind-F.Assign slot x) = x ∷ []
+exprs_in (ItemKind-F.Add slot x) = x ∷ []
+exprs_in (ItemKind-F.Del slot x) = x ∷ []
+exprs_in (ItemKind-F.Send x to) = x ∷ to ∷ []
+exprs_in (ItemKind-F.Output x) = x ∷ []
+exprs_in (ItemKind-F.If branches other) = map (λ b. (out-RBranch b).cond) branches
+exprs_in (ItemKind-F.While x body) = x ∷ []
+exprs_in (ItemKind-F.For slot x body) = x ∷ []
+exprs_in (ItemKind-F.Call args body) = map (λ a. a.value) args
+exprs_in _ = []
+
+abbrev pub exprs_of : Item → List RExpr
+exprs_of i = exprs_in (kind_of i)
+
+-- What is shown of each resolved program of a tree in which only values are written that there are: those of which its
+-- numbered queries make their values, and those in the expressions of its statements and of its lines of `setup`, are values
+-- that there are, and their processes are there.
+pub record ConstantsAreThere (p : Program) : Type 0 where
+  pub of_queries : (c : Class) (q : Query) (v : Value) → Has p.classes c → Has c.queries q → Has (query_constants q) v → IsConstant p v
+  pub of_statements : (c : Class) (i : Item) (x : RExpr) (v : Value) → Has p.classes c → IsItemOf c i → Has (exprs_of i) x → Has (expr_constants x) v → IsConstant p v
+  pub of_setups : (d : ProcDecl) (call : SetupCall) (x : RExpr) (v : Value) → Has p.procs d → d.setup ≡ Some call → Has call.args x → Has (expr_constants x) v → IsConstant p v

@@ -41,7 +41,7 @@ use Rattle.da_types.proofs.totality.QueriesKept.{GoodQuery, query_kept, least_fi
 use Rattle.da_types.proofs.totality.RowsFit.{entry_fits}
 use Rattle.da_types.proofs.totality.Worlds.{known_here, knows_here, literal_narrow, of_all, slot_there}
 
-constants-Const : (c : Value) → constants (te.Const c) ≡ c ∷ []
+pub constants-Const : (c : Value) → constants (te.Const c) ≡ c ∷ []
 constants-Const c = ap constants (sym (te.rolls-Const c)) ∙ fold-roll-Term (List Value) constants_step (Term-F.Const c)
 
 pub constants-Tuple : (xs : List Term) → constants (te.Tuple xs) ≡ flat_map constants xs
