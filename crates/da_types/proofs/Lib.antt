@@ -10,3 +10,5 @@ pub mod TellingLaws
 pub mod TermForms
 pub mod TypeForms
 pub mod Walks
+pub mod resolved
+pub mod totality

@@ -1,0 +1,17 @@
+pub mod BlocksFill
+pub mod CallsAllowed
+pub mod ClassesFill
+pub mod ConstantsAt
+pub mod ConstantsFill
+pub mod CopiesFill
+pub mod CoveredTables
+pub mod ExprConstants
+pub mod ExprsFill
+pub mod FewProcesses
+pub mod FineExprs
+pub mod ItemConstants
+pub mod LiteralsAt
+pub mod MeantFills
+pub mod ResolvedTyped
+pub mod StatementConstants
+pub mod StatementsFill
