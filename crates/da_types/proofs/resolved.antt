@@ -15,3 +15,4 @@ pub mod MeantFills
 pub mod ResolvedTyped
 pub mod StatementConstants
 pub mod StatementsFill
+pub mod Total
