@@ -1,5 +1,5 @@
 -- The lines that break a rule, by the forms of statements.
-use Rattle.std.specs.Prelude.{◌≡◌, refl, ℕ, ◌&&◌, true, is_some, List, [], ◌∷◌, ◌++◌, map, flat_map, Option, Some, None}
+use Rattle.std.specs.Prelude.{◌≡◌, refl, ℕ, ◌&&◌, true, is_some, List, [], ◌∷◌, ◌++◌, map, flat_map, Option}
 use Rattle.std.proofs.Common.{◌∙◌, ap, sym}
 use Rattle.std.proofs.lemmas.Grind.{flat_map-append}
 use Rattle.da_lang.specs.declared.program.Alt.{Alt, out-Alt, roll-out-Alt}

@@ -1,12 +1,13 @@
 -- The least line of a program, and what it means that there is none.
-use Rattle.std.specs.Prelude.{◌≡◌, refl, ℕ, zero, ◌<◌, List, [], ◌∷◌, ◌++◌, flat_map, length, map, remove, slice_get, Option, Some, None}
+use Rattle.std.specs.Prelude.{◌≡◌, refl, Bool, true, false, ℕ, ◌<◌, List, [], ◌∷◌, ◌++◌, flat_map, length, remove, slice_get, Option, Some, None}
 use Rattle.std.proofs.Common.{◌∙◌, ap, sym, arith}
 use Rattle.std.proofs.lemmas.Grind.{flat_map-append}
-use Rattle.std.proofs.lemmas.List.{append-nil}
 use Rattle.da_lang.specs.declared.program.Class.{Class}
 use Rattle.da_lang.specs.declared.program.Program.{Program}
 use Rattle.da_lang.specs.declared.tree.MessageDecl.{MessageDecl}
-use Rattle.da_lang.specs.Typing.{Typed, breaks_in, call_breaks, class_breaks, filled, handler_breaks, item_breaks, least, least_of, type_breaks, type_fault}
+use Rattle.da_lang.specs.declared.program.SetupCall.{SetupCall}
+use Rattle.da_lang.specs.declared.query.Query.{Query}
+use Rattle.da_lang.specs.Typing.{Slots, Typed, args_fit, have_types, unless, breaks_in, call_breaks, class_breaks, filled, handler_breaks, item_breaks, least, type_breaks, type_fault}
 use Rattle.da_types.specs.Telling.{telling}
 use Rattle.da_types.proofs.TellingLaws.{telling-append, telling_is_least}
 
@@ -52,6 +53,28 @@ none_typed p q r line is some t = let e : Some line ≡ None = some ∙ ap (λ s
 pub taken_out : {A : Type 0} (left : List A) (x : A) (rest : List A) → Some x ≡ slice_get left 0 → rest ≡ remove left 0 → left ≡ x ∷ rest
 taken_out [] x rest first others = cc
 taken_out (y ∷ left) x rest first others = cc
+
+-- the line of `setup` of a process: of no class there is none; of a class it is told unless its arguments fit
+pub call_of_none : (messages : List MessageDecl) (o : Option Class) (call : Option SetupCall) (told : Option ℕ) → o ≡ None → told ≡ telling told (call_breaks messages o call)
+unfolding telling
+call_of_none messages None call told none = refl
+call_of_none messages (Some c) call told none = cc
+
+pub call_of_some : (messages : List MessageDecl) (o : Option Class) (c : Class) (s : Option SetupCall) (call : SetupCall) (holds : Bool) (told now : Option ℕ) → o ≡ Some c → s ≡ Some call
+    → holds ≡ args_fit messages c c.params call.args → now ≡ telling told (unless call.line holds) → now ≡ telling told (call_breaks messages o s)
+call_of_some messages o c s call holds told now class_is call_is fits step =
+    step ∙ ap (λ h. telling told (unless call.line h)) fits
+    ∙ sym (ap (λ x. telling told (call_breaks messages x (Some call))) class_is)
+    ∙ sym (ap (λ y. telling told (call_breaks messages o y)) call_is)
+
+-- no arguments are left; no types are left for a slot
+pub no_args : (messages : List MessageDecl) (c : Class) (params : List ℕ) → args_fit messages c params [] ≡ true
+no_args messages c [] = refl
+no_args messages c (param ∷ params) = refl
+
+pub no_types : (messages : List MessageDecl) (queries : List Query) (slots : Slots) (binds : List ℕ) → 0 < length binds → have_types messages queries slots binds [] ≡ false
+no_types messages queries slots [] some = absurd (omega (arith, some))
+no_types messages queries slots (b ∷ bs) some = refl
 
 pub ruleset broken_rules = (told_program)
 

@@ -1,5 +1,5 @@
 -- The types of conditions, of sides and of aggregates, by their forms.
-use Rattle.std.specs.Prelude.{◌≡◌, refl, Bool, true, false, ◌&&◌, if◌then◌else◌, List, [], ◌∷◌, map, Option, Some, None, option_map}
+use Rattle.std.specs.Prelude.{◌≡◌, refl, ◌&&◌, if◌then◌else◌, List, [], ◌∷◌, map, Option, Some, None, option_map}
 use Rattle.std.specs.List.{list_all}
 use Rattle.std.proofs.Common.{◌∙◌, ap, sym}
 use Rattle.std.proofs.lemmas.List.Folds.{list_all-map}
@@ -8,11 +8,10 @@ use Rattle.da_lang.specs.declared.query.Cond.{Cond}
 use Rattle.da_lang.specs.declared.query.Cond.TheVariants as co
 use Rattle.da_lang.specs.declared.query.Operand.{Operand}
 use Rattle.da_lang.specs.declared.query.Operand.TheVariants as od
-use Rattle.da_lang.specs.declared.query.RGen.{RGen}
 use Rattle.da_lang.specs.declared.query.SignedOperand.{SignedOperand, out-SignedOperand, roll-out-SignedOperand}
 use Rattle.da_lang.specs.declared.ty.Ty.{Ty}
 use Rattle.da_lang.specs.declared.ty.Ty.TheVariants as t
-use Rattle.da_lang.specs.QueryTypes.{Known, Side, given, plain, is_operand, cond_holds, operand_side, agg_side, signed_side, rows_where, written_cond}
+use Rattle.da_lang.specs.QueryTypes.{Known, given, plain, is_operand, cond_holds, operand_side, agg_side, signed_side, rows_where, written_cond}
 use Rattle.da_lang.proofs.typing.QueryTypesAt.{cond_holds_at-Truth, cond_holds_at-Cmp, cond_holds_at-Not, cond_holds_at-And, cond_holds_at-Or, cond_holds_at-Quant, operand_side_at-Term, operand_side_at-Agg, operand_side_at-Chain, agg_side_at-of, signed_side_at-of}
 use Rattle.da_types.specs.Aggregates.{agg_found}
 

@@ -11,7 +11,7 @@ use Rattle.da_lang.specs.declared.query.Query.{Query}
 use Rattle.da_lang.specs.declared.tree.CmpOp.{CmpOp}
 use Rattle.da_lang.specs.declared.ty.Ty.{Ty}
 use Rattle.da_lang.specs.declared.ty.Ty.TheVariants as t
-use Rattle.da_lang.specs.ExprTypes.{ExprType, Further, by_itself, parts_fit, all_typed, set_type, int, truth, comparison, member, takes, typing, part_typing}
+use Rattle.da_lang.specs.ExprTypes.{ExprType, Further, by_itself, parts_fit, set_type, int, truth, comparison, member, takes, typing, part_typing}
 use Rattle.da_lang.specs.QueryTypes.{Known, given, holds_of, when, flat, all_types, is_typed, literal_type, slot_type, query_type}
 use Rattle.da_lang.specs.Types.{is_flat, parts_of, element_of, same_type}
 use Rattle.da_lang.specs.World.{numbered}

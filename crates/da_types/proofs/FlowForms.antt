@@ -1,10 +1,9 @@
 -- The slots behind statements, by their forms.
-use Rattle.std.specs.Prelude.{◌≡◌, refl, ℕ, List, ◌++◌, map, Option}
+use Rattle.std.specs.Prelude.{◌≡◌, List, ◌++◌, map}
 use Rattle.std.proofs.Common.{◌∙◌, ap, sym}
 use Rattle.std.proofs.lemmas.List.{map-append}
 use Rattle.da_lang.specs.declared.program.Alt.{Alt, out-Alt, roll-out-Alt}
 use Rattle.da_lang.specs.declared.program.Class.{Class}
-use Rattle.da_lang.specs.declared.program.Handler.{Handler}
 use Rattle.da_lang.specs.declared.program.Item.{Item, out-Item, roll-out-Item}
 use Rattle.da_lang.specs.declared.program.ItemKind.TheVariants as it
 use Rattle.da_lang.specs.declared.program.RBranch.{RBranch, out-RBranch, roll-out-RBranch}

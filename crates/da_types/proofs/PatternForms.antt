@@ -1,10 +1,8 @@
 -- What the forms of patterns are made of, and the rows of patterns.
 use Rattle.std.specs.Prelude.{◌≡◌, List}
 use Rattle.std.proofs.Common.{◌∙◌, ap}
-use Rattle.da_lang.specs.declared.query.Pattern.{Pattern}
 use Rattle.da_lang.specs.declared.query.Pattern.TheVariants as p
 use Rattle.da_lang.specs.declared.ty.Ty.{Ty}
-use Rattle.da_lang.specs.declared.ty.Ty.TheVariants as t
 use Rattle.da_lang.specs.QueryTypes.{Known, pattern_row, when}
 use Rattle.da_lang.specs.Types.{is_proc}
 use Rattle.da_lang.proofs.typing.QueryTypesAt.{pattern_row_at-Any, pattern_row_at-Bind, pattern_row_at-Const, pattern_row_at-Me, pattern_row_at-Equal, pattern_row_at-Tuple}

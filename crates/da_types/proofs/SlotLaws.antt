@@ -1,9 +1,9 @@
 -- A slot takes a type where none is known, and otherwise stays.
-use Rattle.std.specs.Prelude.{◌≡◌, refl, ℕ, zero, suc, ◌+◌, ◌-◌, ◌<◌, ◌≤◌, Bool, true, false, List, [], ◌∷◌, ◌++◌, map, length, Option, Some, None, slice_get, slice_set}
+use Rattle.std.specs.Prelude.{◌≡◌, refl, ℕ, zero, suc, ◌+◌, ◌-◌, ◌<◌, ◌≤◌, true, false, List, [], ◌∷◌, ◌++◌, map, length, Option, Some, None, slice_set}
 use Rattle.std.proofs.Common.{◌∙◌, ap, sym, arith, get_or, drop}
 use Rattle.std.proofs.lemmas.Bool.{false≢true}
 use Rattle.da_lang.specs.declared.ty.Ty.{Ty}
-use Rattle.da_lang.specs.QueryTypes.{given, holds_of, type_at}
+use Rattle.da_lang.specs.QueryTypes.{type_at}
 use Rattle.da_lang.specs.Typing.{Slots, known_or, with_type, with_types, in_turn}
 use Rattle.da_types.specs.Rows.{unknown_at}
 use Rattle.da_types.proofs.Walks.{at_element, at_end}

@@ -1,5 +1,5 @@
 -- Steps of loops that go through a list.
-use Rattle.std.specs.Prelude.{◌≡◌, refl, ℕ, zero, suc, ◌+◌, ◌-◌, ◌<◌, ◌≤◌, Bool, true, false, cond, List, [], ◌∷◌, ◌++◌, length, map, Option, Some, None, find, slice_get}
+use Rattle.std.specs.Prelude.{◌≡◌, refl, ℕ, zero, suc, ◌+◌, ◌-◌, ◌<◌, ◌≤◌, List, [], ◌∷◌, ◌++◌, length, map, Option, Some, None, slice_get}
 use Rattle.std.proofs.Common.{◌∙◌, ap, sym, get_or, drop, add-one, subst, append_assoc, arith}
 use Rattle.std.proofs.lemmas.List.{append-nil, drop_all}
 use Rattle.std.proofs.Math.Seq.{drop-cons}
@@ -18,6 +18,10 @@ at_element P xs i x within here said = subst P (left_here xs i x within here) sa
 -- what is said of what is left behind the last element
 pub at_end : {A : Type 0} (P : List A → Type 0) (xs : List A) (i : ℕ) → length xs ≤ i → P (drop i xs) → P []
 at_end P xs i past said = subst P (drop_all i xs past) said
+
+pub nothing_left : {A : Type 0} (xs : List A) → length xs < 1 → xs ≡ []
+nothing_left [] few = refl
+nothing_left (x ∷ xs) few = absurd (omega (arith, few))
 
 pub numbered_at : {A : Type 0} (members : List A) (number : ℕ) → 0 < number → numbered members number ≡ slice_get members (number - 1)
 numbered_at members zero some = absurd (omega arith)

@@ -1,7 +1,7 @@
 //! The types of the slots of a program, and the least line that breaks a rule of types.
 ghost use Rattle.da_lang.specs.Typing.{args_fit as args_fitting, breaks_in, call_breaks, class_breaks, filled as filled_program, filled_class, least as least_line};
 ghost use Rattle.da_types.specs.Telling.{telling};
-ghost use Rattle.std.specs.Prelude.{◌≡◌, IfOk, OnOk, flat_map, map, slice_get};
+ghost use Rattle.std.specs.Prelude.{◌≡◌, IfOk, MatchOption, None, OnOk, Some, flat_map, map, slice_get};
 
 use crate::flow::filled_slots;
 use crate::known::Known;
@@ -43,7 +43,7 @@ fn filled_classes(
 {
     let mut left = classes;
     let mut found = List::new(alloc);
-    while left.len() > 0 {
+    'classes: while left.len() > 0 {
         let class = left.remove(0);
         found.push(fill_class(alloc, messages, class)?)?;
     }
@@ -115,7 +115,7 @@ fn tell_call(
 ) -> Result<(), NoMemory>
     ensures { OnOk result (least.new ≡ telling least.old (call_breaks messages.now (slice_get classes.now process.now.class) process.now.setup)) }
 {
-    let Some(class) = classes.get(usize::from(process.class)) else {
+    let Some(class) = class_at(classes, process.class) else {
         return Ok(());
     };
     let Some(call) = &process.setup else {
@@ -125,6 +125,13 @@ fn tell_call(
     let holds = args_fit(alloc, messages, class, params, call.args.as_slice())?;
     least.tell_unless(holds, call.line);
     Ok(())
+}
+
+// The class of this number, counted from 0.
+fn class_at(classes: &[Class], number: u16) -> Option<&Class>
+    ensures { MatchOption result (slice_get classes.now number ≡ None) (λ class. slice_get classes.now number ≡ Some class.now) }
+{
+    classes.get(usize::from(number))
 }
 
 // Whether arguments of `setup` fit the slots of the parameters.

@@ -1,4 +1,4 @@
-use Rattle.std.proofs.Common.{◌≡◌, map, take, true}
+use Rattle.std.proofs.Common.{◌≡◌, take, true}
 use Rattle.std.specs.List.{list_all}
 use Rattle.da_lang.specs.Types.{ordered}
 use Rattle.da_types.proofs.types.+ordered.Given as goal
