@@ -1,0 +1,17 @@
+pub mod Awaits
+pub mod FoundAt
+pub mod FoundConds
+pub mod FoundMatches
+pub mod FoundRows
+pub mod HaveValues
+pub mod Keeping
+pub mod KindLaws
+pub mod MatchesFit
+pub mod OpeningWorlds
+pub mod QueriesFit
+pub mod QueriesKept
+pub mod RowsFit
+pub mod StrictExamples
+pub mod TermLaws
+pub mod WholeValues
+pub mod Worlds

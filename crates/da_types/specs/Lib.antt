@@ -1,0 +1,9 @@
+pub mod Aggregates
+pub mod Chains
+pub mod Constants
+pub mod KnownView
+pub mod Refusing
+pub mod Rows
+pub mod SideView
+pub mod Telling
+pub mod Totality

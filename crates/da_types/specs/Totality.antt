@@ -1,0 +1,296 @@
+-- Queries and conditions read strictly: nothing stands in for a value that is not there. A slot or a part that is
+-- missing has no value, nor has an expression of no form of queries, an operand that is no integer, a condition that is
+-- no truth value, a comparison of two kinds, or a source that is no set. In a typed program every query and every
+-- condition of an `await` has one.
+use Rattle.std.specs.Prelude.{◌≡◌, ℕ, ℤ, pos, ◌+ℤ◌, neg_ℤ, Bool, true, false, not, if◌then◌else◌, List, [], ◌∷◌, ◌++◌, map, Option, Some, None, Ok, Err, length, nat_eq}
+use Rattle.std.specs.List.{list_any, list_all, filter_map, flat_map}
+use Rattle.da_values.specs.declared.val.Val.{Val, out-Val}
+use Rattle.da_values.specs.declared.val.Val.TheVariants as val
+use Rattle.da_values.specs.declared.val.Val.TheOpen as vo
+use Rattle.da_values.specs.declared.value.Value.{Value}
+use Rattle.da_values.specs.Narrow.{is_narrow}
+use Rattle.da_values.specs.Order.{kind, val_cmp}
+use Rattle.da_values.specs.Proper.{IsValue}
+use Rattle.da_values.specs.Sets.{Has, canon}
+use Rattle.da_values.specs.Value.{val_of}
+use Rattle.da_lang.specs.declared.event.FaultKind.TheVariants.{Overflow}
+use Rattle.da_lang.specs.declared.program.Alt.{Alt}
+use Rattle.da_lang.specs.declared.program.Class.{Class}
+use Rattle.da_lang.specs.declared.program.Item.{Item}
+use Rattle.da_lang.specs.declared.program.ItemKind.TheOpen.{Await}
+use Rattle.da_lang.specs.declared.program.ItemKind.TheViews.{out-Alt}
+use Rattle.da_lang.specs.declared.program.Program.{Program}
+use Rattle.da_lang.specs.declared.query.Agg.{Agg}
+use Rattle.da_lang.specs.declared.query.AggOp.{AggOp}
+use Rattle.da_lang.specs.declared.query.AggOp.TheVariants.{Count, Sum, Min, Max}
+use Rattle.da_lang.specs.declared.query.Cond.{Cond}
+use Rattle.da_lang.specs.declared.query.Cond.TheFolds.{fold-Cond, fold-Operand, fold-Agg, fold-SignedOperand}
+use Rattle.da_lang.specs.declared.query.Cond.TheOpen.{Cond-F, Operand-F, Agg-F, SignedOperand-F}
+use Rattle.da_lang.specs.declared.query.Cond.TheViews.{out-Agg}
+use Rattle.da_lang.specs.declared.query.Operand.{Operand}
+use Rattle.da_lang.specs.declared.query.Pattern.{Pattern, out-Pattern}
+use Rattle.da_lang.specs.declared.query.Pattern.TheFolds.{fold-Pattern}
+use Rattle.da_lang.specs.declared.query.Pattern.TheOpen as pattern
+use Rattle.da_lang.specs.declared.query.Query.{Query}
+use Rattle.da_lang.specs.declared.query.Query.TheVariants as query
+use Rattle.da_lang.specs.declared.query.RGen.{RGen}
+use Rattle.da_lang.specs.declared.query.SignedOperand.{SignedOperand}
+use Rattle.da_lang.specs.declared.query.Source.{Source}
+use Rattle.da_lang.specs.declared.query.Source.TheVariants as source
+use Rattle.da_lang.specs.declared.query.Term.{Term}
+use Rattle.da_lang.specs.declared.query.Term.TheFolds.{fold-Term}
+use Rattle.da_lang.specs.declared.query.Term.TheOpen as term
+use Rattle.da_lang.specs.declared.tree.CmpOp.{CmpOp}
+use Rattle.da_lang.specs.declared.ty.Ty.{Ty}
+use Rattle.da_lang.specs.Arithmetic.{Outcome}
+use Rattle.da_lang.specs.Evaluation.{asked}
+use Rattle.da_lang.specs.Matching.{Row, is_same, where_true}
+use Rattle.da_lang.specs.Queries.{compares, entry_parts, first_or, holds, last_or, query_value, total}
+use Rattle.da_lang.specs.QueryTypes.{given, is_any, query_type}
+use Rattle.da_lang.specs.Shaped.{Shaped, IsItemOf, has_processes}
+use Rattle.da_lang.specs.Turns.{kind_of}
+use Rattle.da_lang.specs.Types.{is_of}
+use Rattle.da_lang.specs.Typing.{known}
+use Rattle.da_lang.specs.World.{Data, World, class_of, numbered}
+
+-- all of them, where each is there
+abbrev pub all_there : {A : Type 0} → List (Option A) → Option (List A)
+all_there [] = Some []
+all_there (x ∷ xs) = given x (λ first. given (all_there xs) (λ others. Some (first ∷ others)))
+
+-- a value that is of the kind that is asked for
+abbrev pub integer : vo.Val-F Val → Option ℤ
+integer (vo.Int number) = Some number
+integer _ = None
+
+abbrev pub truth : vo.Val-F Val → Option Bool
+truth (vo.Bool b) = Some b
+truth _ = None
+
+abbrev pub elements : vo.Val-F Val → Option (List Val)
+elements (vo.Set members) = Some members
+elements _ = None
+
+-- a comparison of two values of one kind
+abbrev pub compared : CmpOp → Val → Val → Option Bool
+compared op v w = if nat_eq (kind (out-Val v)) (kind (out-Val w)) then Some (compares op (val_cmp v w)) else None
+
+-- what a pattern does with a value: the row that it gives or that there is none, if each term in it has a value
+abbrev pub Finds : Type 0
+Finds = Val → Row → Option (Option Row)
+
+abbrev pub and_finds : Option Row → (Row → Option (Option Row)) → Option (Option Row)
+and_finds None go_on = Some None
+and_finds (Some row) go_on = go_on row
+
+abbrev pub parts_found : List Finds → List Val → Row → Option (Option Row)
+parts_found [] [] row = Some (Some row)
+parts_found [] (x ∷ xs) row = Some None
+parts_found (m ∷ ms) [] row = Some None
+parts_found (m ∷ ms) (x ∷ xs) row = given (m x row) (λ found. and_finds found (parts_found ms xs))
+
+abbrev pub tuple_found : List Finds → vo.Val-F Val → Row → Option (Option Row)
+tuple_found ms (vo.Tuple xs) row = parts_found ms xs row
+tuple_found ms _ row = Some None
+
+-- a candidate of a source, with the other process, which an element of a set has not
+abbrev pub with_peer : Val × Val → Val × Option Val
+with_peer c = (c.0, Some c.1)
+
+abbrev pub alone : Val → Val × Option Val
+alone x = (x, None)
+
+-- conditions, operands, and the further parts of chains, in a row
+abbrev pub Test : Type 0
+Test = Row → Option Bool
+
+abbrev pub Meant : Type 0
+Meant = Row → Option Val
+
+abbrev pub Number : Type 0
+Number = Row → Option ℤ
+
+abbrev pub test_found : Option Test → Test
+test_found None row = Some true
+test_found (Some test) row = test row
+
+-- the rows that meet a condition, which has a value in each
+abbrev pub with_row : Bool → Row → List Row → List Row
+with_row b row rows = if b then row ∷ rows else rows
+
+abbrev pub rows_found : Test → List Row → Option (List Row)
+rows_found test [] = Some []
+rows_found test (row ∷ rows) = given (test row) (λ b. given (rows_found test rows) (λ others. Some (with_row b row others)))
+
+abbrev pub integer_found : Option Val → Option ℤ
+integer_found x = given x (λ v. integer (out-Val v))
+
+-- of the elements of a set, ascending; `min` and `max` have a value for where there are none
+abbrev pub aggregate_found : AggOp → Option Val → List Val → Option Val
+aggregate_found Count other xs = Some (val.Int (pos (length xs)))
+aggregate_found Sum other xs = given (all_there (map (λ v. integer (out-Val v)) xs)) (λ is. Some (val.Int (total is)))
+aggregate_found Min other xs = given other (λ v. Some (first_or v xs))
+aggregate_found Max other xs = given other (λ v. Some (last_or v xs))
+
+module _ (d : Data) where
+  -- the value of a term in a row, if it has one
+  abbrev pub found_term_step : Row → term.Term-F (Option Val) → Option Val
+  found_term_step row (term.Const c) = Some (val_of c)
+  found_term_step row term.Me = Some (val.Proc d.me)
+  found_term_step row (term.Slot s) = numbered d.slots s
+  found_term_step row (term.Part k) = numbered row k
+  found_term_step row (term.Tuple parts) = given (all_there parts) (λ vs. Some (val.Tuple vs))
+  found_term_step row term.Foreign = None
+
+  abbrev pub found_term : Row → Term → Option Val
+  found_term row = fold-Term (Option Val) (found_term_step row)
+
+  abbrev pub found_match_step : pattern.Pattern-F Finds → Finds
+  found_match_step pattern.Any x row = Some (Some row)
+  found_match_step pattern.Bind x row = Some (Some (row ++ x ∷ []))
+  found_match_step (pattern.Const c) x row = Some (where_true (is_same x (val_of c)) row)
+  found_match_step pattern.Me x row = Some (where_true (is_same x (val.Proc d.me)) row)
+  found_match_step (pattern.Equal t) x row = given (found_term row t) (λ v. Some (where_true (is_same x v) row))
+  found_match_step (pattern.Tuple ms) x row = tuple_found ms (out-Val x) row
+
+  abbrev pub found_match : Pattern → Finds
+  found_match = fold-Pattern Finds found_match_step
+
+  -- all that a source has
+  abbrev pub source_found : Source → Option (List (Val × Option Val))
+  source_found source.Received = Some (map (λ e. with_peer (entry_parts e)) d.received)
+  source_found source.Sent = Some (map (λ e. with_peer (entry_parts e)) d.sent)
+  source_found (source.Slot s) = given (numbered d.slots s) (λ v. given (elements (out-Val v)) (λ members. Some (map alone members)))
+
+  -- only `_` goes with no process
+  abbrev pub peer_found : Pattern → Option Val → Row → Option (Option Row)
+  peer_found p None row = if is_any (out-Pattern p) then Some (Some row) else None
+  peer_found p (Some x) row = found_match p x row
+
+  abbrev pub both_found : RGen → Row → Val × Option Val → Option (Option Row)
+  both_found g row c = given (found_match g.message c.0 row) (λ found. and_finds found (peer_found g.peer c.1))
+
+  -- a row's extensions
+  abbrev pub steps_found : RGen → Row → Option (List Row)
+  steps_found g row = given (source_found g.source) (λ cs. given (all_there (map (both_found g row) cs)) (λ found. Some (filter_map (λ r. r) found)))
+
+  abbrev pub extensions_found : List RGen → Row → Option (List Row)
+  extensions_found [] row = Some (row ∷ [])
+  extensions_found (g ∷ gs) row = given (steps_found g row) (λ rs. given (all_there (map (extensions_found gs) rs)) (λ found. Some (flat_map (λ r. r) found)))
+
+  -- conditions, operands, and the further parts of chains, in a row
+  abbrev pub found_cond_step : Cond-F Test Meant Meant Number → Test
+  found_cond_step (Cond-F.Truth t) row = given (found_term row t) (λ v. truth (out-Val v))
+  found_cond_step (Cond-F.Cmp op a b) row = given (a row) (λ v. given (b row) (compared op v))
+  found_cond_step (Cond-F.Not b) row = given (b row) (λ v. Some (not v))
+  found_cond_step (Cond-F.And bs) row = given (all_there (map (λ b. b row) bs)) (λ vs. Some (list_all (λ v. v) vs))
+  found_cond_step (Cond-F.Or bs) row = given (all_there (map (λ b. b row) bs)) (λ vs. Some (list_any (λ v. v) vs))
+  found_cond_step (Cond-F.Quant each gens b) row =
+      given (extensions_found gens row) (λ rs. given (all_there (map (test_found b) rs)) (λ vs. Some (if each then list_all (λ v. v) vs else list_any (λ v. v) vs)))
+
+  abbrev pub found_operand_step : Operand-F Test Meant Meant Number → Meant
+  found_operand_step (Operand-F.Term t) row = found_term row t
+  found_operand_step (Operand-F.Agg a) row = a row
+  found_operand_step (Operand-F.Chain a more) row =
+      given (integer_found (a row)) (λ first. given (all_there (map (λ n. n row) more)) (λ others. Some (val.Int (first +ℤ total others))))
+
+  abbrev pub other_found : Row → Option Term → Option Val
+  other_found row None = None
+  other_found row (Some t) = found_term row t
+
+  abbrev pub terms_found : Term → List Row → Option (List Val)
+  terms_found t rs = given (all_there (map (λ r. found_term r t) rs)) (λ vs. Some (canon val_cmp vs))
+
+  -- the set of a term over the rows of generators that meet a condition
+  abbrev pub set_found : List RGen → Option Test → Term → Row → Option (List Val)
+  set_found gens b t row = given (given (extensions_found gens row) (rows_found (test_found b))) (terms_found t)
+
+  abbrev pub found_agg_step : Agg-F Test Meant Meant Number → Meant
+  found_agg_step a row = given (set_found a.gens a.cond a.term row) (aggregate_found a.op (other_found row a.other))
+
+  abbrev pub found_signed_step : SignedOperand-F Test Meant Meant Number → Number
+  found_signed_step s row = given (integer_found (s.operand row)) (λ i. Some (if s.minus then neg_ℤ i else i))
+
+  -- whether a condition holds of a row, if it has a value there
+  abbrev pub found_holds : Cond → Test
+  found_holds = fold-Cond Test Meant Meant Number found_cond_step found_operand_step found_agg_step found_signed_step
+
+  abbrev pub found_operand : Operand → Meant
+  found_operand = fold-Operand Test Meant Meant Number found_cond_step found_operand_step found_agg_step found_signed_step
+
+  abbrev pub found_agg : Agg → Meant
+  found_agg = fold-Agg Test Meant Meant Number found_cond_step found_operand_step found_agg_step found_signed_step
+
+  abbrev pub found_signed : SignedOperand → Number
+  found_signed = fold-SignedOperand Test Meant Meant Number found_cond_step found_operand_step found_agg_step found_signed_step
+
+  abbrev pub found_where : Option Cond → Option Test
+  found_where None = None
+  found_where (Some b) = Some (found_holds b)
+
+  -- what a query gives, if it has a value
+  abbrev pub found_query : Query → Option Val
+  found_query (query.Quant each gens b) = given (found_cond_step (Cond-F.Quant each gens (found_where b)) []) (λ v. Some (val.Bool v))
+  found_query (query.Comp t gens b) = given (set_found gens (found_where b) t []) (λ vs. Some (val.Set vs))
+  found_query (query.Agg a) = found_agg a []
+
+-- a `count` or a `sum`, whose integer may lie outside an i64
+abbrev pub counts_by : AggOp → Bool
+counts_by Count = true
+counts_by Sum = true
+counts_by Min = false
+counts_by Max = false
+
+abbrev pub counts : Query → Bool
+counts (query.Quant each gens b) = false
+counts (query.Comp t gens b) = false
+counts (query.Agg a) = counts_by (out-Agg a).op
+
+-- the constants of which a query makes its value
+abbrev pub constants_step : term.Term-F (List Value) → List Value
+constants_step (term.Const c) = c ∷ []
+constants_step (term.Tuple parts) = flat_map (λ part. part) parts
+constants_step _ = []
+
+abbrev pub constants : Term → List Value
+constants = fold-Term (List Value) constants_step
+
+abbrev pub other_constants : Option Term → List Value
+other_constants None = []
+other_constants (Some t) = constants t
+
+abbrev pub query_constants : Query → List Value
+query_constants (query.Quant each gens b) = []
+query_constants (query.Comp t gens b) = constants t
+query_constants (query.Agg a) = constants (out-Agg a).term ++ other_constants (out-Agg a).other
+
+-- a constant is a value that there is, and its processes are there
+pub record IsConstant (p : Program) (c : Value) : Type 0 where
+  pub proper : IsValue (val_of c)
+  pub processes : has_processes (length p.procs) (val_of c) ≡ true
+
+-- A query has this value, which is of its type, and whose integers lie in an i64 but for that of a `count` or a `sum`.
+pub record HasValue (d : Data) (q : Query) (ty : Ty) (v : Val) : Type 0 where
+  pub found : found_query d q ≡ Some v
+  pub typed : is_of ty v ≡ true
+  pub narrow : counts q ≡ false → is_narrow v ≡ true
+
+-- what an expression that asks it gives: this value, or the fault that the integer of a `count` or a `sum` lies outside an
+-- i64
+abbrev pub IsAnswer : Query → Val → Outcome → Type 0
+IsAnswer q v (Ok w) = (w ≡ v) × (is_narrow v ≡ true)
+IsAnswer q v (Err kind) = (kind ≡ Overflow) × (counts q ≡ true) × (is_narrow v ≡ false)
+
+-- it has a type and a value of this type, also in an expression
+abbrev pub QueryHas : Program → Class → Data → Query → Val → Type 0
+QueryHas p c d q v = (ty : Ty) × (query_type (known p.messages c.queries c.slots) q ≡ Some ty) × HasValue d q ty v × IsAnswer q v (asked v)
+
+-- In a class of a program, with what a process of the class knows: each numbered query has a value, and so has the
+-- condition of each alternative of an `await`. It is the one that they have where other values stand in for missing ones.
+pub record AllHaveValues (p : Program) (c : Class) (d : Data) : Type 0 where
+  pub queries : (n : ℕ) (q : Query) → numbered c.queries n ≡ Some q → QueryHas p c d q (query_value c.queries n d)
+  pub conditions : (i : Item) (alts : List Alt) (a : Alt) → IsItemOf c i → kind_of i ≡ Await alts → Has alts a → found_holds d (out-Alt a).cond [] ≡ Some (holds d (out-Alt a).cond [])
+
+-- What is shown of each typed program: in every shaped world all of the class of its process have values.
+abbrev pub NothingIsMissing : Program → Type 0
+NothingIsMissing p = (w : World) (c : Class) → Shaped p w → class_of p w.data'.me ≡ Some c → AllHaveValues p c w.data'
