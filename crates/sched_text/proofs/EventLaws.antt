@@ -21,47 +21,6 @@ named_again (Repeat p q i) = refl
 named_again (Show p) = refl
 named_again (Stat p) = refl
 
--- a word and numbers name no event but their own
-abbrev Of : List ℕ → List ℕ → Option Event → Type 0
-Of word ns None = Unit {0}
-Of word ns (Some e) = (word ≡ event_word e) × (ns ≡ event_numbers e)
-
-chosen : (b : Bool) (P : Option Event → Type 0) (x y : Option Event) → (b ≡ true → P x) → P y → P (if b then x else y)
-chosen true P x y first other = first refl
-chosen false P x y first other = other
-
-same : (word text : List ℕ) → bytes_eq word text ≡ true → word ≡ text
-same word text tested = (bytes_eq-Decides word text).0 tested
-
-of_one : (word : List ℕ) (p : ℕ) → Of word (p ∷ []) (one_named word p)
-of_one word p =
-    chosen _ (Of word (p ∷ [])) _ _ (λ t. (same word (codes "move") t, refl))
-    (chosen _ (Of word (p ∷ [])) _ _ (λ t. (same word (codes "show") t, refl))
-    (chosen _ (Of word (p ∷ [])) _ _ (λ t. (same word (codes "stat") t, refl)) tt))
-
-of_three : (word : List ℕ) (p q i : ℕ) → Of word (p ∷ q ∷ i ∷ []) (three_named word p q i)
-of_three word p q i =
-    chosen _ (Of word (p ∷ q ∷ i ∷ [])) _ _ (λ t. (same word (codes "deliver") t, refl))
-    (chosen _ (Of word (p ∷ q ∷ i ∷ [])) _ _ (λ t. (same word (codes "lose") t, refl))
-    (chosen _ (Of word (p ∷ q ∷ i ∷ [])) _ _ (λ t. (same word (codes "repeat") t, refl)) tt))
-
-named_of : (word ns : List ℕ) → Of word ns (event_named word ns)
-named_of word [] = tt
-named_of word (p ∷ []) = of_one word p
-named_of word (p ∷ k ∷ []) = chosen _ (Of word (p ∷ k ∷ [])) _ _ (λ t. (same word (codes "move") t, refl)) tt
-named_of word (p ∷ q ∷ i ∷ []) = of_three word p q i
-named_of word (p ∷ q ∷ i ∷ more ∷ ns) = tt
-
--- the line whose word and numbers name this event is this event, and no other
-pub line_named : (word rest line ns : List ℕ) (found : Option Event) → line ≡ word ++ rest → rest ≡ spaced ns → All IsNamed ns → found ≡ event_named word ns → IfSome found (λ e. IsLineOf e line)
-line_named word rest line ns None cut is named said = tt
-line_named word rest line ns (Some e) cut is named said =
-    let of : Of word ns (Some e) = subst (Of word ns) (sym said) (named_of word ns) in
-    record {
-      names = subst (All IsNamed) of.1 named;
-      is = cut ∙ ap (λ r. word ++ r) is ∙ ap (λ w. w ++ spaced ns) of.0 ∙ ap (λ xs. event_word e ++ spaced xs) of.1;
-    }
-
 pub same_event : (d e : Event) → event_word d ≡ event_word e → event_numbers d ≡ event_numbers e → d ≡ e
 same_event d e word numbers =
     let both : ◌≡◌ {A = Option Event} (Some d) (Some e) = sym (named_again d) ∙ ap (λ w. event_named w (event_numbers d)) word ∙ ap (event_named (event_word e)) numbers ∙ named_again e in

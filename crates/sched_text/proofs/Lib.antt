@@ -1,7 +1,7 @@
 pub mod ActionLemmas
 pub mod EventLaws
+pub mod IfLemmas
 pub mod LineLemmas
-pub mod NumberLemmas
 pub mod ScheduleLaws
 pub mod ScheduleLemmas
 pub mod WordLemmas

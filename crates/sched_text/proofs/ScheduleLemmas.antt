@@ -2,8 +2,12 @@
 use Rattle.std.proofs.Common.{◌≡◌, refl, sym, ◌∙◌, ap, subst, ℕ, ◌+◌, ◌≤◌, ◌<◌, inl, inr, List, [], ◌∷◌, ◌++◌, length, arith, append_assoc, append-nil, length-append}
 use Rattle.std.proofs.lemmas.List.Elements.{All-cons, All-nil}
 use Rattle.std.specs.List.{All}
+use Rattle.std.specs.Prelude.{Err}
 use Rattle.std.specs.Str.Lines.{lines}
 use Rattle.da_lang.specs.declared.event.Event.{Event}
+use Rattle.sched_text.specs.declared.schedule.SchedFault.{SchedFault}
+use Rattle.sched_text.specs.declared.schedule.SchedFault.TheVariants.{BadLine, Memory}
+use Rattle.sched_text.specs.Reading.{Adds, IsFaultAt, IsRead, added, passed_over}
 use Rattle.sched_text.specs.ScheduleText.{IsBadSchedule, IsFirstBad, IsLine, IsLineOf, IsSkipped, SpellsLines, SpellsSchedule, event, none, schedule_limit, skipped}
 
 -- the lines that were passed spell these events, and these bytes are left
@@ -30,7 +34,7 @@ came_first text = record { passed = []; cut = refl; spelled = none; counted = om
 came_cut : (text rest others line : List ℕ) (passed : List (List ℕ)) → lines text ≡ passed ++ lines rest → lines rest ≡ line ∷ lines others → lines text ≡ (passed ++ line ∷ []) ++ lines others
 came_cut text rest others line passed cut first = cut ∙ ap (λ x. passed ++ x) first ∙ sym (append_assoc passed (line ∷ []) (lines others))
 
-pub came_over : (text rest others line : List ℕ) (events : List Event) (number : ℕ) → Came text rest events number → lines rest ≡ line ∷ lines others → IsSkipped line → Came text others events (number + 1)
+came_over : (text rest others line : List ℕ) (events : List Event) (number : ℕ) → Came text rest events number → lines rest ≡ line ∷ lines others → IsSkipped line → Came text others events (number + 1)
 came_over text rest others line events number came first is = record {
   passed = came.passed ++ line ∷ [];
   cut = came_cut text rest others line came.passed came.cut first;
@@ -38,7 +42,7 @@ came_over text rest others line events number came first is = record {
   counted = omega (arith, came.counted, length-append came.passed (line ∷ []));
 }
 
-pub came_on : (text rest others line : List ℕ) (events : List Event) (e : Event) (number : ℕ) → Came text rest events number → lines rest ≡ line ∷ lines others → IsLineOf e line
+came_on : (text rest others line : List ℕ) (events : List Event) (e : Event) (number : ℕ) → Came text rest events number → lines rest ≡ line ∷ lines others → IsLineOf e line
     → Came text others (events ++ e ∷ []) (number + 1)
 came_on text rest others line events e number came first is = record {
   passed = came.passed ++ line ∷ [];
@@ -46,6 +50,11 @@ came_on text rest others line events e number came first is = record {
   spelled = event_last came.passed events line e came.spelled is;
   counted = omega (arith, came.counted, length-append came.passed (line ∷ []));
 }
+
+-- one more line was read
+pub came_next : (text rest others line : List ℕ) (old new : List Event) (number : ℕ) → Came text rest old number → lines rest ≡ line ∷ lines others → Adds line old new → Came text others new (number + 1)
+came_next text rest others line old _ number came first (passed_over is) = came_over text rest others line old number came first is
+came_next text rest others line old _ number came first (added e is) = came_on text rest others line old e number came first is
 
 -- lines that spell events are lines of a schedule
 all_lines : (all : List (List ℕ)) (events : List Event) → SpellsLines all events → All IsLine all
@@ -62,14 +71,24 @@ read_whole text [] events number few came nothing = record {
 read_whole text (b ∷ bs) events number few came nothing = absurd (omega (arith, nothing))
 
 -- the first bad line
-pub read_bad : (text rest others line : List ℕ) (events : List Event) (number : ℕ) → length text ≤ schedule_limit → Came text rest events number → lines rest ≡ line ∷ lines others
+read_bad : (text rest others line : List ℕ) (events : List Event) (number : ℕ) → length text ≤ schedule_limit → Came text rest events number → lines rest ≡ line ∷ lines others
     → (IsLine line → ⊥) → IsBadSchedule text number
-read_bad text rest others line events number few came first bad = inr (few, record {
-  before = came.passed;
-  line = line;
-  after = lines others;
-  cut = came.cut ∙ ap (λ x. came.passed ++ x) first;
-  counted = came.counted;
-  good = all_lines came.passed events came.spelled;
-  bad = bad;
-})
+read_bad text rest others line events number few came first bad = inr (
+  few,
+  record {
+    before = came.passed;
+    line = line;
+    after = lines others;
+    cut = came.cut ∙ ap (λ x. came.passed ++ x) first;
+    counted = came.counted;
+    good = all_lines came.passed events came.spelled;
+    bad = bad;
+  },
+)
+
+-- a line that added nothing
+pub read_fault : (text rest others line : List ℕ) (events : List Event) (number : ℕ) (fault : SchedFault) → length text ≤ schedule_limit → Came text rest events number → lines rest ≡ line ∷ lines others
+    → IsFaultAt line number fault → IsRead text (Err fault)
+read_fault text rest others line events number Memory few came first is = tt
+read_fault text rest others line events number (BadLine n) few came first is =
+    subst (IsBadSchedule text) (sym is.0) (read_bad text rest others line events number few came first is.1)

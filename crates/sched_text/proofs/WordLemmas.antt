@@ -3,6 +3,7 @@ use Rattle.std.proofs.Common.{◌≡◌, ◌≢◌, refl, sym, ◌∙◌, ap, su
 use Rattle.std.specs.List.{All}
 use Rattle.std.specs.Prelude.{codes, decimal, slice_index_or}
 use Rattle.std.specs.Str.Parse.{AllDigits, digits_value}
+use Rattle.std.proofs.lemmas.List.Elements.{All-cons}
 use Rattle.std.proofs.lemmas.Fmt.{decimal_is_IsNumeral}
 use Rattle.std.proofs.lemmas.Str.Parse.{digit_from_value}
 use Rattle.da_lang.specs.declared.event.Event.{Event}
@@ -36,11 +37,10 @@ one_cut (x ∷ xs) (y ∷ ys) r s p q u v same =
 -- a number is a word, and its text is its own
 digits_word : (ds : List ℕ) → AllDigits 10 ds → IsWord ds
 digits_word [] each = λ k d inside. absurd (omega (arith, inside))
-digits_word (b ∷ bs) each = at
-  where
-    at : IsWord (b ∷ bs)
-    at zero d inside = let range = digit_from_value b each.0 in λ same. omega (arith, range.0, range.1, same)
-    at (suc k) d inside = digits_word bs each.1 k d (omega (arith, inside))
+digits_word (b ∷ bs) each =
+    let range = digit_from_value b each.0 in
+    let other : b ≢ 32 = λ same. omega (arith, range.0, same) in
+    All-cons (λ byte. byte ≢ 32) b bs other (digits_word bs each.1)
 
 pub number_word : (n : ℕ) → IsNamed n → IsWord (decimal n)
 number_word n named = digits_word (decimal n) (decimal_is_IsNumeral n (omega (arith, named.1))).0.1
@@ -68,10 +68,7 @@ one_list (m ∷ ms) (n ∷ ns) p q same =
     let more = one_list ms ns (λ k d inside. p (suc k) d (omega (arith, inside))) (λ k d inside. q (suc k) d (omega (arith, inside))) rest in
     cc
 
--- numbers that are read from the front
-pub one_more : (bytes rest ns : List ℕ) (n : ℕ) → bytes ≡ codes " " ++ decimal n ++ rest → rest ≡ spaced ns → bytes ≡ spaced (n ∷ ns)
-one_more bytes rest ns n is more = is ∙ ap (λ r. codes " " ++ decimal n ++ r) more
-
+-- no number that a schedule can name stands at the front, behind a space
 abbrev pub NoNumber : List ℕ → Type 0
 NoNumber bytes = (n : ℕ) (rest : List ℕ) → IsNamed n → Stops rest → bytes ≡ codes " " ++ decimal n ++ rest → ⊥
 
@@ -89,13 +86,13 @@ no_first most bytes lacks = record { none = at }
 pub no_more : (bytes : List ℕ) → NoList 0 bytes
 no_more bytes = record { none = λ ns named some few is. omega (arith, some, few) }
 
-pub no_later : (most : ℕ) (bytes rest : List ℕ) (n : ℕ) → IsNamed n → Stops rest → bytes ≡ codes " " ++ decimal n ++ rest → 0 < length rest → NoList most rest → NoList (most + 1) bytes
-no_later most bytes rest n named stops is left lacks = record { none = at }
+pub no_later : (most : ℕ) (bytes rest : List ℕ) (n : ℕ) → IsNamed n × Stops rest × (bytes ≡ codes " " ++ decimal n ++ rest) → 0 < length rest → NoList most rest → NoList (most + 1) bytes
+no_later most bytes rest n front left lacks = record { none = at }
   where
     at : (ns : List ℕ) → All IsNamed ns → 1 ≤ length ns → length ns ≤ most + 1 → bytes ≡ spaced ns → ⊥
     at [] others some few same = omega (arith, some)
     at (m ∷ ns) others some few same =
-        let (first, tails) = one_front n m rest (spaced ns) named (others 0 m (omega arith)) stops (stops_spaced ns) (sym is ∙ same) in
+        let (first, tails) = one_front n m rest (spaced ns) front.0 (others 0 m (omega arith)) front.1 (stops_spaced ns) (sym front.2 ∙ same) in
         on ns (λ k d inside. others (suc k) d (omega (arith, inside))) (omega (arith, few)) tails
       where
         on : (ns : List ℕ) → All IsNamed ns → length ns ≤ most → rest ≡ spaced ns → ⊥
@@ -104,3 +101,10 @@ no_later most bytes rest n named stops is left lacks = record { none = at }
 
 pub not_listed : (bytes : List ℕ) → NoList 3 bytes → (ns : List ℕ) → AreNumbers ns → bytes ≡ spaced ns → ⊥
 not_listed bytes lacks ns numbers is = lacks.none ns numbers.named numbers.some numbers.few is
+
+pub no_number : (bytes after digits rest : List ℕ) → bytes ≡ 32 ∷ after → after ≡ digits ++ rest → IsWord digits → Stops rest → ((n : ℕ) → IsNamed n → digits ≡ decimal n → ⊥) → NoNumber bytes
+no_number bytes after digits rest begins cut word stops lacks = λ n others named stop is.
+    let both : 32 ∷ (digits ++ rest) ≡ 32 ∷ (decimal n ++ others) = ap (λ t. 32 ∷ t) (sym cut) ∙ sym begins ∙ is in
+    let tails : digits ++ rest ≡ decimal n ++ others = cc in
+    let (digits_is, rest_is) = one_cut digits (decimal n) rest others word (number_word n named) stops stop tails in
+    lacks n named digits_is

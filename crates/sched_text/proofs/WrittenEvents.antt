@@ -1,5 +1,5 @@
 -- Events that are written are read back.
-use Rattle.std.proofs.Common.{◌≡◌, ◌≢◌, refl, sym, ◌∙◌, ap, subst, ℕ, zero, suc, ◌+◌, ◌*◌, ◌-◌, ◌≤◌, ◌<◌, ◌^◌, Bool, true, false, List, [], ◌∷◌, ◌++◌, length, arith, append_assoc, append-nil, length-append, lit<}
+use Rattle.std.proofs.Common.{◌≡◌, ◌≢◌, refl, sym, ◌∙◌, ap, subst, ℕ, zero, suc, ◌+◌, ◌*◌, ◌-◌, ◌≤◌, ◌<◌, ◌^◌, Bool, true, false, List, [], ◌∷◌, ◌++◌, length, arith, append_assoc, append-nil, length-append, lit≤}
 use Rattle.std.proofs.lemmas.Bool.Decides.{nat_tests}
 use Rattle.std.proofs.lemmas.Fmt.{decimal_is_IsNumeral, length-decimal-le}
 use Rattle.std.proofs.lemmas.List.Elements.{All-append, All-cons, All-nil}
@@ -35,21 +35,24 @@ word_plain (Show p) = plain (codes "show") refl
 word_plain (Stat p) = plain (codes "stat") refl
 
 digits_plain : (ds : List ℕ) → AllDigits 10 ds → IsPlain ds
-digits_plain [] each = All-nil _
-digits_plain (b ∷ bs) each = All-cons _ b bs (let range = digit_from_value b each.0 in omega (arith, range.0)) (digits_plain bs each.1)
+digits_plain [] each = All-nil (λ b. 32 ≤ b)
+digits_plain (b ∷ bs) each =
+    let range = digit_from_value b each.0 in
+    let high : 32 ≤ b = omega (arith, range.0) in
+    All-cons (λ b. 32 ≤ b) b bs high (digits_plain bs each.1)
 
 spaced_plain : (ns : List ℕ) → All IsNamed ns → IsPlain (spaced ns)
-spaced_plain [] named = All-nil _
+spaced_plain [] named = All-nil (λ b. 32 ≤ b)
 spaced_plain (n ∷ ns) named =
     let small : n ≤ 999999999 = (named 0 n (omega arith)).1 in
     let digits = digits_plain (decimal n) (decimal_is_IsNumeral n (omega (arith, small))).0.1 in
-    All-append (λ b. 32 ≤ b) (codes " " ++ decimal n) (spaced ns) (All-cons (λ b. 32 ≤ b) 32 (decimal n) (omega arith) digits) (spaced_plain ns (λ k d inside. named (suc k) d (omega (arith, inside))))
+    All-append (λ b. 32 ≤ b) (codes " " ++ decimal n) (spaced ns) (All-cons (λ b. 32 ≤ b) 32 (decimal n) (lit≤ tt) digits) (spaced_plain ns (λ k d inside. named (suc k) d (omega (arith, inside))))
 
 text_plain : (e : Event) → HasNames e → IsPlain (event_text e)
 text_plain e names = All-append (λ b. 32 ≤ b) (event_word e) (spaced (event_numbers e)) (word_plain e) (spaced_plain (event_numbers e) names)
 
-no_end : (b : ℕ) → 32 ≤ b → (b == 10) ≡ false
-no_end b high = grind (arith, nat_tests)
+no_end : (b : ℕ) → 32 ≤ b → b ≢ 10
+no_end b high = λ same. omega (arith, high, same)
 
 -- such a line has no CR at its end
 no_return : (bytes : List ℕ) → IsPlain bytes → strip_carriage_return bytes ≡ bytes
@@ -62,7 +65,7 @@ no_return (b ∷ bs) clean = at (slice_index (b ∷ bs) (length (b ∷ bs) - 1))
 line_of_event : (e : Event) (more : List ℕ) → HasNames e → lines (event_line e ++ more) ≡ event_text e ∷ lines more
 line_of_event e more names =
     let clean = text_plain e names in
-    line_first (event_line e ++ more) (event_text e) more (λ k d inside. no_end _ (clean k d inside)) (append_assoc (event_text e) (codes "\n") more)
+    line_first (event_line e ++ more) (event_text e) more (λ k d inside. no_end (slice_index_or (event_text e) k d) (clean k d inside)) (append_assoc (event_text e) (codes "\n") more)
     ∙ ap (λ line. line ∷ lines more) (no_return (event_text e) clean)
 
 written_lines : (events : List Event) → All HasNames events → SpellsLines (lines (flat_map event_line events)) events
@@ -98,7 +101,7 @@ word_short (Stat p) = (omega arith, omega arith)
 pub written_event : (e : Event) → HasNames e → SpellsSchedule (event_line e) (e ∷ [])
 written_event e names = record {
   size =
-    let (word, count) = word_short e in
-    omega (arith, word, count, spaced_short (event_numbers e) names, length-append (event_word e) (spaced (event_numbers e)), length-append (event_text e) (codes "\n"));
+      let (word, count) = word_short e in
+      omega (arith, word, count, spaced_short (event_numbers e) names, length-append (event_word e) (spaced (event_numbers e)), length-append (event_text e) (codes "\n"));
   spelled = subst (λ text. SpellsLines (lines text) (e ∷ [])) (append-nil (event_line e)) (written_lines (e ∷ []) (All-cons HasNames e [] names (All-nil HasNames)));
 }

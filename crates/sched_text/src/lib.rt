@@ -6,7 +6,6 @@ mod event;
 mod line;
 mod number;
 mod put;
-mod reading;
 mod schedule;
 #[cfg(test)]
 mod tests;

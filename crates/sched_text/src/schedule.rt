@@ -1,11 +1,11 @@
 //! Schedules.
 ghost use Rattle.da_lang.specs.declared.event.Event.{Event};
-ghost use Rattle.sched_text.specs.Reading.{IsRead};
-ghost use Rattle.sched_text.specs.ScheduleText.{IsBadSchedule, SpellsSchedule, schedule_limit};
-ghost use Rattle.std.specs.Prelude.{◌≡◌, ◌⊎◌, ◌≤◌, ℕ, List, length, MatchResult};
+ghost use Rattle.sched_text.specs.Reading.{Adds, IsFaultAt, IsRead};
+ghost use Rattle.sched_text.specs.ScheduleText.{IsBadSchedule, IsSkipped, SpellsSchedule, schedule_limit};
+ghost use Rattle.std.specs.Prelude.{◌≡◌, ◌⊎◌, ◌≤◌, ℕ, List, length, IfErr, MatchBool, MatchResult, OnOk};
 
 use crate::line::split_line;
-use crate::reading::{Line, read_line};
+use crate::words::read_event;
 use da_lang::Event;
 use da_values::{List, NoMemory};
 use std::alloc::Global;
@@ -65,13 +65,36 @@ fn read_events(alloc: Global, text: &[u8]) -> Result<List<Event>, SchedFault>
     let mut number = 1;
     'lines: while rest.len() > 0 {
         let (line, others) = split_line(rest);
-        match read_line(line) {
-            Line::Skipped => {}
-            Line::Event(event) => events.push(event)?,
-            Line::Bad => return Err(SchedFault::BadLine(number)),
-        }
+        read_line(line, number, &mut events)?;
         rest = others;
         number += 1;
     }
     Ok(events)
+}
+
+// Adds the event of the line of this number, if it is not passed over.
+fn read_line(line: &[u8], number: u64, events: &mut List<Event>) -> Result<(), SchedFault>
+    ensures ok { OnOk result (Adds line.now events.old events.new) }
+    ensures err { IfErr result (λ fault. IsFaultAt line.now number fault) }
+{
+    if is_skipped(line) {
+        return Ok(());
+    }
+    match read_event(line) {
+        Some(event) => {
+            events.push(event)?;
+            Ok(())
+        }
+        None => Err(SchedFault::BadLine(number)),
+    }
+}
+
+// Whether a line is passed over: it is empty, or a comment.
+fn is_skipped(line: &[u8]) -> bool
+    ensures { MatchBool result (IsSkipped line.now) (IsSkipped line.now → ⊥) }
+{
+    match line {
+        [first, ..] => *first == b'#',
+        [] => true,
+    }
 }
