@@ -7,7 +7,8 @@ ghost use Rattle.std.specs.Prelude.{◌≡◌, ◌≢◌, ℕ, List, ◌∷◌, 
 use itoa::Buffer;
 use std::str;
 
-/// The greatest number that a schedule can name.
+/// The numbers that a schedule can name.
+const NUMBER_MIN: u32 = 1;
 const NUMBER_MAX: u32 = 999_999_999;
 
 /// The bytes up to the first space, and the others.
@@ -55,7 +56,7 @@ fn number_of(digits: &[u8]) -> Option<u32>
     let Ok(number) = text.parse::<u32>() else {
         return None;
     };
-    if number == 0 || number > NUMBER_MAX {
+    if number < NUMBER_MIN || number > NUMBER_MAX {
         return None;
     }
     let mut buffer = Buffer::new();

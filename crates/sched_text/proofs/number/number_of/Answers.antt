@@ -16,8 +16,8 @@ pub returns-in_default-parse-clause-none : goal.returns-in_default-parse-clause-
 returns-in_default-parse-clause-none c n named is =
     absurd (c.in_default-parse.not-Ok n (parse-decimal 32 n c.in-Ok.text.now c.parse.result (omega (arith, named.1)) (omega (arith, named.1)) (c.in-Ok.ensures.cases.0 ∙ is) c.parse.ensures.value.0))
 
-pub returns-then-number-eq0-clause-none : goal.returns-then-number-eq0-clause-none
-returns-then-number-eq0-clause-none c n named is =
+pub returns-then-number-lt-NUMBER_MIN-clause-none : goal.returns-then-number-lt-NUMBER_MIN-clause-none
+returns-then-number-lt-NUMBER_MIN-clause-none c n named is =
     let parsed : Ok c.in-Ok-parse.number ≡ Ok n =
     sym c.in-Ok-parse.is ∙ parse-decimal 32 n c.in-Ok.text.now c.parse.result (omega (arith, named.1)) (omega (arith, named.1)) (c.in-Ok.ensures.cases.0 ∙ is) c.parse.ensures.value.0 in
     let same : c.in-Ok-parse.number ≡ n = cc in
