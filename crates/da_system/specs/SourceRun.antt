@@ -1,5 +1,5 @@
 -- The run of a schedule by the source semantics: what it does, where it stops, and the state that it leaves.
-use Rattle.std.specs.Prelude.{ℕ, ◌+◌, List, [], ◌∷◌, ◌++◌, Option, Some, None}
+use Rattle.std.specs.Prelude.{◌≡◌, ℕ, ◌+◌, List, [], ◌∷◌, ◌++◌, Option, Some, None}
 use Rattle.da_lang.specs.declared.event.Action.{Action}
 use Rattle.da_lang.specs.declared.event.Action.TheVariants.{Stop}
 use Rattle.da_lang.specs.declared.event.Event.{Event}
@@ -36,3 +36,7 @@ state_on s (Some after) others = others after
 abbrev pub state_after : Program → SystemState → List Event → SystemState
 state_after program s [] = s
 state_after program s (e ∷ es) = state_on s (sys_step program s e) (λ after. state_after program after.state es)
+
+-- the last of these actions is the stop at event i
+abbrev pub EndsByStop : List Action → ℕ → Type 0
+EndsByStop actions i = (before : List Action) × (actions ≡ before ++ Stop i ∷ [])

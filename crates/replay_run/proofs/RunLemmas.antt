@@ -1,6 +1,6 @@
 -- A run of events, event by event.
-use Rattle.std.proofs.Common.{◌≡◌, refl, sym, ◌∙◌, ap, subst, ℕ, zero, suc, ◌+◌, ◌<◌, ◌≤◌, List, [], ◌∷◌, ◌++◌, drop, length, arith, add-one, append-nil, append_assoc, get_or, Bool, true, false}
-use Rattle.std.specs.Prelude.{Option, Some, None}
+use Rattle.std.proofs.Common.{◌≡◌, refl, sym, ◌∙◌, ap, subst, ℕ, ◌+◌, ◌<◌, List, [], ◌∷◌, ◌++◌, drop, length, add-one, append-nil, append_assoc, get_or, Bool, true, false}
+use Rattle.std.specs.Prelude.{Option, Some, None, ◌↔◌}
 use Rattle.std.proofs.Math.Seq.{drop-cons}
 use Rattle.std.proofs.lemmas.Grind.{flat_map-append}
 use Rattle.std.proofs.lemmas.Bool.{false≢true}
@@ -10,9 +10,12 @@ use Rattle.da_lang.specs.declared.event.Event.{Event}
 use Rattle.da_lang.specs.declared.program.Program.{Program}
 use Rattle.da_outside.specs.Outside.{Appends, AppendsFront}
 use Rattle.da_outside.proofs.OutsideLemmas.{appends_then, front_before, front_behind}
-use Rattle.da_system.specs.SourceRun.{go_on, src_run_from, state_after, state_on, stop_from, stop_here}
+use Rattle.da_system.specs.SourceRun.{EndsByStop, go_on, src_run_from, state_after, state_on, stop_from, stop_here}
 use Rattle.da_system.specs.SystemStep.{After, SystemState, sys_step}
-use Rattle.replay_run.specs.Replay.{HasCarried, HasStepped, event_text, run_text, text_of}
+use Rattle.da_system.proofs.StopLaws.{ends_stopped, stop_ends}
+use Rattle.replay_run.specs.declared.outcome.Outcome.{Outcome}
+use Rattle.replay_run.specs.declared.outcome.Outcome.TheVariants.{Done, Forbidden}
+use Rattle.replay_run.specs.Replay.{HasCarried, HasRun, HasStepped, event_text, outcome_of, run_text, text_of}
 use Rattle.sched_text.specs.ActionText.{action_line, action_text}
 
 text-append : (xs ys : List Action) → action_text (xs ++ ys) ≡ action_text xs ++ action_text ys
@@ -109,3 +112,15 @@ module _ (program : Program) (s : SystemState) (events : List Event) (place : �
         → AppendsFront still new (action_text (Stop (place + 1) ∷ [])) → AppendsFront before new (run_text program s events)
     stop_fails true s' still new carried is front = absurd (false≢true (sym is))
     stop_fails false s' still new carried is front = front_left new _ (left_run None carried.is) (subst (λ x. AppendsFront x new (action_text (Stop (place + 1) ∷ []))) carried.unwritten front)
+
+-- a run that ended is `Forbidden` exactly where it ends by a stop
+pub stops_exactly : (program : Program) (s : SystemState) (events : List Event) (outcome : Outcome) (s' : SystemState) (before after : Option (List ℕ)) → HasRun program s events outcome s' before after
+    → (i : ℕ) → (outcome ≡ Forbidden i) ↔ EndsByStop (src_run_from program 1 s events) i
+stops_exactly program s events outcome s' before after ran i = (
+  λ is. stop_ends program 1 s events i (forbidden_at (stop_from program 1 s events) i (sym ran.outcome_is ∙ is)),
+  λ ends. ran.outcome_is ∙ ap outcome_of (ends_stopped program 1 s events i ends),
+)
+  where
+    forbidden_at : (stop : Option ℕ) (i : ℕ) → outcome_of stop ≡ Forbidden i → stop ≡ Some i
+    forbidden_at None i is = absurd (let clash : Done ≡ Forbidden i = is in cc)
+    forbidden_at (Some k) i is = let same : Forbidden k ≡ Forbidden i = is in cc

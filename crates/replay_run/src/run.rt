@@ -1,10 +1,11 @@
 //! The run of a schedule, event by event.
 ghost use Rattle.da_lang.specs.declared.event.Action.TheVariants as action;
 ghost use Rattle.da_outside.specs.Outside.{Appends, AppendsFront, HasCause, Rose};
+ghost use Rattle.da_system.specs.SourceRun.{EndsByStop, src_run_from};
 ghost use Rattle.da_system.specs.State.{IsReady, program_of, state_of};
 ghost use Rattle.replay_run.specs.Replay.{HasCarried, HasEnded, HasRun, event_text, run_text};
 ghost use Rattle.sched_text.specs.ActionText.{action_line, action_text};
-ghost use Rattle.std.specs.Prelude.{ℕ, ◌≡◌, ◌∷◌, ◌≤◌, List, [], IfOk, OnErr, OnOk};
+ghost use Rattle.std.specs.Prelude.{ℕ, ◌≡◌, ◌↔◌, ◌∷◌, ◌≤◌, List, [], IfOk, OnErr, OnOk};
 
 use crate::outcome::Outcome;
 use da_lang::{Action, Event};
@@ -29,6 +30,9 @@ pub fn replay<K: Sink>(
     ensures ran { HasEnded result → HasRun (program_of system.old) (state_of system.old) events.now result (state_of system.new) (K.taken sink.old) (K.taken sink.new) }
     ensures ready { HasEnded result → IsReady system.new }
     ensures program { program_of system.new ≡ program_of system.old }
+
+    // It is `Forbidden` exactly where the run ends by a stop, at the event of its number.
+    ensures stops { HasEnded result → (i : ℕ) → (result ≡ Outcome.Forbidden i) ↔ EndsByStop (src_run_from (program_of system.old) 1 (state_of system.old) events.now) i }
 
     // However it ended, no more was written than the front of that text.
     ensures front { AppendsFront (K.taken sink.old) (K.taken sink.new) (run_text (program_of system.old) (state_of system.old) events.now) }

@@ -1,4 +1,4 @@
-use Rattle.std.proofs.Common.{◌≡◌, ◌≤◌, ◌+◌, drop}
+use Rattle.std.proofs.Common.{◌≡◌, ◌≤◌}
 use Rattle.da_system.specs.State.{IsReady, program_of, state_of}
 use Rattle.replay_run.proofs.RunLemmas.{Came}
 use Rattle.replay_run.proofs.run.run_events.Given as goal
