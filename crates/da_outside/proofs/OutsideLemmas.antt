@@ -1,14 +1,37 @@
 -- What several calls of a source or a sink come to.
-use Rattle.std.proofs.Common.{◌≡◌, refl, ◌∙◌, ap, subst, ℕ, ◌+◌, ◌-◌, ◌≤◌, List, ◌++◌, take, drop, length, arith, append_assoc, length-append, length-drop, length-take-le, take_all}
-use Rattle.std.specs.Prelude.{Option, Some, None}
-use Rattle.std.proofs.Math.Seq.{take-add}
-use Rattle.std.proofs.lemmas.List.{take-append-le}
-use Rattle.da_outside.specs.Outside.{Appends, IsFront, ReadsTold}
+use Rattle.std.proofs.Common.{◌≡◌, refl, ◌∙◌, ap, subst, sym, ℕ, ◌+◌, ◌-◌, ◌≤◌, List, ◌++◌, take, drop, length, arith, append_assoc, append-nil, length-append, length-drop, length-take-le, take_all}
+use Rattle.std.specs.Prelude.{Option, Some, None, min}
+use Rattle.std.proofs.Math.Seq.{take-add, take-append-add, take-length}
+use Rattle.std.proofs.lemmas.List.{take-append-le, take_min}
+use Rattle.da_outside.specs.Outside.{Appends, AppendsFront, IsFront, ReadsTold}
 
 -- one write after another
 pub appends_then : (a b c : Option (List ℕ)) (xs ys : List ℕ) → Appends a b xs → Appends b c ys → Appends a c (xs ++ ys)
 appends_then None b c xs ys first next = rw (next, first) refl
 appends_then (Some told) b c xs ys first next = rw (next, first) (ap Some (append_assoc told xs ys))
+
+-- THE FRONT OF BYTES
+
+-- all of them
+pub front_whole : (a b : Option (List ℕ)) (bytes : List ℕ) → Appends a b bytes → AppendsFront a b bytes
+front_whole a b bytes written = (length bytes, rw (take-length bytes) written)
+
+-- none of them
+pub front_none : (a : Option (List ℕ)) (bytes : List ℕ) → AppendsFront a a bytes
+front_none None bytes = (0, refl)
+front_none (Some told) bytes = (0, ap Some (sym (append-nil told)))
+
+-- some, where more were due behind them
+pub front_before : (a b : Option (List ℕ)) (xs ys : List ℕ) → AppendsFront a b xs → AppendsFront a b (xs ++ ys)
+front_before a b xs ys (n, front) =
+    let within : min n (length xs) ≤ length xs = omega arith in
+    (min n (length xs), rw (take-append-le (min n (length xs)) xs ys within, take_min n xs) front)
+
+-- some, behind others that were taken whole
+pub front_behind : (a b c : Option (List ℕ)) (xs ys : List ℕ) → Appends a b xs → AppendsFront b c ys → AppendsFront a c (xs ++ ys)
+front_behind a b c xs ys first (n, front) = (length xs + n, rw (take-append-add xs ys n) (appends_then a b c xs (take n ys) first front))
+
+-- BYTES IN PIECES
 
 rest-whole : (at : ℕ) (bytes : List ℕ) → take (length bytes - at) (drop at bytes) ≡ drop at bytes
 rest-whole at bytes = take_all (length bytes - at) (drop at bytes) (omega (arith, length-drop at bytes))

@@ -27,6 +27,10 @@ ReadsTold (Some bytes) at n buf = ReadsFrom bytes at n buf
 abbrev pub Appends : Option (List ℕ) → Option (List ℕ) → List ℕ → Type 0
 Appends old new bytes = new ≡ option_map (λ told. told ++ bytes) old
 
+-- what is told has some of the front of these bytes more: none, all, or so many
+abbrev pub AppendsFront : Option (List ℕ) → Option (List ℕ) → List ℕ → Type 0
+AppendsFront old new bytes = (n : ℕ) × Appends old new (take n bytes)
+
 -- the text is the told one, where one is told
 abbrev pub Fits : Option (List ℕ) → List ℕ → Type 0
 Fits None text = ⊤

@@ -1,5 +1,5 @@
 //! Whole texts from a source, and to a sink.
-ghost use Rattle.da_outside.specs.Outside.{Appends, EndsAt, HasCause, IsFront, IsWhole};
+ghost use Rattle.da_outside.specs.Outside.{Appends, AppendsFront, EndsAt, HasCause, IsFront, IsWhole};
 ghost use Rattle.std.specs.Prelude.{ℕ, ◌≡◌, ◌+◌, ◌<◌, ◌≤◌, List, length, take, IfOk, OnErr, OnOk};
 
 use crate::outside::{Files, Sink, Trouble};
@@ -57,7 +57,7 @@ fn read_piece<F: Files>(
 /// Writes all the bytes. After a trouble the sink has taken some from the front.
 pub fn write_all<K: Sink>(out: &mut K, bytes: &[u8]) -> Result<(), Trouble>
     ensures ok { OnOk result (Appends (K.taken out.old) (K.taken out.new) bytes.now) }
-    ensures prefix { OnErr result ((n : ℕ) × Appends (K.taken out.old) (K.taken out.new) (take n bytes.now)) }
+    ensures prefix { OnErr result (AppendsFront (K.taken out.old) (K.taken out.new) bytes.now) }
     ensures cause { HasCause (K.faults out.old) (K.faults out.new) result }
 {
     let mut place = 0;

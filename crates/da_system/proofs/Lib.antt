@@ -1,5 +1,6 @@
 pub mod RunLemmas
 pub mod StepLemmas
+pub mod StopLaws
 pub mod SystemExamples
 pub mod SystemLaws
 pub mod WorldLemmas

@@ -1,0 +1,119 @@
+//! The run of a schedule, event by event.
+ghost use Rattle.da_lang.specs.declared.event.Action.TheVariants as action;
+ghost use Rattle.da_outside.specs.Outside.{Appends, AppendsFront, HasCause, Rose};
+ghost use Rattle.da_system.specs.SourceRun.{EndsByStop, src_run_from};
+ghost use Rattle.da_system.specs.State.{IsReady, program_of, state_of};
+ghost use Rattle.replay_run.specs.Replay.{HasCarried, HasEnded, HasRun, event_text, run_text};
+ghost use Rattle.sched_text.specs.ActionText.{action_line, action_text};
+ghost use Rattle.std.specs.Prelude.{ℕ, ◌≡◌, ◌↔◌, ◌∷◌, ◌≤◌, List, [], IfOk, OnErr, OnOk};
+
+use crate::outcome::Outcome;
+use da_lang::{Action, Event};
+use da_outside::{Sink, Trouble, write_all};
+use da_system::{StepFault, System};
+use da_values::List;
+use sched_text::write_action;
+use std::alloc::Global;
+
+/// Carries out the events, from the first to the last or to the first that is not allowed, and writes the lines of each
+/// once it is carried out. The system may stand in any state of its program. After `WriteFault` or `Memory` nothing is
+/// known of it but its program, and that it can be dropped.
+pub fn replay<K: Sink>(
+    alloc: Global,
+    system: &mut System,
+    events: &[Event],
+    sink: &mut K,
+) -> Outcome
+    requires { IsReady system.old }
+
+    // The sink gained the text of the run, and the system stands where the events that were carried out lead.
+    ensures ran { HasEnded result → HasRun (program_of system.old) (state_of system.old) events.now result (state_of system.new) (K.taken sink.old) (K.taken sink.new) }
+    ensures ready { HasEnded result → IsReady system.new }
+    ensures program { program_of system.new ≡ program_of system.old }
+
+    // It is `Forbidden` exactly where the run ends by a stop, at the event of its number.
+    ensures stops { HasEnded result → (i : ℕ) → (result ≡ Outcome.Forbidden i) ↔ EndsByStop (src_run_from (program_of system.old) 1 (state_of system.old) events.now) i }
+
+    // However it ended, no more was written than the front of that text.
+    ensures front { AppendsFront (K.taken sink.old) (K.taken sink.new) (run_text (program_of system.old) (state_of system.old) events.now) }
+
+    // A fault has its cause.
+    ensures write { result ≡ Outcome.WriteFault → Rose (K.faults sink.old) (K.faults sink.new) }
+    ensures later { K.faults sink.old ≤ K.faults sink.new }
+{
+    match run_events(alloc, system, events, sink) {
+        Ok(outcome) => outcome,
+        Err(Trouble::Failed) => Outcome::WriteFault,
+        Err(Trouble::Memory) => Outcome::Memory,
+    }
+}
+
+// Carries out the events up to the first that is not allowed, at which it writes that the run stops.
+fn run_events<K: Sink>(
+    alloc: Global,
+    system: &mut System,
+    events: &[Event],
+    sink: &mut K,
+) -> Result<Outcome, Trouble>
+    requires { IsReady system.old }
+    ensures ran { IfOk result (λ outcome. HasRun (program_of system.old) (state_of system.old) events.now outcome (state_of system.new) (K.taken sink.old) (K.taken sink.new)) }
+    ensures ready { IfOk result (λ _. IsReady system.new) }
+    ensures program { program_of system.new ≡ program_of system.old }
+    ensures front { OnErr result (AppendsFront (K.taken sink.old) (K.taken sink.new) (run_text (program_of system.old) (state_of system.old) events.now)) }
+    ensures cause { HasCause (K.faults sink.old) (K.faults sink.new) result }
+{
+    for (place, event) in events.iter().enumerate() {
+        if !carry_out(alloc, system, event, sink)? {
+            let i = place as u64 + 1;
+            write_stop(alloc, i, sink)?;
+            return Ok(Outcome::Forbidden(i));
+        }
+    }
+    Ok(Outcome::Done)
+}
+
+// Carries out an event and writes its lines, and says whether it is allowed. Where it is not, nothing has changed.
+fn carry_out<K: Sink>(
+    alloc: Global,
+    system: &mut System,
+    event: &Event,
+    sink: &mut K,
+) -> Result<bool, Trouble>
+    requires { IsReady system.old }
+    ensures carried { IfOk result (λ allowed. HasCarried (program_of system.old) (state_of system.old) event.now allowed (state_of system.new) (K.taken sink.old) (K.taken sink.new)) }
+    ensures ready { IfOk result (λ _. IsReady system.new) }
+    ensures program { program_of system.new ≡ program_of system.old }
+    ensures front { OnErr result (AppendsFront (K.taken sink.old) (K.taken sink.new) (event_text (program_of system.old) (state_of system.old) event.now)) }
+    ensures cause { HasCause (K.faults sink.old) (K.faults sink.new) result }
+{
+    let mut actions = List::new(alloc);
+    match system.step(event, &mut actions) {
+        Ok(()) => {}
+        Err(StepFault::Forbidden) => return Ok(false),
+        Err(StepFault::Memory) => return Err(Trouble::Memory),
+    }
+    write_actions(alloc, actions.as_slice(), sink)?;
+    Ok(true)
+}
+
+// Writes the lines of some actions.
+fn write_actions<K: Sink>(alloc: Global, actions: &[Action], sink: &mut K) -> Result<(), Trouble>
+    ensures written { OnOk result (Appends (K.taken sink.old) (K.taken sink.new) (action_text actions.now)) }
+    ensures front { OnErr result (AppendsFront (K.taken sink.old) (K.taken sink.new) (action_text actions.now)) }
+    ensures cause { HasCause (K.faults sink.old) (K.faults sink.new) result }
+{
+    let mut text = List::new(alloc);
+    for action in actions {
+        write_action(action, &mut text)?;
+    }
+    write_all(sink, text.as_slice())
+}
+
+// Writes the line that the run stops at this event.
+fn write_stop<K: Sink>(alloc: Global, i: u64, sink: &mut K) -> Result<(), Trouble>
+    ensures written { OnOk result (Appends (K.taken sink.old) (K.taken sink.new) (action_text (action.Stop i ∷ []))) }
+    ensures front { OnErr result (AppendsFront (K.taken sink.old) (K.taken sink.new) (action_text (action.Stop i ∷ []))) }
+    ensures cause { HasCause (K.faults sink.old) (K.faults sink.new) result }
+{
+    write_actions(alloc, &[Action::Stop { i }], sink)
+}

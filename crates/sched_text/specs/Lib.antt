@@ -1,0 +1,4 @@
+pub mod ActionText
+pub mod EventText
+pub mod Reading
+pub mod ScheduleText

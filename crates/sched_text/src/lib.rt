@@ -1,0 +1,16 @@
+//! Schedules, and the lines of events and actions.
+#![tactic(auto)]
+
+mod action;
+mod event;
+mod line;
+mod number;
+mod put;
+mod schedule;
+#[cfg(test)]
+mod tests;
+mod words;
+
+pub use action::write_action;
+pub use event::write_event;
+pub use schedule::{SCHEDULE_LIMIT, SchedFault, read_schedule};
