@@ -1,8 +1,7 @@
 -- A program of the form that runs today does no more than print.
-use Rattle.std.proofs.Common.{◌≡◌, refl, sym, ap, ◌∙◌, ℕ, ◌<◌, ◌^◌, Bool, true, false, true≢false, List, [], ◌∷◌, length, arith, eqb-true}
+use Rattle.std.proofs.Common.{◌≡◌, refl, sym, Bool, true, false, true≢false, List, [], ◌∷◌, length, arith, eqb-true}
 use Rattle.std.specs.List.{list_all, AllByRecursion}
 use Rattle.std.specs.Prelude.{◌==◌, ◌&&◌, Option, Some, None, is_none}
-use Rattle.da_values.specs.declared.value.Value.TheVariants as value
 use Rattle.da_lang.specs.declared.program.Alt.{Alt}
 use Rattle.da_lang.specs.declared.program.ChainPart.{ChainPart}
 use Rattle.da_lang.specs.declared.program.Class.{Class}

@@ -1,6 +1,6 @@
 -- From what the lexer, the parser, names, limits and types answer to what is said of a text.
-use Rattle.std.proofs.Common.{◌≡◌, subst, sym, ℕ, ◌≤◌, List, length}
-use Rattle.std.specs.Prelude.{Ok, Err, MatchResult, Result, Some}
+use Rattle.std.proofs.Common.{◌≡◌, subst, ℕ, ◌≤◌, List, length}
+use Rattle.std.specs.Prelude.{Ok, Err, MatchResult, Result}
 use Rattle.da_values.specs.declared.token.LexKind.{LexKind}
 use Rattle.da_values.specs.declared.token.LexKind.TheVariants as lex
 use Rattle.da_values.specs.declared.token.Token.{Token}
@@ -22,7 +22,6 @@ use Rattle.da_scope.specs.Resolving.{IsRefusedAs as IsNotResolved}
 use Rattle.da_types.specs.declared.top.TypeFault.{TypeFault}
 use Rattle.da_types.specs.declared.top.TypeFault.TheVariants as types
 use Rattle.da_types.specs.Refusing.{IsRefusedAs as IsNotTyped}
-use Rattle.dalgo.specs.declared.program.ProgramFault.{ProgramFault}
 use Rattle.dalgo.specs.Faults.{after_names, after_types}
 use Rattle.dalgo.specs.Verdict.{HasTree, HasNoTree, IsMisnamed, IsRefusedAs, IsTooLarge, Refuses, kind_after, kind_of_limit, kind_of_name, program_limit}
 

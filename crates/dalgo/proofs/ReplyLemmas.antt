@@ -1,8 +1,6 @@
 -- From the texts that were read to those that are told.
-use Rattle.std.proofs.Common.{◌≡◌, refl, sym, ◌∙◌, ap, subst, Bool, true, false, true≢false, ℕ, ◌+◌, ◌<◌, ◌≤◌, inl, inr, List, [], ◌∷◌, take, length, arith, take_all, length-take}
+use Rattle.std.proofs.Common.{◌≡◌, refl, sym, ◌∙◌, ap, subst, Bool, true, false, true≢false, ℕ, ◌+◌, ◌<◌, ◌≤◌, inl, inr, List, [], take, length, arith, take_all, length-take}
 use Rattle.std.specs.Prelude.{◌&&◌, Option, Some, None, Result, Ok, Err, IfOk, IsErrOf}
-use Rattle.da_lang.specs.declared.event.Action.{Action}
-use Rattle.da_lang.specs.declared.event.Action.TheVariants.{Took, Sent, Got, Lost, Again, Out, End, Fault, Answer, Kept, Stop}
 use Rattle.da_lang.specs.declared.event.Event.{Event}
 use Rattle.da_lang.specs.declared.program.Program.{Program}
 use Rattle.da_lang.specs.declared.tree.Tree.{Tree}
@@ -20,7 +18,7 @@ use Rattle.da_lang.specs.NameRules.{name_fault, name_refusals}
 use Rattle.da_lang.specs.NameRules as names
 use Rattle.da_lang.specs.Resolution.{resolved}
 use Rattle.da_lang.specs.Scopes as scopes
-use Rattle.da_lang.specs.Typing.{Typed, filled, least, type_breaks, type_fault}
+use Rattle.da_lang.specs.Typing.{Typed, filled, least, type_breaks}
 use Rattle.dalgo.specs.declared.program.ProgramFault.{ProgramFault}
 use Rattle.dalgo.specs.declared.program.ProgramFault.TheVariants as fault
 use Rattle.dalgo.specs.declared.status.RefusedKind.{RefusedKind}
@@ -29,13 +27,14 @@ use Rattle.dalgo.specs.declared.status.Status.{Status}
 use Rattle.dalgo.specs.declared.status.Status.TheVariants.{BadSchedule, Done, Refused, ReadFault, WriteFault, Memory}
 use Rattle.dalgo.specs.declared.endings.Ending.{Ending}
 use Rattle.dalgo.specs.declared.endings.Ending.TheVariants as ending
-use Rattle.dalgo.specs.ActionText.{action_text}
 use Rattle.dalgo.specs.FirstForm.{only_run, program_prints, runs_today}
 use Rattle.dalgo.specs.Lines.{accepted_text, badline_text, refused_text}
 use Rattle.da_outside.specs.Outside.{Appends, Fits, IsWhole, Rose}
-use Rattle.dalgo.specs.Replies.{Answers, CheckReply, accepted, declined, Checks, ChecksTold, IsAccepted, IsAnswer, IsBadSchedule, IsCheck, IsNotYet, IsRead, IsRefused, IsReplay, IsReplayStatus, IsSchedule, MayRead, Ran, ReadCause, ReplayRefuses, ReplayReply, refused, bad_schedule, ran, Replies, RepliesTo, RepliesTold, RunReply, Runs, RunsWhole, bad, carried_out, schedule_limit, status_of}
-use Rattle.dalgo.specs.Schedule.{schedule_events}
+use Rattle.dalgo.specs.Replies.{Answers, CheckReply, accepted, declined, Checks, ChecksTold, IsAccepted, IsAnswer, IsCheck, IsNotYet, IsRead, IsRefused, IsReplay, MayRead, Ran, ReadCause, ReplayRefuses, ReplayReply, refused, bad_schedule, ran, Replies, RepliesTo, RepliesTold, RunReply, Runs, RunsWhole, bad, carried_out, run_status}
 use Rattle.dalgo.specs.Top.{status_after}
+use Rattle.sched_text.specs.ActionText.{action_text}
+use Rattle.sched_text.specs.ScheduleText.{IsBadSchedule, SpellsSchedule, schedule_limit}
+use Rattle.sched_text.proofs.ScheduleLaws.{not_bad, one_schedule}
 use Rattle.dalgo.specs.Verdict.{Accepts, HasNoTree, HasTree, IsMisnamed, IsMistyped, IsRefusedAs, IsTooLarge, Refuses, program_limit}
 
 -- a text that was read up to its limit and one byte
@@ -58,7 +57,7 @@ answers_bad program whole line (Err e) before after is said = tt
 
 -- the schedule is run
 pub answers_ran : (program : Program) (whole : List ℕ) (events : List Event) (r : Result Status Ending) (before after : Option (List ℕ))
-    → IsSchedule whole events → IfOk r (λ s. Ran program events s before after) → IfOk r (λ s. Answers program whole s before after)
+    → SpellsSchedule whole events → IfOk r (λ s. Ran program events s before after) → IfOk r (λ s. Answers program whole s before after)
 answers_ran program whole events (Ok s) before after is did = record {
   bytes = action_text (src_run program events);
   reply = subst (λ s. RunReply program whole s (action_text (src_run program events))) (sym did.status_is) (carried_out events is);
@@ -91,7 +90,7 @@ replies_refused t told kind line (Ok status) before after refuses said =
     }
 replies_refused t told kind line (Err e) before after refuses said = tt
 
-of_accepted : (t s : List ℕ) (program : Program) (status : Status) (bytes : List ℕ) → Runs t program → RunReply program s status bytes → ReplayReply t s status bytes
+pub of_accepted : (t s : List ℕ) (program : Program) (status : Status) (bytes : List ℕ) → Runs t program → RunReply program s status bytes → ReplayReply t s status bytes
 of_accepted t s program _ _ accepts (bad line is) = bad_schedule program line accepts is
 of_accepted t s program _ _ accepts (carried_out events is) = ran program events accepts is
 
@@ -242,10 +241,13 @@ refuses_within text t e kind line is few e_is why =
     let here : IsRefusedAs text (fault.Refused kind line) = subst (IsRefusedAs text) e_is why in
     subst (λ x. Refuses x kind line) (take_within program_limit text t is few) here
 
-pub schedule_within : (text whole : List ℕ) (events : List Event) → text ≡ take (schedule_limit + 1) whole → length text ≤ schedule_limit → schedule_events text ≡ Ok events → IsSchedule whole events
-schedule_within text whole events is few reads =
-    let same = take_within schedule_limit text whole is few in
-    record { size = subst (λ x. length x ≤ schedule_limit) same few; is = ap schedule_events (sym same) ∙ reads }
+-- a schedule that was read whole, and one that is refused
+pub schedule_within : (text whole : List ℕ) (events : List Event) → text ≡ take (schedule_limit + 1) whole → SpellsSchedule text events → SpellsSchedule whole events
+schedule_within text whole events is spelled = subst (λ x. SpellsSchedule x events) (take_within schedule_limit text whole is spelled.size) spelled
+
+pub bad_within : (text whole : List ℕ) (line : ℕ) → text ≡ take (schedule_limit + 1) whole → IsBadSchedule text line → IsBadSchedule whole line
+bad_within text whole line is (inl long) = inl (take_beyond schedule_limit text whole is long.0, long.1)
+bad_within text whole line is (inr wrong) = subst (λ x. IsBadSchedule x line) (take_within schedule_limit text whole is wrong.0) (inr wrong)
 
 -- where the schedule was read, the program's text was not refused
 pub may_read : (told : Option (List ℕ)) (text : List ℕ) → IsWhole told program_limit text → ((t : List ℕ) → text ≡ take (program_limit + 1) t → IsRefused t → ⊥) → MayRead told
@@ -263,32 +265,20 @@ after_replies p q (Err ending.Read) status before after same answer replies = le
 after_replies p q (Err ending.Write) status before after same answer replies = let never : IsAnswer WriteFault = subst IsAnswer same answer in absurd never
 after_replies p q (Err ending.Memory) status before after same answer replies = let never : IsAnswer Memory = subst IsAnswer same answer in absurd never
 
--- a schedule gives its events
-not_bad : (s : List ℕ) (events : List Event) (line : ℕ) → IsSchedule s events → IsBadSchedule s line → ⊥
-not_bad s events line good (inl long) = omega (arith, long.0, good.size)
-not_bad s events line good (inr wrong) =
-    let clash : ◌≡◌ {A = Result (List Event) ℕ} (Ok events) (Err line) = sym good.is ∙ wrong.1 in
-    cc
-
-same_events : (s : List ℕ) (events other : List Event) → IsSchedule s events → IsSchedule s other → other ≡ events
-same_events s events other good also =
-    let same : ◌≡◌ {A = Result (List Event) ℕ} (Ok other) (Ok events) = sym also.is ∙ good.is in
-    cc
-
 -- the reply to an accepted program and a schedule is its run
-ran_whole : (t s : List ℕ) (program : Program) (events : List Event) (status : Status) (bytes : List ℕ) (before after : Option (List ℕ)) → Runs t program → IsSchedule s events
-    → ReplayReply t s status bytes → Appends before after bytes → (status ≡ status_of (src_run program events)) × Appends before after (action_text (src_run program events))
+ran_whole : (t s : List ℕ) (program : Program) (events : List Event) (status : Status) (bytes : List ℕ) (before after : Option (List ℕ)) → Runs t program → SpellsSchedule s events
+    → ReplayReply t s status bytes → Appends before after bytes → (status ≡ run_status program events) × Appends before after (action_text (src_run program events))
 ran_whole t s program events _ _ before after runs good (refused kind line refuses) written =
     absurd (not_refused t program runs (record { kind = kind; line = line; refuses = refuses }))
 ran_whole t s program events _ _ before after runs good (bad_schedule other line also is) written = absurd (not_bad s events line good is)
 ran_whole t s program events _ _ before after runs good (ran other others also is) written =
     let same : src_run other others ≡ src_run program events =
-    ap (λ p. src_run p others) (accepts_one t program other runs.accepts also.accepts) ∙ ap (src_run program) (same_events s events others good is) in
-    (ap status_of same, subst (λ actions. Appends before after (action_text actions)) same written)
+    ap (λ p. src_run p others) (accepts_one t program other runs.accepts also.accepts) ∙ ap (src_run program) (one_schedule s others events is good) in
+    (ap (λ p. run_status p others) (accepts_one t program other runs.accepts also.accepts) ∙ ap (run_status program) (one_schedule s others events is good), subst (λ actions. Appends before after (action_text actions)) same written)
 
 -- where neither a read nor a write failed, an accepted program runs whole, or memory was refused
 pub runs_whole : (told_program told_schedule : Option (List ℕ)) (t s : List ℕ) (program : Program) (events : List Event) (r : Result Status Ending) (status : Status) (before after : Option (List ℕ))
-    → status ≡ status_after r → told_program ≡ Some t → told_schedule ≡ Some s → Runs t program → IsSchedule s events → (IsErrOf r ending.Read → ⊥) → (IsErrOf r ending.Write → ⊥)
+    → status ≡ status_after r → told_program ≡ Some t → told_schedule ≡ Some s → Runs t program → SpellsSchedule s events → (IsErrOf r ending.Read → ⊥) → (IsErrOf r ending.Write → ⊥)
     → IfOk r (λ status. RepliesTold told_program told_schedule status before after) → RunsWhole program events status before after
 runs_whole p q t s program events (Ok o) status before after same told_p told_q accepts good read write replies =
     let reply = of_told p q t s o before after told_p told_q replies in
@@ -368,22 +358,3 @@ is_accepted told t program (Ok o) status before after same told_t accepts read w
 is_accepted told t program (Err ending.Read) status before after same told_t accepts read write checks = absurd (read refl)
 is_accepted told t program (Err ending.Write) status before after same told_t accepts read write checks = absurd (write refl)
 is_accepted told t program (Err ending.Memory) status before after same told_t accepts read write checks = inl same
-
--- the status of a run is that of an answer
-run_status : (actions : List Action) → IsReplayStatus (status_of actions)
-run_status [] = tt
-run_status (Took p k ∷ actions) = run_status actions
-run_status (Sent p q t v ∷ actions) = run_status actions
-run_status (Got q p t v ∷ actions) = run_status actions
-run_status (Lost p q t ∷ actions) = run_status actions
-run_status (Again p q t ∷ actions) = run_status actions
-run_status (Out p v ∷ actions) = run_status actions
-run_status (End p ∷ actions) = run_status actions
-run_status (Fault p kind line ∷ actions) = run_status actions
-run_status (Answer p n rows ∷ actions) = run_status actions
-run_status (Kept p n ∷ actions) = run_status actions
-run_status (Stop i ∷ actions) = tt
-
-pub said_status : (r : Result Status Ending) (status : Status) (actions : List Action) (P : Type 0) → status ≡ status_of actions → IfOk r (λ s. (s ≡ status) × P) → IfOk r IsReplayStatus
-said_status (Ok s) status actions P is said = subst IsReplayStatus (sym (said.0 ∙ is)) (run_status actions)
-said_status (Err e) status actions P is said = tt

@@ -1,5 +1,5 @@
 -- The programs that run today: one process, and classes whose only member `run` prints integers.
-use Rattle.std.specs.Prelude.{ℕ, ◌==◌, Bool, true, false, ◌&&◌, List, length, is_none}
+use Rattle.std.specs.Prelude.{◌==◌, Bool, true, false, ◌&&◌, length, is_none}
 use Rattle.std.specs.List.{list_all}
 use Rattle.da_values.specs.declared.value.Value.TheVariants as value
 use Rattle.da_lang.specs.declared.program.Alt.{Alt}

@@ -1,10 +1,8 @@
-pub mod ActionText
 pub mod ExitCode
 pub mod Faults
 pub mod FirstForm
 pub mod Lines
 pub mod Replies
-pub mod Schedule
 pub mod Top
 pub mod Verdict
 pub mod Words

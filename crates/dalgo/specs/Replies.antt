@@ -1,24 +1,19 @@
 -- What the program answers to the text of a program and that of a schedule.
-use Rattle.std.specs.Prelude.{◌≡◌, ℕ, ◌⊎◌, ◌<◌, ◌≤◌, Bool, true, false, List, [], ◌∷◌, ◌++◌, length, codes, decimal, Ok, Err, Option, Some, None}
-use Rattle.da_lang.specs.declared.event.Action.{Action}
-use Rattle.da_lang.specs.declared.event.Action.TheVariants.{Stop}
+use Rattle.std.specs.Prelude.{◌≡◌, ℕ, ◌⊎◌, Bool, true, false, List, [], ◌∷◌, length, codes, Option, Some, None}
 use Rattle.da_lang.specs.declared.event.Event.{Event}
 use Rattle.da_lang.specs.declared.program.Program.{Program}
-use Rattle.da_system.specs.SourceRun.{src_run}
+use Rattle.da_system.specs.SourceRun.{src_run, stop_from}
+use Rattle.da_system.specs.SystemStep.{start}
 use Rattle.dalgo.specs.declared.status.RefusedKind.{RefusedKind}
 use Rattle.dalgo.specs.declared.status.RefusedKind.TheVariants.{NotYet}
 use Rattle.dalgo.specs.declared.status.Status.{Status}
 use Rattle.dalgo.specs.declared.status.Status.TheVariants.{Done, Refused, Forbidden, BadSchedule, ReadFault, WriteFault, Memory, Words}
-use Rattle.dalgo.specs.ActionText.{action_text}
 use Rattle.dalgo.specs.FirstForm.{only_run, runs_today}
 use Rattle.dalgo.specs.Lines.{accepted_text, badline_text, refused_text}
-use Rattle.da_outside.specs.Outside.{Appends, Fits, Rose}
-use Rattle.dalgo.specs.Schedule.{schedule_events}
+use Rattle.da_outside.specs.Outside.{Appends, AppendsFront, Fits, Rose}
 use Rattle.dalgo.specs.Verdict.{Accepts, Refuses}
-
--- the bytes that the text of a schedule may have
-abbrev pub schedule_limit : ℕ
-schedule_limit = 16777216
+use Rattle.sched_text.specs.ActionText.{action_text}
+use Rattle.sched_text.specs.ScheduleText.{IsBadSchedule, SpellsSchedule}
 
 -- the text gives this program, and it is of the form that runs today
 pub record Runs (text : List ℕ) (program : Program) : Type 0 where
@@ -45,20 +40,13 @@ pub record IsRefused (text : List ℕ) : Type 0 where
   pub line : ℕ
   pub refuses : ReplayRefuses text kind line
 
--- the text is a schedule of these events
-pub record IsSchedule (text : List ℕ) (events : List Event) : Type 0 where
-  pub size : length text ≤ schedule_limit
-  pub is : schedule_events text ≡ Ok events
+-- the status of a run that stops at the event of this number, or at none
+abbrev pub ended_by : Option ℕ → Status
+ended_by None = Done
+ended_by (Some i) = Forbidden i
 
--- the text is no schedule: its first bad line, or 0 where it is too long
-abbrev pub IsBadSchedule : List ℕ → ℕ → Type 0
-IsBadSchedule text line = ((schedule_limit < length text) × (line ≡ 0)) ⊎ ((length text ≤ schedule_limit) × (schedule_events text ≡ Err line))
-
--- the status of a run: that of the event at which it stops, or that of its end
-abbrev pub status_of : List Action → Status
-status_of [] = Done
-status_of (Stop i ∷ actions) = Forbidden i
-status_of (a ∷ actions) = status_of actions
+abbrev pub run_status : Program → List Event → Status
+run_status program events = ended_by (stop_from program 1 (start program) events)
 
 -- the status and the bytes with which `replay` answers a program's text and a schedule's
 pub data ReplayReply (program_text schedule_text : List ℕ) : Status → List ℕ → Type 0 where
@@ -66,8 +54,8 @@ pub data ReplayReply (program_text schedule_text : List ℕ) : Status → List �
       → ReplayReply program_text schedule_text (Refused kind line) (refused_text kind line)
   bad_schedule : (program : Program) (line : ℕ) → Runs program_text program → IsBadSchedule schedule_text line
       → ReplayReply program_text schedule_text (BadSchedule line) (badline_text line)
-  ran : (program : Program) (events : List Event) → Runs program_text program → IsSchedule schedule_text events
-      → ReplayReply program_text schedule_text (status_of (src_run program events)) (action_text (src_run program events))
+  ran : (program : Program) (events : List Event) → Runs program_text program → SpellsSchedule schedule_text events
+      → ReplayReply program_text schedule_text (run_status program events) (action_text (src_run program events))
 
 -- a sink gained the bytes with which `replay` answers the two texts, and the status is that of the answer
 pub record Replies (program_text schedule_text : List ℕ) (status : Status) (before after : Option (List ℕ)) : Type 0 where
@@ -90,7 +78,7 @@ pub record RepliesTold (told_program told_schedule : Option (List ℕ)) (status 
 -- the program was run to the end of the schedule or to its first forbidden event, and all of that was written; or memory was refused
 abbrev pub RunsWhole : Program → List Event → Status → Option (List ℕ) → Option (List ℕ) → Type 0
 RunsWhole program events status before after =
-    (status ≡ Memory) ⊎ ((status ≡ status_of (src_run program events)) × Appends before after (action_text (src_run program events)))
+    (status ≡ Memory) ⊎ ((status ≡ run_status program events) × Appends before after (action_text (src_run program events)))
 
 -- the status and the bytes with which `check` answers a program's text
 pub data CheckReply (text : List ℕ) : Status → List ℕ → Type 0 where
@@ -172,8 +160,8 @@ HasReadCause words told before now =
 -- what a schedule is answered, where the program is this
 pub data RunReply (program : Program) (schedule_text : List ℕ) : Status → List ℕ → Type 0 where
   bad : (line : ℕ) → IsBadSchedule schedule_text line → RunReply program schedule_text (BadSchedule line) (badline_text line)
-  carried_out : (events : List Event) → IsSchedule schedule_text events
-      → RunReply program schedule_text (status_of (src_run program events)) (action_text (src_run program events))
+  carried_out : (events : List Event) → SpellsSchedule schedule_text events
+      → RunReply program schedule_text (run_status program events) (action_text (src_run program events))
 
 -- a sink gained the bytes with which the schedule is answered
 pub record Answers (program : Program) (schedule_text : List ℕ) (status : Status) (before after : Option (List ℕ)) : Type 0 where
@@ -183,5 +171,9 @@ pub record Answers (program : Program) (schedule_text : List ℕ) (status : Stat
 
 -- a sink gained the actions of a run
 pub record Ran (program : Program) (events : List Event) (status : Status) (before after : Option (List ℕ)) : Type 0 where
-  pub status_is : status ≡ status_of (src_run program events)
+  pub status_is : status ≡ run_status program events
   pub written : Appends before after (action_text (src_run program events))
+
+-- What a sink gained where a write failed or memory was refused: nothing, or a front of the bytes of a reply.
+abbrev pub Begins : (Status → List ℕ → Type 0) → Option (List ℕ) → Option (List ℕ) → Type 0
+Begins Reply before after = Appends before after [] ⊎ ((status : Status) × (bytes : List ℕ) × Reply status bytes × AppendsFront before after bytes)

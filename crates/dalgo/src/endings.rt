@@ -1,8 +1,8 @@
 //! How the parts of a call end, and the lines that end one.
 ghost use Rattle.dalgo.specs.Lines.{badline_text, refused_text};
-ghost use Rattle.da_outside.specs.Outside.{Appends, Rose};
+ghost use Rattle.da_outside.specs.Outside.{Appends, AppendsFront, Rose};
 ghost use Rattle.dalgo.specs.Top.{status_after as status_after_lem};
-ghost use Rattle.std.specs.Prelude.{◌≡◌, IfOk, IsErrOf};
+ghost use Rattle.std.specs.Prelude.{◌≡◌, IfErr, IfOk, IsErrOf};
 
 use crate::lines::{bad_line, refused_line};
 use crate::status::{RefusedKind, Status};
@@ -46,6 +46,7 @@ pub fn status_after(outcome: Result<Status, Ending>) -> Status
 }
 
 /// Refuses the program.
+#[tactic(auto, using(da_outside::proofs::OutsideLemmas::front_none))]
 pub fn refuse<K: Sink>(
     alloc: Global,
     out: &mut K,
@@ -53,6 +54,7 @@ pub fn refuse<K: Sink>(
     line: u32,
 ) -> Result<Status, Ending>
     ensures said { IfOk result (λ s. (s ≡ Status.Refused kind line) × Appends (K.taken out.old) (K.taken out.new) (refused_text kind line)) }
+    ensures front { IfErr result (λ _. AppendsFront (K.taken out.old) (K.taken out.new) (refused_text kind line)) }
     ensures write { IsErrOf result Ending.Write → Rose (K.faults out.old) (K.faults out.new) }
     ensures read { IsErrOf result Ending.Read → ⊥ }
 {
@@ -61,8 +63,10 @@ pub fn refuse<K: Sink>(
 }
 
 /// Refuses the schedule.
+#[tactic(auto, using(da_outside::proofs::OutsideLemmas::front_none))]
 pub fn refuse_schedule<K: Sink>(alloc: Global, out: &mut K, line: u64) -> Result<Status, Ending>
     ensures said { IfOk result (λ s. (s ≡ Status.BadSchedule line) × Appends (K.taken out.old) (K.taken out.new) (badline_text line)) }
+    ensures front { IfErr result (λ _. AppendsFront (K.taken out.old) (K.taken out.new) (badline_text line)) }
     ensures write { IsErrOf result Ending.Write → Rose (K.faults out.old) (K.faults out.new) }
     ensures read { IsErrOf result Ending.Read → ⊥ }
 {
@@ -73,6 +77,7 @@ pub fn refuse_schedule<K: Sink>(alloc: Global, out: &mut K, line: u64) -> Result
 /// Writes the bytes, with which the call ends so.
 pub fn say<K: Sink>(out: &mut K, bytes: &[u8], status: Status) -> Result<Status, Ending>
     ensures said { IfOk result (λ s. (s ≡ status) × Appends (K.taken out.old) (K.taken out.new) bytes.now) }
+    ensures front { IfErr result (λ _. AppendsFront (K.taken out.old) (K.taken out.new) bytes.now) }
     ensures write { IsErrOf result Ending.Write → Rose (K.faults out.old) (K.faults out.new) }
     ensures read { IsErrOf result Ending.Read → ⊥ }
 {

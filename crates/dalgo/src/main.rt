@@ -2,9 +2,6 @@
 #![tactic(auto)]
 
 #[cfg(test)]
-mod action_rows;
-mod action_text;
-#[cfg(test)]
 mod check_rows;
 mod checking;
 mod endings;
@@ -14,8 +11,6 @@ mod program;
 mod replaying;
 #[cfg(test)]
 mod rows;
-mod run;
-mod schedule;
 mod status;
 mod top;
 mod words;

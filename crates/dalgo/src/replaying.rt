@@ -2,25 +2,25 @@
 ghost use Rattle.da_lang.specs.declared.program.Program.{Program};
 ghost use Rattle.da_system.specs.Printing.{PrintsOnly};
 ghost use Rattle.da_system.specs.State.{IsNumbered};
-ghost use Rattle.da_outside.specs.Outside.{Rose};
-ghost use Rattle.dalgo.specs.Replies.{Answers, IsRefused, IsReplayStatus, Ran, ReadCause, RepliesTo, RepliesTold};
-ghost use Rattle.std.specs.Prelude.{ℕ, ◌≡◌, ◌+◌, ◌≤◌, List, take, IfOk, IsErrOf};
+ghost use Rattle.da_outside.specs.Outside.{AppendsFront, Rose};
+ghost use Rattle.dalgo.specs.Replies.{Answers, Begins, IsRefused, IsReplayStatus, Ran, ReadCause, RepliesTo, RepliesTold, ReplayReply, RunReply};
+ghost use Rattle.da_system.specs.SourceRun.{src_run};
+ghost use Rattle.sched_text.specs.ActionText.{action_text};
+ghost use Rattle.std.specs.Prelude.{ℕ, ◌≡◌, ◌+◌, ◌≤◌, List, Some, take, IfErr, IfOk, IsErrOf};
 
-use crate::action_text::write_actions;
-use crate::endings::{Ending, refuse, refuse_schedule, say};
+use crate::endings::{Ending, refuse, refuse_schedule};
 use crate::first_form::runs_today;
 use crate::program::{PROGRAM_LIMIT, ProgramFault, read_program};
-use crate::run::{run_events, status_of};
-use crate::schedule::{SchedFault, read_schedule};
 use crate::status::{RefusedKind, Status};
 use da_lang::{Event, Program};
 use da_outside::{Files, Sink, Trouble, read_all};
-use da_values::List;
+use da_system::System;
+use replay_run::{Outcome, replay as carry_out};
+use sched_text::{SCHEDULE_LIMIT, SchedFault, read_schedule};
 use std::alloc::Global;
 
-const SCHEDULE_LIMIT: usize = 16_777_216;
-
 /// Reads the program, refuses it or runs the schedule.
+#[tactic(auto, using(crate::proofs::FrontLemmas::begins_nothing))]
 pub fn replay<F: Files, K: Sink>(
     alloc: Global,
     program: &str,
@@ -29,6 +29,7 @@ pub fn replay<F: Files, K: Sink>(
     out: &mut K,
 ) -> Result<Status, Ending>
     ensures replies { IfOk result (λ status. RepliesTold (F.told files.old program.now) (F.told files.old schedule.now) status (K.taken out.old) (K.taken out.new)) }
+    ensures begun { (t s : List ℕ) → F.told files.old program.now ≡ Some t → F.told files.old schedule.now ≡ Some s → IfErr result (λ _. Begins (ReplayReply t s) (K.taken out.old) (K.taken out.new)) }
     ensures read { IsErrOf result Ending.Read → ReadCause (F.told files.old program.now) (F.faults files.old) (F.faults files.new) program.now schedule.now }
     ensures status { IfOk result IsReplayStatus }
     ensures write { IsErrOf result Ending.Write → Rose (K.faults out.old) (K.faults out.new) }
@@ -44,6 +45,7 @@ pub fn replay<F: Files, K: Sink>(
 }
 
 // Refuses the program, or reads the schedule and answers it.
+#[tactic(auto, using(crate::proofs::FrontLemmas::begins_nothing))]
 fn answer_program<F: Files, K: Sink>(
     alloc: Global,
     text: &[u8],
@@ -52,6 +54,7 @@ fn answer_program<F: Files, K: Sink>(
     out: &mut K,
 ) -> Result<Status, Ending>
     ensures replies { (t : List ℕ) → text.now ≡ take (PROGRAM_LIMIT + 1) t → IfOk result (λ status. RepliesTo t (F.told files.old name.now) status (K.taken out.old) (K.taken out.new)) }
+    ensures begun { (t s : List ℕ) → text.now ≡ take (PROGRAM_LIMIT + 1) t → F.told files.old name.now ≡ Some s → IfErr result (λ _. Begins (ReplayReply t s) (K.taken out.old) (K.taken out.new)) }
     ensures refused { (t : List ℕ) → text.now ≡ take (PROGRAM_LIMIT + 1) t → IsErrOf result Ending.Read → IsRefused t → ⊥ }
     ensures read { IsErrOf result Ending.Read → Rose (F.faults files.old name.now) (F.faults files.new name.now) }
     ensures status { IfOk result IsReplayStatus }
@@ -80,6 +83,7 @@ fn answer_program<F: Files, K: Sink>(
 }
 
 // Refuses the schedule, or runs it.
+#[tactic(auto, using(crate::proofs::FrontLemmas::begins_nothing))]
 fn answer_schedule<K: Sink>(
     alloc: Global,
     program: &Program,
@@ -89,13 +93,11 @@ fn answer_schedule<K: Sink>(
     requires few { IsNumbered program.now }
     requires prints { PrintsOnly program.now }
     ensures answers { (whole : List ℕ) → text.now ≡ take (SCHEDULE_LIMIT + 1) whole → IfOk result (λ s. Answers program.now whole s (K.taken out.old) (K.taken out.new)) }
+    ensures begun { (whole : List ℕ) → text.now ≡ take (SCHEDULE_LIMIT + 1) whole → IfErr result (λ _. Begins (RunReply program.now whole) (K.taken out.old) (K.taken out.new)) }
     ensures status { IfOk result IsReplayStatus }
     ensures write { IsErrOf result Ending.Write → Rose (K.faults out.old) (K.faults out.new) }
     ensures read { IsErrOf result Ending.Read → ⊥ }
 {
-    if text.len() > SCHEDULE_LIMIT {
-        return refuse_schedule(alloc, out, 0);
-    }
     match read_schedule(alloc, text) {
         Ok(events) => answer_events(alloc, program, events.as_slice(), out),
         Err(SchedFault::BadLine(line)) => refuse_schedule(alloc, out, line),
@@ -104,6 +106,7 @@ fn answer_schedule<K: Sink>(
 }
 
 // Runs the events, and writes their actions.
+#[tactic(auto, using(da_outside::proofs::OutsideLemmas::front_none))]
 fn answer_events<K: Sink>(
     alloc: Global,
     program: &Program,
@@ -113,13 +116,16 @@ fn answer_events<K: Sink>(
     requires few { IsNumbered program.now }
     requires prints { PrintsOnly program.now }
     ensures ran { IfOk result (λ s. Ran program.now events.now s (K.taken out.old) (K.taken out.new)) }
+    ensures front { IfErr result (λ _. AppendsFront (K.taken out.old) (K.taken out.new) (action_text (src_run program.now events.now))) }
     ensures status { IfOk result IsReplayStatus }
     ensures write { IsErrOf result Ending.Write → Rose (K.faults out.old) (K.faults out.new) }
     ensures read { IsErrOf result Ending.Read → ⊥ }
 {
-    let actions = run_events(alloc, program, events)?;
-    let done = actions.as_slice();
-    let mut text = List::new(alloc);
-    write_actions(done, &mut text)?;
-    say(out, text.as_slice(), status_of(done))
+    let mut system = System::new(alloc, program)?;
+    match carry_out(alloc, &mut system, events, out) {
+        Outcome::Done => Ok(Status::Done),
+        Outcome::Forbidden(event) => Ok(Status::Forbidden { event }),
+        Outcome::WriteFault => Err(Ending::Write),
+        Outcome::Memory => Err(Ending::Memory),
+    }
 }

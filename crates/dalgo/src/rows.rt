@@ -109,7 +109,7 @@ pub fn checks(alloc: Global, program: &[u8], status: Status, text: &[u8]) -> Res
 // Programs, schedules, and what comes of them.
 #[test]
 fn rows(rt: HostRuntime) -> Result<(), Fail> {
-    let rows: [(&[u8], &[u8], Status, &[u8]); 20] = [
+    let rows: [(&[u8], &[u8], Status, &[u8]); 23] = [
         (ONE, b"move 1\n", Status::Done, RAN),
         (ONE, b"move 1", Status::Done, RAN),
         (ONE, b"", Status::Done, b""),
@@ -137,18 +137,36 @@ fn rows(rt: HostRuntime) -> Result<(), Fail> {
             Status::BadSchedule { line: 3 },
             b"badline 3\n",
         ),
-        (ONE, b"\n", Status::BadSchedule { line: 1 }, b"badline 1\n"),
+        (ONE, b"\n", Status::Done, b""),
         (
             ONE,
-            b"move 1\n\nmove 1\n",
-            Status::BadSchedule { line: 2 },
-            b"badline 2\n",
+            b"# twice\r\n\nmove 1\r\n\nmove 1",
+            Status::Forbidden { event: 2 },
+            b"took 1 0\nout 1 7\nend 1\nstop 2\n",
         ),
         (
             ONE,
             b"move 2\n",
-            Status::BadSchedule { line: 1 },
-            b"badline 1\n",
+            Status::Forbidden { event: 1 },
+            b"stop 1\n",
+        ),
+        (
+            ONE,
+            b"stat 1\nshow 1\nmove 1 1\n",
+            Status::Forbidden { event: 3 },
+            b"kept 1 0\nstop 3\n",
+        ),
+        (
+            ONE,
+            b"deliver 1 1 1\n",
+            Status::Forbidden { event: 1 },
+            b"stop 1\n",
+        ),
+        (
+            ONE,
+            b"move 1\nmove 1 0\n",
+            Status::BadSchedule { line: 2 },
+            b"badline 2\n",
         ),
         (
             b"class P extends process:\n    def run():\n        output(9223372036854775807)\n        output(0)\ndef main():\n    a = new(P)\n",

@@ -1,9 +1,10 @@
 //! The top call: all that the program does.
 ghost use Rattle.da_lang.specs.declared.event.Event.{Event};
 ghost use Rattle.da_lang.specs.declared.program.Program.{Program};
-ghost use Rattle.da_outside.specs.Outside.{Appends, Rose};
-ghost use Rattle.dalgo.specs.Replies.{Checks, ChecksTold, IsAccepted, IsAnswer, IsCheck, IsOther, IsReplay, HasReadCause, IsSchedule, Replies, RepliesTold, Runs, RunsWhole};
+ghost use Rattle.da_outside.specs.Outside.{Appends, AppendsFront, Rose};
+ghost use Rattle.dalgo.specs.Replies.{Begins, CheckReply, Checks, ChecksTold, HasReadCause, IsAccepted, IsAnswer, IsCheck, IsOther, IsReplay, ReplayReply, Replies, RepliesTold, Runs, RunsWhole};
 ghost use Rattle.dalgo.specs.Verdict.{Accepts};
+ghost use Rattle.sched_text.specs.ScheduleText.{SpellsSchedule};
 ghost use Rattle.std.specs.Prelude.{ℕ, ◌≡◌, ◌⊎◌, ◌≤◌, List, Some, codes, map};
 ghost use Rattle.std.specs.String.{string_bytes};
 
@@ -32,7 +33,7 @@ pub fn dalgo<F: Files, K: Sink>(
 
     // An accepted program of the form that runs today runs, unless a read or write failed or memory was refused.
     ensures complete { (p q t s : List ℕ) (program : Program) (events : List Event) → IsReplay (map string_bytes words.now) p q
-        → F.told files.old p ≡ Some t → F.told files.old q ≡ Some s → Runs t program → IsSchedule s events
+        → F.told files.old p ≡ Some t → F.told files.old q ≡ Some s → Runs t program → SpellsSchedule s events
         → (Rose (F.faults files.old p) (F.faults files.new p) → ⊥) → (Rose (F.faults files.old q) (F.faults files.new q) → ⊥)
         → (Rose (K.faults out.old) (K.faults out.new) → ⊥) → RunsWhole program events result (K.taken out.old) (K.taken out.new) }
 
@@ -48,6 +49,13 @@ pub fn dalgo<F: Files, K: Sink>(
     // Other words are answered so.
     ensures words { IsOther (map string_bytes words.now) → IsAnswer result → (result ≡ Status.Words) × Appends (K.taken out.old) (K.taken out.new) (codes "words\n") }
     ensures only_words { result ≡ Status.Words → IsOther (map string_bytes words.now) }
+
+    // Where a write failed or memory was refused, the sink gained a front of the bytes of a reply, or nothing.
+    ensures begun { (p q t s : List ℕ) → IsReplay (map string_bytes words.now) p q → F.told files.old p ≡ Some t → F.told files.old q ≡ Some s
+        → (IsAnswer result → ⊥) → Begins (ReplayReply t s) (K.taken out.old) (K.taken out.new) }
+    ensures begun_check { (p t : List ℕ) → IsCheck (map string_bytes words.now) p → F.told files.old p ≡ Some t
+        → (IsAnswer result → ⊥) → Begins (CheckReply t) (K.taken out.old) (K.taken out.new) }
+    ensures begun_words { IsOther (map string_bytes words.now) → (IsAnswer result → ⊥) → AppendsFront (K.taken out.old) (K.taken out.new) (codes "words\n") }
 
     // Each fault has its cause. What files tell stays as it was.
     ensures read { result ≡ Status.ReadFault → HasReadCause (map string_bytes words.now) (F.told files.old) (F.faults files.old) (F.faults files.new) }

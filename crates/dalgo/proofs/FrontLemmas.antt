@@ -1,0 +1,72 @@
+-- What a sink gained where a call did not end in an answer.
+use Rattle.std.proofs.Common.{◌≡◌, refl, sym, ap, subst, ℕ, inl, inr, List, [], length}
+use Rattle.std.proofs.lemmas.List.{append-nil}
+use Rattle.std.specs.Prelude.{IfErr, IfOk, Option, Some, None, Result, Ok, Err}
+use Rattle.da_lang.specs.declared.program.Program.{Program}
+use Rattle.da_outside.specs.Outside.{Appends, AppendsFront}
+use Rattle.dalgo.specs.declared.endings.Ending.{Ending}
+use Rattle.dalgo.specs.declared.status.Status.{Status}
+use Rattle.dalgo.specs.declared.status.Status.TheVariants.{Done, Refused, Words, Forbidden, BadSchedule, ReadFault, WriteFault, Memory}
+use Rattle.dalgo.specs.Replies.{Begins, CheckReply, accepted, IsAnswer, IsCheckStatus, IsReplayStatus, ReplayReply, Runs, RunReply}
+use Rattle.dalgo.specs.Lines.{accepted_text}
+use Rattle.dalgo.specs.Top.{status_after}
+use Rattle.dalgo.specs.Verdict.{Accepts}
+use Rattle.dalgo.proofs.ReplyLemmas.{of_accepted}
+
+nothing : (x : Option (List ℕ)) → Appends x x []
+nothing None = refl
+nothing (Some told) = ap Some (sym (append-nil told))
+
+pub begins_nothing : (Reply : Status → List ℕ → Type 0) (x : Option (List ℕ)) → Begins Reply x x
+begins_nothing Reply x = inl (nothing x)
+
+-- a front of this reply
+pub begins_by : (Reply : Status → List ℕ → Type 0) (r : Result Status Ending) (status : Status) (bytes : List ℕ) (before after : Option (List ℕ)) → Reply status bytes
+    → IfErr r (λ _. AppendsFront before after bytes) → IfErr r (λ _. Begins Reply before after)
+begins_by Reply (Ok s) status bytes before after reply front = tt
+begins_by Reply (Err e) status bytes before after reply front = inr (status, bytes, reply, front)
+
+pub begins_accepted : (t : List ℕ) (program : Program) (bytes : List ℕ) (r : Result Status Ending) (before after : Option (List ℕ)) → Accepts t program
+    → bytes ≡ accepted_text (length program.classes) (length program.procs) → IfErr r (λ _. AppendsFront before after bytes) → IfErr r (λ _. Begins (CheckReply t) before after)
+begins_accepted t program bytes r before after accepts is front = begins_by (CheckReply t) r Done bytes before after (subst (CheckReply t Done) (sym is) (accepted program accepts)) front
+
+-- from the reply to the schedule of a program to the reply to both texts
+begins_run : (t s : List ℕ) (program : Program) (before after : Option (List ℕ)) → Runs t program → Begins (RunReply program s) before after → Begins (ReplayReply t s) before after
+begins_run t s program before after runs (inl none) = inl none
+begins_run t s program before after runs (inr (status, bytes, reply, front)) = inr (status, bytes, of_accepted t s program status bytes runs reply, front)
+
+pub begins_answers : (t s : List ℕ) (program : Program) (r : Result Status Ending) (before after : Option (List ℕ)) → Runs t program
+    → IfErr r (λ _. Begins (RunReply program s) before after) → IfErr r (λ _. Begins (ReplayReply t s) before after)
+begins_answers t s program (Ok o) before after runs begun = tt
+begins_answers t s program (Err e) before after runs begun = begins_run t s program before after runs begun
+
+-- the statuses of replies are answers
+replay_answer : (s : Status) → IsReplayStatus s → IsAnswer s
+replay_answer Done is = tt
+replay_answer (Refused kind line) is = tt
+replay_answer Words is = absurd is
+replay_answer (Forbidden event) is = tt
+replay_answer (BadSchedule line) is = tt
+replay_answer ReadFault is = absurd is
+replay_answer WriteFault is = absurd is
+replay_answer Memory is = absurd is
+
+check_answer : (s : Status) → IsCheckStatus s → IsAnswer s
+check_answer Done is = tt
+check_answer (Refused kind line) is = tt
+check_answer Words is = absurd is
+check_answer (Forbidden event) is = absurd is
+check_answer (BadSchedule line) is = absurd is
+check_answer ReadFault is = absurd is
+check_answer WriteFault is = absurd is
+check_answer Memory is = absurd is
+
+pub after_begun : (Reply : Status → List ℕ → Type 0) (r : Result Status Ending) (status : Status) (before after : Option (List ℕ)) → status ≡ status_after r → IfOk r IsReplayStatus
+    → (IsAnswer status → ⊥) → IfErr r (λ _. Begins Reply before after) → Begins Reply before after
+after_begun Reply (Ok o) status before after same is never begun = absurd (never (subst IsAnswer (sym same) (replay_answer o is)))
+after_begun Reply (Err e) status before after same is never begun = begun
+
+pub after_checked : (Reply : Status → List ℕ → Type 0) (r : Result Status Ending) (status : Status) (before after : Option (List ℕ)) → status ≡ status_after r → IfOk r IsCheckStatus
+    → (IsAnswer status → ⊥) → IfErr r (λ _. Begins Reply before after) → Begins Reply before after
+after_checked Reply (Ok o) status before after same is never begun = absurd (never (subst IsAnswer (sym same) (check_answer o is)))
+after_checked Reply (Err e) status before after same is never begun = begun

@@ -1,6 +1,0 @@
-use Rattle.std.proofs.Common.{◌≡◌, ◌++◌, take}
-use Rattle.dalgo.specs.ActionText.{action_text}
-use Rattle.dalgo.proofs.action_text.write_actions.Given as goal
-
-abbrev pub invariant-loop-action : goal.invariant-loop-action
-invariant-loop-action l = l.out ≡ l.fn.out ++ action_text (take l.action-index l.actions)
