@@ -9,6 +9,7 @@ use std::str;
 
 /// The numbers that a schedule can name.
 const NUMBER_MIN: u32 = 1;
+
 const NUMBER_MAX: u32 = 999_999_999;
 
 /// The bytes up to the first space, and the others.
