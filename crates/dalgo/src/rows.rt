@@ -529,3 +529,17 @@ fn faults(rt: HostRuntime) -> Result<(), Fail> {
     assert!(rt; closed.write(b"x").is_err());
     Ok(())
 }
+
+// A sink that takes one byte a call.
+#[test]
+fn slow_sink(rt: HostRuntime) -> Result<(), Fail> {
+    let words = words_of(rt.alloc(), &["replay", "p", "s"])?;
+    let mut files = files_of(rt.alloc(), ONE, b"move 1\n", List::new(rt.alloc()))?;
+    let mut out = MemSink::new(rt.alloc(), 1, List::new(rt.alloc()));
+    assert_eq!(rt;
+        dalgo(rt.alloc(), words.as_slice(), &mut files, &mut out),
+        Status::Done
+    );
+    assert!(rt; out.bytes() == RAN);
+    Ok(())
+}
