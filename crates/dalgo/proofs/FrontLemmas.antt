@@ -1,17 +1,18 @@
 -- What a sink gained where a call did not end in an answer.
-use Rattle.std.proofs.Common.{◌≡◌, refl, sym, ap, subst, ℕ, inl, inr, List, [], length}
+use Rattle.std.proofs.Common.{◌≡◌, ◌+◌, take, refl, sym, ap, subst, ℕ, inl, inr, List, [], length}
 use Rattle.std.proofs.lemmas.List.{append-nil}
 use Rattle.std.specs.Prelude.{IfErr, IfOk, Option, Some, None, Result, Ok, Err}
 use Rattle.da_lang.specs.declared.program.Program.{Program}
-use Rattle.da_outside.specs.Outside.{Appends, AppendsFront}
+use Rattle.da_outside.specs.Outside.{Appends, AppendsFront, IsWhole}
 use Rattle.dalgo.specs.declared.endings.Ending.{Ending}
 use Rattle.dalgo.specs.declared.status.Status.{Status}
 use Rattle.dalgo.specs.declared.status.Status.TheVariants.{Done, Refused, Words, Forbidden, BadSchedule, ReadFault, WriteFault, Memory}
-use Rattle.dalgo.specs.Replies.{Begins, CheckReply, accepted, IsAnswer, IsCheckStatus, IsReplayStatus, ReplayReply, Runs, RunReply}
+use Rattle.dalgo.specs.Replies.{Begins, BeginsCheck, BeginsTo, BeginsTold, CheckReply, accepted, IsAnswer, IsCheckStatus, IsReplayStatus, ReplayReply, Runs, RunReply}
 use Rattle.dalgo.specs.Lines.{accepted_text}
 use Rattle.dalgo.specs.Top.{status_after}
-use Rattle.dalgo.specs.Verdict.{Accepts}
-use Rattle.dalgo.proofs.ReplyLemmas.{of_accepted}
+use Rattle.dalgo.specs.Verdict.{Accepts, program_limit}
+use Rattle.sched_text.specs.ScheduleText.{schedule_limit}
+use Rattle.dalgo.proofs.ReplyLemmas.{of_accepted, some_fit, whole_of}
 
 nothing : (x : Option (List ℕ)) → Appends x x []
 nothing None = refl
@@ -35,10 +36,45 @@ begins_run : (t s : List ℕ) (program : Program) (before after : Option (List �
 begins_run t s program before after runs (inl none) = inl none
 begins_run t s program before after runs (inr (status, bytes, reply, front)) = inr (status, bytes, of_accepted t s program status bytes runs reply, front)
 
-pub begins_answers : (t s : List ℕ) (program : Program) (r : Result Status Ending) (before after : Option (List ℕ)) → Runs t program
-    → IfErr r (λ _. Begins (RunReply program s) before after) → IfErr r (λ _. Begins (ReplayReply t s) before after)
-begins_answers t s program (Ok o) before after runs begun = tt
-begins_answers t s program (Err e) before after runs begun = begins_run t s program before after runs begun
+-- whatever the schedule is
+pub begins_to : (t : List ℕ) (told : Option (List ℕ)) (r : Result Status Ending) (before after : Option (List ℕ))
+    → ((s : List ℕ) → IfErr r (λ _. Begins (ReplayReply t s) before after)) → IfErr r (λ _. BeginsTo t told before after)
+begins_to t told (Ok o) before after begun = tt
+begins_to t told (Err e) before after begun = let (s, fits) = some_fit told in (s, fits, begun s)
+
+-- the schedule that was read is answered
+pub begins_answers : (t : List ℕ) (told : Option (List ℕ)) (text : List ℕ) (program : Program) (r : Result Status Ending) (before after : Option (List ℕ)) → Runs t program
+    → IsWhole told schedule_limit text → ((s : List ℕ) → text ≡ take (schedule_limit + 1) s → IfErr r (λ _. Begins (RunReply program s) before after))
+    → IfErr r (λ _. BeginsTo t told before after)
+begins_answers t told text program (Ok o) before after runs read begun = tt
+begins_answers t told text program (Err e) before after runs read begun =
+    let (s, fits, is) = whole_of told schedule_limit text read in
+    (s, fits, begins_run t s program before after runs (begun s is))
+
+-- the program that was read is answered
+pub begins_told : (told_program told_schedule : Option (List ℕ)) (text : List ℕ) (r : Result Status Ending) (before after : Option (List ℕ)) → IsWhole told_program program_limit text
+    → ((t : List ℕ) → text ≡ take (program_limit + 1) t → IfErr r (λ _. BeginsTo t told_schedule before after)) → IfErr r (λ _. BeginsTold told_program told_schedule before after)
+begins_told told_program told_schedule text (Ok o) before after read begun = tt
+begins_told told_program told_schedule text (Err e) before after read begun =
+    let (t, fits, is) = whole_of told_program program_limit text read in
+    (t, fits, begun t is)
+
+pub begins_checked : (told : Option (List ℕ)) (text : List ℕ) (r : Result Status Ending) (before after : Option (List ℕ)) → IsWhole told program_limit text
+    → ((t : List ℕ) → text ≡ take (program_limit + 1) t → IfErr r (λ _. Begins (CheckReply t) before after)) → IfErr r (λ _. BeginsCheck told before after)
+begins_checked told text (Ok o) before after read begun = tt
+begins_checked told text (Err e) before after read begun =
+    let (t, fits, is) = whole_of told program_limit text read in
+    (t, fits, begun t is)
+
+-- nothing was written
+pub none_to : (t : List ℕ) (told x : Option (List ℕ)) → BeginsTo t told x x
+none_to t told x = let (s, fits) = some_fit told in (s, fits, begins_nothing (ReplayReply t s) x)
+
+pub none_told : (told_program told_schedule x : Option (List ℕ)) → BeginsTold told_program told_schedule x x
+none_told told_program told_schedule x = let (t, fits) = some_fit told_program in (t, fits, none_to t told_schedule x)
+
+pub none_checked : (told x : Option (List ℕ)) → BeginsCheck told x x
+none_checked told x = let (t, fits) = some_fit told in (t, fits, begins_nothing (CheckReply t) x)
 
 -- the statuses of replies are answers
 replay_answer : (s : Status) → IsReplayStatus s → IsAnswer s
@@ -61,12 +97,12 @@ check_answer ReadFault is = absurd is
 check_answer WriteFault is = absurd is
 check_answer Memory is = absurd is
 
-pub after_begun : (Reply : Status → List ℕ → Type 0) (r : Result Status Ending) (status : Status) (before after : Option (List ℕ)) → status ≡ status_after r → IfOk r IsReplayStatus
-    → (IsAnswer status → ⊥) → IfErr r (λ _. Begins Reply before after) → Begins Reply before after
-after_begun Reply (Ok o) status before after same is never begun = absurd (never (subst IsAnswer (sym same) (replay_answer o is)))
-after_begun Reply (Err e) status before after same is never begun = begun
+pub after_begun : (Begun : Type 0) (r : Result Status Ending) (status : Status) → status ≡ status_after r → IfOk r IsReplayStatus
+    → (IsAnswer status → ⊥) → IfErr r (λ _. Begun) → Begun
+after_begun Begun (Ok o) status same is never begun = absurd (never (subst IsAnswer (sym same) (replay_answer o is)))
+after_begun Begun (Err e) status same is never begun = begun
 
-pub after_checked : (Reply : Status → List ℕ → Type 0) (r : Result Status Ending) (status : Status) (before after : Option (List ℕ)) → status ≡ status_after r → IfOk r IsCheckStatus
-    → (IsAnswer status → ⊥) → IfErr r (λ _. Begins Reply before after) → Begins Reply before after
-after_checked Reply (Ok o) status before after same is never begun = absurd (never (subst IsAnswer (sym same) (check_answer o is)))
-after_checked Reply (Err e) status before after same is never begun = begun
+pub after_checked : (Begun : Type 0) (r : Result Status Ending) (status : Status) → status ≡ status_after r → IfOk r IsCheckStatus
+    → (IsAnswer status → ⊥) → IfErr r (λ _. Begun) → Begun
+after_checked Begun (Ok o) status same is never begun = absurd (never (subst IsAnswer (sym same) (check_answer o is)))
+after_checked Begun (Err e) status same is never begun = begun

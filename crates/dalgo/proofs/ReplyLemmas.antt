@@ -65,7 +65,7 @@ answers_ran program whole events (Ok s) before after is did = record {
 }
 answers_ran program whole events (Err e) before after is did = tt
 
-some_fit : (told : Option (List ℕ)) → (text : List ℕ) × Fits told text
+pub some_fit : (told : Option (List ℕ)) → (text : List ℕ) × Fits told text
 some_fit None = ([], tt)
 some_fit (Some text) = (text, refl)
 

@@ -13,18 +13,26 @@ use Rattle.da_lang.specs.declared.program.RBranch.{RBranch}
 use Rattle.da_lang.specs.declared.program.RExpr.{RExpr, out-RExpr}
 use Rattle.da_lang.specs.declared.program.RExpr.TheOpen.{RExpr-F, Const}
 use Rattle.da_lang.specs.declared.tree.ClassTree.{ClassTree}
+use Rattle.da_lang.specs.declared.tree.MainLine.{MainLine}
+use Rattle.da_lang.specs.declared.tree.MainLine.TheVariants as main_line
 use Rattle.da_lang.specs.declared.tree.Member.{Member}
 use Rattle.da_lang.specs.declared.tree.Member.TheVariants as member
 use Rattle.da_lang.specs.declared.tree.Tree.{Tree}
 use Rattle.da_lang.specs.Turns.{kind_of}
 
--- each class of a tree has `run` and no other member
+-- a member of a class that is its `run`
 abbrev pub is_run : Member → Bool
 is_run (member.Run body line) = true
 is_run _ = false
 
+-- a line of `main` that is no line of `setup`
+abbrev pub is_new : MainLine → Bool
+is_new (main_line.New name class count line) = true
+is_new _ = false
+
+-- each class of a tree has `run` and no other member, and `main` has no line of `setup`
 abbrev pub only_run : Tree → Bool
-only_run t = list_all (λ (c : ClassTree). list_all is_run c.members) t.classes
+only_run t = list_all (λ (c : ClassTree). list_all is_run c.members) t.classes && list_all is_new t.main
 
 -- an integer that the program writes out
 abbrev pub is_integer : RExpr-F RExpr ChainPart → Bool

@@ -26,7 +26,7 @@ pub record IsNotYet (text : List ℕ) : Type 0 where
   pub accepts : Accepts text program
   pub later : runs_today accepts.tree program ≡ false
 
--- the text gives this program, and this says whether each of its classes has `run` alone
+-- the text gives this program, and this says whether each of its classes has `run` alone and `main` no line of `setup`
 pub record IsRead (text : List ℕ) (program : Program) (only : Bool) : Type 0 where
   pub accepts : Accepts text program
   pub says : only ≡ only_run accepts.tree
@@ -177,3 +177,14 @@ pub record Ran (program : Program) (events : List Event) (status : Status) (befo
 -- What a sink gained where a write failed or memory was refused: nothing, or a front of the bytes of a reply.
 abbrev pub Begins : (Status → List ℕ → Type 0) → Option (List ℕ) → Option (List ℕ) → Type 0
 Begins Reply before after = Appends before after [] ⊎ ((status : Status) × (bytes : List ℕ) × Reply status bytes × AppendsFront before after bytes)
+
+-- the same of replies to a text and to one that fits what is told of a schedule; to two texts that fit what is told of
+-- them; and of `check` to a text that fits what is told
+abbrev pub BeginsTo : List ℕ → Option (List ℕ) → Option (List ℕ) → Option (List ℕ) → Type 0
+BeginsTo program_text told_schedule before after = (schedule_text : List ℕ) × Fits told_schedule schedule_text × Begins (ReplayReply program_text schedule_text) before after
+
+abbrev pub BeginsTold : Option (List ℕ) → Option (List ℕ) → Option (List ℕ) → Option (List ℕ) → Type 0
+BeginsTold told_program told_schedule before after = (program_text : List ℕ) × Fits told_program program_text × BeginsTo program_text told_schedule before after
+
+abbrev pub BeginsCheck : Option (List ℕ) → Option (List ℕ) → Option (List ℕ) → Type 0
+BeginsCheck told before after = (text : List ℕ) × Fits told text × Begins (CheckReply text) before after

@@ -132,9 +132,3 @@ Refuses text kind_is.Types line = IsMistyped text line
 abbrev pub IsRefusedAs : List ℕ → ProgramFault → Type 0
 IsRefusedAs text (fault.Refused kind line) = Refuses text kind line
 IsRefusedAs text fault.Memory = Unit {0}
-
--- the text is refused
-pub record IsRefused (text : List ℕ) : Type 0 where
-  pub kind : RefusedKind
-  pub line : ℕ
-  pub refuses : Refuses text kind line

@@ -1,7 +1,7 @@
 //! The command `check`.
 ghost use Rattle.da_outside.specs.Outside.{Rose};
-ghost use Rattle.dalgo.specs.Replies.{Begins, CheckReply, Checks, ChecksTold, IsCheckStatus};
-ghost use Rattle.std.specs.Prelude.{ℕ, ◌≡◌, ◌+◌, ◌≤◌, List, Some, take, IfErr, IfOk, IsErrOf};
+ghost use Rattle.dalgo.specs.Replies.{Begins, BeginsCheck, CheckReply, Checks, ChecksTold, IsCheckStatus};
+ghost use Rattle.std.specs.Prelude.{ℕ, ◌≡◌, ◌+◌, ◌≤◌, List, take, IfErr, IfOk, IsErrOf};
 
 use crate::endings::{Ending, refuse, say};
 use crate::lines::accepted_line;
@@ -11,7 +11,7 @@ use da_outside::{Files, Sink, Trouble, read_all};
 use std::alloc::Global;
 
 /// Reads the program, and refuses it or says how many classes and processes it has.
-#[tactic(auto, using(crate::proofs::FrontLemmas::begins_nothing))]
+#[tactic(auto, using(crate::proofs::FrontLemmas::none_checked))]
 pub fn check<F: Files, K: Sink>(
     alloc: Global,
     program: &str,
@@ -19,7 +19,7 @@ pub fn check<F: Files, K: Sink>(
     out: &mut K,
 ) -> Result<Status, Ending>
     ensures checks { IfOk result (λ status. ChecksTold (F.told files.old program.now) status (K.taken out.old) (K.taken out.new)) }
-    ensures begun { (t : List ℕ) → F.told files.old program.now ≡ Some t → IfErr result (λ _. Begins (CheckReply t) (K.taken out.old) (K.taken out.new)) }
+    ensures begun { IfErr result (λ _. BeginsCheck (F.told files.old program.now) (K.taken out.old) (K.taken out.new)) }
     ensures status { IfOk result IsCheckStatus }
     ensures read { IsErrOf result Ending.Read → Rose (F.faults files.old program.now) (F.faults files.new program.now) }
     ensures write { IsErrOf result Ending.Write → Rose (K.faults out.old) (K.faults out.new) }

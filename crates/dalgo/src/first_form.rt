@@ -5,14 +5,33 @@ ghost use Rattle.dalgo.specs.FirstForm as spec;
 ghost use Rattle.std.specs.List.{list_all};
 ghost use Rattle.std.specs.Prelude.{◌≡◌, ◌&&◌, true, is_none};
 
-use da_lang::{Class, ClassTree, Item, ItemKind, Member, ProcDecl, Program, RExpr, Tree};
+use da_lang::{Class, ClassTree, Item, ItemKind, MainLine, Member, ProcDecl, Program, RExpr, Tree};
 use da_values::Value;
 
-/// Whether each class of the tree has `run` and no other member.
+/// Whether each class of the tree has `run` and no other member, and `main` has no line of `setup`.
 pub fn has_only_run(tree: &Tree) -> bool
     ensures { result ≡ spec.only_run tree.now }
 {
-    tree.classes.as_slice().iter().all(class_has_only_run)
+    classes_have_only_run(tree.classes.as_slice()) && lines_are_new(tree.main.as_slice())
+}
+
+fn classes_have_only_run(classes: &[ClassTree]) -> bool
+    ensures { result ≡ list_all (λ c. list_all spec.is_run c.members) classes.now }
+{
+    classes.iter().all(class_has_only_run)
+}
+
+// Whether no line of `main` is one of `setup`.
+fn lines_are_new(lines: &[MainLine]) -> bool
+    ensures { result ≡ list_all spec.is_new lines.now }
+{
+    lines.iter().all(is_new)
+}
+
+fn is_new(line: &MainLine) -> bool
+    ensures { result ≡ spec.is_new line.now }
+{
+    matches!(line, MainLine::New { .. })
 }
 
 // Whether the class has `run` and no other member.
@@ -28,7 +47,7 @@ fn is_run(member: &Member) -> bool
     matches!(member, Member::Run { .. })
 }
 
-/// Whether a program runs today: each class has `run` alone, there is one process, and it and its class do no more than
+/// Whether a program runs today: each class has `run` alone, `main` has no line of `setup`, there is one process, and it and its class do no more than
 /// print integers.
 #[tactic(auto, using(crate::proofs::FormLemmas::prints_only, crate::proofs::FormLemmas::few_processes))]
 pub fn runs_today(only_run: bool, program: &Program) -> bool

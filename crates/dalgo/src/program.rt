@@ -72,7 +72,7 @@ impl From<TypeFault> for ProgramFault {
 pub struct Read {
     /// The program, with the type of every slot.
     pub typed: Typed,
-    /// Whether in its text each class has `run` and no other member.
+    /// Whether in its text each class has `run` and no other member, and `main` no line of `setup`.
     pub only_run: bool,
 }
 

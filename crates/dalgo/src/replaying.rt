@@ -3,10 +3,10 @@ ghost use Rattle.da_lang.specs.declared.program.Program.{Program};
 ghost use Rattle.da_system.specs.Printing.{PrintsOnly};
 ghost use Rattle.da_system.specs.State.{IsNumbered};
 ghost use Rattle.da_outside.specs.Outside.{AppendsFront, Rose};
-ghost use Rattle.dalgo.specs.Replies.{Answers, Begins, IsRefused, IsReplayStatus, Ran, ReadCause, RepliesTo, RepliesTold, ReplayReply, RunReply};
+ghost use Rattle.dalgo.specs.Replies.{Answers, Begins, BeginsTo, BeginsTold, IsRefused, IsReplayStatus, Ran, ReadCause, RepliesTo, RepliesTold, RunReply};
 ghost use Rattle.da_system.specs.SourceRun.{src_run};
 ghost use Rattle.sched_text.specs.ActionText.{action_text};
-ghost use Rattle.std.specs.Prelude.{ℕ, ◌≡◌, ◌+◌, ◌≤◌, List, Some, take, IfErr, IfOk, IsErrOf};
+ghost use Rattle.std.specs.Prelude.{ℕ, ◌≡◌, ◌+◌, ◌≤◌, List, take, IfErr, IfOk, IsErrOf};
 
 use crate::endings::{Ending, refuse, refuse_schedule};
 use crate::first_form::runs_today;
@@ -20,7 +20,7 @@ use sched_text::{SCHEDULE_LIMIT, SchedFault, read_schedule};
 use std::alloc::Global;
 
 /// Reads the program, refuses it or runs the schedule.
-#[tactic(auto, using(crate::proofs::FrontLemmas::begins_nothing))]
+#[tactic(auto, using(crate::proofs::FrontLemmas::none_told))]
 pub fn replay<F: Files, K: Sink>(
     alloc: Global,
     program: &str,
@@ -29,7 +29,7 @@ pub fn replay<F: Files, K: Sink>(
     out: &mut K,
 ) -> Result<Status, Ending>
     ensures replies { IfOk result (λ status. RepliesTold (F.told files.old program.now) (F.told files.old schedule.now) status (K.taken out.old) (K.taken out.new)) }
-    ensures begun { (t s : List ℕ) → F.told files.old program.now ≡ Some t → F.told files.old schedule.now ≡ Some s → IfErr result (λ _. Begins (ReplayReply t s) (K.taken out.old) (K.taken out.new)) }
+    ensures begun { IfErr result (λ _. BeginsTold (F.told files.old program.now) (F.told files.old schedule.now) (K.taken out.old) (K.taken out.new)) }
     ensures read { IsErrOf result Ending.Read → ReadCause (F.told files.old program.now) (F.faults files.old) (F.faults files.new) program.now schedule.now }
     ensures status { IfOk result IsReplayStatus }
     ensures write { IsErrOf result Ending.Write → Rose (K.faults out.old) (K.faults out.new) }
@@ -45,7 +45,7 @@ pub fn replay<F: Files, K: Sink>(
 }
 
 // Refuses the program, or reads the schedule and answers it.
-#[tactic(auto, using(crate::proofs::FrontLemmas::begins_nothing))]
+#[tactic(auto, using(crate::proofs::FrontLemmas::none_to))]
 fn answer_program<F: Files, K: Sink>(
     alloc: Global,
     text: &[u8],
@@ -54,7 +54,7 @@ fn answer_program<F: Files, K: Sink>(
     out: &mut K,
 ) -> Result<Status, Ending>
     ensures replies { (t : List ℕ) → text.now ≡ take (PROGRAM_LIMIT + 1) t → IfOk result (λ status. RepliesTo t (F.told files.old name.now) status (K.taken out.old) (K.taken out.new)) }
-    ensures begun { (t s : List ℕ) → text.now ≡ take (PROGRAM_LIMIT + 1) t → F.told files.old name.now ≡ Some s → IfErr result (λ _. Begins (ReplayReply t s) (K.taken out.old) (K.taken out.new)) }
+    ensures begun { (t : List ℕ) → text.now ≡ take (PROGRAM_LIMIT + 1) t → IfErr result (λ _. BeginsTo t (F.told files.old name.now) (K.taken out.old) (K.taken out.new)) }
     ensures refused { (t : List ℕ) → text.now ≡ take (PROGRAM_LIMIT + 1) t → IsErrOf result Ending.Read → IsRefused t → ⊥ }
     ensures read { IsErrOf result Ending.Read → Rose (F.faults files.old name.now) (F.faults files.new name.now) }
     ensures status { IfOk result IsReplayStatus }

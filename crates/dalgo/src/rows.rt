@@ -109,7 +109,7 @@ pub fn checks(alloc: Global, program: &[u8], status: Status, text: &[u8]) -> Res
 // Programs, schedules, and what comes of them.
 #[test]
 fn rows(rt: HostRuntime) -> Result<(), Fail> {
-    let rows: [(&[u8], &[u8], Status, &[u8]); 23] = [
+    let rows: [(&[u8], &[u8], Status, &[u8]); 24] = [
         (ONE, b"move 1\n", Status::Done, RAN),
         (ONE, b"move 1", Status::Done, RAN),
         (ONE, b"", Status::Done, b""),
@@ -206,6 +206,12 @@ fn rows(rt: HostRuntime) -> Result<(), Fail> {
         ),
         (
             b"class P extends process:\n    var x: int\n    def run():\n        output(7)\ndef main():\n    a = new(P)\n",
+            b"move 1\n",
+            NOT_YET,
+            b"refused notyet 0\n",
+        ),
+        (
+            b"class P extends process:\n    def run():\n        output(7)\ndef main():\n    a = new(P)\n    ps = new(P, 0)\n    setup(ps)\n",
             b"move 1\n",
             NOT_YET,
             b"refused notyet 0\n",

@@ -2,7 +2,7 @@
 ghost use Rattle.da_lang.specs.declared.event.Event.{Event};
 ghost use Rattle.da_lang.specs.declared.program.Program.{Program};
 ghost use Rattle.da_outside.specs.Outside.{Appends, AppendsFront, Rose};
-ghost use Rattle.dalgo.specs.Replies.{Begins, CheckReply, Checks, ChecksTold, HasReadCause, IsAccepted, IsAnswer, IsCheck, IsOther, IsReplay, ReplayReply, Replies, RepliesTold, Runs, RunsWhole};
+ghost use Rattle.dalgo.specs.Replies.{BeginsCheck, BeginsTold, Checks, ChecksTold, HasReadCause, IsAccepted, IsAnswer, IsCheck, IsOther, IsReplay, Replies, RepliesTold, Runs, RunsWhole};
 ghost use Rattle.dalgo.specs.Verdict.{Accepts};
 ghost use Rattle.sched_text.specs.ScheduleText.{SpellsSchedule};
 ghost use Rattle.std.specs.Prelude.{ℕ, ◌≡◌, ◌⊎◌, ◌≤◌, List, Some, codes, map};
@@ -51,10 +51,10 @@ pub fn dalgo<F: Files, K: Sink>(
     ensures only_words { result ≡ Status.Words → IsOther (map string_bytes words.now) }
 
     // Where a write failed or memory was refused, the sink gained a front of the bytes of a reply, or nothing.
-    ensures begun { (p q t s : List ℕ) → IsReplay (map string_bytes words.now) p q → F.told files.old p ≡ Some t → F.told files.old q ≡ Some s
-        → (IsAnswer result → ⊥) → Begins (ReplayReply t s) (K.taken out.old) (K.taken out.new) }
-    ensures begun_check { (p t : List ℕ) → IsCheck (map string_bytes words.now) p → F.told files.old p ≡ Some t
-        → (IsAnswer result → ⊥) → Begins (CheckReply t) (K.taken out.old) (K.taken out.new) }
+    ensures begun { (p q : List ℕ) → IsReplay (map string_bytes words.now) p q
+        → (IsAnswer result → ⊥) → BeginsTold (F.told files.old p) (F.told files.old q) (K.taken out.old) (K.taken out.new) }
+    ensures begun_check { (p : List ℕ) → IsCheck (map string_bytes words.now) p
+        → (IsAnswer result → ⊥) → BeginsCheck (F.told files.old p) (K.taken out.old) (K.taken out.new) }
     ensures begun_words { IsOther (map string_bytes words.now) → (IsAnswer result → ⊥) → AppendsFront (K.taken out.old) (K.taken out.new) (codes "words\n") }
 
     // Each fault has its cause. What files tell stays as it was.

@@ -1,6 +1,5 @@
-use Rattle.std.proofs.Common.{◌≡◌, ◌∙◌, ◌+◌, subst, take}
-use Rattle.da_outside.specs.Outside.{IsWhole}
-use Rattle.dalgo.specs.Verdict.{program_limit}
+use Rattle.std.proofs.Common.{◌∙◌}
+use Rattle.dalgo.proofs.FrontLemmas.{begins_checked}
 use Rattle.dalgo.proofs.ReplyLemmas.{checks_told}
 use Rattle.dalgo.proofs.checking.check.Goals as goal
 
@@ -9,6 +8,5 @@ returns-in-Ok-clause-checks g c =
     checks_told (g.F.Files.told c.args.files.now c.args.program.now) c.in-Ok.text c.answer_check.result _ _ c.in-Ok.ensures.whole (λ t is. c.answer_check.ensures.checks t (c.as_slice.ensures ∙ is))
 
 pub returns-in-Ok-clause-begun : goal.returns-in-Ok-clause-begun
-returns-in-Ok-clause-begun g c = λ t told.
-    let whole : c.in-Ok.text ≡ take (program_limit + 1) t = subst (λ o. IsWhole o program_limit c.in-Ok.text) told c.in-Ok.ensures.whole in
-    c.answer_check.ensures.begun t (c.as_slice.ensures ∙ whole)
+returns-in-Ok-clause-begun g c =
+    begins_checked (g.F.Files.told c.args.files.now c.args.program.now) c.in-Ok.text c.answer_check.result _ _ c.in-Ok.ensures.whole (λ t is. c.answer_check.ensures.begun t (c.as_slice.ensures ∙ is))

@@ -1,8 +1,7 @@
-use Rattle.std.proofs.Common.{◌≡◌, inr, ◌∙◌, subst, List, ℕ, take, ◌+◌}
-use Rattle.std.specs.Prelude.{IfOk, Option}
-use Rattle.da_outside.specs.Outside.{IsWhole}
-use Rattle.dalgo.specs.Verdict.{program_limit}
-use Rattle.dalgo.specs.Replies.{RepliesTo}
+use Rattle.std.proofs.Common.{inr, ◌∙◌, subst, List, ℕ}
+use Rattle.std.specs.Prelude.{IfErr, IfOk, Option}
+use Rattle.dalgo.specs.Replies.{BeginsTo, RepliesTo}
+use Rattle.dalgo.proofs.FrontLemmas.{begins_told}
 use Rattle.dalgo.proofs.ReplyLemmas.{may_read, replies_told, rose_later}
 use Rattle.dalgo.proofs.replaying.replay.Goals as goal
 
@@ -21,6 +20,8 @@ returns-in-Ok-clause-replies g c =
     (c.in-Ok.ensures.same c.args.schedule.now) (c.answer_program.ensures.replies t (c.as_slice.ensures ∙ is)))
 
 pub returns-in-Ok-clause-begun : goal.returns-in-Ok-clause-begun
-returns-in-Ok-clause-begun g c = λ t s program_is schedule_is.
-    let whole : c.in-Ok.text ≡ take (program_limit + 1) t = subst (λ o. IsWhole o program_limit c.in-Ok.text) program_is c.in-Ok.ensures.whole in
-    c.answer_program.ensures.begun t s (c.as_slice.ensures ∙ whole) (c.in-Ok.ensures.same c.args.schedule.now ∙ schedule_is)
+returns-in-Ok-clause-begun g c =
+    begins_told (g.F.Files.told c.args.files.now c.args.program.now) (g.F.Files.told c.args.files.now c.args.schedule.now) c.in-Ok.text c.answer_program.result _ _ c.in-Ok.ensures.whole
+    (λ t is.
+    subst (λ (o : Option (List ℕ)). IfErr c.answer_program.result (λ _. BeginsTo t o (g.K.Sink.taken c.args.out.now) (g.K.Sink.taken c.answer_program.new.out)))
+    (c.in-Ok.ensures.same c.args.schedule.now) (c.answer_program.ensures.begun t (c.as_slice.ensures ∙ is)))

@@ -1,7 +1,7 @@
-use Rattle.std.proofs.Common.{◌≡◌, subst}
+use Rattle.std.proofs.Common.{◌≡◌, subst, List, ℕ, sym}
 use Rattle.std.specs.Prelude.{Some}
 use Rattle.da_outside.specs.Outside.{Rose}
-use Rattle.dalgo.specs.Replies.{CheckReply, ReplayReply}
+use Rattle.dalgo.specs.Replies.{BeginsCheck, BeginsTold}
 use Rattle.dalgo.proofs.FrontLemmas.{after_begun, after_checked}
 use Rattle.dalgo.proofs.ReplyLemmas.{is_accepted, not_read, runs_whole, same_name, same_names}
 use Rattle.dalgo.proofs.top.dalgo.Goals as goal
@@ -28,14 +28,16 @@ returns-in-Check-clause-accepted g c = λ p t program words told accepts quiet q
     c.check.ensures.checks
 
 pub returns-in-Replay-clause-begun : goal.returns-in-Replay-clause-begun
-returns-in-Replay-clause-begun g c = λ p q t s words told_p told_q never.
+returns-in-Replay-clause-begun g c = λ p q words never.
     let same = same_names _ _ _ _ _ c.in-Replay.ensures words in
-    let here : g.F.Files.told c.args.files.now c.in-Replay.names.program.now ≡ Some t = subst (λ n. g.F.Files.told c.args.files.now n ≡ Some t) same.0 told_p in
-    let there : g.F.Files.told c.args.files.now c.in-Replay.names.schedule.now ≡ Some s = subst (λ n. g.F.Files.told c.args.files.now n ≡ Some s) same.1 told_q in
-    after_begun (ReplayReply t s) c.replay.result c.status_after.result _ _ c.status_after.ensures c.replay.ensures.status never (c.replay.ensures.begun t s here there)
+    let B : List ℕ → List ℕ → Type 0 = λ x y. BeginsTold (g.F.Files.told c.args.files.now x) (g.F.Files.told c.args.files.now y) (g.K.Sink.taken c.args.out.now) (g.K.Sink.taken c.replay.new.out) in
+    let here : B c.in-Replay.names.program.now c.in-Replay.names.schedule.now = after_begun _ c.replay.result c.status_after.result c.status_after.ensures c.replay.ensures.status never c.replay.ensures.begun in
+    let half : B p c.in-Replay.names.schedule.now = subst (λ x. B x c.in-Replay.names.schedule.now) (sym same.0) here in
+    subst (λ y. B p y) (sym same.1) half
 
 pub returns-in-Check-clause-begun_check : goal.returns-in-Check-clause-begun_check
-returns-in-Check-clause-begun_check g c = λ p t words told never.
+returns-in-Check-clause-begun_check g c = λ p words never.
     let same : p ≡ c.in-Check.program.now = same_name _ _ _ c.in-Check.ensures words in
-    let here : g.F.Files.told c.args.files.now c.in-Check.program.now ≡ Some t = subst (λ n. g.F.Files.told c.args.files.now n ≡ Some t) same told in
-    after_checked (CheckReply t) c.check.result c.status_after-in-Check.result _ _ c.status_after-in-Check.ensures c.check.ensures.status never (c.check.ensures.begun t here)
+    let B : List ℕ → Type 0 = λ x. BeginsCheck (g.F.Files.told c.args.files.now x) (g.K.Sink.taken c.args.out.now) (g.K.Sink.taken c.check.new.out) in
+    let here : B c.in-Check.program.now = after_checked _ c.check.result c.status_after-in-Check.result c.status_after-in-Check.ensures c.check.ensures.status never c.check.ensures.begun in
+    subst B (sym same) here
