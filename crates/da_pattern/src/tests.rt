@@ -65,23 +65,27 @@ fn tuples_match_by_their_parts(rt: HostRuntime) -> Result<(), Fail> {
 }
 
 #[test]
-fn other_patterns_match_by_value(rt: HostRuntime) -> Result<(), Fail> {
-    let alloc = rt.alloc();
-    assert!(rt; gives(alloc, &Pattern::Any, b"5", b"(1,)", Some(b"(1,)"))?);
+fn whole_values_match(rt: HostRuntime) -> Result<(), Fail> {
+    assert!(rt; gives(rt.alloc(), &Pattern::Any, b"5", b"(1,)", Some(b"(1,)"))?);
     assert!(rt;
         gives(
-            alloc,
+            rt.alloc(),
             &Pattern::Bind,
             b"(5, {})",
             b"(1,)",
             Some(b"(1, (5, {}))")
         )?
     );
+    assert!(rt; gives(rt.alloc(), &Pattern::Me, b"p3", b"()", Some(b"()"))?);
+    assert!(rt; gives(rt.alloc(), &Pattern::Me, b"p2", b"()", None)?);
+    Ok(())
+}
+
+#[test]
+fn constants_are_compared(rt: HostRuntime) -> Result<(), Fail> {
     let five = Pattern::Const(Value::Int(5));
-    assert!(rt; gives(alloc, &five, b"5", b"()", Some(b"()"))?);
-    assert!(rt; gives(alloc, &five, b"p5", b"()", None)?);
-    assert!(rt; gives(alloc, &Pattern::Me, b"p3", b"()", Some(b"()"))?);
-    assert!(rt; gives(alloc, &Pattern::Me, b"p2", b"()", None)?);
+    assert!(rt; gives(rt.alloc(), &five, b"5", b"()", Some(b"()"))?);
+    assert!(rt; gives(rt.alloc(), &five, b"p5", b"()", None)?);
     Ok(())
 }
 
@@ -95,18 +99,37 @@ fn three(alloc: Global) -> Result<Pattern, Fail> {
 }
 
 #[test]
-fn terms_are_compared(rt: HostRuntime) -> Result<(), Fail> {
-    let alloc = rt.alloc();
+fn slots_are_compared(rt: HostRuntime) -> Result<(), Fail> {
     let slot = Pattern::Equal(Term::Slot(2));
-    assert!(rt; gives(alloc, &slot, b"(1, p1)", b"()", Some(b"()"))?);
-    assert!(rt; gives(alloc, &slot, b"(1, p2)", b"()", None)?);
-    let equal = three(alloc)?;
-    assert!(rt; gives(alloc, &equal, b"(p3, 7, {})", b"(1, {})", Some(b"(1, {})"))?);
-    assert!(rt; gives(alloc, &equal, b"(p3, 7, {})", b"({}, 1)", None)?);
-    assert!(rt; gives(alloc, &equal, b"(p3, 7)", b"(1, {})", None)?);
-    // what is not there, and what has no value
-    assert!(rt; gives(alloc, &Pattern::Equal(Term::Slot(3)), b"7", b"()", None)?);
-    assert!(rt; gives(alloc, &Pattern::Equal(Term::Part(0)), b"7", b"(7,)", None)?);
-    assert!(rt; gives(alloc, &Pattern::Equal(Term::Foreign), b"7", b"(7,)", None)?);
+    assert!(rt; gives(rt.alloc(), &slot, b"(1, p1)", b"()", Some(b"()"))?);
+    assert!(rt; gives(rt.alloc(), &slot, b"(1, p2)", b"()", None)?);
+    Ok(())
+}
+
+#[test]
+fn tuples_of_terms_are_compared(rt: HostRuntime) -> Result<(), Fail> {
+    let equal = three(rt.alloc())?;
+    let rows: [(&[u8], &[u8], Option<&[u8]>); 3] = [
+        (b"(p3, 7, {})", b"(1, {})", Some(b"(1, {})")),
+        (b"(p3, 7, {})", b"({}, 1)", None),
+        (b"(p3, 7)", b"(1, {})", None),
+    ];
+    for (value, row, longer) in rows {
+        assert!(rt; gives(rt.alloc(), &equal, value, row, longer)?);
+    }
+    Ok(())
+}
+
+// Whether 7 does not match what a term is worth.
+fn none_there(alloc: Global, term: Term) -> Result<bool, Fail> {
+    gives(alloc, &Pattern::Equal(term), b"7", b"(7,)", None)
+}
+
+// What is not there, and what has no value.
+#[test]
+fn nothing_matches_no_value(rt: HostRuntime) -> Result<(), Fail> {
+    assert!(rt; none_there(rt.alloc(), Term::Slot(3))?);
+    assert!(rt; none_there(rt.alloc(), Term::Part(0))?);
+    assert!(rt; none_there(rt.alloc(), Term::Foreign)?);
     Ok(())
 }
