@@ -1,5 +1,6 @@
 pub mod BlocksFill
 pub mod CallsAllowed
+pub mod ClassConstants
 pub mod ClassesFill
 pub mod ConstantsAt
 pub mod ConstantsFill
@@ -12,6 +13,7 @@ pub mod FineExprs
 pub mod ItemConstants
 pub mod LiteralsAt
 pub mod MeantFills
+pub mod ResolvedConstants
 pub mod ResolvedTyped
 pub mod StatementConstants
 pub mod StatementsFill
