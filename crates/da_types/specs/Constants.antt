@@ -1,5 +1,5 @@
 -- The values that are written in a tree, and the constants of the expressions of a resolved program.
-use Rattle.std.specs.Prelude.{◌≡◌, ℕ, List, [], ◌∷◌, ◌++◌, map, Option, Some, flat_map, option_to_list}
+use Rattle.std.specs.Prelude.{◌≡◌, List, [], ◌∷◌, ◌++◌, map, Some, flat_map, option_to_list}
 use Rattle.da_values.specs.declared.value.Value.{Value}
 use Rattle.da_values.specs.declared.value.Value.TheVariants as kept
 use Rattle.da_values.specs.Proper.{IsValue}

@@ -1,16 +1,13 @@
 -- Each statement that keeps the rules of types gives types to the slots and the queries that it brings.
-use Rattle.std.specs.Prelude.{◌≡◌, refl, ℕ, suc, Bool, true, false, ◌&&◌, if◌then◌else◌, List, [], ◌∷◌, ◌++◌, map, length, Option, Some, None, is_some, option_map}
-use Rattle.std.specs.List.{AllByRecursion, list_all, range_with_len}
+use Rattle.std.specs.Prelude.{◌≡◌, refl, ℕ, suc, true, false, ◌&&◌, if◌then◌else◌, List, [], ◌∷◌, ◌++◌, map, length, Option, Some, None, is_some}
+use Rattle.std.specs.List.{AllByRecursion}
 use Rattle.std.proofs.Common.{◌∙◌, ap, sym, subst}
 use Rattle.std.proofs.lemmas.Bool.{false≢true, and_parts}
-use Rattle.da_lang.specs.declared.program.Alt.{Alt}
 use Rattle.da_lang.specs.declared.program.Item.{Item}
 use Rattle.da_lang.specs.declared.program.ItemKind.{ItemKind}
 use Rattle.da_lang.specs.declared.program.ItemKind.TheVariants as it
-use Rattle.da_lang.specs.declared.program.RBranch.{RBranch}
 use Rattle.da_lang.specs.declared.program.RExpr.{RExpr, out-RExpr}
 use Rattle.da_lang.specs.declared.query.Query.{Query}
-use Rattle.da_lang.specs.declared.tree.Branch.{Branch, roll-Branch}
 use Rattle.da_lang.specs.declared.tree.ChainTree.{ChainTree}
 use Rattle.da_lang.specs.declared.tree.Expr.{Expr, out-Expr}
 use Rattle.da_lang.specs.declared.tree.Expr.TheOpen.{Expr-F}
@@ -18,24 +15,21 @@ use Rattle.da_lang.specs.declared.tree.GenTree.{GenTree}
 use Rattle.da_lang.specs.declared.tree.MessageDecl.{MessageDecl}
 use Rattle.da_lang.specs.declared.tree.PatternTree.{PatternTree}
 use Rattle.da_lang.specs.declared.tree.PeerTree.{PeerTree}
-use Rattle.da_lang.specs.declared.tree.Stmt.{Stmt}
-use Rattle.da_lang.specs.declared.tree.Stmt.TheVariants as stmt
-use Rattle.da_lang.specs.declared.tree.TimeoutTree.{TimeoutTree}
 use Rattle.da_lang.specs.declared.ty.Ty.{Ty}
-use Rattle.da_lang.specs.BodyMeaning.{Becomes, Behind, Copy, Guarded, Stating, next, fresh, named_slots, untyped, finds_in, found_number, slot_of, item_at, block, block_if, each, states, with_expr, with_exprs, changing, bound, as_branch, as_alt, ifs, loop, for_each, await_one, awaits}
-use Rattle.da_lang.specs.ExprMeaning.{Meaning, Meant, Tables, meant}
+use Rattle.da_lang.specs.BodyMeaning.{Becomes, Copy, Guarded, Stating, next, fresh, named_slots, untyped, finds_in, found_number, item_at, block, block_if, each, states, with_expr, with_exprs, bound, as_branch, as_alt, ifs, loop, for_each, await_one, awaits}
+use Rattle.da_lang.specs.ExprMeaning.{Meaning, Tables, meant}
 use Rattle.da_lang.specs.ExprNames.{found_names, found_in}
 use Rattle.da_lang.specs.ExprTypes.{ExprType, typing, truth}
 use Rattle.da_lang.specs.QueryTypes.{Known, given, holds_of, slot_type, is_typed, message_type, cond_holds}
-use Rattle.da_lang.specs.Scopes.{Scope, look}
+use Rattle.da_lang.specs.Scopes.{Scope}
 use Rattle.da_lang.specs.Types.{element_of, is_bool}
-use Rattle.da_lang.specs.Typing.{Slots, Breaks, known, typed, found_row, have_types, has_type, have_found, is_recipient, message_tag, unless, all, kind_broken, alt_broken, item_breaks, branch_broken}
+use Rattle.da_lang.specs.Typing.{Slots, Breaks, known, found_row, have_types, has_type, have_found, is_recipient, message_tag, unless, all, kind_broken, alt_broken, item_breaks, branch_broken}
 use Rattle.da_lang.proofs.CondInduction.{Where}
 use Rattle.da_lang.proofs.typing.TypingAt.{kind_broken-Assign, kind_broken-Add, kind_broken-Del, kind_broken-Send, kind_broken-Output, kind_broken-If, kind_broken-While, kind_broken-For, kind_broken-Await, alt_broken-of, item_breaks-of, branch_broken-of}
 use Rattle.da_types.proofs.resolved.CoveredTables.{Done, IsKnown, untyped_done}
-use Rattle.da_types.proofs.resolved.ExprsFill.{expr_fills, exprs_fill}
+use Rattle.da_types.proofs.resolved.ExprsFill.{expr_fills}
 use Rattle.da_types.proofs.resolved.FineExprs.{Fine, Fits, Typed, of_typed, of_test}
-use Rattle.da_types.proofs.resolved.MeantFills.{FineExpr, all_outside_fills}
+use Rattle.da_types.proofs.resolved.MeantFills.{FineExpr}
 use Rattle.da_types.proofs.totality.Awaits.{no_left, no_right, keeps_rule}
 use Rattle.da_types.proofs.totality.KindLaws.{given_parts, holds_parts, is_typed_parts}
 

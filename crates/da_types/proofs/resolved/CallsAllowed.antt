@@ -1,22 +1,17 @@
 -- Where names refuse nothing, each call names a method with as many parameters, and no chain of calls is longer than the
 -- number of members of its class.
-use Rattle.std.specs.Prelude.{◌≡◌, refl, ℕ, zero, suc, ◌+◌, ◌<◌, ◌≤◌, Bool, true, false, not, ◌||◌, ◌==◌, List, [], ◌∷◌, ◌++◌, map, length, Option, Some, None, filter, filter_map, flat_map, is_none, option_to_list, bytes_eq}
+use Rattle.std.specs.Prelude.{◌≡◌, refl, ℕ, zero, suc, ◌+◌, ◌<◌, ◌≤◌, Bool, true, false, not, ◌||◌, List, [], ◌∷◌, map, length, Option, Some, None, filter, filter_map, flat_map, is_none, option_to_list, bytes_eq}
 use Rattle.std.specs.List.{cons_option, list_any}
 use Rattle.std.proofs.Common.{◌∙◌, ap, sym, subst, arith, inl, inr, ◌⊎◌, ⊎_elim, cond}
-use Rattle.std.proofs.lemmas.Bool.{cases_Bool, false≢true, true≢false, or_cases, or_left, or_right, or_parts, eqb-true}
+use Rattle.std.proofs.lemmas.Bool.{cases_Bool, false≢true, true≢false, or_cases, or_left, or_right, eqb-true}
 use Rattle.std.proofs.lemmas.Slice.Eq.{bytes_eq-Decides}
 use Rattle.da_values.specs.Sets.{Has}
-use Rattle.da_values.proofs.Members.{Has-filter, of_filter, Has-from_any, any_from_has, Has-flat_map, Has-filter_map, of_filter_map}
-use Rattle.da_lang.specs.declared.refusal.ScopeKind.{ScopeKind}
-use Rattle.da_lang.specs.declared.refusal.ScopeKind.TheVariants as refusal
+use Rattle.da_values.proofs.Members.{Has-filter, Has-from_any, any_from_has, Has-flat_map, Has-filter_map, of_filter_map}
 use Rattle.da_lang.specs.declared.tree.ClassTree.{ClassTree}
-use Rattle.da_lang.specs.declared.tree.Expr.{Expr}
-use Rattle.da_lang.specs.declared.tree.Tree.{Tree}
 use Rattle.da_lang.specs.Calls.{called, calls_in, deeds_in, leads, leads_within}
 use Rattle.da_lang.specs.ClassParts.{Body, Place, InSetup, InRun, InMethod, InHandler, bodies, body_in, is_method, method_name, method_of, stmts_if}
 use Rattle.da_lang.specs.Deeds.{Deed, Doing, Sends, Outputs, Labels, Calls, Loops, Awaits, TimesOut, Other, deeds}
-use Rattle.da_lang.specs.NameRules.{all_deeds, calls_none, class_refusals, fits_params, leads_back, lines_where, method_names, misfits, name_refusals, recursive_in}
-use Rattle.da_lang.specs.Scopes.{at_lines}
+use Rattle.da_lang.specs.NameRules.{all_deeds, calls_none, class_refusals, fits_params, leads_back, lines_where, method_names, misfits, recursive_in}
 use Rattle.da_types.proofs.resolved.ClassesFill.{CallsOk, find_has}
 use Rattle.da_types.proofs.resolved.CopiesFill.{OkWithin}
 use Rattle.da_types.proofs.resolved.StatementsFill.{OkAt, AllOk}
@@ -173,12 +168,16 @@ module _ (c : ClassTree) (allows : Allows c) where
   ok_call zero k names name n b sum few is many there led = let some : length (without name names) < length names = without_fewer name names there in absurd (omega (arith, some, few))
   ok_call (suc most) k names name n b sum few is many there led =
       let some : length (without name names) < length names = without_fewer name names there in
-      let found = find_has (λ (x : Body). is_method name x.place) (bodies c) b is in
-      (b, is, many, all_at (OkWithin most c) (deeds b.stmts) (λ d has next does.
-      let (m, of, fit) = allows.fits b found.0 d has next does in
-      let step = deed_calls name b d next is has does in
-      ok_call most (suc k) (without name names) next (length d.says) m (omega (arith, sum)) (omega (arith, some, few)) of fit
-      (new_call most names k name next sum (named c name b is) (named c next m of) step led) (still_led names k name next step led)))
+      let found = find_has (λ (x : Body). is_method name x.place) (bodies c) b is in (
+        b,
+        is,
+        many,
+        all_at (OkWithin most c) (deeds b.stmts) (λ d has next does.
+            let (m, of, fit) = allows.fits b found.0 d has next does in
+            let step = deed_calls name b d next is has does in
+            ok_call most (suc k) (without name names) next (length d.says) m (omega (arith, sum)) (omega (arith, some, few)) of fit
+            (new_call most names k name next sum (named c name b is) (named c next m of) step led) (still_led names k name next step led)),
+      )
 
   pub calls_ok : CallsOk c
   calls_ok b has =

@@ -1,9 +1,9 @@
 -- The constants of a class, where those that are written in it are values that there are.
-use Rattle.std.specs.Prelude.{◌≡◌, refl, ℕ, List, [], ◌∷◌, ◌++◌, map, length, Option, Some, None, flat_map}
+use Rattle.std.specs.Prelude.{refl, List, [], ◌∷◌, map, length, flat_map}
 use Rattle.std.specs.List.{AllByRecursion}
-use Rattle.std.proofs.Common.{◌∙◌, ap, sym, subst, inl, inr}
+use Rattle.std.proofs.Common.{sym, subst, inl, inr}
 use Rattle.da_values.specs.Sets.{Has}
-use Rattle.da_values.proofs.Members.{Has-append_left, Has-append_right, Has-flat_map, of_filter, of_map}
+use Rattle.da_values.proofs.Members.{Has-append_right, Has-flat_map, of_filter, of_map}
 use Rattle.da_lang.specs.declared.program.Class.{Class}
 use Rattle.da_lang.specs.declared.program.Handler.{Handler}
 use Rattle.da_lang.specs.declared.program.Item.{Item}
@@ -19,10 +19,10 @@ use Rattle.da_lang.specs.ExprMeaning.{Tables}
 use Rattle.da_lang.specs.Limits.{item_lists}
 use Rattle.da_lang.specs.Resolution.{handler_binds, handler, handlers, class_tables, setup_items, run_items, resolved_class}
 use Rattle.da_types.specs.Constants.{literals, deed_literals, place_literals, body_literals, class_literals}
-use Rattle.da_types.proofs.resolved.ConstantsFill.{GoodTables, GoodScope, GoodQuery}
+use Rattle.da_types.proofs.resolved.ConstantsFill.{GoodTables, GoodQuery}
 use Rattle.da_types.proofs.resolved.ExprConstants.{AreValid, front_valid, back_valid, expr_good}
 use Rattle.da_types.proofs.resolved.ItemConstants.{GoodBlock, GoodItems, PartGood, named_good, block_items, all_has}
-use Rattle.da_types.proofs.resolved.StatementConstants.{SaysGood, GoodDeed, GoodDeeds, GoodBodies, body_good, class_names, copies_good, found_good}
+use Rattle.da_types.proofs.resolved.StatementConstants.{SaysGood, GoodDeeds, GoodBodies, body_good, class_names, copies_good, found_good}
 
 module _ (p : Program) where
   says_good : (xs : List Expr) → AreValid (flat_map literals xs) → AllByRecursion (SaysGood p) xs

@@ -1,15 +1,14 @@
 -- In a class that keeps the rules of types, each slot that was declared without a type has one, and so has each query.
 use Rattle.std.specs.Prelude.{◌≡◌, refl, ℕ, Bool, true, false, List, [], ◌∷◌, ◌++◌, map, length, Option, Some, None, find, filter, flat_map}
 use Rattle.std.specs.List.{AllByRecursion}
-use Rattle.std.proofs.Common.{◌∙◌, ap, sym, subst, cond, inl, inr, ◌⊎◌}
+use Rattle.std.proofs.Common.{◌∙◌, ap, sym, cond, inl, inr}
 use Rattle.da_values.specs.Sets.{Has}
-use Rattle.da_lang.specs.declared.program.Class.{Class}
 use Rattle.da_lang.specs.declared.program.Item.{Item}
 use Rattle.da_lang.specs.declared.query.Query.{Query}
 use Rattle.da_lang.specs.declared.tree.ClassTree.{ClassTree}
 use Rattle.da_lang.specs.declared.tree.MessageDecl.{MessageDecl}
 use Rattle.da_lang.specs.declared.tree.Stmt.{Stmt}
-use Rattle.da_lang.specs.BodyMeaning.{Becomes, next, fresh, named_slots, untyped, with_params, param_slots, class_slots, copies, body_of}
+use Rattle.da_lang.specs.BodyMeaning.{fresh, named_slots, untyped, with_params, param_slots, class_slots, copies, body_of}
 use Rattle.da_lang.specs.ClassParts.{Body, bodies, bodies_where, variables, is_setup, is_run, is_handler, setup_of, run_of, params_if, stmts_if}
 use Rattle.da_lang.specs.Deeds.{deeds}
 use Rattle.da_lang.specs.ExprMeaning.{Meaning, Tables}
@@ -17,9 +16,9 @@ use Rattle.da_lang.specs.Resolution.{handler_binds, handler, handlers, class_tab
 use Rattle.da_lang.specs.QueryTypes.{holds_of}
 use Rattle.da_lang.specs.Scopes.{Scope}
 use Rattle.da_lang.specs.Typing.{Slots, all, unless, item_breaks, handler_row, handler_breaks, have_types}
-use Rattle.da_types.proofs.resolved.BlocksFill.{PartFills, no_breaks, bound_fills, binds_known}
+use Rattle.da_types.proofs.resolved.BlocksFill.{binds_known}
 use Rattle.da_types.proofs.resolved.CopiesFill.{OkWithin, copies_fill}
-use Rattle.da_types.proofs.resolved.CoveredTables.{Done, IsKnown, each_of, typed_done, untyped_done}
+use Rattle.da_types.proofs.resolved.CoveredTables.{Done, each_of, typed_done, untyped_done}
 use Rattle.da_types.proofs.resolved.StatementsFill.{AllOk, body_fills}
 use Rattle.da_types.proofs.totality.Awaits.{no_left, no_right, keeps_rule}
 use Rattle.da_types.proofs.totality.KindLaws.{holds_parts}

@@ -1,6 +1,6 @@
 -- The constants of what an expression becomes, and of the queries that it numbers, are values that are written in it and
 -- processes that the names in scope stand for.
-use Rattle.std.specs.Prelude.{◌≡◌, refl, ℕ, ℤ, suc, Bool, true, false, List, [], ◌∷◌, ◌++◌, map, length, Option, Some, None, flat_map, option_map, option_to_list}
+use Rattle.std.specs.Prelude.{◌≡◌, ℕ, ℤ, suc, Bool, List, [], ◌∷◌, ◌++◌, map, length, Option, Some, None, flat_map, option_map}
 use Rattle.std.specs.List.{AllByRecursion}
 use Rattle.std.proofs.Common.{◌∙◌, ap, sym, subst, inl, inr, ⊎_elim}
 use Rattle.da_values.specs.declared.value.Value.{Value}
@@ -8,24 +8,24 @@ use Rattle.da_values.specs.declared.value.Value.TheVariants as kept
 use Rattle.da_values.specs.Proper.{IsValue}
 use Rattle.da_values.specs.Sets.{Has}
 use Rattle.da_values.specs.Value.{val_of}
-use Rattle.da_values.proofs.Members.{of_append, Has-append_left, Has-append_right, Has-flat_map}
+use Rattle.da_values.proofs.Members.{of_append}
 use Rattle.da_lang.specs.declared.program.ChainPart.{ChainPart}
 use Rattle.da_lang.specs.declared.program.Program.{Program}
 use Rattle.da_lang.specs.declared.program.RExpr.{RExpr}
 use Rattle.da_lang.specs.declared.program.RExpr.TheVariants as re
 use Rattle.da_lang.specs.declared.query.AggOp.{AggOp}
-use Rattle.da_lang.specs.declared.query.Cond.TheViews.{out-Agg, out-roll-Agg}
+use Rattle.da_lang.specs.declared.query.Cond.TheViews.{out-roll-Agg}
 use Rattle.da_lang.specs.declared.query.Query.{Query}
 use Rattle.da_lang.specs.declared.query.Query.TheVariants as qu
 use Rattle.da_lang.specs.declared.query.Term.{Term}
 use Rattle.da_lang.specs.declared.query.Term.TheVariants as te
 use Rattle.da_lang.specs.declared.query.Term.TheFolds.{fold-roll-Term}
 use Rattle.da_lang.specs.declared.query.Term.TheOpen.{Term-F}
-use Rattle.da_lang.specs.ExprMeaning.{Meaning, InSlot, InRow, OneProcess, Processes, Tables, Meant, Signed, Generator, Range, ask, no_range, foreign, as_term, name_outside, name_term, name_meant, quantified, comprehended, aggregated, agg_of, gens_in, cond_behind, behind, all_outside, signed_outside, one_outside, two_outside, list_outside, chain_outside}
+use Rattle.da_lang.specs.ExprMeaning.{Meaning, InSlot, InRow, OneProcess, Processes, Tables, Meant, Signed, Generator, Range, ask, no_range, name_outside, name_term, name_meant, quantified, comprehended, aggregated, agg_of, gens_in, cond_behind, behind, all_outside, signed_outside, one_outside, two_outside, list_outside, chain_outside}
 use Rattle.da_lang.specs.Scopes.{Scope, look}
 use Rattle.da_lang.proofs.CondInduction.{Where}
 use Rattle.da_lang.proofs.typing.ShapedAt.{has_processes-Int, has_processes-Bool, has_processes-Text}
-use Rattle.da_types.specs.Constants.{Written, all, expr_constants, part_constants}
+use Rattle.da_types.specs.Constants.{all, expr_constants, part_constants}
 use Rattle.da_types.specs.Totality.{IsConstant, constants, constants_step, other_constants, query_constants}
 use Rattle.da_types.proofs.resolved.ConstantsAt.{expr_constants-Const, expr_constants-Procs, expr_constants-Me, expr_constants-Slot, expr_constants-Clock, expr_constants-Ask, part_constants-of, expr_constants-Chain}
 use Rattle.da_types.proofs.totality.WholeValues.{constants-Const, constants-Tuple}

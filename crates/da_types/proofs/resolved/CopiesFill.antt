@@ -1,25 +1,23 @@
 -- The copies of methods, where each call names a method with as many parameters, and no chain of calls is longer than the
 -- copies go.
 use Rattle.std.specs.Prelude.{◌≡◌, refl, ℕ, zero, suc, ◌+◌, true, List, [], ◌∷◌, map, length, zip, Option, Some, None}
-use Rattle.std.specs.List.{AllByRecursion, list_all, range_with_len}
+use Rattle.std.specs.List.{AllByRecursion, range_with_len}
 use Rattle.std.proofs.Common.{◌∙◌, ap, sym, subst, arith}
 use Rattle.std.proofs.lemmas.Bool.{and_parts}
-use Rattle.da_lang.specs.declared.program.BindArg.{BindArg}
 use Rattle.da_lang.specs.declared.program.RExpr.{RExpr}
 use Rattle.da_lang.specs.declared.query.Query.{Query}
 use Rattle.da_lang.specs.declared.tree.ClassTree.{ClassTree}
 use Rattle.da_lang.specs.declared.tree.MessageDecl.{MessageDecl}
-use Rattle.da_lang.specs.BodyMeaning.{Copy, next, fresh, body_with, bind_arg, copy_of, copies, with_params, param_slots, class_slots}
-use Rattle.da_lang.specs.ClassParts.{Body, method_of, params_if, stmts_if}
+use Rattle.da_lang.specs.BodyMeaning.{next, fresh, body_with, bind_arg, copy_of, copies, with_params, param_slots, class_slots}
+use Rattle.da_lang.specs.ClassParts.{Body, method_of}
 use Rattle.da_lang.specs.Deeds.{deeds}
-use Rattle.da_lang.specs.ExprMeaning.{Tables}
 use Rattle.da_lang.specs.ExprTypes.{typing}
-use Rattle.da_lang.specs.QueryTypes.{holds_of, slot_type}
-use Rattle.da_lang.specs.Typing.{Slots, known, fits_slot, fits_params, kind_broken}
+use Rattle.da_lang.specs.QueryTypes.{slot_type}
+use Rattle.da_lang.specs.Typing.{Slots, known, fits_slot, fits_params}
 use Rattle.da_lang.proofs.typing.TypingAt.{kind_broken-Call}
 use Rattle.da_types.proofs.resolved.BlocksFill.{Kept, CopyFills}
-use Rattle.da_types.proofs.resolved.CoveredTables.{Done, typed_done}
-use Rattle.da_types.proofs.resolved.FineExprs.{Fine, Fits}
+use Rattle.da_types.proofs.resolved.CoveredTables.{typed_done}
+use Rattle.da_types.proofs.resolved.FineExprs.{Fits}
 use Rattle.da_types.proofs.resolved.MeantFills.{FineExpr}
 use Rattle.da_types.proofs.resolved.StatementsFill.{AllOk, body_fills}
 use Rattle.da_types.proofs.totality.KindLaws.{holds_parts}

@@ -1,7 +1,7 @@
 -- Every expression of a tree in which values are written that there are becomes one with such constants.
-use Rattle.std.specs.Prelude.{◌≡◌, refl, ℕ, List, [], ◌∷◌, ◌++◌, map, Option, Some, None, flat_map, option_map, option_to_list}
+use Rattle.std.specs.Prelude.{◌≡◌, refl, List, [], ◌∷◌, ◌++◌, map, Some, None, flat_map, option_map}
 use Rattle.std.specs.List.{AllByRecursion}
-use Rattle.std.proofs.Common.{◌∙◌, ap, sym, subst, inl}
+use Rattle.std.proofs.Common.{sym, subst, inl}
 use Rattle.da_values.specs.declared.value.Value.{Value}
 use Rattle.da_values.specs.declared.value.Value.TheVariants as kept
 use Rattle.da_values.specs.Proper.{IsValue}
@@ -12,15 +12,13 @@ use Rattle.da_lang.specs.declared.program.Program.{Program}
 use Rattle.da_lang.specs.declared.program.RExpr.TheVariants as re
 use Rattle.da_lang.specs.declared.query.AggOp.TheVariants as agg
 use Rattle.da_lang.specs.declared.query.Term.TheVariants as te
-use Rattle.da_lang.specs.declared.tree.ArithOp.{ArithOp}
-use Rattle.da_lang.specs.declared.tree.ChainTree.{ChainTree, roll-ChainTree}
+use Rattle.da_lang.specs.declared.tree.ChainTree.{ChainTree}
 use Rattle.da_lang.specs.declared.tree.Expr.{Expr}
 use Rattle.da_lang.specs.declared.tree.Expr.TheVariants as ex
-use Rattle.da_lang.specs.ExprMeaning.{Meant, Signed, meant, signed_of, generator, all_outside, list_outside, one_outside, two_outside, chain_outside}
-use Rattle.da_lang.proofs.CondInduction.{Where}
+use Rattle.da_lang.specs.ExprMeaning.{Meant, meant, signed_of, generator, list_outside, one_outside, two_outside, chain_outside}
 use Rattle.da_lang.proofs.MeantAt.{meant-Quant, meant-Or, meant-And, meant-Not, meant-Cmp, meant-Member, meant-Chain, meant-Int, meant-Text, meant-Truth, meant-Me, meant-Name, meant-Clock, meant-Range, meant-Tuple, meant-SetOf, meant-Comp, meant-Count, meant-Sum, meant-Min, meant-Max, signed_of-of}
 use Rattle.da_lang.proofs.TreeInduction.{Cases, expr_induction}
-use Rattle.da_types.specs.Constants.{Written, all, literals, link_literals, gen_literals}
+use Rattle.da_types.specs.Constants.{Written, all, literals, link_literals}
 use Rattle.da_types.proofs.resolved.ConstantsAt.{expr_constants-Range, expr_constants-Tuple, expr_constants-SetOf, expr_constants-Or, expr_constants-And, expr_constants-Not, expr_constants-Cmp, expr_constants-Member}
 use Rattle.da_types.proofs.resolved.ConstantsFill.{GoodMeant, GoodSigned, constant_good, int_good, text_good, truth_good, me_good, clock_good, name_good, quantified_good, comprehended_good, aggregated_good, list_good, one_outside_good, two_outside_good, chain_good, tuple_terms, term_good, other_good}
 use Rattle.da_types.proofs.resolved.LiteralsAt.{literals-Or, literals-And, literals-Not, literals-Cmp, literals-Member, literals-Chain, literals-Int, literals-Text, literals-Range, literals-Tuple, literals-SetOf, literals-Comp, literals-Count, literals-Sum, literals-Min, literals-Max, link_literals-of}

@@ -1,5 +1,5 @@
 -- Every expression of a tree gives types to the queries that it numbers, where it keeps the rules of types.
-use Rattle.std.specs.Prelude.{◌≡◌, ℕ, List, [], ◌∷◌, map, Some, None, option_map}
+use Rattle.std.specs.Prelude.{◌≡◌, List, [], ◌∷◌, map, Some, None, option_map}
 use Rattle.std.specs.List.{AllByRecursion}
 use Rattle.std.proofs.Common.{sym, subst}
 use Rattle.da_values.specs.declared.value.Value.TheVariants as kept
@@ -10,9 +10,8 @@ use Rattle.da_lang.specs.declared.query.Term.TheVariants as te
 use Rattle.da_lang.specs.declared.tree.ArithOp.{ArithOp}
 use Rattle.da_lang.specs.declared.tree.ChainTree.{ChainTree, roll-ChainTree}
 use Rattle.da_lang.specs.declared.tree.Expr.{Expr}
-use Rattle.da_lang.specs.declared.tree.Expr.TheVariants as ex
 use Rattle.da_lang.specs.declared.tree.MessageDecl.{MessageDecl}
-use Rattle.da_lang.specs.ExprMeaning.{Meant, Signed, meant, signed_of, generator, name_outside, name_term, chain_meant}
+use Rattle.da_lang.specs.ExprMeaning.{Meant, meant, signed_of, generator, name_outside, name_term}
 use Rattle.da_lang.specs.Scopes.{look}
 use Rattle.da_lang.specs.Typing.{Slots}
 use Rattle.da_lang.proofs.MeantAt.{meant-Quant, meant-Or, meant-And, meant-Not, meant-Cmp, meant-Member, meant-Chain, meant-Int, meant-Text, meant-Truth, meant-Me, meant-Name, meant-Clock, meant-Range, meant-Tuple, meant-SetOf, meant-Comp, meant-Count, meant-Sum, meant-Min, meant-Max, signed_of-of}

@@ -1,10 +1,9 @@
 -- A program that limits do not refuse has at most 64 processes.
-use Rattle.std.specs.Prelude.{◌≡◌, refl, ℕ, suc, ◌+◌, ◌<◌, ◌≤◌, ◌^◌, nat_lt, Bool, true, false, List, [], ◌∷◌, ◌++◌, map, length, replicate, flat_map, if◌then◌else◌}
+use Rattle.std.specs.Prelude.{◌≡◌, refl, ℕ, ◌+◌, ◌<◌, ◌≤◌, ◌^◌, nat_lt, Bool, true, false, List, [], ◌∷◌, length, flat_map, if◌then◌else◌}
 use Rattle.std.proofs.Common.{◌∙◌, ap, sym, subst, arith, length-append}
 use Rattle.std.proofs.lemmas.Bool.{ltb-false}
 use Rattle.std.proofs.lemmas.List.{length-replicate}
 use Rattle.da_lang.specs.declared.program.Program.{Program}
-use Rattle.da_lang.specs.declared.refusal.LimitKind.TheVariants as limit
 use Rattle.da_lang.specs.declared.tree.MainLine.{MainLine}
 use Rattle.da_lang.specs.declared.tree.MainLine.TheVariants as main_line
 use Rattle.da_lang.specs.declared.tree.Tree.{Tree}

@@ -1,14 +1,13 @@
 -- An expression that has a type, or fits one, has parts that do.
-use Rattle.std.specs.Prelude.{◌≡◌, refl, ℕ, Bool, true, false, ◌&&◌, if◌then◌else◌, List, [], ◌∷◌, map, Option, Some, None}
+use Rattle.std.specs.Prelude.{◌≡◌, Bool, true, false, ◌&&◌, if◌then◌else◌, List, [], ◌∷◌, map, Option, Some}
 use Rattle.std.specs.List.{AllByRecursion, list_all}
-use Rattle.std.proofs.Common.{◌∙◌, ap, sym, subst}
 use Rattle.std.proofs.lemmas.Bool.{false≢true, and_parts}
 use Rattle.da_lang.specs.declared.tree.CmpOp.{CmpOp}
 use Rattle.da_lang.specs.declared.ty.Ty.{Ty}
 use Rattle.da_lang.specs.declared.ty.Ty.TheVariants as t
-use Rattle.da_lang.specs.ExprTypes.{ExprType, Further, by_itself, gives, is, truth, int, tuple_typing, parts_fit, set_typing, set_type, all_typed, comparison, member, chain_type, takes}
+use Rattle.da_lang.specs.ExprTypes.{ExprType, Further, by_itself, gives, is, truth, tuple_typing, parts_fit, set_typing, set_type, all_typed, comparison, member, chain_type, takes}
 use Rattle.da_lang.specs.QueryTypes.{given, holds_of, when, flat, all_types, is_typed, asks_order}
-use Rattle.da_lang.specs.Types.{ordered, is_flat, is_int, is_bool, parts_of, element_of}
+use Rattle.da_lang.specs.Types.{ordered, is_flat, is_bool, parts_of, element_of}
 use Rattle.da_types.proofs.totality.KindLaws.{given_parts, when_parts, holds_parts, is_typed_parts}
 
 -- it has a type, or it fits one

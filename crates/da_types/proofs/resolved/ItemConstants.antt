@@ -1,29 +1,29 @@
 -- The constants of statements, where those of their expressions are values that there are.
-use Rattle.std.specs.Prelude.{◌≡◌, refl, ℕ, zero, suc, ◌+◌, Bool, true, false, List, [], ◌∷◌, ◌++◌, map, length, zip, Option, Some, None, bytes_eq}
+use Rattle.std.specs.Prelude.{ℕ, suc, Bool, true, false, List, [], ◌∷◌, ◌++◌, map, length, Option, Some, None, bytes_eq}
 use Rattle.std.specs.List.{AllByRecursion}
-use Rattle.std.proofs.Common.{◌∙◌, ap, sym, subst, inl, inr, ⊎_elim, cond}
+use Rattle.std.proofs.Common.{sym, subst, inl, inr, ⊎_elim, cond}
 use Rattle.da_values.specs.Sets.{Has}
 use Rattle.da_values.proofs.Members.{of_append, of_map}
-use Rattle.da_lang.specs.declared.program.Alt.{Alt, roll-Alt}
+use Rattle.da_lang.specs.declared.program.Alt.{Alt}
 use Rattle.da_lang.specs.declared.program.BindArg.{BindArg}
-use Rattle.da_lang.specs.declared.program.Item.{Item, roll-Item}
+use Rattle.da_lang.specs.declared.program.Item.{Item}
 use Rattle.da_lang.specs.declared.program.ItemKind.{ItemKind, out-ItemKind}
 use Rattle.da_lang.specs.declared.program.ItemKind.TheOpen.{ItemKind-F, Item-F, RBranch-F, Alt-F}
 use Rattle.da_lang.specs.declared.program.ItemKind.TheVariants as it
-use Rattle.da_lang.specs.declared.program.ItemKind.TheViews.{out-Alt, out-Item, out-RBranch, out-roll-Alt, out-roll-Item, out-roll-RBranch}
+use Rattle.da_lang.specs.declared.program.ItemKind.TheViews.{out-Alt, out-RBranch, out-roll-Alt, out-roll-Item, out-roll-RBranch}
 use Rattle.da_lang.specs.declared.program.Program.{Program}
-use Rattle.da_lang.specs.declared.program.RBranch.{RBranch, roll-RBranch}
+use Rattle.da_lang.specs.declared.program.RBranch.{RBranch}
 use Rattle.da_lang.specs.declared.program.RExpr.{RExpr}
 use Rattle.da_lang.specs.declared.tree.Expr.{Expr}
-use Rattle.da_lang.specs.BodyMeaning.{Becomes, Behind, Copy, Guarded, Stating, next, fresh, named_slots, untyped, found_number, slot_of, item_at, block, block_if, each, states, with_expr, with_exprs, changing, bound, as_branch, as_alt}
-use Rattle.da_lang.specs.ExprMeaning.{Meaning, InSlot, Meant, Tables, numbered, meant, all_outside}
+use Rattle.da_lang.specs.BodyMeaning.{Becomes, Behind, Copy, Stating, next, fresh, named_slots, untyped, found_number, item_at, block, block_if, each, states, with_expr, with_exprs, bound, as_branch, as_alt}
+use Rattle.da_lang.specs.ExprMeaning.{Meaning, InSlot, Tables, numbered, meant}
 use Rattle.da_lang.specs.ExprNames.{found_names}
 use Rattle.da_lang.specs.Scopes.{Scope, look}
 use Rattle.da_lang.specs.Shaped.{Within, here, deeper, blocks_in}
 use Rattle.da_lang.specs.Turns.{kind_of}
 use Rattle.da_lang.proofs.CondInduction.{Where}
 use Rattle.da_types.specs.Constants.{exprs_in, exprs_of}
-use Rattle.da_types.proofs.resolved.ConstantsFill.{GoodExpr, GoodTables, GoodScope, MeansGood, GoodMeant, all_outside_good}
+use Rattle.da_types.proofs.resolved.ConstantsFill.{GoodExpr, GoodTables, GoodScope, MeansGood, GoodMeant}
 
 pub all_front : {A : Type 0} (P : A → Type 0) (xs ys : List A) → AllByRecursion P (xs ++ ys) → AllByRecursion P xs
 all_front P [] ys each = tt

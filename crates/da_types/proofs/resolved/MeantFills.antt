@@ -1,10 +1,8 @@
 -- Where an expression, or the condition that it becomes, keeps the rules of types, each query that it numbers has a type.
-use Rattle.std.specs.Prelude.{◌≡◌, refl, ℕ, suc, Bool, true, false, ◌&&◌, if◌then◌else◌, List, [], ◌∷◌, map, length, Option, Some, None, is_some, option_map}
+use Rattle.std.specs.Prelude.{◌≡◌, refl, suc, Bool, true, false, ◌&&◌, if◌then◌else◌, List, [], ◌∷◌, map, length, Option, Some, None, is_some, option_map}
 use Rattle.std.specs.List.{AllByRecursion, list_all}
 use Rattle.std.proofs.Common.{◌∙◌, ap, sym, subst}
-use Rattle.std.proofs.lemmas.Bool.{false≢true, and_parts}
-use Rattle.da_values.specs.declared.value.Value.TheVariants as kept
-use Rattle.da_lang.specs.declared.program.ChainPart.{ChainPart, roll-ChainPart}
+use Rattle.std.proofs.lemmas.Bool.{and_parts}
 use Rattle.da_lang.specs.declared.program.RExpr.{RExpr}
 use Rattle.da_lang.specs.declared.program.RExpr.TheVariants as re
 use Rattle.da_lang.specs.declared.query.AggOp.{AggOp}
@@ -14,16 +12,15 @@ use Rattle.da_lang.specs.declared.query.Operand.{Operand}
 use Rattle.da_lang.specs.declared.query.Operand.TheVariants as od
 use Rattle.da_lang.specs.declared.query.Query.{Query}
 use Rattle.da_lang.specs.declared.query.Query.TheVariants as qu
-use Rattle.da_lang.specs.declared.query.RGen.{RGen}
 use Rattle.da_lang.specs.declared.query.Term.{Term}
 use Rattle.da_lang.specs.declared.query.Term.TheVariants as te
 use Rattle.da_lang.specs.declared.tree.CmpOp.{CmpOp}
 use Rattle.da_lang.specs.declared.tree.MessageDecl.{MessageDecl}
 use Rattle.da_lang.specs.declared.ty.Ty.{Ty}
 use Rattle.da_lang.specs.declared.ty.Ty.TheVariants as t
-use Rattle.da_lang.specs.ExprMeaning.{Meaning, Tables, Meant, Signed, Generator, Range, ask, foreign, as_term, as_condition, as_operand, quantified, comprehended, aggregated, agg_of, gens_in, cond_behind, behind, all_outside, signed_outside, one_outside, two_outside, list_outside, chain_outside, chain_operand, signed_operand, all_conditions, is_sum, is_minus}
-use Rattle.da_lang.specs.ExprTypes.{ExprType, Further, typing, part_typing, comparison, member, chain_type, truth, int}
-use Rattle.da_lang.specs.QueryTypes.{Known, Side, given, holds_of, term_type, operand_side, signed_side, agg_side, cond_holds, plain, rows_where, written_cond, query_type, is_operand, all_types, comparable, flat}
+use Rattle.da_lang.specs.ExprMeaning.{Meaning, Tables, Meant, Signed, Generator, ask, foreign, as_term, as_condition, as_operand, quantified, comprehended, aggregated, agg_of, gens_in, cond_behind, behind, all_outside, signed_outside, one_outside, two_outside, list_outside, chain_outside, chain_operand, signed_operand, all_conditions, is_sum, is_minus}
+use Rattle.da_lang.specs.ExprTypes.{ExprType, typing, part_typing, int}
+use Rattle.da_lang.specs.QueryTypes.{Known, Side, given, term_type, operand_side, signed_side, cond_holds, plain, rows_where, written_cond, query_type, is_operand, all_types, flat}
 use Rattle.da_lang.specs.Scopes.{Scope}
 use Rattle.da_lang.specs.Types.{is_bool, is_int}
 use Rattle.da_lang.specs.Typing.{Slots, known}

@@ -1,6 +1,6 @@
 -- In a resolved program of a tree in which only values are written that there are, all constants are values that there are,
 -- and their processes are there.
-use Rattle.std.specs.Prelude.{◌≡◌, refl, ℕ, zero, suc, ◌+◌, ◌<◌, ◌≤◌, ◌^◌, nat_lt, nat_le, Bool, true, false, List, [], ◌∷◌, ◌++◌, map, length, replicate, Option, Some, None, flat_map, bytes_eq}
+use Rattle.std.specs.Prelude.{◌≡◌, refl, ℕ, zero, suc, ◌+◌, ◌<◌, ◌≤◌, ◌^◌, nat_lt, nat_le, Bool, true, false, List, [], ◌∷◌, map, length, replicate, Option, Some, None, flat_map, bytes_eq}
 use Rattle.std.specs.List.{range_with_len}
 use Rattle.std.proofs.Common.{◌∙◌, ap, sym, subst, inl, inr, arith, cond, length-append}
 use Rattle.std.proofs.lemmas.Bool.{and_from, lt-ltb, le-leb}
@@ -10,26 +10,24 @@ use Rattle.da_values.specs.Proper.{IsValue}
 use Rattle.da_values.specs.Sets.{Has}
 use Rattle.da_values.proofs.Members.{Has-append_left, Has-append_right, Has-flat_map, of_flat_map, of_map}
 use Rattle.da_lang.specs.declared.program.Class.{Class}
-use Rattle.da_lang.specs.declared.program.Item.{Item}
 use Rattle.da_lang.specs.declared.program.ProcDecl.{ProcDecl}
 use Rattle.da_lang.specs.declared.program.Program.{Program}
 use Rattle.da_lang.specs.declared.program.RExpr.{RExpr}
 use Rattle.da_lang.specs.declared.program.SetupCall.{SetupCall}
-use Rattle.da_lang.specs.declared.query.Query.{Query}
 use Rattle.da_lang.specs.declared.tree.ClassTree.{ClassTree}
 use Rattle.da_lang.specs.declared.tree.Expr.{Expr}
 use Rattle.da_lang.specs.declared.tree.MainLine.{MainLine}
 use Rattle.da_lang.specs.declared.tree.MainLine.TheVariants as main_line
 use Rattle.da_lang.specs.declared.tree.Tree.{Tree}
-use Rattle.da_lang.specs.ExprMeaning.{Meaning, OneProcess, Processes, Tables, meant}
+use Rattle.da_lang.specs.ExprMeaning.{Meaning, meant}
 use Rattle.da_lang.specs.Limits.{Resolves}
-use Rattle.da_lang.specs.Resolution.{made, made_as, made_count, many, first_call, procs_of, resolved, resolved_args, resolved_class, setup_call}
+use Rattle.da_lang.specs.Resolution.{made, made_as, many, first_call, procs_of, resolved, resolved_args, resolved_class, setup_call}
 use Rattle.da_lang.specs.Scopes.{Scope, look}
 use Rattle.da_lang.specs.Shaped.{IsItemOf}
 use Rattle.da_lang.specs.Typing.{Typed, filled, filled_class}
 use Rattle.da_lang.proofs.typing.ShapedAt.{has_processes-Proc}
-use Rattle.da_types.specs.Constants.{ConstantsAreThere, WritesValues, class_literals, expr_constants, exprs_of, line_literals, literals, tree_literals}
-use Rattle.da_types.specs.Totality.{IsConstant, query_constants}
+use Rattle.da_types.specs.Constants.{ConstantsAreThere, WritesValues, class_literals, line_literals, literals}
+use Rattle.da_types.specs.Totality.{IsConstant}
 use Rattle.da_types.proofs.resolved.ClassConstants.{bodies_good, class_good}
 use Rattle.da_types.proofs.resolved.ConstantsFill.{AreGood, GoodExpr, GoodScope, MeansGood}
 use Rattle.da_types.proofs.resolved.ExprConstants.{AreValid, expr_good}

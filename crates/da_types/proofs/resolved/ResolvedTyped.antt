@@ -1,5 +1,5 @@
 -- A resolved program in which no rule of types is broken is typed once its slots are filled in.
-use Rattle.std.specs.Prelude.{◌≡◌, refl, ℕ, suc, true, List, [], ◌∷◌, ◌++◌, map, length, Option, Some, None, is_some, flat_map, slice_get}
+use Rattle.std.specs.Prelude.{◌≡◌, refl, ℕ, suc, true, List, [], ◌∷◌, map, length, Option, Some, None, is_some, flat_map, slice_get}
 use Rattle.std.specs.List.{list_all}
 use Rattle.std.proofs.Common.{◌∙◌, ap, sym, subst, arith}
 use Rattle.std.proofs.lemmas.Bool.{and_from}
@@ -13,7 +13,7 @@ use Rattle.da_lang.specs.Limits.{Resolves}
 use Rattle.da_lang.specs.NameRules.{class_refusals, name_refusals}
 use Rattle.da_lang.specs.QueryTypes.{given, query_type}
 use Rattle.da_lang.specs.Resolution.{resolved, resolved_class}
-use Rattle.da_lang.specs.Typing.{Slots, known, class_breaks, breaks_in, filled, filled_class, filled_slots, type_breaks, has_types, has_queries, IsTyped, Typed}
+use Rattle.da_lang.specs.Typing.{Slots, known, class_breaks, breaks_in, filled, filled_class, filled_slots, has_types, has_queries, IsTyped, Typed}
 use Rattle.da_lang.specs.World.{numbered}
 use Rattle.da_lang.proofs.typing.FlowLaws.{filled_knows, filled_size, typed_keeps}
 use Rattle.da_types.proofs.resolved.CallsAllowed.{class_allowed}

@@ -1,8 +1,8 @@
 -- Every statement of a tree becomes one with good constants, where those of its expressions and of the methods that it calls
 -- are good.
-use Rattle.std.specs.Prelude.{◌≡◌, refl, ℕ, zero, suc, List, [], ◌∷◌, ◌++◌, map, length, zip, Option, Some, None, option_map, Bool, find}
+use Rattle.std.specs.Prelude.{◌≡◌, refl, ℕ, zero, suc, List, [], ◌∷◌, map, length, zip, Option, Some, None, option_map, Bool, find}
 use Rattle.std.specs.List.{AllByRecursion}
-use Rattle.std.proofs.Common.{◌∙◌, ap, sym, subst}
+use Rattle.std.proofs.Common.{sym, subst}
 use Rattle.da_lang.specs.declared.program.BindArg.{BindArg}
 use Rattle.da_lang.specs.declared.program.ItemKind.{ItemKind}
 use Rattle.da_lang.specs.declared.program.ItemKind.TheVariants as it
@@ -18,9 +18,9 @@ use Rattle.da_values.specs.Sets.{Has}
 use Rattle.da_lang.specs.BodyMeaning.{Becomes, Copy, Guarded, Stating, next, fresh, slot_of, block, block_if, each, states, with_expr, bound, as_alt, ifs, loop, for_each, await_one, awaits, calling, stating, guarding, body_with, bind_arg, with_params, param_slots, class_slots, copy_of, copies}
 use Rattle.da_lang.specs.ClassParts.{Body, bodies, is_method, method_of, params_if, stmts_if, variables}
 use Rattle.da_lang.specs.Deeds.{Deed, all, all_if, deeds, deeds_of, deeds_of_branch}
-use Rattle.da_lang.specs.ExprMeaning.{Meaning, Meant, Tables, meant, all_outside}
+use Rattle.da_lang.specs.ExprMeaning.{Tables, meant, all_outside}
 use Rattle.da_lang.specs.ExprNames.{found_names}
-use Rattle.da_lang.specs.Scopes.{Scope, look}
+use Rattle.da_lang.specs.Scopes.{look}
 use Rattle.da_lang.proofs.CondInduction.{Where}
 use Rattle.da_lang.proofs.DeedsAt.{deeds_of-Assign, deeds_of-Add, deeds_of-Del, deeds_of-Send, deeds_of-Output, deeds_of-Call, deeds_of-If, deeds_of-While, deeds_of-For, deeds_of-AwaitOne, deeds_of-Await, deeds_of_branch-of}
 use Rattle.da_lang.proofs.StatingAt.{stating-Assign, stating-Add, stating-Del, stating-Send, stating-Output, stating-Pass, stating-Label, stating-Call, stating-If, stating-While, stating-For, stating-AwaitOne, stating-Await, guarding-of}

@@ -13,7 +13,7 @@ use Rattle.da_lang.specs.declared.tree.MessageDecl.{MessageDecl}
 use Rattle.da_lang.specs.declared.tree.Stmt.{Stmt}
 use Rattle.da_lang.specs.declared.tree.Stmt.TheVariants as stmt
 use Rattle.da_lang.specs.declared.tree.TimeoutTree.{TimeoutTree}
-use Rattle.da_lang.specs.BodyMeaning.{Copy, Guarded, Stating, Becomes, slot_of, states, with_expr, with_exprs, ifs, loop, for_each, await_one, awaits, calling, as_branch, as_alt, stating, guarding, body_with}
+use Rattle.da_lang.specs.BodyMeaning.{Copy, Guarded, Stating, Becomes, slot_of, states, with_expr, calling, stating, guarding, body_with}
 use Rattle.da_lang.specs.Deeds.{Deed, Doing, Calls, all, all_if, deeds, deeds_of, deeds_of_branch}
 use Rattle.da_lang.specs.ExprMeaning.{Meaning, Meant, Tables, meant, all_outside}
 use Rattle.da_lang.specs.Scopes.{Scope, look}
