@@ -13,6 +13,7 @@ pub mod FineExprs
 pub mod ItemConstants
 pub mod LiteralsAt
 pub mod MeantFills
+pub mod ReadPrograms
 pub mod ResolvedConstants
 pub mod ResolvedTyped
 pub mod StatementConstants
