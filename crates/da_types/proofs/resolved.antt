@@ -6,6 +6,7 @@ pub mod ConstantsAt
 pub mod ConstantsFill
 pub mod CopiesFill
 pub mod CoveredTables
+pub mod EachOf
 pub mod ExprConstants
 pub mod ExprsFill
 pub mod FewProcesses

@@ -28,15 +28,11 @@ use Rattle.da_lang.proofs.CondInduction.{Where}
 use Rattle.da_lang.proofs.typing.TypingAt.{kind_broken-Assign, kind_broken-Add, kind_broken-Del, kind_broken-Send, kind_broken-Output, kind_broken-If, kind_broken-While, kind_broken-For, kind_broken-Await, alt_broken-of, item_breaks-of, branch_broken-of}
 use Rattle.da_types.proofs.resolved.CoveredTables.{Done, IsKnown, untyped_done}
 use Rattle.da_types.proofs.resolved.ExprsFill.{expr_fills}
+use Rattle.da_types.proofs.resolved.EachOf.{both_none, mapped}
 use Rattle.da_types.proofs.resolved.FineExprs.{Fine, Fits, Typed, of_typed, of_test}
 use Rattle.da_types.proofs.resolved.MeantFills.{FineExpr}
 use Rattle.da_types.proofs.totality.Awaits.{no_left, no_right, keeps_rule}
 use Rattle.da_types.proofs.totality.KindLaws.{given_parts, holds_parts, is_typed_parts}
-
--- a list that is joined of parts that are all empty
-both_none : (xs ys : List (List ℕ)) → all (xs ++ ys) ≡ [] → (all xs ≡ []) × (all ys ≡ [])
-both_none [] ys e = (refl, e)
-both_none (x ∷ xs) ys e = let (first, second) = both_none xs ys (no_right x (all (xs ++ ys)) e) in (ap (λ z. z ++ all xs) (no_left x (all (xs ++ ys)) e) ∙ first, second)
 
 module _ (messages : List MessageDecl) (queries : List Query) (slots : Slots) where
   abbrev kn : Known
@@ -200,18 +196,14 @@ module _ (messages : List MessageDecl) (queries : List Query) (slots : Slots) wh
       ((expr_fills messages queries slots x).by_condition scope tables holds d)
 
   -- statements with blocks
-  mapped_fills : {A : Type 0} (get : Guarded → Becomes A) (broken : A → List ℕ) (gs : List Guarded) → AllByRecursion (λ g. PartFills broken (get g)) gs → AllByRecursion (PartFills broken) (map get gs)
-  mapped_fills get broken [] all = tt
-  mapped_fills get broken (g ∷ gs) all = (all.0, mapped_fills get broken gs all.1)
-
   pub ifs_fills : (branches : List Guarded) (other : Option (List Stating)) → AllByRecursion (λ (g : Guarded). PartFills (branch_broken messages queries slots) g.branch) branches → Where (AllByRecursion StateFills) other → KindFills (ifs branches other)
   ifs_fills branches other fills others scope tables kept d =
       let parts = map (λ (g : Guarded). g.branch) branches in
       let firsts = each parts scope tables in
       let last = block_if other scope firsts.1 in
       let k = subst Kept (kind_broken-If messages queries slots firsts.0 last.0) kept in
-      let (front, back) = both_none (map (branch_broken messages queries slots) firsts.0) (map (item_breaks messages queries slots) last.0) k.blocks in
-      block_if_fills other others scope firsts.1 back (each_fills (branch_broken messages queries slots) parts (mapped_fills (λ (g : Guarded). g.branch) (branch_broken messages queries slots) branches fills) scope tables front d)
+      let (front, back) = both_none (λ part. part) (map (branch_broken messages queries slots) firsts.0) (map (item_breaks messages queries slots) last.0) k.blocks in
+      block_if_fills other others scope firsts.1 back (each_fills (branch_broken messages queries slots) parts (mapped (PartFills (branch_broken messages queries slots)) (λ (g : Guarded). g.branch) branches fills) scope tables front d)
 
   pub loop_fills : (x : Expr) (ss : List Stating) → AllByRecursion StateFills ss → KindFills (loop x ss)
   loop_fills x ss fills scope tables kept d =
@@ -235,7 +227,7 @@ module _ (messages : List MessageDecl) (queries : List Query) (slots : Slots) wh
       let parts = map (λ (g : Guarded). g.alt) alts in
       let all_ = each parts scope tables in
       let k = subst Kept (kind_broken-Await messages queries slots all_.0) kept in
-      each_fills (alt_broken messages queries slots) parts (mapped_fills (λ (g : Guarded). g.alt) (alt_broken messages queries slots) alts fills) scope tables k.blocks d
+      each_fills (alt_broken messages queries slots) parts (mapped (PartFills (alt_broken messages queries slots)) (λ (g : Guarded). g.alt) alts fills) scope tables k.blocks d
 
   pub await_one_fills : (line : ℕ) (x : Expr) → StateFills (await_one line x)
   await_one_fills line x scope tables e d =

@@ -14,6 +14,7 @@ use Rattle.da_lang.specs.Deeds.{Deed, Doing, Sends, Outputs, Labels, Calls, Loop
 use Rattle.da_lang.specs.NameRules.{all_deeds, calls_none, class_refusals, fits_params, leads_back, lines_where, method_names, misfits, recursive_in}
 use Rattle.da_types.proofs.resolved.ClassesFill.{CallsOk, find_has}
 use Rattle.da_types.proofs.resolved.CopiesFill.{OkWithin}
+use Rattle.da_types.proofs.resolved.EachOf.{map_none}
 use Rattle.da_types.proofs.resolved.StatementsFill.{OkAt, AllOk}
 use Rattle.da_types.proofs.totality.Awaits.{no_left, no_right, none_of}
 
@@ -186,10 +187,6 @@ module _ (c : ClassTree) (allows : Allows c) where
       ok_call (length c.members) zero (method_names c) name (length d.says) m (omega arith) (few_names c) is fit (named c name m is) (λ p h. inl h))
 
 -- from the refusals
-pub map_none : {A B : Type 0} (f : A → B) (xs : List A) → map f xs ≡ [] → xs ≡ []
-map_none f [] e = refl
-map_none f (x ∷ xs) e = absurd (cc)
-
 none_where : (test : Deed → Bool) (ds : List Deed) (d : Deed) → lines_where test ds ≡ [] → Has ds d → test d ≡ false
 none_where test ds d e has =
     let none : filter test ds ≡ [] = map_none (λ (d : Deed). d.line) (filter test ds) e in

@@ -21,7 +21,8 @@ use Rattle.da_lang.specs.Resolution.{handler_binds, handler, handlers, class_tab
 use Rattle.da_types.specs.Constants.{literals, deed_literals, place_literals, body_literals, class_literals}
 use Rattle.da_types.proofs.resolved.ConstantsFill.{GoodTables, GoodQuery}
 use Rattle.da_types.proofs.resolved.ExprConstants.{AreValid, front_valid, back_valid, expr_good}
-use Rattle.da_types.proofs.resolved.ItemConstants.{GoodBlock, GoodItems, PartGood, named_good, block_items, all_has}
+use Rattle.da_types.proofs.resolved.EachOf.{all_has}
+use Rattle.da_types.proofs.resolved.ItemConstants.{GoodBlock, GoodItems, PartGood, named_good, block_items}
 use Rattle.da_types.proofs.resolved.StatementConstants.{SaysGood, GoodDeeds, GoodBodies, body_good, class_names, copies_good, found_good}
 
 module _ (p : Program) where

@@ -19,6 +19,7 @@ use Rattle.da_lang.specs.Typing.{Slots, all, unless, item_breaks, handler_row, h
 use Rattle.da_types.proofs.resolved.BlocksFill.{binds_known}
 use Rattle.da_types.proofs.resolved.CopiesFill.{OkWithin, copies_fill}
 use Rattle.da_types.proofs.resolved.CoveredTables.{Done, each_of, typed_done, untyped_done}
+use Rattle.da_types.proofs.resolved.EachOf.{both_none}
 use Rattle.da_types.proofs.resolved.StatementsFill.{AllOk, body_fills}
 use Rattle.da_types.proofs.totality.Awaits.{no_left, no_right, keeps_rule}
 use Rattle.da_types.proofs.totality.KindLaws.{holds_parts}
@@ -26,10 +27,6 @@ use Rattle.da_types.proofs.totality.KindLaws.{holds_parts}
 flat_all : {A : Type 0} (f : A → List ℕ) (xs : List A) → flat_map f xs ≡ all (map f xs)
 flat_all f [] = refl
 flat_all f (x ∷ xs) = ap (λ ys. f x ++ ys) (flat_all f xs)
-
-flat_both : {A : Type 0} (f : A → List ℕ) (xs ys : List A) → flat_map f (xs ++ ys) ≡ [] → (flat_map f xs ≡ []) × (flat_map f ys ≡ [])
-flat_both f [] ys e = (refl, e)
-flat_both f (x ∷ xs) ys e = let (first, second) = flat_both f xs ys (no_right (f x) (flat_map f (xs ++ ys)) e) in (ap (λ z. z ++ flat_map f xs) (no_left (f x) (flat_map f (xs ++ ys)) e) ∙ first, second)
 
 pub find_has : {A : Type 0} (p : A → Bool) (xs : List A) (x : A) → find p xs ≡ Some x → Has xs x × (p x ≡ true)
 find_has p [] x e = absurd (cc)
@@ -96,7 +93,7 @@ module _ (messages : List MessageDecl) (queries : List Query) (slots : Slots) (c
       let handled = handlers c (bodies_where is_handler c) run.1 in
       let bodies_ = flat_map item (setup.0 ++ run.0) in
       let rest = flat_map (handler_breaks messages queries slots) handled.0 in
-      let (first, second) = flat_both item setup.0 run.0 (no_left bodies_ rest e) in
+      let (first, second) = both_none item setup.0 run.0 (no_left bodies_ rest e) in
       let params = params_if (setup_of c) in
       let tables = with_params params (class_tables c) in
       let set_up : Holds setup.1 = stmts_hold (stmts_if (setup_of c)) (found_ok c (λ b. is_setup b.place) (setup_of c) ok refl) (param_slots params (class_tables c) (class_slots c)) tables first (typed_done messages queries slots (λ p. p.ty) params (class_tables c) begun) in

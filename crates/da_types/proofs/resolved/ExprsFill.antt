@@ -16,6 +16,7 @@ use Rattle.da_lang.specs.Scopes.{look}
 use Rattle.da_lang.specs.Typing.{Slots}
 use Rattle.da_lang.proofs.MeantAt.{meant-Quant, meant-Or, meant-And, meant-Not, meant-Cmp, meant-Member, meant-Chain, meant-Int, meant-Text, meant-Truth, meant-Me, meant-Name, meant-Clock, meant-Range, meant-Tuple, meant-SetOf, meant-Comp, meant-Count, meant-Sum, meant-Min, meant-Max, signed_of-of}
 use Rattle.da_lang.proofs.TreeInduction.{Cases, expr_induction}
+use Rattle.da_types.proofs.resolved.EachOf.{mapped}
 use Rattle.da_types.proofs.resolved.MeantFills.{Fills, SignedFills, still_fills, clock_fills, quantified_fills, comprehended_fills, aggregated_fills, tuple_fills, set_fills, or_fills, and_fills, not_fills, cmp_fills, member_fills, range_fills, chain_fills}
 
 module _ (messages : List MessageDecl) (queries : List Query) (slots : Slots) where
@@ -24,10 +25,6 @@ module _ (messages : List MessageDecl) (queries : List Query) (slots : Slots) wh
 
   abbrev LinkFills : ChainTree → Type 0
   LinkFills l = SignedFills messages queries slots (signed_of l)
-
-  mapped : {A B : Type 0} (P : B → Type 0) (f : A → B) (xs : List A) → AllByRecursion (λ x. P (f x)) xs → AllByRecursion P (map f xs)
-  mapped P f [] all = tt
-  mapped P f (x ∷ xs) all = (all.0, mapped P f xs all.1)
 
   as_meant : (x : Expr) (m : Meant) → meant x ≡ m → Fills messages queries slots m → ExprFills x
   as_meant x m is fills = subst (Fills messages queries slots) (sym is) fills

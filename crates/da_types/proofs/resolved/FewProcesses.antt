@@ -9,7 +9,7 @@ use Rattle.da_lang.specs.declared.tree.MainLine.TheVariants as main_line
 use Rattle.da_lang.specs.declared.tree.Tree.{Tree}
 use Rattle.da_lang.specs.Limits.{Resolves, limit_refusals, line_of_main, most_processes, processes_over}
 use Rattle.da_lang.specs.Resolution.{made_count, many, procs_of, resolved}
-use Rattle.da_types.proofs.resolved.CallsAllowed.{map_none}
+use Rattle.da_types.proofs.resolved.EachOf.{map_none}
 use Rattle.da_types.proofs.totality.Awaits.{no_left, no_right}
 
 pub made_length : (t : Tree) (l : MainLine) → length (procs_of t l) ≡ made_count l

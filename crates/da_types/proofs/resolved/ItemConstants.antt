@@ -24,19 +24,7 @@ use Rattle.da_lang.specs.Turns.{kind_of}
 use Rattle.da_lang.proofs.CondInduction.{Where}
 use Rattle.da_types.specs.Constants.{exprs_in, exprs_of}
 use Rattle.da_types.proofs.resolved.ConstantsFill.{GoodExpr, GoodTables, GoodScope, MeansGood, GoodMeant}
-
-pub all_front : {A : Type 0} (P : A → Type 0) (xs ys : List A) → AllByRecursion P (xs ++ ys) → AllByRecursion P xs
-all_front P [] ys each = tt
-all_front P (x ∷ xs) ys each = (each.0, all_front P xs ys each.1)
-
-pub all_back : {A : Type 0} (P : A → Type 0) (xs ys : List A) → AllByRecursion P (xs ++ ys) → AllByRecursion P ys
-all_back P [] ys each = each
-all_back P (x ∷ xs) ys each = all_back P xs ys each.1
-
-pub all_has : {A : Type 0} (P : A → Type 0) (xs : List A) (x : A) → AllByRecursion P xs → Has xs x → P x
-all_has P [] x each h = absurd h
-all_has P (y ∷ xs) x each (inl is) = subst P (sym is) each.0
-all_has P (y ∷ xs) x each (inr h) = all_has P xs x each.1 h
+use Rattle.da_types.proofs.resolved.EachOf.{all_has}
 
 module _ (p : Program) where
   abbrev pub GoodItems : List Item → Type 0

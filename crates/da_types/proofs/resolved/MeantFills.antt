@@ -28,6 +28,7 @@ use Rattle.da_lang.specs.World.{numbered}
 use Rattle.da_lang.proofs.typing.ExprTypesAt.{typing-Ask, typing-Range, typing-Tuple, typing-SetOf, typing-Or, typing-And, typing-Not, typing-Cmp, typing-Member, typing-Chain, part_typing-of}
 use Rattle.da_lang.proofs.typing.QueryTypesAt.{term_type_at-Foreign, term_type_at-Tuple, operand_side_at-Term, operand_side_at-Agg, operand_side_at-Chain, signed_side_at-of, cond_holds_at-Truth, cond_holds_at-Cmp, cond_holds_at-Not, cond_holds_at-And, cond_holds_at-Or, cond_holds_at-Quant}
 use Rattle.da_types.proofs.resolved.CoveredTables.{Done, asked}
+use Rattle.da_types.proofs.resolved.EachOf.{unmapped}
 use Rattle.da_types.proofs.resolved.FineExprs.{Fine, FineFurther, itself_has, gives_holds, tuple_fine, set_fine, truths_fine, of_test, comparison_fine, member_fine, chain_fine}
 use Rattle.da_types.proofs.totality.KindLaws.{given_parts, holds_parts, if_parts}
 
@@ -136,10 +137,6 @@ module _ (messages : List MessageDecl) (queries : List Query) (slots : Slots) wh
       asked_by query scope tables side.ty (ap (λ s. given s (λ (side : Side). Some side.ty)) (sym (operand_side_at-Agg kn a []) ∙ e)) d)
 
   -- several expressions
-  unmapped : {A B : Type 0} (P : B → Type 0) (f : A → B) (xs : List A) → AllByRecursion P (map f xs) → AllByRecursion (λ x. P (f x)) xs
-  unmapped P f [] all = tt
-  unmapped P f (x ∷ xs) all = (all.0, unmapped P f xs all.1)
-
   pub all_outside_fills : (xs : List Meant) → AllByRecursion Fills xs → (scope : Scope Meaning) (tables : Tables) → AllByRecursion FineExpr (all_outside xs scope tables).0 → Holds tables → Holds (all_outside xs scope tables).1
   all_outside_fills [] each scope tables fine d = d
   all_outside_fills (x ∷ xs) each scope tables fine d = all_outside_fills xs each.1 scope (x.outside scope tables).1 fine.1 (each.0.by_typing scope tables fine.0 d)

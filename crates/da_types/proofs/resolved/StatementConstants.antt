@@ -27,7 +27,8 @@ use Rattle.da_lang.proofs.StatingAt.{stating-Assign, stating-Add, stating-Del, s
 use Rattle.da_lang.proofs.StmtInduction.{StmtCases, stmt_induction}
 use Rattle.da_types.proofs.resolved.ClassesFill.{find_has}
 use Rattle.da_types.proofs.resolved.ConstantsFill.{GoodExpr, GoodTables, GoodScope, GoodMeant, all_outside_good}
-use Rattle.da_types.proofs.resolved.ItemConstants.{PartGood, StateGood, CopyGood, GoodKind, GoodBlock, GoodBranch, GoodAlt, all_front, all_back, kind_states, kind_item, named_good, assign_good, add_good, del_good, output_good, send_good, pass_good, label_good, while_good, for_good, if_good, await_good, call_good, expr_part, exprs_part, block_good, block_if_good, each_good, bound_good, branch_good, alt_good}
+use Rattle.da_types.proofs.resolved.EachOf.{all_front, all_back, mapped}
+use Rattle.da_types.proofs.resolved.ItemConstants.{PartGood, StateGood, CopyGood, GoodKind, GoodBlock, GoodBranch, GoodAlt, kind_states, kind_item, named_good, assign_good, add_good, del_good, output_good, send_good, pass_good, label_good, while_good, for_good, if_good, await_good, call_good, expr_part, exprs_part, block_good, block_if_good, each_good, bound_good, branch_good, alt_good}
 use Rattle.da_types.proofs.resolved.StatementsFill.{deeds-all}
 
 module _ (p : Program) where
@@ -39,10 +40,6 @@ module _ (p : Program) where
 
   abbrev pub GoodDeeds : List Deed → Type 0
   GoodDeeds ds = AllByRecursion GoodDeed ds
-
-  mapped : {A B : Type 0} (P : B → Type 0) (f : A → B) (xs : List A) → AllByRecursion (λ x. P (f x)) xs → AllByRecursion P (map f xs)
-  mapped P f [] each = tt
-  mapped P f (x ∷ xs) each = (each.0, mapped P f xs each.1)
 
   module _ (copy : Copy) (copied : CopyGood p copy) where
     abbrev StmtGood : Stmt → Type 0

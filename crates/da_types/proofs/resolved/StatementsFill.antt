@@ -24,6 +24,7 @@ use Rattle.da_lang.proofs.StatingAt.{stating-Assign, stating-Add, stating-Del, s
 use Rattle.da_lang.proofs.StmtInduction.{StmtCases, stmt_induction}
 use Rattle.da_types.proofs.resolved.BlocksFill.{PartFills, KindFills, StateFills, CopyFills, no_breaks, kind_states, expr_fill, exprs_fills, assign_fine, add_fine, del_fine, send_fine, output_fine, block_fills, branch_fills, alt_fills, ifs_fills, loop_fills, for_each_fills, awaits_fills, await_one_fills}
 use Rattle.da_types.proofs.resolved.ExprsFill.{exprs_fill}
+use Rattle.da_types.proofs.resolved.EachOf.{all_front, all_back}
 use Rattle.da_types.proofs.resolved.MeantFills.{all_outside_fills}
 
 -- of each call of a method, by its name and the number of its arguments
@@ -32,17 +33,11 @@ module _ (Ok : List ℕ → ℕ → Type 0) where
   OkAt (Calls name) says = Ok name (length says)
   OkAt _ says = Unit {0}
 
+  abbrev pub OkDeed : Deed → Type 0
+  OkDeed d = OkAt d.does d.says
+
   abbrev pub AllOk : List Deed → Type 0
-  AllOk [] = Unit {0}
-  AllOk (d ∷ ds) = OkAt d.does d.says × AllOk ds
-
-  pub front_ok : (xs ys : List Deed) → AllOk (xs ++ ys) → AllOk xs
-  front_ok [] ys ok = tt
-  front_ok (x ∷ xs) ys ok = (ok.0, front_ok xs ys ok.1)
-
-  pub back_ok : (xs ys : List Deed) → AllOk (xs ++ ys) → AllOk ys
-  back_ok [] ys ok = ok
-  back_ok (x ∷ xs) ys ok = back_ok xs ys ok.1
+  AllOk ds = AllByRecursion OkDeed ds
 
 length_outside : (xs : List Meant) (scope : Scope Meaning) (tables : Tables) → length (all_outside xs scope tables).0 ≡ length xs
 length_outside [] scope tables = refl
@@ -83,7 +78,7 @@ module _ (messages : List MessageDecl) (queries : List Query) (slots : Slots) (c
 
   all_state : (ss : List Stmt) → AllByRecursion StmtFills ss → AllOk Ok (all (map deeds_of ss)) → AllByRecursion States (map (stating copy) ss)
   all_state [] fills ok = tt
-  all_state (s ∷ ss) fills ok = (fills.0 (front_ok Ok (deeds_of s) (all (map deeds_of ss)) ok), all_state ss fills.1 (back_ok Ok (deeds_of s) (all (map deeds_of ss)) ok))
+  all_state (s ∷ ss) fills ok = (fills.0 (all_front (OkDeed Ok) (deeds_of s) (all (map deeds_of ss)) ok), all_state ss fills.1 (all_back (OkDeed Ok) (deeds_of s) (all (map deeds_of ss)) ok))
 
   other_states : (other : Option (List Stmt)) → Where (AllByRecursion StmtFills) other → AllOk Ok (all_if (option_map (map deeds_of) other)) → Where (AllByRecursion States) (option_map (map (stating copy)) other)
   other_states None fills ok = tt
@@ -92,8 +87,8 @@ module _ (messages : List MessageDecl) (queries : List Query) (slots : Slots) (c
   all_guarded : (bs : List Branch) → AllByRecursion BranchFills bs → AllOk Ok (all (map deeds_of_branch bs)) → AllByRecursion AsBranch (map (guarding copy) bs) × AllByRecursion AsAlt (map (guarding copy) bs)
   all_guarded [] fills ok = (tt, tt)
   all_guarded (b ∷ bs) fills ok =
-      let first = fills.0 (front_ok Ok (deeds_of_branch b) (all (map deeds_of_branch bs)) ok) in
-      let others = all_guarded bs fills.1 (back_ok Ok (deeds_of_branch b) (all (map deeds_of_branch bs)) ok) in
+      let first = fills.0 (all_front (OkDeed Ok) (deeds_of_branch b) (all (map deeds_of_branch bs)) ok) in
+      let others = all_guarded bs fills.1 (all_back (OkDeed Ok) (deeds_of_branch b) (all (map deeds_of_branch bs)) ok) in
       ((first.0, others.0), (first.1, others.1))
 
   call_fills : (name : List ℕ) (xs : List Expr) → Ok name (length xs) → Kinds (calling copy name xs)
@@ -108,12 +103,12 @@ module _ (messages : List MessageDecl) (queries : List Query) (slots : Slots) (c
       let last = all_if (option_map (map deeds_of) other) in
       let known = subst (AllOk Ok) (deeds_of-If bs other line) ok in
       as_kind _ line _ (stating-If copy bs other line)
-      (ifs_fills messages queries slots (map (guarding copy) bs) (option_map (map (stating copy)) other) (all_guarded bs fills (front_ok Ok conds last known.1)).0 (other_states other others (back_ok Ok conds last known.1)))
+      (ifs_fills messages queries slots (map (guarding copy) bs) (option_map (map (stating copy)) other) (all_guarded bs fills (all_front (OkDeed Ok) conds last known.1)).0 (other_states other others (all_back (OkDeed Ok) conds last known.1)))
 
   await_states : (bs : List Branch) (over : Option TimeoutTree) (line : ℕ) → AllByRecursion BranchFills bs → StmtFills (stmt.Await bs over line)
   await_states bs over line fills ok =
       let known = subst (AllOk Ok) (deeds_of-Await bs over line) ok in
-      as_kind _ line _ (stating-Await copy bs over line) (awaits_fills messages queries slots (map (guarding copy) bs) (all_guarded bs fills (front_ok Ok (all (map deeds_of_branch bs)) _ known.1)).1)
+      as_kind _ line _ (stating-Await copy bs over line) (awaits_fills messages queries slots (map (guarding copy) bs) (all_guarded bs fills (all_front (OkDeed Ok) (all (map deeds_of_branch bs)) _ known.1)).1)
 
   branch_states : (x : Expr) (ss : List Stmt) (line : ℕ) → AllByRecursion StmtFills ss → BranchFills (roll-Branch (record { cond = x; body = ss; line = line }))
   branch_states x ss line fills ok =
