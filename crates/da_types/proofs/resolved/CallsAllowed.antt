@@ -1,6 +1,6 @@
 -- Where names refuse nothing, each call names a method with as many parameters, and no chain of calls is longer than the
 -- number of members of its class.
-use Rattle.std.specs.Prelude.{◌≡◌, refl, ℕ, zero, suc, ◌+◌, ◌<◌, ◌≤◌, Bool, true, false, not, ◌||◌, List, [], ◌∷◌, map, length, Option, Some, None, filter, filter_map, flat_map, is_none, option_to_list, bytes_eq}
+use Rattle.std.specs.Prelude.{◌≡◌, refl, ℕ, zero, suc, ◌+◌, ◌<◌, ◌≤◌, Bool, true, false, not, ◌||◌, List, [], ◌∷◌, length, Option, Some, None, filter, filter_map, flat_map, is_none, option_to_list, bytes_eq}
 use Rattle.std.specs.List.{cons_option, list_any}
 use Rattle.std.proofs.Common.{◌∙◌, ap, sym, subst, arith, inl, inr, ◌⊎◌, ⊎_elim, cond}
 use Rattle.std.proofs.lemmas.Bool.{cases_Bool, false≢true, true≢false, or_cases, or_left, or_right, eqb-true}
