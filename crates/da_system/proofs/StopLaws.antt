@@ -78,7 +78,7 @@ module _ (class : Class) (line : ℕ) (d : Data) (todo : List Task) where
 
   choose_tells : (bs : List RBranch) (otherwise : List Item) → Tells (choose class line d todo bs otherwise)
   choose_tells [] otherwise = tt
-  choose_tells (b ∷ bs) otherwise = value_tells (out-RBranch b).cond _ 
+  choose_tells (b ∷ bs) otherwise = value_tells (out-RBranch b).cond _
       (λ v. chosen_tell (truth_of v) (quiet (bind_found class.queries (out-RBranch b).found (out-RBranch b).binds d) (do_all (out-RBranch b).body todo)) _ tt (choose_tells bs otherwise))
 
   kind_tells : (itself : Task) (kind : ItemKind-F ItemKind Alt Item RBranch) → Tells (kind_turn class line d todo itself kind)
