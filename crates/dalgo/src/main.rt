@@ -6,6 +6,8 @@ mod check_rows;
 mod checking;
 mod endings;
 mod first_form;
+#[cfg(test)]
+mod limit_rows;
 mod lines;
 mod program;
 mod replaying;
