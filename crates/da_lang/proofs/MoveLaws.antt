@@ -11,7 +11,7 @@ use Rattle.da_lang.specs.Queries.{holds}
 use Rattle.da_lang.specs.Runs.{run_to_yield}
 use Rattle.da_lang.specs.Steps.{Go, Take, Deliver, first_tasks, handle, handled, moved, proc_step, received_at}
 use Rattle.da_lang.specs.Turns.{bind_found, do_all, kind_of}
-use Rattle.da_lang.specs.World.{Task, Do, World, class_of, numbered, New, Waiting}
+use Rattle.da_lang.specs.World.{Task, Do, World, class_of, at_number, New, Waiting}
 
 module _ (program : Program) (class : Class) (w : World) (known : class_of program w.data'.me ≡ Some class) where
   pub step_begins : w.phase ≡ New → proc_step program w Go ≡ Some (moved w.data'.me 0 (run_to_yield class 0 w.data' (first_tasks program class w.data'.me)))
@@ -22,7 +22,7 @@ module _ (program : Program) (class : Class) (w : World) (known : class_of progr
   step_at_label i rest waits stands label = rw (known, waits, stands, label) refl
 
   pub step_at_await : (i : Item) (rest : List Task) (alts : List Alt) (alt : Alt) (k : ℕ)
-      → w.phase ≡ Waiting → w.todo ≡ Do i ∷ rest → kind_of i ≡ Await alts → numbered alts k ≡ Some alt → holds w.data' (out-Alt alt).cond [] ≡ true
+      → w.phase ≡ Waiting → w.todo ≡ Do i ∷ rest → kind_of i ≡ Await alts → at_number alts k ≡ Some alt → holds w.data' (out-Alt alt).cond [] ≡ true
       → proc_step program w (Take k) ≡ Some (moved w.data'.me k (run_to_yield class 1 (bind_found class.queries (out-Alt alt).found (out-Alt alt).binds w.data') (do_all (out-Alt alt).body rest)))
   step_at_await i rest alts alt k waits stands is there true' = rw (known, waits, stands, is, there, true') refl
 

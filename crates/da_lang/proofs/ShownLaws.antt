@@ -16,7 +16,7 @@ use Rattle.da_lang.specs.declared.query.Query.{Query}
 use Rattle.da_lang.specs.declared.query.Query.TheVariants as query
 use Rattle.da_lang.specs.Matching.{Row}
 use Rattle.da_lang.specs.Queries.{holds_where, extensions, rows, term_set, value_at, shown_of_query, shown_of_numbered, shown, shown_set}
-use Rattle.da_lang.specs.World.{Data, numbered}
+use Rattle.da_lang.specs.World.{Data, at_number}
 
 -- rows of one part are ordered as their parts
 alone_less : (x y : Val) (o : Ordering) → val_cmp x y ≡ o → o ≡ Less → row_cmp (x ∷ []) (y ∷ []) ≡ Less
@@ -52,7 +52,7 @@ module _ (d : Data) where
   numbered_ascends (Some q) = query_ascends q
 
   pub shown_ascends : (queries : List Query) (n : ℕ) → Ascends row_cmp (shown queries n d)
-  shown_ascends queries n = numbered_ascends (numbered queries n)
+  shown_ascends queries n = numbered_ascends (at_number queries n)
 
   pub shown_set_ascends : (queries : List Query) (n : ℕ) → Ascends val_cmp (shown_set queries n d)
   shown_set_ascends queries n = tuples_ascend (shown queries n d) (shown_ascends queries n)

@@ -19,7 +19,7 @@ use Rattle.da_lang.specs.Queries.{holds}
 use Rattle.da_lang.specs.Runs.{Halt, AtYield, UsedUp, Faults, Ran, max_turns, run_to_yield}
 use Rattle.da_lang.specs.Steps.{Step, Go, Take, Deliver, Stepped, after_halt, class_step, first_tasks, go_waiting, handle, past_await, past_label, proc_step, received_at, step_in, take_alternative, take_waiting, try_handler}
 use Rattle.da_lang.specs.Turns.{bind_all, bind_found, do_all, kind_of}
-use Rattle.da_lang.specs.World.{Data, Task, Do, Loop, Prepare, World, numbered, class_of, Phase, New, Waiting}
+use Rattle.da_lang.specs.World.{Data, Task, Do, Loop, Prepare, World, at_number, class_of, Phase, New, Waiting}
 use Rattle.da_lang.proofs.ChangeLaws.{changes-me, changes_then}
 use Rattle.da_lang.proofs.RunBounds.{by_truth, run_changes}
 use Rattle.da_lang.proofs.TurnLaws.{bind_all_changes, bind_found_changes}
@@ -45,20 +45,20 @@ module _ (program : Program) (class : Class) (w : World) where
   go_allowed (Prepare call ∷ rest) waits stands there = absurd (false≢true there)
 
   alternative_allowed : (i : Item) (rest : List Task) (alts : List Alt) (k : ℕ) (alt : Alt) (b : Bool)
-      → w.phase ≡ Waiting → w.todo ≡ Do i ∷ rest → kind_of i ≡ Await alts → numbered alts k ≡ Some alt → holds w.data' (out-Alt alt).cond [] ≡ b
+      → w.phase ≡ Waiting → w.todo ≡ Do i ∷ rest → kind_of i ≡ Await alts → at_number alts k ≡ Some alt → holds w.data' (out-Alt alt).cond [] ≡ b
       → (x : Stepped) → IsSome (cond b (Some x) None) → IsAllowed w (Take k)
   alternative_allowed i rest alts k alt true waits stands is there holds' x some = at_await i rest alts alt k waits stands is there holds'
   alternative_allowed i rest alts k alt false waits stands is there holds' x some = absurd (false≢true some)
 
   numbered_allowed : (i : Item) (rest : List Task) (alts : List Alt) (k : ℕ) (found : Option Alt)
-      → w.phase ≡ Waiting → w.todo ≡ Do i ∷ rest → kind_of i ≡ Await alts → numbered alts k ≡ found
+      → w.phase ≡ Waiting → w.todo ≡ Do i ∷ rest → kind_of i ≡ Await alts → at_number alts k ≡ found
       → IsSome (take_alternative class w.data' rest k found) → IsAllowed w (Take k)
   numbered_allowed i rest alts k None waits stands is there some = absurd (false≢true some)
   numbered_allowed i rest alts k (Some alt) waits stands is there some = alternative_allowed i rest alts k alt (holds w.data' (out-Alt alt).cond []) waits stands is there refl _ some
 
   await_allowed : (i : Item) (rest : List Task) (k : ℕ) (kind : ItemKind-F ItemKind Alt Item RBranch)
       → w.phase ≡ Waiting → w.todo ≡ Do i ∷ rest → kind_of i ≡ kind → IsSome (past_await class w.data' rest k kind) → IsAllowed w (Take k)
-  await_allowed i rest k (Await alts) waits stands is some = numbered_allowed i rest alts k (numbered alts k) waits stands is refl some
+  await_allowed i rest k (Await alts) waits stands is some = numbered_allowed i rest alts k (at_number alts k) waits stands is refl some
   await_allowed i rest k _ waits stands is some = absurd (false≢true some)
 
   take_allowed : (k : ℕ) (todo : List Task) → w.phase ≡ Waiting → w.todo ≡ todo → IsSome (take_waiting class w.data' k todo) → IsAllowed w (Take k)
@@ -129,7 +129,7 @@ module _ (class : Class) (d : Data) where
       (λ is. tt)
 
   past_await_changes : (todo : List Task) (k : ℕ) (kind : ItemKind-F ItemKind Alt Item RBranch) → ChangesTo d (past_await class d todo k kind)
-  past_await_changes todo k (Await alts) = take_alternative_changes todo k (numbered alts k)
+  past_await_changes todo k (Await alts) = take_alternative_changes todo k (at_number alts k)
   past_await_changes todo k _ = tt
 
   take_waiting_changes : (k : ℕ) (todo : List Task) → ChangesTo d (take_waiting class d k todo)

@@ -18,8 +18,8 @@ use Rattle.da_lang.specs.Arithmetic.{Outcome}
 use Rattle.da_lang.specs.Changes.{Changes, none, puts, sends}
 use Rattle.da_lang.specs.Evaluation.{Outcomes, eval, eval_all}
 use Rattle.da_lang.specs.Matching.{Row}
-use Rattle.da_lang.specs.Queries.{least}
-use Rattle.da_lang.specs.Turns.{After, bind_all, bind_row, bind_found, later, sent_at, sent_to, recipients, packet_len, max_packet, with_outcome, with_outcomes, with_value, send_if, choose, enter, kind_turn, kind_of, line_of, loop_turn, turn}
+use Rattle.da_lang.specs.Queries.{least_row}
+use Rattle.da_lang.specs.Turns.{AfterTurn, bind_all, bind_row, bind_found, later, sent_at, sent_to, recipients, packet_len, max_packet, with_outcome, with_outcomes, with_value, send_if, choose, enter, kind_turn, kind_of, line_of, loop_turn, turn}
 use Rattle.da_lang.specs.World.{Data, Task, Do, Loop, Prepare, put_slot, slot_of}
 use Rattle.da_lang.proofs.ChangeLaws.{changes_then}
 
@@ -34,25 +34,25 @@ bind_row_changes ss (Some row) d = bind_all_changes ss row d
 
 pub bind_found_changes : (queries : List Query) (n : Option ℕ) (ss : List ℕ) (d : Data) → Changes d (bind_found queries n ss d)
 bind_found_changes queries None ss d = none
-bind_found_changes queries (Some n) ss d = bind_row_changes ss (least queries n d) d
+bind_found_changes queries (Some n) ss d = bind_row_changes ss (least_row queries n d) d
 
 pub sent_to_changes : (m : Val) (ps : List ℕ) (d : Data) → Changes d (sent_to m ps d)
 sent_to_changes m [] d = none
 sent_to_changes m (p ∷ ps) d = changes_then (sends d m p none) (sent_to_changes m ps (sent_at m p (later d.clock) d))
 
 module _ (class : Class) (line : ℕ) (d : Data) (todo : List Task) where
-  abbrev Keeps : After → Type 0
+  abbrev Keeps : AfterTurn → Type 0
   Keeps after = Changes d after.data'
 
-  outcome_keeps : (found : Outcome) (go : Val → After) → ((v : Val) → Keeps (go v)) → Keeps (with_outcome class line d todo found go)
+  outcome_keeps : (found : Outcome) (go : Val → AfterTurn) → ((v : Val) → Keeps (go v)) → Keeps (with_outcome class line d todo found go)
   outcome_keeps (Err kind) go keeps = none
   outcome_keeps (Ok v) go keeps = keeps v
 
-  outcomes_keep : (found : Outcomes) (go : List Val → After) → ((vs : List Val) → Keeps (go vs)) → Keeps (with_outcomes class line d todo found go)
+  outcomes_keep : (found : Outcomes) (go : List Val → AfterTurn) → ((vs : List Val) → Keeps (go vs)) → Keeps (with_outcomes class line d todo found go)
   outcomes_keep (Err kind) go keeps = none
   outcomes_keep (Ok vs) go keeps = keeps vs
 
-  value_keeps : (e : RExpr) (go : Val → After) → ((v : Val) → Keeps (go v)) → Keeps (with_value class line d todo e go)
+  value_keeps : (e : RExpr) (go : Val → AfterTurn) → ((v : Val) → Keeps (go v)) → Keeps (with_value class line d todo e go)
   value_keeps e go keeps = outcome_keeps (eval class.queries e d) go keeps
 
   enter_keeps : (args : List RExpr) (params : List ℕ) (body : List Item) → Keeps (enter class line d todo args params body)
@@ -62,7 +62,7 @@ module _ (class : Class) (line : ℕ) (d : Data) (todo : List Task) where
   send_if_keeps true m ps = sent_to_changes m ps d
   send_if_keeps false m ps = none
 
-  chosen_keeps : (b : Bool) (taken others : After) → Keeps taken → Keeps others → Keeps (cond b taken others)
+  chosen_keeps : (b : Bool) (taken others : AfterTurn) → Keeps taken → Keeps others → Keeps (cond b taken others)
   chosen_keeps true taken others keeps keep = keeps
   chosen_keeps false taken others keeps keep = keep
 

@@ -13,7 +13,7 @@ use Rattle.da_lang.specs.declared.ty.Ty.{Ty}
 use Rattle.da_lang.specs.declared.ty.Ty.TheVariants as t
 use Rattle.da_lang.specs.QueryTypes.{Known, given, holds_of, when, flat, all_types, is_typed, asks_order, literal_type, slot_type, query_type}
 use Rattle.da_lang.specs.Types.{ordered, is_flat, is_int, is_bool, is_set, parts_of, element_of}
-use Rattle.da_lang.specs.World.{numbered}
+use Rattle.da_lang.specs.World.{at_number}
 
 -- The type of an expression by itself, and whether it fits a place that asks for a type. The two differ at `{}`, which
 -- has no type by itself, and at tuples and sets that hold one.
@@ -97,7 +97,7 @@ module _ (known : Known) (queries : List Query) where
   expr_step RExpr-F.Me = by_itself (Some t.Proc)
   expr_step (RExpr-F.Slot slot) = by_itself (slot_type known slot)
   expr_step RExpr-F.Clock = by_itself (Some t.Int)
-  expr_step (RExpr-F.Ask query) = by_itself (given (numbered queries query) (query_type known))
+  expr_step (RExpr-F.Ask query) = by_itself (given (at_number queries query) (query_type known))
   expr_step (RExpr-F.Range x y) = gives (int x && int y) (t.Set t.Int)
   expr_step (RExpr-F.Tuple xs) = tuple_typing xs
   expr_step (RExpr-F.SetOf xs) = set_typing xs

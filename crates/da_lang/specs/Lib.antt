@@ -1,3 +1,4 @@
+pub mod Accepted
 pub mod Allowed
 pub mod Arithmetic
 pub mod BodyMeaning

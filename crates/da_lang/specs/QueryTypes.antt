@@ -29,7 +29,7 @@ use Rattle.da_lang.specs.declared.tree.MessageDecl.{MessageDecl}
 use Rattle.da_lang.specs.declared.ty.Ty.{Ty}
 use Rattle.da_lang.specs.declared.ty.Ty.TheVariants as t
 use Rattle.da_lang.specs.Types.{same_type, ordered, is_flat, is_int, is_bool, is_set, parts_of, element_of}
-use Rattle.da_lang.specs.World.{numbered}
+use Rattle.da_lang.specs.World.{at_number}
 
 -- the declared messages, and the types of the slots, where they are known
 pub record Known : Type 0 where
@@ -54,7 +54,7 @@ flat x = when (is_flat x) x
 
 -- the type of a slot, where it is known
 abbrev pub type_at : List (Option Ty) → ℕ → Option Ty
-type_at slots slot = given (numbered slots slot) (λ ty. ty)
+type_at slots slot = given (at_number slots slot) (λ ty. ty)
 
 abbrev pub slot_type : Known → ℕ → Option Ty
 slot_type known slot = type_at known.slots slot
@@ -81,7 +81,7 @@ abbrev pub term_step : Known → term.Term-F (List Ty → Option Ty) → List Ty
 term_step known (term.Const value) row = literal_type value
 term_step known term.Me row = Some t.Proc
 term_step known (term.Slot slot) row = given (given (slot_type known slot) no_set) flat
-term_step known (term.Part part) row = given (numbered row part) flat
+term_step known (term.Part part) row = given (at_number row part) flat
 term_step known (term.Tuple parts) row = given (all_types (map (λ p. p row) parts)) (λ types. flat (t.Tuple types))
 term_step known term.Foreign row = None
 
@@ -89,19 +89,19 @@ unfoldable pub term_type : Known → Term → List Ty → Option Ty
 term_type known = fold-Term (List Ty → Option Ty) (term_step known)
 
 -- a pattern over a type gives the row with its variables, where each part has the type of its place
-abbrev pub Extends : Type 0
-Extends = Ty → List Ty → Option (List Ty)
+abbrev pub TypeExtension : Type 0
+TypeExtension = Ty → List Ty → Option (List Ty)
 
 abbrev pub is_typed : Option Ty → Ty → Bool
 is_typed found asked = holds_of found (λ ty. same_type ty asked)
 
-abbrev pub each_part : List Extends → List Ty → List Ty → Option (List Ty)
+abbrev pub each_part : List TypeExtension → List Ty → List Ty → Option (List Ty)
 each_part [] [] row = Some row
 each_part [] (ty ∷ types) row = None
 each_part (p ∷ ps) [] row = None
 each_part (p ∷ ps) (ty ∷ types) row = given (p ty row) (each_part ps types)
 
-abbrev pub pattern_step : Known → pattern.Pattern-F Extends → Extends
+abbrev pub pattern_step : Known → pattern.Pattern-F TypeExtension → TypeExtension
 pattern_step known pattern.Any ty row = Some row
 pattern_step known pattern.Bind ty row = Some (row ++ ty ∷ [])
 pattern_step known (pattern.Const value) ty row = when (is_typed (literal_type value) ty) row
@@ -109,11 +109,11 @@ pattern_step known pattern.Me ty row = when (same_type t.Proc ty) row
 pattern_step known (pattern.Equal x) ty row = when (is_typed (term_type known x row) ty) row
 pattern_step known (pattern.Tuple ps) ty row = given (parts_of ty) (λ types. each_part ps types row)
 
-unfoldable pub pattern_row : Known → Pattern → Extends
-pattern_row known = fold-Pattern Extends (pattern_step known)
+unfoldable pub pattern_row : Known → Pattern → TypeExtension
+pattern_row known = fold-Pattern TypeExtension (pattern_step known)
 
 -- a pattern over a type of at most 32 levels
-abbrev pub matched_row : Known → Pattern → Extends
+abbrev pub matched_row : Known → Pattern → TypeExtension
 matched_row known p ty row = if is_flat ty then pattern_row known p ty row else None
 
 -- a declared message, by its tag: a tuple of a text and its parts

@@ -9,7 +9,7 @@ use Rattle.da_lang.specs.declared.program.Item.{Item}
 use Rattle.da_lang.specs.declared.program.ItemKind.{ItemKind}
 use Rattle.da_lang.specs.declared.program.RBranch.{RBranch}
 use Rattle.da_lang.specs.declared.program.ItemKind.TheOpen.{ItemKind-F, Await, Label}
-use Rattle.da_lang.specs.Turns.{After, kind_of, line_of_task, turn}
+use Rattle.da_lang.specs.Turns.{AfterTurn, kind_of, line_of_task, turn}
 use Rattle.da_lang.specs.World.{Data, Task, Do, Loop, Prepare}
 
 -- a label or an `await`, which only a move takes
@@ -44,12 +44,12 @@ abbrev pub behind : List Action → Ran → Ran
 behind actions ran = record ran { actions = actions ++ ran.actions }
 
 -- behind a turn: its fault, or the run from what it leaves
-abbrev pub go_on : Data → List Task → List Action → ℕ → (Data → List Task → Ran) → Option (FaultKind × ℕ) → Ran
-go_on d todo actions n go (Some fault) = record { data' = d; todo = todo; actions = actions; turns = n; halt = Faults fault.0 fault.1 }
-go_on d todo actions n go None = behind actions (go d todo)
+abbrev pub behind_turn : Data → List Task → List Action → ℕ → (Data → List Task → Ran) → Option (FaultKind × ℕ) → Ran
+behind_turn d todo actions n go (Some fault) = record { data' = d; todo = todo; actions = actions; turns = n; halt = Faults fault.0 fault.1 }
+behind_turn d todo actions n go None = behind actions (go d todo)
 
-abbrev pub go_after : After → ℕ → (Data → List Task → Ran) → Ran
-go_after after n go = go_on after.data' after.todo after.actions n go after.fault
+abbrev pub go_after : AfterTurn → ℕ → (Data → List Task → Ran) → Ran
+go_after after n go = behind_turn after.data' after.todo after.actions n go after.fault
 
 -- the turns that one event may take
 unfoldable pub max_turns : ℕ

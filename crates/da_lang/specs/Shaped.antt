@@ -26,7 +26,7 @@ use Rattle.da_lang.specs.Limits.{item_lists}
 use Rattle.da_lang.specs.QueryTypes.{given, holds_of, type_at, declared}
 use Rattle.da_lang.specs.Turns.{kind_of}
 use Rattle.da_lang.specs.Types.{is_of}
-use Rattle.da_lang.specs.World.{Entry, Task, Do, Loop, Prepare, World, numbered, slot_of, class_of}
+use Rattle.da_lang.specs.World.{Data, Entry, Task, Do, Loop, Prepare, World, at_number, slot_of, class_of}
 
 -- the processes in a value are among the first so many
 abbrev pub processes_step : ℕ → vo.Val-F Bool → Bool
@@ -113,15 +113,24 @@ IsSetUp (Some d) call = d.setup ≡ Some call
 abbrev pub IsTask : Program → Class → ℕ → Task → Type 0
 IsTask p c me (Do i) = IsItemOf c i
 IsTask p c me (Loop slot left body line) = IsLoop p c slot left body line
-IsTask p c me (Prepare call) = IsSetUp (numbered p.procs me) call
+IsTask p c me (Prepare call) = IsSetUp (at_number p.procs me) call
+
+-- What a process of this class knows is as types say: as many slots as the class has, each with a value of its type,
+-- histories of declared messages between processes that are there, and a clock of 63 bits.
+pub record ShapedData (p : Program) (class : Class) (d : Data) : Type 0 where
+  pub me : IsProcess p d.me
+  pub is_class : class_of p d.me ≡ Some class
+  pub size : length d.slots ≡ length class.slots
+  pub slots : (slot : ℕ) (ty : Ty) → HasType class slot ty → IsOf p ty (slot_of d slot)
+  pub sent : All (IsEntry p) d.sent
+  pub received : All (IsEntry p) d.received
+  pub clock : d.clock < 2 ^ 63
+
+-- and what it has to do comes from its class
+abbrev pub ShapedTasks : Program → Class → ℕ → List Task → Type 0
+ShapedTasks p class me todo = All (IsTask p class me) todo
 
 pub record Shaped (p : Program) (w : World) : Type 0 where
-  pub me : IsProcess p w.data'.me
   pub class : Class
-  pub is_class : class_of p w.data'.me ≡ Some class
-  pub size : length w.data'.slots ≡ length class.slots
-  pub slots : (slot : ℕ) (ty : Ty) → HasType class slot ty → IsOf p ty (slot_of w.data' slot)
-  pub sent : All (IsEntry p) w.data'.sent
-  pub received : All (IsEntry p) w.data'.received
-  pub clock : w.data'.clock < 2 ^ 63
-  pub todo : All (IsTask p class w.data'.me) w.todo
+  pub knows : ShapedData p class w.data'
+  pub todo : ShapedTasks p class w.data'.me w.todo

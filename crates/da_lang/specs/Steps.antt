@@ -20,7 +20,7 @@ use Rattle.da_lang.specs.Matching.{Row, matched_entry}
 use Rattle.da_lang.specs.Queries.{holds}
 use Rattle.da_lang.specs.Runs.{Halt, AtYield, UsedUp, Faults, Ran, stopped, behind, max_turns, run_to_yield}
 use Rattle.da_lang.specs.Turns.{bind_all, bind_found, do_all, later, kind_of}
-use Rattle.da_lang.specs.World.{Data, Task, Do, Prepare, World, numbered, class_of, Phase, New, Waiting, Ended, Faulted}
+use Rattle.da_lang.specs.World.{Data, Task, Do, Prepare, World, at_number, class_of, Phase, New, Waiting, Ended, Faulted}
 
 -- a move from the opening or a label; one that takes the alternative of this number; a message with its sender and its
 -- time that arrives
@@ -64,7 +64,7 @@ setup_of_decl None = None
 setup_of_decl (Some decl) = decl.setup
 
 abbrev pub first_tasks : Program → Class → ℕ → List Task
-first_tasks program class me = preparing (setup_of_decl (numbered program.procs me)) ++ do_all class.run []
+first_tasks program class me = preparing (setup_of_decl (at_number program.procs me)) ++ do_all class.run []
 
 -- the first thing to do is a label: it is taken off, which is the first turn
 abbrev pub past_label : Class → Data → List Task → ItemKind-F ItemKind Alt Item RBranch → Option Stepped
@@ -81,7 +81,7 @@ take_alternative class d todo k (Some alt) =
     else None
 
 abbrev pub past_await : Class → Data → List Task → ℕ → ItemKind-F ItemKind Alt Item RBranch → Option Stepped
-past_await class d todo k (Await alts) = take_alternative class d todo k (numbered alts k)
+past_await class d todo k (Await alts) = take_alternative class d todo k (at_number alts k)
 past_await class d todo k _ = None
 
 abbrev pub go_waiting : Class → Data → List Task → Option Stepped

@@ -25,18 +25,18 @@ use Rattle.da_lang.specs.declared.program.ItemKind.TheViews.{out-ItemKind, out-I
 use Rattle.da_lang.specs.Arithmetic.{Outcome}
 use Rattle.da_lang.specs.Evaluation.{Outcomes, eval, eval_all}
 use Rattle.da_lang.specs.Matching.{Row}
-use Rattle.da_lang.specs.Queries.{least}
+use Rattle.da_lang.specs.Queries.{least_row}
 use Rattle.da_lang.specs.World.{Data, Task, Do, Loop, Prepare, slot_of, put_slot}
 
 -- what a turn leaves and does, and its fault with the line
-pub record After : Type 0 where
+pub record AfterTurn : Type 0 where
   pub data' : Data
   pub todo : List Task
   pub actions : List Action
   pub fault : Option (FaultKind × ℕ)
 
 -- a turn that does nothing which is seen outside
-abbrev pub quiet : Data → List Task → After
+abbrev pub quiet : Data → List Task → AfterTurn
 quiet d todo = record { data' = d; todo = todo; actions = []; fault = None }
 
 -- these statements, and then the rest
@@ -57,7 +57,7 @@ bind_row slots (Some row) d = bind_all slots row d
 -- slots get the parts of the least row of the numbered `some`, if there is one to bind
 abbrev pub bind_found : List Query → Option ℕ → List ℕ → Data → Data
 bind_found queries None slots d = d
-bind_found queries (Some n) slots d = bind_row slots (least queries n d) d
+bind_found queries (Some n) slots d = bind_row slots (least_row queries n d) d
 
 -- the clock never passes this
 unfoldable pub last_time : ℕ
@@ -118,37 +118,37 @@ line_of i = (out-Item i).line
 -- a turn in a class, of a thing on this line, with what is to do after it
 module _ (class : Class) (line : ℕ) (d : Data) (todo : List Task) where
   -- a fault leaves all as it was, and what was taken off is gone
-  abbrev pub failed : FaultKind → After
+  abbrev pub failed : FaultKind → AfterTurn
   failed kind = record { data' = d; todo = todo; actions = []; fault = Some (kind, line) }
 
-  abbrev pub with_outcome : Outcome → (Val → After) → After
+  abbrev pub with_outcome : Outcome → (Val → AfterTurn) → AfterTurn
   with_outcome (Err kind) go = failed kind
   with_outcome (Ok v) go = go v
 
-  abbrev pub with_outcomes : Outcomes → (List Val → After) → After
+  abbrev pub with_outcomes : Outcomes → (List Val → AfterTurn) → AfterTurn
   with_outcomes (Err kind) go = failed kind
   with_outcomes (Ok vs) go = go vs
 
   -- goes on with the value of an expression, or with those of all
-  abbrev pub with_value : RExpr → (Val → After) → After
+  abbrev pub with_value : RExpr → (Val → AfterTurn) → AfterTurn
   with_value e go = with_outcome (eval class.queries e d) go
 
-  abbrev pub with_values : List RExpr → (List Val → After) → After
+  abbrev pub with_values : List RExpr → (List Val → AfterTurn) → AfterTurn
   with_values es go = with_outcomes (eval_all class.queries es d) go
 
   -- the message m to these processes, if it is small enough
-  abbrev pub send_if : Bool → Val → List ℕ → After
+  abbrev pub send_if : Bool → Val → List ℕ → AfterTurn
   send_if true m ps = record { data' = sent_to m ps d; todo = todo; actions = sending d.me m ps d.clock; fault = None }
   send_if false m ps = failed Message
 
-  abbrev pub send : Val → List ℕ → After
+  abbrev pub send : Val → List ℕ → AfterTurn
   send m ps = send_if (nat_le (packet_len m) max_packet) m ps
 
-  abbrev pub output : Val → After
+  abbrev pub output : Val → AfterTurn
   output v = record { data' = d; todo = todo; actions = Out d.me (value_of v) ∷ []; fault = None }
 
   -- the first branch whose condition is true, and else the last block
-  abbrev pub choose : List RBranch → List Item → After
+  abbrev pub choose : List RBranch → List Item → AfterTurn
   choose [] otherwise = quiet d (do_all otherwise todo)
   choose (b ∷ bs) otherwise =
       with_value (out-RBranch b).cond
@@ -156,11 +156,11 @@ module _ (class : Class) (line : ℕ) (d : Data) (todo : List Task) where
       else choose bs otherwise)
 
   -- parameters get the values of all arguments, and then the body is to do
-  abbrev pub enter : List RExpr → List ℕ → List Item → After
+  abbrev pub enter : List RExpr → List ℕ → List Item → AfterTurn
   enter args params body = with_values args (λ vs. quiet (bind_all params vs d) (do_all body todo))
 
   -- a statement, by its kind; `itself` is the statement as it stood in front
-  abbrev pub kind_turn : Task → ItemKind-F ItemKind Alt Item RBranch → After
+  abbrev pub kind_turn : Task → ItemKind-F ItemKind Alt Item RBranch → AfterTurn
   kind_turn itself (Assign s e) = with_value e (λ v. quiet (put_slot d s v) todo)
   kind_turn itself (Add s e) = with_value e (λ v. quiet (with_element s v d) todo)
   kind_turn itself (Del s e) = with_value e (λ v. quiet (without_element s v d) todo)
@@ -176,7 +176,7 @@ module _ (class : Class) (line : ℕ) (d : Data) (todo : List Task) where
   kind_turn itself Pass = quiet d todo
 
   -- the rest of a loop: its first element is bound, and behind the body comes what is left then
-  abbrev pub loop_turn : ℕ → List Val → List Item → After
+  abbrev pub loop_turn : ℕ → List Val → List Item → AfterTurn
   loop_turn s [] body = quiet d todo
   loop_turn s (x ∷ xs) body = quiet (put_slot d s x) (do_all body (Loop s xs body line ∷ todo))
 
@@ -187,7 +187,7 @@ line_of_task (Loop s left body line) = line
 line_of_task (Prepare call) = call.line
 
 -- the turn of a process of this class that takes the first thing to do, and leaves the others
-abbrev pub turn : Class → Task → Data → List Task → After
+abbrev pub turn : Class → Task → Data → List Task → AfterTurn
 turn class (Do i) d todo = kind_turn class (line_of i) d todo (Do i) (kind_of i)
 turn class (Loop s left body line) d todo = loop_turn class line d todo s left body
 turn class (Prepare call) d todo = enter class call.line d todo call.args class.params class.setup

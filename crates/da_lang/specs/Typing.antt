@@ -23,7 +23,7 @@ use Rattle.da_lang.specs.declared.ty.Ty.TheVariants as t
 use Rattle.da_lang.specs.ExprTypes.{ExprType, typing, truth}
 use Rattle.da_lang.specs.QueryTypes.{Known, given, type_at, slot_type, holds_of, is_typed, message_row, message_type, pattern_row, query_row, query_type, cond_holds}
 use Rattle.da_lang.specs.Types.{is_proc, element_of}
-use Rattle.da_lang.specs.World.{numbered}
+use Rattle.da_lang.specs.World.{at_number}
 
 -- the types of the slots, where they are known
 abbrev pub Slots : Type 0
@@ -90,7 +90,7 @@ module _ (messages : List MessageDecl) (queries : List Query) where
 
   -- The slots of loops, and those that a `some` binds, take their types on the way.
   abbrev pub found_row : Option ℕ → Slots → Option (List Ty)
-  found_row found slots = given (given found (numbered queries)) (query_row (known slots))
+  found_row found slots = given (given found (at_number queries)) (query_row (known slots))
 
   abbrev pub kind_types : ItemKind-F (Slots → Slots) (Slots → Slots) (Slots → Slots) (Slots → Slots) → Slots → Slots
   kind_types (ItemKind-F.If branches other) slots = in_turn (branches ++ other) slots

@@ -55,13 +55,13 @@ or_nothing None = nothing
 or_nothing (Some x) = x
 
 -- the member of a list that is numbered from 1
-abbrev pub numbered : {A : Type 0} → List A → ℕ → Option A
-numbered members zero = None
-numbered members (suc place) = slice_get members place
+abbrev pub at_number : {A : Type 0} → List A → ℕ → Option A
+at_number members zero = None
+at_number members (suc place) = slice_get members place
 
 -- the value of a slot
 abbrev pub value_in : List Val → ℕ → Val
-value_in slots s = or_nothing (numbered slots s)
+value_in slots s = or_nothing (at_number slots s)
 
 -- the value of a slot of a process
 abbrev pub slot_of : Data → ℕ → Val
@@ -101,7 +101,7 @@ class_of_decl program (Some decl) = slice_get program.classes decl.class
 
 -- of the process with this number
 abbrev pub class_of : Program → ℕ → Option Class
-class_of program me = class_of_decl program (numbered program.procs me)
+class_of program me = class_of_decl program (at_number program.procs me)
 
 -- the types of the slots of a class
 abbrev pub slots_of_class : Option Class → List (Option Ty)

@@ -1,5 +1,5 @@
 //! The process in which a pattern is matched.
-ghost use Rattle.da_lang.specs.World.{numbered as numbered_lem};
+ghost use Rattle.da_lang.specs.World.{at_number as numbered_lem};
 ghost use Rattle.da_values.specs.Value.{val_of};
 ghost use Rattle.std.specs.Option.{option_copied, option_map};
 ghost use Rattle.std.specs.Prelude.{◌≡◌};

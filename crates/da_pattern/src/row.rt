@@ -1,5 +1,5 @@
 //! The row so far.
-ghost use Rattle.da_lang.specs.World.{numbered as numbered_lem};
+ghost use Rattle.da_lang.specs.World.{at_number as numbered_lem};
 ghost use Rattle.da_pattern.specs.RowView.{bound, row_of};
 ghost use Rattle.da_values.specs.Value.{val_of, vals};
 ghost use Rattle.std.specs.Option.{option_copied, option_map};

@@ -23,8 +23,8 @@ use Rattle.da_lang.specs.Live.{Gens, class_gens, is_history, item_gens, live_gen
 use Rattle.da_lang.proofs.RunLaws.{run_end, run_late, run_turn, run_yield}
 use Rattle.da_lang.specs.Runs.{AtYield, Faults, Halt, Ran, UsedUp, go_after, max_turns, run, yields}
 use Rattle.da_lang.specs.Steps.{Go, Take, Step, closing, past_await, step_in, take_waiting}
-use Rattle.da_lang.specs.Turns.{After as AfterTurn, kind_of}
-use Rattle.da_lang.specs.World.{Data, Do, Task, World, class_of, numbered, opening_data}
+use Rattle.da_lang.specs.Turns.{AfterTurn, kind_of}
+use Rattle.da_lang.specs.World.{Data, Do, Task, World, class_of, at_number, opening_data}
 use Rattle.da_system.specs.declared.machine.Start.{Start}
 use Rattle.da_system.specs.declared.process.Process.{Process}
 use Rattle.da_system.specs.declared.process.Process.TheVariants.{New, Waiting, Ended, Faulted}
@@ -34,7 +34,7 @@ use Rattle.da_system.specs.Printing.{ClassPrints, Prints, PrintsLayer, PrintsOnl
 use Rattle.da_system.specs.State.{CanStart, run_in, run_of, state_in, worlds_from}
 use Rattle.da_system.specs.SystemStep.{Steps, SystemState, Tells, arrive, copy_letter, drop_letter, kept_of, step_of, stepped, sys_step, told}
 use Rattle.da_system.proofs.RunLemmas.{prints_turn}
-use Rattle.da_system.proofs.WorldLemmas.{class_prints, no_letter, not_set_up, world_at, worlds-numbered, worlds-put}
+use Rattle.da_system.proofs.WorldLemmas.{class_prints, no_letter, not_set_up, world_at, worlds-at_number, worlds-put}
 
 -- NO `await` STANDS IN A RUN THAT PRINTS
 
@@ -69,40 +69,40 @@ module _ (program : Program) (ps : List Process) (p : ℕ) where
   abbrev s : SystemState
   s = state_in program ps
 
-  step_at : (step : Step) (process : Process) → numbered ps p ≡ Some process
-      → step_of program s p (numbered s.worlds p) step ≡ stepped s p (step_in program (world_at program p process) step (class_of program p))
+  step_at : (step : Step) (process : Process) → at_number ps p ≡ Some process
+      → step_of program s p (at_number s.worlds p) step ≡ stepped s p (step_in program (world_at program p process) step (class_of program p))
   step_at step process is =
-      ap (λ (o : Option World). step_of program s p o step) (worlds-numbered program ps p ∙ ap (option_map (world_at program p)) is)
+      ap (λ (o : Option World). step_of program s p o step) (worlds-at_number program ps p ∙ ap (option_map (world_at program p)) is)
       ∙ ap (λ (d : Data). stepped s p (step_in program (world_at program p process) step (class_of program d.me))) (world_of-data (run_of program p) (opening_data program p) process)
 
-  step_missing : (step : Step) → numbered ps p ≡ None → step_of program s p (numbered s.worlds p) step ≡ None
-  step_missing step none = ap (λ (o : Option World). step_of program s p o step) (worlds-numbered program ps p ∙ ap (option_map (world_at program p)) none)
+  step_missing : (step : Step) → at_number ps p ≡ None → step_of program s p (at_number s.worlds p) step ≡ None
+  step_missing step none = ap (λ (o : Option World). step_of program s p o step) (worlds-at_number program ps p ∙ ap (option_map (world_at program p)) none)
 
   -- no alternative is taken
   pub take_forbidden : (k : ℕ) → PrintsOnly program → sys_step program s (event.Take p k) ≡ None
-  take_forbidden k prints = by (numbered ps p) refl
+  take_forbidden k prints = by (at_number ps p) refl
     where
-      by : (found : Option Process) → numbered ps p ≡ found → step_of program s p (numbered s.worlds p) (Take k) ≡ None
+      by : (found : Option Process) → at_number ps p ≡ found → step_of program s p (at_number s.worlds p) (Take k) ≡ None
       by None none = step_missing (Take k) none
       by (Some process) is =
           step_at (Take k) process is ∙ ap (stepped s p) (takes_none program (opening_data program p) k process (class_of program p) (class_prints program p prints))
 
-  pub no_process : numbered ps p ≡ None → sys_step program s (event.Move p) ≡ None
+  pub no_process : at_number ps p ≡ None → sys_step program s (event.Move p) ≡ None
   no_process none = step_missing Go none
 
-  pub no_class : (process : Process) → numbered ps p ≡ Some process → class_of program p ≡ None → sys_step program s (event.Move p) ≡ None
+  pub no_class : (process : Process) → at_number ps p ≡ Some process → class_of program p ≡ None → sys_step program s (event.Move p) ≡ None
   no_class process is none = step_at Go process is ∙ ap (λ (o : Option Class). stepped s p (step_in program (world_at program p process) Go o)) none
 
   -- the move of a process of a class
-  go_at : (process : Process) (class : Class) → numbered ps p ≡ Some process → class_of program p ≡ Some class
+  go_at : (process : Process) (class : Class) → at_number ps p ≡ Some process → class_of program p ≡ Some class
       → sys_step program s (event.Move p) ≡ stepped s p (move_of program class (opening_data program p) process)
   go_at process class is known =
       step_at Go process is ∙ ap (λ (o : Option Class). stepped s p (step_in program (world_of (run_in o) (opening_data program p) process) Go o)) known
 
-  pub stuck : (process : Process) (class : Class) → numbered ps p ≡ Some process → class_of program p ≡ Some class → IsStuck class process → sys_step program s (event.Move p) ≡ None
+  pub stuck : (process : Process) (class : Class) → at_number ps p ≡ Some process → class_of program p ≡ Some class → IsStuck class process → sys_step program s (event.Move p) ≡ None
   stuck process class is known none = go_at process class is known ∙ ap (stepped s p) (none program (opening_data program p))
 
-  pub starts : (process : Process) (class : Class) (start : Start) → PrintsOnly program → numbered ps p ≡ Some process → class_of program p ≡ Some class
+  pub starts : (process : Process) (class : Class) (start : Start) → PrintsOnly program → at_number ps p ≡ Some process → class_of program p ≡ Some class
       → IsStart class process start → CanStart program ps p class start
   starts process class start prints is known can = record {
     early = can.early;
@@ -112,11 +112,11 @@ module _ (program : Program) (ps : List Process) (p : ℕ) where
     step = go_at process class is known ∙ ap (stepped s p) (can.moves program (opening_data program p) (not_set_up program p prints));
   }
     where
-      some : (n : ℕ) → numbered ps n ≡ Some process → 0 < n
+      some : (n : ℕ) → at_number ps n ≡ Some process → 0 < n
       some zero there = absurd (false≢true (ap is_some there))
       some (suc place) there = omega arith
 
-      inside : (n : ℕ) → numbered ps n ≡ Some process → n - 1 < length ps
+      inside : (n : ℕ) → at_number ps n ≡ Some process → n - 1 < length ps
       inside zero there = absurd (false≢true (ap is_some there))
       inside (suc place) there = omega (arith, slice_get_within ps place process there)
 
@@ -243,9 +243,9 @@ tells_all : (s : SystemState) (o : Option World) (tell : Data → List Action) (
 tells_all s None tell actions there same = absurd (false≢true there)
 tells_all s (Some world) tell actions there same = ap (λ (told' : List Action). Some (record { state = s; actions = told' })) (same world.data')
 
-pub stats : (program : Program) (ps : List Process) (p : ℕ) → PrintsOnly program → is_some (numbered (worlds_from program 1 ps) p) ≡ true → Tells program (state_in program ps) (event.Stat p) (Kept p 0 ∷ [])
+pub stats : (program : Program) (ps : List Process) (p : ℕ) → PrintsOnly program → is_some (at_number (worlds_from program 1 ps) p) ≡ true → Tells program (state_in program ps) (event.Stat p) (Kept p 0 ∷ [])
 stats program ps p prints there =
-    tells_all (state_in program ps) (numbered (worlds_from program 1 ps) p) _ (Kept p 0 ∷ []) there
+    tells_all (state_in program ps) (at_number (worlds_from program 1 ps) p) _ (Kept p 0 ∷ []) there
     (λ d. ap (λ n. Kept p n ∷ []) (none_kept (class_of program p) d (class_prints program p prints)))
 
 -- what is not allowed is not enabled

@@ -25,12 +25,12 @@ use Rattle.da_lang.specs.Matching.{Row, matched_entry}
 use Rattle.da_lang.specs.Queries.{holds, shown_set}
 use Rattle.da_lang.specs.Runs.{Halt, AtYield, UsedUp, Faults, Ran, behind, go_after, max_turns, run, run_to_yield, stopped, yields}
 use Rattle.da_lang.specs.Steps.{Deliver, Go, Step, Stepped, Take, after_halt, class_step, closing, first_tasks, go_waiting, handle, past_await, past_label, proc_step, received_at, step_in, take_alternative, take_waiting, try_handler}
-use Rattle.da_lang.specs.Turns.{After as Turned, bind_all, bind_found, choose, do_all, enter, kind_of, kind_turn, later, line_of, loop_turn, max_packet, packet_len, quiet, recipients, send_if, sending, turn, with_outcome, with_outcomes, with_value}
-use Rattle.da_lang.specs.World.{Data, Do, Loop, New, Phase, Prepare, Task, Waiting, World, class_of, numbered}
+use Rattle.da_lang.specs.Turns.{AfterTurn as Turned, bind_all, bind_found, choose, do_all, enter, kind_of, kind_turn, later, line_of, loop_turn, max_packet, packet_len, quiet, recipients, send_if, sending, turn, with_outcome, with_outcomes, with_value}
+use Rattle.da_lang.specs.World.{Data, Do, Loop, New, Phase, Prepare, Task, Waiting, World, class_of, at_number}
 use Rattle.da_lang.proofs.RunBounds.{by_truth, go_after_has}
 use Rattle.da_system.specs.Channels.{Letter, channel, may_arrive, may_lose, may_repeat}
 use Rattle.da_system.specs.SourceRun.{EndsByStop, go_on, src_run_from, stop_from, stop_here}
-use Rattle.da_system.specs.SystemStep.{After, SystemState, answers_of, arrive, copy_letter, drop_letter, kept_of, numbers_to, process_step, step_of, stepped, sys_step, told}
+use Rattle.da_system.specs.SystemStep.{AfterEvent, SystemState, answers_of, arrive, copy_letter, drop_letter, kept_of, numbers_to, process_step, step_of, stepped, sys_step, told}
 
 abbrev IsNoStop : Action → Type 0
 IsNoStop (Stop i) = ⊥
@@ -173,7 +173,7 @@ module _ (class : Class) (d : Data) where
       (λ is. tt)
 
   await_quiet : (todo : List Task) (k : ℕ) (kind : ItemKind-F ItemKind Alt Item RBranch) → Quiet (past_await class d todo k kind)
-  await_quiet todo k (Await alts) = alternative_quiet todo k (numbered alts k)
+  await_quiet todo k (Await alts) = alternative_quiet todo k (at_number alts k)
   await_quiet todo k _ = tt
 
   take_quiet : (k : ℕ) (todo : List Task) → Quiet (take_waiting class d k todo)
@@ -199,8 +199,8 @@ in_quiet program w s (Some class) = class_quiet program class w s w.phase
 
 -- A STEP OF A SYSTEM
 
-abbrev NoneStops : Option After → Type 0
-NoneStops step = IfSome step (λ (after : After). NoStop after.actions)
+abbrev NoneStops : Option AfterEvent → Type 0
+NoneStops step = IfSome step (λ (after : AfterEvent). NoStop after.actions)
 
 stepped_stops : (s : SystemState) (p : ℕ) (step : Option Stepped) → Quiet step → NoneStops (stepped s p step)
 stepped_stops s p None quiet = tt
@@ -211,7 +211,7 @@ of_stops program s p None step = tt
 of_stops program s p (Some world) step = stepped_stops s p (proc_step program world step) (in_quiet program world step (class_of program world.data'.me))
 
 process_stops : (program : Program) (s : SystemState) (p : ℕ) (step : Step) → NoneStops (process_step program s p step)
-process_stops program s p step = of_stops program s p (numbered s.worlds p) step
+process_stops program s p step = of_stops program s p (at_number s.worlds p) step
 
 arrive_stops : (program : Program) (s : SystemState) (p q i : ℕ) (letter : Option Letter) → NoneStops (arrive program s p q i letter)
 arrive_stops program s p q i None = tt
@@ -240,11 +240,11 @@ answers_of_tell p (Some class) d = answers_tell p class.queries d (numbers_to (l
 pub step_stops : (program : Program) (s : SystemState) (e : Event) → NoneStops (sys_step program s e)
 step_stops program s (event.Move p) = process_stops program s p Go
 step_stops program s (event.Take p k) = process_stops program s p (Take k)
-step_stops program s (event.Deliver p q i) = by_truth NoneStops (may_arrive s.kind i) _ _ (λ is. arrive_stops program s p q i (numbered (channel s.channels p q) i)) (λ is. tt)
-step_stops program s (event.Lose p q i) = by_truth NoneStops (may_lose s.kind) _ _ (λ is. drop_stops s p q i (numbered (channel s.channels p q) i)) (λ is. tt)
-step_stops program s (event.Repeat p q i) = by_truth NoneStops (may_repeat s.kind) _ _ (λ is. copy_stops s p q (numbered (channel s.channels p q) i)) (λ is. tt)
-step_stops program s (event.Show p) = told_stops s (numbered s.worlds p) (answers_of p (class_of program p)) (answers_of_tell p (class_of program p))
-step_stops program s (event.Stat p) = told_stops s (numbered s.worlds p) (λ d. Kept p (kept_of (class_of program p) d) ∷ []) (λ d. (tt, tt))
+step_stops program s (event.Deliver p q i) = by_truth NoneStops (may_arrive s.kind i) _ _ (λ is. arrive_stops program s p q i (at_number (channel s.channels p q) i)) (λ is. tt)
+step_stops program s (event.Lose p q i) = by_truth NoneStops (may_lose s.kind) _ _ (λ is. drop_stops s p q i (at_number (channel s.channels p q) i)) (λ is. tt)
+step_stops program s (event.Repeat p q i) = by_truth NoneStops (may_repeat s.kind) _ _ (λ is. copy_stops s p q (at_number (channel s.channels p q) i)) (λ is. tt)
+step_stops program s (event.Show p) = told_stops s (at_number s.worlds p) (answers_of p (class_of program p)) (answers_of_tell p (class_of program p))
+step_stops program s (event.Stat p) = told_stops s (at_number s.worlds p) (λ d. Kept p (kept_of (class_of program p) d) ∷ []) (λ d. (tt, tt))
 
 -- THE RUN
 
@@ -256,7 +256,7 @@ stop_behind (x ∷ xs) rest k none (b ∷ bs, is) = stop_behind xs rest k none.1
 
 module _ (program : Program) where
   -- a run that an event stops ends so
-  stops_by : (i k : ℕ) (step : Option After) (stops : After → Option ℕ) (others : After → List Action) → ((after : After) → stops after ≡ Some k → EndsByStop (others after) k)
+  stops_by : (i k : ℕ) (step : Option AfterEvent) (stops : AfterEvent → Option ℕ) (others : AfterEvent → List Action) → ((after : AfterEvent) → stops after ≡ Some k → EndsByStop (others after) k)
       → stop_here i step stops ≡ Some k → EndsByStop (go_on i step others) k
   stops_by i k None stops others go is = ([], cc)
   stops_by i k (Some after) stops others go is = let (before, ends) = go after is in (after.actions ++ before, ap (λ xs. after.actions ++ xs) ends ∙ sym (append_assoc after.actions before (Stop k ∷ [])))
@@ -266,8 +266,8 @@ module _ (program : Program) where
   stop_ends i s (e ∷ es) k is = stops_by i k (sys_step program s e) _ _ (λ after. stop_ends (i + 1) after.state es k) is
 
   -- and one that ends so was stopped there
-  ended_by : (i k : ℕ) (step : Option After) (stops : After → Option ℕ) (others : After → List Action) → ((after : After) → EndsByStop (others after) k → stops after ≡ Some k)
-      → IfSome step (λ (after : After). NoStop after.actions) → EndsByStop (go_on i step others) k → stop_here i step stops ≡ Some k
+  ended_by : (i k : ℕ) (step : Option AfterEvent) (stops : AfterEvent → Option ℕ) (others : AfterEvent → List Action) → ((after : AfterEvent) → EndsByStop (others after) k → stops after ≡ Some k)
+      → IfSome step (λ (after : AfterEvent). NoStop after.actions) → EndsByStop (go_on i step others) k → stop_here i step stops ≡ Some k
   ended_by i k None stops others go none ([], is) = cc
   ended_by i k None stops others go none (b ∷ [], is) = absurd (let sizes : 1 ≡ 2 = ap length is in omega (arith, sizes))
   ended_by i k None stops others go none (b ∷ c ∷ bs, is) = absurd (let sizes : 1 ≡ suc (suc (length (bs ++ Stop k ∷ []))) = ap length is in omega (arith, sizes))

@@ -22,7 +22,7 @@ use Rattle.da_lang.proofs.LiveLaws.{living}
 use Rattle.da_lang.proofs.Computing.{stepping}
 use Rattle.da_system.specs.Channels.{Channels, Letter, after_actions, no_letters}
 use Rattle.da_system.specs.SourceRun.{src_run}
-use Rattle.da_system.specs.SystemStep.{After, SystemState, start, sys_step}
+use Rattle.da_system.specs.SystemStep.{AfterEvent, SystemState, start, sys_step}
 
 abbrev num : ℕ → Val
 num n = val.Int (pos n)
@@ -80,7 +80,7 @@ system kind letters w = record { kind = kind; worlds = first ∷ w ∷ []; chann
 abbrev both : List Letter
 both = letter 7 1 ∷ letter 8 2 ∷ []
 
-abbrev steps : ChannelKind → Event → Option After
+abbrev steps : ChannelKind → Event → Option AfterEvent
 steps kind e = sys_step (program kind) (system kind both (second Waiting (knows [] 0))) e
 
 -- THE OPENING

@@ -11,9 +11,9 @@ use Rattle.da_lang.specs.declared.event.Event.{Event}
 use Rattle.da_lang.specs.declared.event.Event.TheVariants as event
 use Rattle.da_lang.specs.declared.program.Program.{Program}
 use Rattle.da_lang.specs.Steps.{Go, Take, Step, Stepped, proc_step}
-use Rattle.da_lang.specs.World.{Data, World, numbered, opening}
+use Rattle.da_lang.specs.World.{Data, World, at_number, opening}
 use Rattle.da_system.specs.Channels.{Channels, Letter, after_action, after_actions, channel, may_arrive, may_lose, may_repeat, no_letters, or_empty, put_numbered, with_channel}
-use Rattle.da_system.specs.SystemStep.{After, SystemState, arrive, copy_letter, drop_letter, process_step, start, step_of, stepped, sys_step, told}
+use Rattle.da_system.specs.SystemStep.{AfterEvent, SystemState, arrive, copy_letter, drop_letter, process_step, start, step_of, stepped, sys_step, told}
 use Rattle.da_system.proofs.WorldLemmas.{all_numbered, numbered_none}
 
 -- so many lists of as many channels
@@ -56,7 +56,7 @@ all_set P [] k x all like = tt
 all_set P (y ∷ ys) zero x all like = (like y refl all.0, all.1)
 all_set P (y ∷ ys) (suc k) x all like = (all.0, all_set P ys k x all.1 like)
 
-all_put : {A : Type 0} (P : A → Type 0) (xs : List A) (n : ℕ) (x : A) → AllByRecursion P xs → ((y : A) → numbered xs n ≡ Some y → P y → P x) → AllByRecursion P (put_numbered xs n x)
+all_put : {A : Type 0} (P : A → Type 0) (xs : List A) (n : ℕ) (x : A) → AllByRecursion P xs → ((y : A) → at_number xs n ≡ Some y → P y → P x) → AllByRecursion P (put_numbered xs n x)
 all_put P xs zero x all like = all
 all_put P xs (suc place) x all like = all_set P xs place x all like
 
@@ -76,8 +76,8 @@ module _ (count : ℕ) where
   squares_after channels [] square = square
   squares_after channels (a ∷ others) square = squares_after (after_action channels a) others (square_after channels a square)
 
-abbrev Keeps : Option After → Type 0
-Keeps step = IfSome step (λ (after : After). IsWhole after.state)
+abbrev Keeps : Option AfterEvent → Type 0
+Keeps step = IfSome step (λ (after : AfterEvent). IsWhole after.state)
 
 stepped_keeps : (s : SystemState) (p : ℕ) (step : Option Stepped) → IsWhole s → Keeps (stepped s p step)
 stepped_keeps s p None whole = tt
@@ -85,7 +85,7 @@ stepped_keeps s p (Some step) whole =
     subst (λ n. IsSquare n (after_actions s.channels step.actions)) (sym (length-put s.worlds p step.world)) (squares_after (length s.worlds) s.channels step.actions whole)
 
 process_keeps : (program : Program) (s : SystemState) (p : ℕ) (step : Step) → IsWhole s → Keeps (process_step program s p step)
-process_keeps program s p step whole = of (numbered s.worlds p)
+process_keeps program s p step whole = of (at_number s.worlds p)
   where
     of : (world : Option World) → Keeps (step_of program s p world step)
     of None = tt
@@ -107,18 +107,18 @@ told_keeps : (s : SystemState) (world : Option World) (tell : Data → List Acti
 told_keeps s None tell whole = tt
 told_keeps s (Some world) tell whole = whole
 
-if_keeps : (b : Bool) (step : Option After) → Keeps step → Keeps (cond b step None)
+if_keeps : (b : Bool) (step : Option AfterEvent) → Keeps step → Keeps (cond b step None)
 if_keeps true step keeps = keeps
 if_keeps false step keeps = tt
 
 pub step_whole : (program : Program) (s : SystemState) (e : Event) → IsWhole s → Keeps (sys_step program s e)
 step_whole program s (event.Move p) whole = process_keeps program s p Go whole
 step_whole program s (event.Take p k) whole = process_keeps program s p (Take k) whole
-step_whole program s (event.Deliver p q i) whole = if_keeps (may_arrive s.kind i) _ (arrive_keeps program s p q i (numbered (channel s.channels p q) i) whole)
-step_whole program s (event.Lose p q i) whole = if_keeps (may_lose s.kind) _ (drop_keeps s p q i (numbered (channel s.channels p q) i) whole)
-step_whole program s (event.Repeat p q i) whole = if_keeps (may_repeat s.kind) _ (copy_keeps s p q (numbered (channel s.channels p q) i) whole)
-step_whole program s (event.Show p) whole = told_keeps s (numbered s.worlds p) _ whole
-step_whole program s (event.Stat p) whole = told_keeps s (numbered s.worlds p) _ whole
+step_whole program s (event.Deliver p q i) whole = if_keeps (may_arrive s.kind i) _ (arrive_keeps program s p q i (at_number (channel s.channels p q) i) whole)
+step_whole program s (event.Lose p q i) whole = if_keeps (may_lose s.kind) _ (drop_keeps s p q i (at_number (channel s.channels p q) i) whole)
+step_whole program s (event.Repeat p q i) whole = if_keeps (may_repeat s.kind) _ (copy_keeps s p q (at_number (channel s.channels p q) i) whole)
+step_whole program s (event.Show p) whole = told_keeps s (at_number s.worlds p) _ whole
+step_whole program s (event.Stat p) whole = told_keeps s (at_number s.worlds p) _ whole
 
 -- SO WHERE THERE IS A LETTER there are both processes
 
@@ -127,30 +127,30 @@ get_there [] k inside = absurd (omega (arith, inside))
 get_there (x ∷ xs) zero inside = refl
 get_there (x ∷ xs) (suc k) inside = get_there xs k (omega (arith, inside))
 
-numbered_there : {A B : Type 0} (xs : List A) (ys : List B) (n : ℕ) (x : A) → numbered xs n ≡ Some x → length xs ≡ length ys → is_some (numbered ys n) ≡ true
+numbered_there : {A B : Type 0} (xs : List A) (ys : List B) (n : ℕ) (x : A) → at_number xs n ≡ Some x → length xs ≡ length ys → is_some (at_number ys n) ≡ true
 numbered_there xs ys zero x there same = absurd (false≢true (ap is_some there))
 numbered_there xs ys (suc place) x there same = get_there ys place (let inside : place < length xs = slice_get_within xs place x there in omega (arith, inside, same))
 
 module _ (s : SystemState) (p q i : ℕ) (letter : Letter) (whole : IsWhole s) where
   abbrev BothThere : Type 0
-  BothThere = (is_some (numbered s.worlds p) ≡ true) × (is_some (numbered s.worlds q) ≡ true)
+  BothThere = (is_some (at_number s.worlds p) ≡ true) × (is_some (at_number s.worlds q) ≡ true)
 
   abbrev Fits : List (List Letter) → Type 0
   Fits row = length row ≡ length s.worlds
 
-  no_letter_in : (letters : Option (List Letter)) → letters ≡ None → numbered (or_empty letters) i ≡ Some letter → BothThere
-  no_letter_in letters none there = absurd (false≢true (ap is_some (sym (numbered_none {A = Letter} i) ∙ ap (λ (o : Option (List Letter)). numbered (or_empty o) i) (sym none) ∙ there)))
+  no_letter_in : (letters : Option (List Letter)) → letters ≡ None → at_number (or_empty letters) i ≡ Some letter → BothThere
+  no_letter_in letters none there = absurd (false≢true (ap is_some (sym (numbered_none {A = Letter} i) ∙ ap (λ (o : Option (List Letter)). at_number (or_empty o) i) (sym none) ∙ there)))
 
-  in_row : (row : List (List Letter)) → numbered s.channels p ≡ Some row → (letters : Option (List Letter)) → numbered row q ≡ letters → numbered (or_empty letters) i ≡ Some letter → BothThere
+  in_row : (row : List (List Letter)) → at_number s.channels p ≡ Some row → (letters : Option (List Letter)) → at_number row q ≡ letters → at_number (or_empty letters) i ≡ Some letter → BothThere
   in_row row at None none there = no_letter_in None refl there
   in_row row at (Some letters) is there = (
     numbered_there s.channels s.worlds p row at whole.senders,
     numbered_there row s.worlds q letters is (subst (λ (o : Option (List (List Letter))). IfSome o Fits) at (all_numbered Fits s.channels p whole.recipients)),
   )
 
-  in_rows : (row : Option (List (List Letter))) → numbered s.channels p ≡ row → numbered (or_empty (numbered (or_empty row) q)) i ≡ Some letter → BothThere
-  in_rows None none there = no_letter_in (numbered [] q) (numbered_none {A = List Letter} q) there
-  in_rows (Some row) at there = in_row row at (numbered row q) refl there
+  in_rows : (row : Option (List (List Letter))) → at_number s.channels p ≡ row → at_number (or_empty (at_number (or_empty row) q)) i ≡ Some letter → BothThere
+  in_rows None none there = no_letter_in (at_number [] q) (numbered_none {A = List Letter} q) there
+  in_rows (Some row) at there = in_row row at (at_number row q) refl there
 
-  pub letter_there : numbered (channel s.channels p q) i ≡ Some letter → BothThere
-  letter_there there = in_rows (numbered s.channels p) refl there
+  pub letter_there : at_number (channel s.channels p q) i ≡ Some letter → BothThere
+  letter_there there = in_rows (at_number s.channels p) refl there

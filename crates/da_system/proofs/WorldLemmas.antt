@@ -8,7 +8,7 @@ use Rattle.std.proofs.lemmas.Option.{slice_get_within}
 use Rattle.da_lang.specs.declared.program.ProcDecl.{ProcDecl}
 use Rattle.da_lang.specs.declared.program.Program.{Program}
 use Rattle.da_lang.specs.Steps.{setup_of_decl}
-use Rattle.da_lang.specs.World.{World, class_of, class_of_decl, numbered, opening, opening_data}
+use Rattle.da_lang.specs.World.{World, class_of, class_of_decl, at_number, opening, opening_data}
 use Rattle.da_system.specs.declared.process.Process.{Process}
 use Rattle.da_system.specs.declared.process.Process.TheVariants.{New}
 use Rattle.da_system.specs.Channels.{Letter, channel, no_letters, or_empty, put_numbered}
@@ -28,17 +28,17 @@ worlds-get program first (p ∷ ps) (suc k) =
     worlds-get program (first + 1) ps k ∙ ap (λ n. option_map (world_at program n) (slice_get ps k)) (let same : first + 1 + k ≡ first + suc k = omega arith in same)
 
 -- the world of a number is that of the process of the number
-pub worlds-numbered : (program : Program) (ps : List Process) (p : ℕ) → numbered (worlds_from program 1 ps) p ≡ option_map (world_at program p) (numbered ps p)
-worlds-numbered program ps zero = refl
-worlds-numbered program ps (suc place) =
+pub worlds-at_number : (program : Program) (ps : List Process) (p : ℕ) → at_number (worlds_from program 1 ps) p ≡ option_map (world_at program p) (at_number ps p)
+worlds-at_number program ps zero = refl
+worlds-at_number program ps (suc place) =
     worlds-get program 1 ps place ∙ ap (λ n. option_map (world_at program n) (slice_get ps place)) (let same : 1 + place ≡ suc place = omega arith in same)
 
 pub is_some-map : {A B : Type 0} (f : A → B) (o : Option A) → is_some (option_map f o) ≡ is_some o
 is_some-map f None = refl
 is_some-map f (Some x) = refl
 
-pub worlds-there : (program : Program) (ps : List Process) (p : ℕ) → is_some (numbered (worlds_from program 1 ps) p) ≡ is_some (numbered ps p)
-worlds-there program ps p = ap is_some (worlds-numbered program ps p) ∙ is_some-map (world_at program p) (numbered ps p)
+pub worlds-there : (program : Program) (ps : List Process) (p : ℕ) → is_some (at_number (worlds_from program 1 ps) p) ≡ is_some (at_number ps p)
+worlds-there program ps p = ap is_some (worlds-at_number program ps p) ∙ is_some-map (world_at program p) (at_number ps p)
 
 worlds-set : (program : Program) (first : ℕ) (ps : List Process) (k : ℕ) (p : Process) → worlds_from program first (set ps k p) ≡ set (worlds_from program first ps) k (world_at program (first + k) p)
 worlds-set program first [] k p = refl
@@ -69,19 +69,19 @@ all_get P [] k all = tt
 all_get P (x ∷ xs) zero all = all.0
 all_get P (x ∷ xs) (suc k) all = all_get P xs k all.1
 
-pub all_numbered : {A : Type 0} (P : A → Type 0) (xs : List A) (n : ℕ) → AllByRecursion P xs → IfSome (numbered xs n) P
+pub all_numbered : {A : Type 0} (P : A → Type 0) (xs : List A) (n : ℕ) → AllByRecursion P xs → IfSome (at_number xs n) P
 all_numbered P xs zero all = tt
 all_numbered P xs (suc k) all = all_get P xs k all
 
 pub class_prints : (program : Program) (p : ℕ) → PrintsOnly program → IfSome (class_of program p) ClassPrints
-class_prints program p prints = of (numbered program.procs p)
+class_prints program p prints = of (at_number program.procs p)
   where
     of : (decl : Option ProcDecl) → IfSome (class_of_decl program decl) ClassPrints
     of None = tt
     of (Some decl) = all_get ClassPrints program.classes decl.class prints.classes
 
-pub not_set_up : (program : Program) (p : ℕ) → PrintsOnly program → setup_of_decl (numbered program.procs p) ≡ None
-not_set_up program p prints = of (numbered program.procs p) (all_numbered (λ (decl : ProcDecl). decl.setup ≡ None) program.procs p prints.procs)
+pub not_set_up : (program : Program) (p : ℕ) → PrintsOnly program → setup_of_decl (at_number program.procs p) ≡ None
+not_set_up program p prints = of (at_number program.procs p) (all_numbered (λ (decl : ProcDecl). decl.setup ≡ None) program.procs p prints.procs)
   where
     of : (decl : Option ProcDecl) → IfSome decl (λ (d : ProcDecl). d.setup ≡ None) → setup_of_decl decl ≡ None
     of None none = refl
@@ -94,28 +94,28 @@ row_of zero row k P none some = none
 row_of (suc n) row zero P none some = some
 row_of (suc n) row (suc k) P none some = row_of n row k P none some
 
-numbered_row : {A : Type 0} (n : ℕ) (row : List A) (k : ℕ) (P : List A → Type 0) → P [] → P row → P (or_empty (numbered (replicate n row) k))
+numbered_row : {A : Type 0} (n : ℕ) (row : List A) (k : ℕ) (P : List A → Type 0) → P [] → P row → P (or_empty (at_number (replicate n row) k))
 numbered_row n row zero P none some = none
 numbered_row n row (suc k) P none some = row_of n row k P none some
 
-pub numbered_none : {A : Type 0} (k : ℕ) → numbered {A = A} [] k ≡ None
+pub numbered_none : {A : Type 0} (k : ℕ) → at_number {A = A} [] k ≡ None
 numbered_none zero = refl
 numbered_none (suc k) = refl
 
 -- no channel has a letter
 pub channel-empty : (n p q : ℕ) → channel (no_letters n) p q ≡ []
 channel-empty n p q =
-    numbered_row n (replicate n []) p (λ (row : List (List Letter)). or_empty (numbered row q) ≡ []) (ap or_empty (numbered_none {A = List Letter} q))
+    numbered_row n (replicate n []) p (λ (row : List (List Letter)). or_empty (at_number row q) ≡ []) (ap or_empty (numbered_none {A = List Letter} q))
     (numbered_row n [] q (λ (letters : List Letter). letters ≡ []) refl refl)
 
-pub no_letter : (n p q i : ℕ) → numbered (channel (no_letters n) p q) i ≡ None
-no_letter n p q i = ap (λ (letters : List Letter). numbered letters i) (channel-empty n p q) ∙ numbered_none {A = Letter} i
+pub no_letter : (n p q i : ℕ) → at_number (channel (no_letters n) p q) i ≡ None
+no_letter n p q i = ap (λ (letters : List Letter). at_number letters i) (channel-empty n p q) ∙ numbered_none {A = Letter} i
 
 -- the number of a process that is there is not greater than the number of processes
-pub within : (program : Program) (ps : List Process) (p : ℕ) → is_some (numbered (worlds_from program 1 ps) p) ≡ true → p ≤ length ps
+pub within : (program : Program) (ps : List Process) (p : ℕ) → is_some (at_number (worlds_from program 1 ps) p) ≡ true → p ≤ length ps
 within program ps p there = of p (sym (worlds-there program ps p) ∙ there)
   where
-    of : (n : ℕ) → is_some (numbered ps n) ≡ true → n ≤ length ps
+    of : (n : ℕ) → is_some (at_number ps n) ≡ true → n ≤ length ps
     of zero some = omega arith
     of (suc place) some = get_within place (slice_get ps place) refl some
       where

@@ -9,7 +9,7 @@ use Rattle.da_lang.specs.declared.event.Action.{Action}
 use Rattle.da_lang.specs.declared.event.Action.TheVariants.{Sent}
 use Rattle.da_lang.specs.declared.ty.ChannelKind.{ChannelKind}
 use Rattle.da_lang.specs.declared.ty.ChannelKind.TheVariants.{FifoReliable, FifoUnreliable, UnorderedUnreliable}
-use Rattle.da_lang.specs.World.{numbered}
+use Rattle.da_lang.specs.World.{at_number}
 
 -- a message that is under way, with the time of its sending
 pub record Letter : Type 0 where
@@ -41,11 +41,11 @@ no_letters count = replicate count (replicate count [])
 
 -- the channel from p to q
 abbrev pub channel : Channels → ℕ → ℕ → List Letter
-channel channels p q = or_empty (numbered (or_empty (numbered channels p)) q)
+channel channels p q = or_empty (at_number (or_empty (at_number channels p)) q)
 
 -- with these letters as the channel from p to q
 abbrev pub with_channel : Channels → ℕ → ℕ → List Letter → Channels
-with_channel channels p q letters = put_numbered channels p (put_numbered (or_empty (numbered channels p)) q letters)
+with_channel channels p q letters = put_numbered channels p (put_numbered (or_empty (at_number channels p)) q letters)
 
 -- a letter goes to the end of its channel
 abbrev pub with_letter : Channels → ℕ → ℕ → Letter → Channels

@@ -7,7 +7,7 @@ use Rattle.da_lang.specs.World as phase
 use Rattle.da_lang.specs.declared.program.Program.{Program}
 use Rattle.da_lang.specs.Runs.{Ran, run_to_yield}
 use Rattle.da_lang.specs.Steps.{Go, Stepped, class_step, closing, moved, phase_after, setup_of_decl}
-use Rattle.da_lang.specs.World.{Data, Do, Task, World, numbered}
+use Rattle.da_lang.specs.World.{Data, Do, Task, World, at_number}
 use Rattle.da_system.specs.declared.machine.Start.{Start}
 use Rattle.da_system.specs.declared.process.Process.{Process}
 use Rattle.da_system.specs.declared.process.Process.TheVariants.{New, Waiting, Ended, Faulted}
@@ -46,7 +46,7 @@ IsStuck class process = (program : Program) (d : Data) → move_of program class
 -- the process has the move from the start, whatever it knows, where it has no line of `setup`
 pub record IsStart (class : Class) (process : Process) (start : Start) : Type 0 where
   pub early : start.turns ≤ 1
-  pub moves : (program : Program) (d : Data) → setup_of_decl (numbered program.procs d.me) ≡ None → move_of program class d process ≡ Some (move_at class d start)
+  pub moves : (program : Program) (d : Data) → setup_of_decl (at_number program.procs d.me) ≡ None → move_of program class d process ≡ Some (move_at class d start)
 
 -- it holds whatever process `me` knows
 abbrev pub WhateverKnown : ℕ → (Data → Type 0) → Type 0

@@ -4,10 +4,10 @@ use Rattle.da_lang.specs.declared.event.Action.{Action}
 use Rattle.da_lang.specs.declared.event.Action.TheVariants.{Stop}
 use Rattle.da_lang.specs.declared.event.Event.{Event}
 use Rattle.da_lang.specs.declared.program.Program.{Program}
-use Rattle.da_system.specs.SystemStep.{After, SystemState, start, sys_step}
+use Rattle.da_system.specs.SystemStep.{AfterEvent, SystemState, start, sys_step}
 
 -- what a run does at event i: it stops where the event is not allowed
-abbrev pub go_on : ℕ → Option After → (After → List Action) → List Action
+abbrev pub go_on : ℕ → Option AfterEvent → (AfterEvent → List Action) → List Action
 go_on i None others = Stop i ∷ []
 go_on i (Some after) others = after.actions ++ others after
 
@@ -20,7 +20,7 @@ abbrev pub src_run : Program → List Event → List Action
 src_run program events = src_run_from program 1 (start program) events
 
 -- the number of the first event that is not allowed, where they are numbered from i on
-abbrev pub stop_here : ℕ → Option After → (After → Option ℕ) → Option ℕ
+abbrev pub stop_here : ℕ → Option AfterEvent → (AfterEvent → Option ℕ) → Option ℕ
 stop_here i None others = Some i
 stop_here i (Some after) others = others after
 
@@ -29,7 +29,7 @@ stop_from program i s [] = None
 stop_from program i s (e ∷ es) = stop_here i (sys_step program s e) (λ after. stop_from program (i + 1) after.state es)
 
 -- the state that the events leave, up to the first that is not allowed
-abbrev pub state_on : SystemState → Option After → (After → SystemState) → SystemState
+abbrev pub state_on : SystemState → Option AfterEvent → (AfterEvent → SystemState) → SystemState
 state_on s None others = s
 state_on s (Some after) others = others after
 

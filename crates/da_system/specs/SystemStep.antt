@@ -12,7 +12,7 @@ use Rattle.da_lang.specs.declared.ty.ChannelKind.{ChannelKind}
 use Rattle.da_lang.specs.Live.{kept}
 use Rattle.da_lang.specs.Queries.{shown_set}
 use Rattle.da_lang.specs.Steps.{Step, Go, Take, Deliver, Stepped, proc_step}
-use Rattle.da_lang.specs.World.{Data, World, class_of, numbered, opening}
+use Rattle.da_lang.specs.World.{Data, World, class_of, at_number, opening}
 use Rattle.da_system.specs.Channels.{Channels, Letter, after_actions, channel, may_arrive, may_lose, may_repeat, no_letters, put_numbered, with_letter, without_letter}
 
 -- a system: the kind of its channels, its processes in the order of their numbers, and its channels
@@ -22,7 +22,7 @@ pub record SystemState : Type 0 where
   pub channels : Channels
 
 -- the state after a step, and what the step did
-pub record After : Type 0 where
+pub record AfterEvent : Type 0 where
   pub state : SystemState
   pub actions : List Action
 
@@ -42,52 +42,52 @@ start program = record {
 -- MOVES AND DELIVERIES
 
 -- process p has made the step: it has another world, and what it sent is in the channels
-abbrev pub stepped : SystemState → ℕ → Option Stepped → Option After
+abbrev pub stepped : SystemState → ℕ → Option Stepped → Option AfterEvent
 stepped s p None = None
 stepped s p (Some step) = Some (record {
   state = record s { worlds = put_numbered s.worlds p step.world; channels = after_actions s.channels step.actions };
   actions = step.actions;
 })
 
-abbrev pub step_of : Program → SystemState → ℕ → Option World → Step → Option After
+abbrev pub step_of : Program → SystemState → ℕ → Option World → Step → Option AfterEvent
 step_of program s p None step = None
 step_of program s p (Some world) step = stepped s p (proc_step program world step)
 
 -- process p makes a step, if it is there and may
-abbrev pub process_step : Program → SystemState → ℕ → Step → Option After
-process_step program s p step = step_of program s p (numbered s.worlds p) step
+abbrev pub process_step : Program → SystemState → ℕ → Step → Option AfterEvent
+process_step program s p step = step_of program s p (at_number s.worlds p) step
 
 -- letter i of the channel from p to q leaves the channel and arrives
-abbrev pub arrive : Program → SystemState → ℕ → ℕ → ℕ → Option Letter → Option After
+abbrev pub arrive : Program → SystemState → ℕ → ℕ → ℕ → Option Letter → Option AfterEvent
 arrive program s p q i None = None
 arrive program s p q i (Some letter) =
     process_step program (record s { channels = without_letter s.channels p q i }) q (Deliver letter.message p letter.time)
 
-abbrev pub deliver : Program → SystemState → ℕ → ℕ → ℕ → Option After
-deliver program s p q i = if may_arrive s.kind i then arrive program s p q i (numbered (channel s.channels p q) i) else None
+abbrev pub deliver : Program → SystemState → ℕ → ℕ → ℕ → Option AfterEvent
+deliver program s p q i = if may_arrive s.kind i then arrive program s p q i (at_number (channel s.channels p q) i) else None
 
 -- LOSSES AND REPETITIONS
 
 -- the letter leaves the channel
-abbrev pub drop_letter : SystemState → ℕ → ℕ → ℕ → Option Letter → Option After
+abbrev pub drop_letter : SystemState → ℕ → ℕ → ℕ → Option Letter → Option AfterEvent
 drop_letter s p q i None = None
 drop_letter s p q i (Some letter) = Some (record { state = record s { channels = without_letter s.channels p q i }; actions = Lost p q letter.time ∷ [] })
 
-abbrev pub lose : SystemState → ℕ → ℕ → ℕ → Option After
-lose s p q i = if may_lose s.kind then drop_letter s p q i (numbered (channel s.channels p q) i) else None
+abbrev pub lose : SystemState → ℕ → ℕ → ℕ → Option AfterEvent
+lose s p q i = if may_lose s.kind then drop_letter s p q i (at_number (channel s.channels p q) i) else None
 
 -- a copy of the letter goes to the end of the channel
-abbrev pub copy_letter : SystemState → ℕ → ℕ → Option Letter → Option After
+abbrev pub copy_letter : SystemState → ℕ → ℕ → Option Letter → Option AfterEvent
 copy_letter s p q None = None
 copy_letter s p q (Some letter) = Some (record { state = record s { channels = with_letter s.channels p q letter }; actions = Again p q letter.time ∷ [] })
 
-abbrev pub repeat : SystemState → ℕ → ℕ → ℕ → Option After
-repeat s p q i = if may_repeat s.kind then copy_letter s p q (numbered (channel s.channels p q) i) else None
+abbrev pub repeat : SystemState → ℕ → ℕ → ℕ → Option AfterEvent
+repeat s p q i = if may_repeat s.kind then copy_letter s p q (at_number (channel s.channels p q) i) else None
 
 -- WHAT IS TOLD OF A PROCESS
 
 -- if the process is there, the actions tell of what it knows, and nothing changes
-abbrev pub told : SystemState → Option World → (Data → List Action) → Option After
+abbrev pub told : SystemState → Option World → (Data → List Action) → Option AfterEvent
 told s None tell = None
 told s (Some world) tell = Some (record { state = s; actions = tell world.data' })
 
@@ -104,15 +104,15 @@ abbrev pub kept_of : Option Class → Data → ℕ
 kept_of None d = 0
 kept_of (Some class) d = kept class d
 
-abbrev pub show : Program → SystemState → ℕ → Option After
-show program s p = told s (numbered s.worlds p) (answers_of p (class_of program p))
+abbrev pub show : Program → SystemState → ℕ → Option AfterEvent
+show program s p = told s (at_number s.worlds p) (answers_of p (class_of program p))
 
-abbrev pub stat : Program → SystemState → ℕ → Option After
-stat program s p = told s (numbered s.worlds p) (λ d. Kept p (kept_of (class_of program p) d) ∷ [])
+abbrev pub stat : Program → SystemState → ℕ → Option AfterEvent
+stat program s p = told s (at_number s.worlds p) (λ d. Kept p (kept_of (class_of program p) d) ∷ [])
 
 -- THE STEP OF AN EVENT, or none where it is not allowed. Alternatives are numbered from 1, so there is none to take by the
 -- number 0.
-abbrev pub sys_step : Program → SystemState → Event → Option After
+abbrev pub sys_step : Program → SystemState → Event → Option AfterEvent
 sys_step program s (event.Move p) = process_step program s p Go
 sys_step program s (event.Take p k) = process_step program s p (Take k)
 sys_step program s (event.Deliver p q i) = deliver program s p q i

@@ -1,5 +1,5 @@
 //! The processes of a program, and their steps.
-ghost use Rattle.da_lang.specs.World.{class_of as class_of_lem, numbered as numbered_lem};
+ghost use Rattle.da_lang.specs.World.{class_of as class_of_lem, at_number as numbered_lem};
 ghost use Rattle.da_system.specs.Printing.{PrintsOnly};
 ghost use Rattle.da_system.specs.State.{CanStart, IsNumbered, IsReady, program_of, state_of};
 ghost use Rattle.da_system.specs.SystemStep.{start, sys_step, Steps, Tells};

@@ -14,7 +14,7 @@ use Rattle.da_lang.specs.declared.ty.Ty.TheVariants as t
 use Rattle.da_lang.specs.ExprTypes.{ExprType, Further, by_itself, parts_fit, set_type, int, truth, comparison, member, takes, typing, part_typing}
 use Rattle.da_lang.specs.QueryTypes.{Known, given, holds_of, when, flat, all_types, is_typed, literal_type, slot_type, query_type}
 use Rattle.da_lang.specs.Types.{is_flat, parts_of, element_of, same_type}
-use Rattle.da_lang.specs.World.{numbered}
+use Rattle.da_lang.specs.World.{at_number}
 use Rattle.da_lang.proofs.typing.ExprTypesAt.{typing-Const, typing-Procs, typing-Me, typing-Slot, typing-Clock, typing-Ask, typing-Range, typing-Tuple, typing-SetOf, typing-Or, typing-And, typing-Not, typing-Cmp, typing-Member, typing-Chain, part_typing-of}
 use Rattle.da_types.specs.Chains.{chain_holds, chained, operand_holds, set_over}
 
@@ -70,7 +70,7 @@ module _ (known : Known) (queries : List Query) where
   pub type-Clock : (typing known queries re.Clock).type_ ≡ given (Some t.Int) flat
   type-Clock = ap (λ (e : ExprType). e.type_) (typing-Clock known queries)
 
-  pub type-Ask : (query : ℕ) → (typing known queries (re.Ask query)).type_ ≡ given (given (numbered queries query) (query_type known)) flat
+  pub type-Ask : (query : ℕ) → (typing known queries (re.Ask query)).type_ ≡ given (given (at_number queries query) (query_type known)) flat
   type-Ask query = ap (λ (e : ExprType). e.type_) (typing-Ask known queries query)
 
   pub type-Range : (x y : RExpr) → (typing known queries (re.Range x y)).type_ ≡ given (when (int (typing known queries x) && int (typing known queries y)) (t.Set t.Int)) flat

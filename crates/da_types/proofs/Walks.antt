@@ -5,7 +5,7 @@ use Rattle.std.proofs.lemmas.List.{append-nil, drop_all}
 use Rattle.std.proofs.Math.Seq.{drop-cons}
 use Rattle.da_lang.specs.declared.ty.Ty.{Ty}
 use Rattle.da_lang.specs.QueryTypes.{given, all_types}
-use Rattle.da_lang.specs.World.{numbered}
+use Rattle.da_lang.specs.World.{at_number}
 
 -- what is left at an element begins with it
 pub left_here : {A : Type 0} (xs : List A) (i : ℕ) (x : A) → i < length xs → x ≡ get_or xs i x → drop i xs ≡ x ∷ drop (i + 1) xs
@@ -23,7 +23,7 @@ pub nothing_left : {A : Type 0} (xs : List A) → length xs < 1 → xs ≡ []
 nothing_left [] few = refl
 nothing_left (x ∷ xs) few = absurd (omega (arith, few))
 
-pub numbered_at : {A : Type 0} (members : List A) (number : ℕ) → 0 < number → numbered members number ≡ slice_get members (number - 1)
+pub numbered_at : {A : Type 0} (members : List A) (number : ℕ) → 0 < number → at_number members number ≡ slice_get members (number - 1)
 numbered_at members zero some = absurd (omega arith)
 numbered_at members (suc place) some = let e : place ≡ suc place - 1 = omega arith in ap (slice_get members) e
 

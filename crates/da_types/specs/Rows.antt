@@ -6,11 +6,11 @@ use Rattle.da_lang.specs.declared.ty.Ty.{Ty}
 use Rattle.da_lang.specs.declared.ty.Ty.TheVariants as t
 use Rattle.da_lang.specs.QueryTypes.{Known, given, holds_of, message_row, pattern_row, query_row}
 use Rattle.da_lang.specs.Types.{element_of, is_proc}
-use Rattle.da_lang.specs.World.{numbered}
+use Rattle.da_lang.specs.World.{at_number}
 
 -- of the `some` of this number, if there is one
 abbrev pub found_with : Known → List Query → Option ℕ → Option (List Ty)
-found_with known queries found = given (given found (numbered queries)) (query_row known)
+found_with known queries found = given (given found (at_number queries)) (query_row known)
 
 -- of a handler
 abbrev pub heard_with : Known → Handler → Option (List Ty)

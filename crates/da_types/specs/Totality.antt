@@ -51,7 +51,7 @@ use Rattle.da_lang.specs.Shaped.{Shaped, IsItemOf, has_processes}
 use Rattle.da_lang.specs.Turns.{kind_of}
 use Rattle.da_lang.specs.Types.{is_of}
 use Rattle.da_lang.specs.Typing.{known}
-use Rattle.da_lang.specs.World.{Data, World, class_of, numbered}
+use Rattle.da_lang.specs.World.{Data, World, class_of, at_number}
 
 -- all of them, where each is there
 abbrev pub all_there : {A : Type 0} → List (Option A) → Option (List A)
@@ -104,8 +104,8 @@ alone x = (x, None)
 abbrev pub Test : Type 0
 Test = Row → Option Bool
 
-abbrev pub Meant : Type 0
-Meant = Row → Option Val
+abbrev pub StrictMeaning : Type 0
+StrictMeaning = Row → Option Val
 
 abbrev pub Number : Type 0
 Number = Row → Option ℤ
@@ -137,8 +137,8 @@ module _ (d : Data) where
   abbrev pub found_term_step : Row → term.Term-F (Option Val) → Option Val
   found_term_step row (term.Const c) = Some (val_of c)
   found_term_step row term.Me = Some (val.Proc d.me)
-  found_term_step row (term.Slot s) = numbered d.slots s
-  found_term_step row (term.Part k) = numbered row k
+  found_term_step row (term.Slot s) = at_number d.slots s
+  found_term_step row (term.Part k) = at_number row k
   found_term_step row (term.Tuple parts) = given (all_there parts) (λ vs. Some (val.Tuple vs))
   found_term_step row term.Foreign = None
 
@@ -160,7 +160,7 @@ module _ (d : Data) where
   abbrev pub source_found : Source → Option (List (Val × Option Val))
   source_found source.Received = Some (map (λ e. with_peer (entry_parts e)) d.received)
   source_found source.Sent = Some (map (λ e. with_peer (entry_parts e)) d.sent)
-  source_found (source.Slot s) = given (numbered d.slots s) (λ v. given (elements (out-Val v)) (λ members. Some (map alone members)))
+  source_found (source.Slot s) = given (at_number d.slots s) (λ v. given (elements (out-Val v)) (λ members. Some (map alone members)))
 
   -- only `_` goes with no process
   abbrev pub peer_found : Pattern → Option Val → Row → Option (Option Row)
@@ -179,7 +179,7 @@ module _ (d : Data) where
   extensions_found (g ∷ gs) row = given (steps_found g row) (λ rs. given (all_there (map (extensions_found gs) rs)) (λ found. Some (flat_map (λ r. r) found)))
 
   -- conditions, operands, and the further parts of chains, in a row
-  abbrev pub found_cond_step : Cond-F Test Meant Meant Number → Test
+  abbrev pub found_cond_step : Cond-F Test StrictMeaning StrictMeaning Number → Test
   found_cond_step (Cond-F.Truth t) row = given (found_term row t) (λ v. truth (out-Val v))
   found_cond_step (Cond-F.Cmp op a b) row = given (a row) (λ v. given (b row) (compared op v))
   found_cond_step (Cond-F.Not b) row = given (b row) (λ v. Some (not v))
@@ -188,7 +188,7 @@ module _ (d : Data) where
   found_cond_step (Cond-F.Quant each gens b) row =
       given (extensions_found gens row) (λ rs. given (all_there (map (test_found b) rs)) (λ vs. Some (if each then list_all (λ v. v) vs else list_any (λ v. v) vs)))
 
-  abbrev pub found_operand_step : Operand-F Test Meant Meant Number → Meant
+  abbrev pub found_operand_step : Operand-F Test StrictMeaning StrictMeaning Number → StrictMeaning
   found_operand_step (Operand-F.Term t) row = found_term row t
   found_operand_step (Operand-F.Agg a) row = a row
   found_operand_step (Operand-F.Chain a more) row =
@@ -205,24 +205,24 @@ module _ (d : Data) where
   abbrev pub set_found : List RGen → Option Test → Term → Row → Option (List Val)
   set_found gens b t row = given (given (extensions_found gens row) (rows_found (test_found b))) (terms_found t)
 
-  abbrev pub found_agg_step : Agg-F Test Meant Meant Number → Meant
+  abbrev pub found_agg_step : Agg-F Test StrictMeaning StrictMeaning Number → StrictMeaning
   found_agg_step a row = given (set_found a.gens a.cond a.term row) (aggregate_found a.op (other_found row a.other))
 
-  abbrev pub found_signed_step : SignedOperand-F Test Meant Meant Number → Number
+  abbrev pub found_signed_step : SignedOperand-F Test StrictMeaning StrictMeaning Number → Number
   found_signed_step s row = given (integer_found (s.operand row)) (λ i. Some (if s.minus then neg_ℤ i else i))
 
   -- whether a condition holds of a row, if it has a value there
   abbrev pub found_holds : Cond → Test
-  found_holds = fold-Cond Test Meant Meant Number found_cond_step found_operand_step found_agg_step found_signed_step
+  found_holds = fold-Cond Test StrictMeaning StrictMeaning Number found_cond_step found_operand_step found_agg_step found_signed_step
 
-  abbrev pub found_operand : Operand → Meant
-  found_operand = fold-Operand Test Meant Meant Number found_cond_step found_operand_step found_agg_step found_signed_step
+  abbrev pub found_operand : Operand → StrictMeaning
+  found_operand = fold-Operand Test StrictMeaning StrictMeaning Number found_cond_step found_operand_step found_agg_step found_signed_step
 
-  abbrev pub found_agg : Agg → Meant
-  found_agg = fold-Agg Test Meant Meant Number found_cond_step found_operand_step found_agg_step found_signed_step
+  abbrev pub found_agg : Agg → StrictMeaning
+  found_agg = fold-Agg Test StrictMeaning StrictMeaning Number found_cond_step found_operand_step found_agg_step found_signed_step
 
   abbrev pub found_signed : SignedOperand → Number
-  found_signed = fold-SignedOperand Test Meant Meant Number found_cond_step found_operand_step found_agg_step found_signed_step
+  found_signed = fold-SignedOperand Test StrictMeaning StrictMeaning Number found_cond_step found_operand_step found_agg_step found_signed_step
 
   abbrev pub found_where : Option Cond → Option Test
   found_where None = None
@@ -288,7 +288,7 @@ QueryHas p c d q v = (ty : Ty) × (query_type (known p.messages c.queries c.slot
 -- In a class of a program, with what a process of the class knows: each numbered query has a value, and so has the
 -- condition of each alternative of an `await`. It is the one that they have where other values stand in for missing ones.
 pub record AllHaveValues (p : Program) (c : Class) (d : Data) : Type 0 where
-  pub queries : (n : ℕ) (q : Query) → numbered c.queries n ≡ Some q → QueryHas p c d q (query_value c.queries n d)
+  pub queries : (n : ℕ) (q : Query) → at_number c.queries n ≡ Some q → QueryHas p c d q (query_value c.queries n d)
   pub conditions : (i : Item) (alts : List Alt) (a : Alt) → IsItemOf c i → kind_of i ≡ Await alts → Has alts a → found_holds d (out-Alt a).cond [] ≡ Some (holds d (out-Alt a).cond [])
 
 -- What is shown of each typed program: in every shaped world all of the class of its process have values.

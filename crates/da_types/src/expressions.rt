@@ -3,7 +3,7 @@ ghost use Rattle.da_lang.specs.declared.ty.Ty.TheVariants.{Bool, Set};
 ghost use Rattle.da_lang.specs.ExprTypes.{is_for_sets as sets_take, parts_fit as fit_parts, takes as type_takes, truth as truth_of, typing};
 ghost use Rattle.da_lang.specs.QueryTypes.{all_types, flat as flat_where, given, holds_of, is_typed as typed_as, query_type as type_of_query, slot_type as type_of_slot, when};
 ghost use Rattle.da_lang.specs.Types.{element_of as element_in, is_bool as bool_type, is_int as int_type, same_type as same_as};
-ghost use Rattle.da_lang.specs.World.{numbered};
+ghost use Rattle.da_lang.specs.World.{at_number};
 ghost use Rattle.da_types.specs.Chains.{chain_holds, chained, compared, set_over};
 ghost use Rattle.da_types.specs.KnownView.{known_of};
 ghost use Rattle.std.specs.List.{list_all};
@@ -157,7 +157,7 @@ fn asked_type(
     queries: &[Query],
     query: u32,
 ) -> Result<Option<Ty>, NoMemory>
-    ensures { IfOk result (λ found. found ≡ given (given (numbered queries.now query) (type_of_query (known_of known.now))) flat_where) }
+    ensures { IfOk result (λ found. found ≡ given (given (at_number queries.now query) (type_of_query (known_of known.now))) flat_where) }
 {
     match member(queries, query as usize) {
         None => Ok(None),

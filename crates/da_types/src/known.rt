@@ -1,7 +1,7 @@
 //! What is known where types are looked for: the declared messages, and the types of the slots.
 ghost use Rattle.da_lang.specs.QueryTypes.{given, message_type as type_of_message, slot_type as type_of_slot};
 ghost use Rattle.da_lang.specs.Types.{element_of as element_in};
-ghost use Rattle.da_lang.specs.World.{numbered};
+ghost use Rattle.da_lang.specs.World.{at_number};
 ghost use Rattle.da_types.specs.KnownView.{known_of};
 ghost use Rattle.std.specs.Option.{option_copied};
 ghost use Rattle.std.specs.Prelude.{◌≡◌, IfOk, bytes_eq, find};
@@ -64,7 +64,7 @@ impl<'p> Known<'p> {
 /// The member of a list that is numbered from 1.
 #[tactic(auto, using(crate::proofs::Walks::numbered_at))]
 pub fn member<T>(members: &[T], number: usize) -> Option<&T>
-    ensures { option_copied result ≡ numbered members.now number }
+    ensures { option_copied result ≡ at_number members.now number }
 {
     if number == 0 {
         return None;

@@ -11,7 +11,7 @@ use Rattle.da_lang.specs.declared.program.Program.{Program}
 use Rattle.da_outside.specs.Outside.{Appends, AppendsFront}
 use Rattle.da_outside.proofs.OutsideLemmas.{appends_then, front_before, front_behind}
 use Rattle.da_system.specs.SourceRun.{EndsByStop, go_on, src_run_from, state_after, state_on, stop_from, stop_here}
-use Rattle.da_system.specs.SystemStep.{After, SystemState, sys_step}
+use Rattle.da_system.specs.SystemStep.{AfterEvent, SystemState, sys_step}
 use Rattle.da_system.proofs.StopLaws.{ends_stopped, stop_ends}
 use Rattle.replay_run.specs.declared.outcome.Outcome.{Outcome}
 use Rattle.replay_run.specs.declared.outcome.Outcome.TheVariants.{Done, Forbidden}
@@ -66,17 +66,17 @@ module _ (program : Program) (s : SystemState) (events : List Event) (place : �
     next_is = drop-cons events place other inside ∙ ap (λ n. next ∷ drop n events) (sym (add-one place))
 
     -- what is left, by the step of this event
-    left_run : (step : Option After) → sys_step p now next ≡ step → src_run_from program (place + 1) now (drop place events) ≡ go_on (place + 1) step (λ after. src_run_from program (place + 1 + 1) after.state rest)
+    left_run : (step : Option AfterEvent) → sys_step p now next ≡ step → src_run_from program (place + 1) now (drop place events) ≡ go_on (place + 1) step (λ after. src_run_from program (place + 1 + 1) after.state rest)
     left_run step is =
         ap (src_run_from program (place + 1) now) next_is
         ∙ ap (λ step. go_on (place + 1) step (λ after. src_run_from program (place + 1 + 1) after.state rest)) (ap (λ q. sys_step q now next) (sym same) ∙ is)
 
-    left_stop : (step : Option After) → sys_step p now next ≡ step → stop_from program (place + 1) now (drop place events) ≡ stop_here (place + 1) step (λ after. stop_from program (place + 1 + 1) after.state rest)
+    left_stop : (step : Option AfterEvent) → sys_step p now next ≡ step → stop_from program (place + 1) now (drop place events) ≡ stop_here (place + 1) step (λ after. stop_from program (place + 1 + 1) after.state rest)
     left_stop step is =
         ap (stop_from program (place + 1) now) next_is
         ∙ ap (λ step. stop_here (place + 1) step (λ after. stop_from program (place + 1 + 1) after.state rest)) (ap (λ q. sys_step q now next) (sym same) ∙ is)
 
-    left_state : (step : Option After) → sys_step p now next ≡ step → state_after program now (drop place events) ≡ state_on now step (λ after. state_after program after.state rest)
+    left_state : (step : Option AfterEvent) → sys_step p now next ≡ step → state_after program now (drop place events) ≡ state_on now step (λ after. state_after program after.state rest)
     left_state step is =
         ap (state_after program now) next_is
         ∙ ap (λ step. state_on now step (λ after. state_after program after.state rest)) (ap (λ q. sys_step q now next) (sym same) ∙ is)
@@ -99,7 +99,7 @@ module _ (program : Program) (s : SystemState) (events : List Event) (place : �
     pub fails_here : (new : Option (List ℕ)) → AppendsFront mid new (event_text p now next) → AppendsFront before new (run_text program s events)
     fails_here new front = by_step (sys_step p now next) refl
       where
-        by_step : (step : Option After) → sys_step p now next ≡ step → AppendsFront before new (run_text program s events)
+        by_step : (step : Option AfterEvent) → sys_step p now next ≡ step → AppendsFront before new (run_text program s events)
         by_step None is =
             let some : AppendsFront mid new [] = subst (λ step. AppendsFront mid new (text_of step)) is front in
             front_left new _ (left_run None is) (front_before mid new [] _ some)

@@ -5,7 +5,7 @@ use Rattle.da_lang.specs.declared.event.Event.{Event}
 use Rattle.da_lang.specs.declared.program.Program.{Program}
 use Rattle.da_outside.specs.Outside.{Appends}
 use Rattle.da_system.specs.SourceRun.{src_run_from, state_after, stop_from}
-use Rattle.da_system.specs.SystemStep.{After, SystemState, sys_step}
+use Rattle.da_system.specs.SystemStep.{AfterEvent, SystemState, sys_step}
 use Rattle.replay_run.specs.declared.outcome.Outcome.{Outcome}
 use Rattle.replay_run.specs.declared.outcome.Outcome.TheVariants.{Done, Forbidden, WriteFault, Memory}
 use Rattle.sched_text.specs.ActionText.{action_text}
@@ -33,7 +33,7 @@ pub record HasRun (program : Program) (s : SystemState) (events : List Event) (o
   pub written : Appends before after (run_text program s events)
 
 -- the text of the actions of an event: none where it is not allowed
-abbrev pub text_of : Option After → List ℕ
+abbrev pub text_of : Option AfterEvent → List ℕ
 text_of None = []
 text_of (Some after) = action_text after.actions
 

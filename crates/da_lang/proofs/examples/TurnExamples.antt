@@ -23,7 +23,7 @@ use Rattle.da_lang.specs.declared.query.Query.TheVariants as query
 use Rattle.da_lang.specs.declared.query.Source.TheVariants as source
 use Rattle.da_lang.specs.declared.tree.ArithOp.TheVariants.{Plus, Div}
 use Rattle.da_lang.specs.Runs.{yields}
-use Rattle.da_lang.specs.Turns.{After, last_time, max_packet, packet_len, quiet, turn}
+use Rattle.da_lang.specs.Turns.{AfterTurn, last_time, max_packet, packet_len, quiet, turn}
 use Rattle.da_lang.specs.World.{Entry, Data, Task, Do, Loop, Prepare, put_slot}
 use Rattle.da_lang.proofs.Computing.{turning}
 
@@ -60,10 +60,10 @@ abbrev class : Class
 class = record { name = []; slots = []; params = 1 ∷ 5 ∷ []; setup = body; run = []; handlers = []; queries = one_in ∷ []; line = 1 }
 
 module _ (todo : List Task) where
-  abbrev takes : ItemKind → After
+  abbrev takes : ItemKind → AfterTurn
   takes kind = turn class (Do (on kind)) here todo
 
-  abbrev fails : FaultKind → ℕ → After
+  abbrev fails : FaultKind → ℕ → AfterTurn
   fails kind line = record { data' = here; todo = todo; actions = []; fault = Some (kind, line) }
 
   -- SETUP

@@ -23,7 +23,7 @@ use Rattle.da_lang.specs.declared.query.Term.TheOpen.{Term-F}
 use Rattle.da_lang.specs.declared.query.Term.TheFolds.{map-Term, fold-roll-Term}
 use Rattle.da_lang.specs.declared.tree.CmpOp.{CmpOp}
 use Rattle.da_lang.specs.declared.ty.Ty.{Ty}
-use Rattle.da_lang.specs.QueryTypes.{Known, Extends, Holds, Sided, term_type, term_step, pattern_row, pattern_step, cond_holds, operand_side, agg_side, signed_side, cond_step, operand_step, agg_step, signed_step}
+use Rattle.da_lang.specs.QueryTypes.{Known, TypeExtension, Holds, Sided, term_type, term_step, pattern_row, pattern_step, cond_holds, operand_side, agg_side, signed_side, cond_step, operand_step, agg_step, signed_step}
 
 term_type_layer : (known : Known) (x : Term-F Term) → (term_type known) (roll-Term x) ≡ (term_step known) (map-Term Term (List Ty → Option Ty) (term_type known) x)
 unfolding term_type
@@ -67,45 +67,45 @@ term_type_at-Foreign known row = ap (λ (f : List Ty → Option Ty). f row) (ter
 
 pub ruleset typing_terms = (term_type-Const, term_type_at-Const, term_type-Me, term_type_at-Me, term_type-Slot, term_type_at-Slot, term_type-Part, term_type_at-Part, term_type-Tuple, term_type_at-Tuple, term_type-Foreign, term_type_at-Foreign)
 
-pattern_row_layer : (known : Known) (x : Pattern-F Pattern) → (pattern_row known) (roll-Pattern x) ≡ (pattern_step known) (map-Pattern Pattern Extends (pattern_row known) x)
+pattern_row_layer : (known : Known) (x : Pattern-F Pattern) → (pattern_row known) (roll-Pattern x) ≡ (pattern_step known) (map-Pattern Pattern TypeExtension (pattern_row known) x)
 unfolding pattern_row
-pattern_row_layer known x = fold-roll-Pattern Extends (pattern_step known) x
+pattern_row_layer known x = fold-roll-Pattern TypeExtension (pattern_step known) x
 
 pub pattern_row-Any : (known : Known) → (pattern_row known) pa.Any ≡ (pattern_step known) Pattern-F.Any
 pattern_row-Any known = ap ((pattern_row known)) (sym pa.rolls-Any) ∙ pattern_row_layer known Pattern-F.Any
 
 pub pattern_row_at-Any : (known : Known) (asked : Ty) (row : List Ty) → (pattern_row known) pa.Any asked row ≡ (pattern_step known) Pattern-F.Any asked row
-pattern_row_at-Any known asked row = ap (λ (f : Extends). f asked row) (pattern_row-Any known)
+pattern_row_at-Any known asked row = ap (λ (f : TypeExtension). f asked row) (pattern_row-Any known)
 
 pub pattern_row-Bind : (known : Known) → (pattern_row known) pa.Bind ≡ (pattern_step known) Pattern-F.Bind
 pattern_row-Bind known = ap ((pattern_row known)) (sym pa.rolls-Bind) ∙ pattern_row_layer known Pattern-F.Bind
 
 pub pattern_row_at-Bind : (known : Known) (asked : Ty) (row : List Ty) → (pattern_row known) pa.Bind asked row ≡ (pattern_step known) Pattern-F.Bind asked row
-pattern_row_at-Bind known asked row = ap (λ (f : Extends). f asked row) (pattern_row-Bind known)
+pattern_row_at-Bind known asked row = ap (λ (f : TypeExtension). f asked row) (pattern_row-Bind known)
 
 pub pattern_row-Const : (known : Known) (value : Value) → (pattern_row known) (pa.Const value) ≡ (pattern_step known) (Pattern-F.Const value)
 pattern_row-Const known value = ap ((pattern_row known)) (sym (pa.rolls-Const value)) ∙ pattern_row_layer known (Pattern-F.Const value)
 
 pub pattern_row_at-Const : (known : Known) (value : Value) (asked : Ty) (row : List Ty) → (pattern_row known) (pa.Const value) asked row ≡ (pattern_step known) (Pattern-F.Const value) asked row
-pattern_row_at-Const known value asked row = ap (λ (f : Extends). f asked row) (pattern_row-Const known value)
+pattern_row_at-Const known value asked row = ap (λ (f : TypeExtension). f asked row) (pattern_row-Const known value)
 
 pub pattern_row-Me : (known : Known) → (pattern_row known) pa.Me ≡ (pattern_step known) Pattern-F.Me
 pattern_row-Me known = ap ((pattern_row known)) (sym pa.rolls-Me) ∙ pattern_row_layer known Pattern-F.Me
 
 pub pattern_row_at-Me : (known : Known) (asked : Ty) (row : List Ty) → (pattern_row known) pa.Me asked row ≡ (pattern_step known) Pattern-F.Me asked row
-pattern_row_at-Me known asked row = ap (λ (f : Extends). f asked row) (pattern_row-Me known)
+pattern_row_at-Me known asked row = ap (λ (f : TypeExtension). f asked row) (pattern_row-Me known)
 
 pub pattern_row-Equal : (known : Known) (x : Term) → (pattern_row known) (pa.Equal x) ≡ (pattern_step known) (Pattern-F.Equal x)
 pattern_row-Equal known x = ap ((pattern_row known)) (sym (pa.rolls-Equal x)) ∙ pattern_row_layer known (Pattern-F.Equal x)
 
 pub pattern_row_at-Equal : (known : Known) (x : Term) (asked : Ty) (row : List Ty) → (pattern_row known) (pa.Equal x) asked row ≡ (pattern_step known) (Pattern-F.Equal x) asked row
-pattern_row_at-Equal known x asked row = ap (λ (f : Extends). f asked row) (pattern_row-Equal known x)
+pattern_row_at-Equal known x asked row = ap (λ (f : TypeExtension). f asked row) (pattern_row-Equal known x)
 
 pub pattern_row-Tuple : (known : Known) (ps : List Pattern) → (pattern_row known) (pa.Tuple ps) ≡ (pattern_step known) (Pattern-F.Tuple (map (pattern_row known) ps))
 pattern_row-Tuple known ps = ap ((pattern_row known)) (sym (pa.rolls-Tuple ps)) ∙ pattern_row_layer known (Pattern-F.Tuple ps)
 
 pub pattern_row_at-Tuple : (known : Known) (ps : List Pattern) (asked : Ty) (row : List Ty) → (pattern_row known) (pa.Tuple ps) asked row ≡ (pattern_step known) (Pattern-F.Tuple (map (pattern_row known) ps)) asked row
-pattern_row_at-Tuple known ps asked row = ap (λ (f : Extends). f asked row) (pattern_row-Tuple known ps)
+pattern_row_at-Tuple known ps asked row = ap (λ (f : TypeExtension). f asked row) (pattern_row-Tuple known ps)
 
 pub ruleset typing_patterns = (pattern_row-Any, pattern_row_at-Any, pattern_row-Bind, pattern_row_at-Bind, pattern_row-Const, pattern_row_at-Const, pattern_row-Me, pattern_row_at-Me, pattern_row-Equal, pattern_row_at-Equal, pattern_row-Tuple, pattern_row_at-Tuple)
 

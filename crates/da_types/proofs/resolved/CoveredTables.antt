@@ -9,7 +9,7 @@ use Rattle.da_lang.specs.declared.ty.Ty.{Ty}
 use Rattle.da_lang.specs.ExprMeaning.{Tables}
 use Rattle.da_lang.specs.QueryTypes.{type_at, query_type}
 use Rattle.da_lang.specs.Typing.{Slots, known}
-use Rattle.da_lang.specs.World.{numbered}
+use Rattle.da_lang.specs.World.{at_number}
 
 -- of each member, with its place counted from 0
 abbrev pub Each : {A : Type 0} → (ℕ → A → Type 0) → List A → Type 0
@@ -48,7 +48,7 @@ module _ (messages : List MessageDecl) (queries : List Query) (slots : Slots) wh
   SlotDone n declared = declared ≡ None → IsKnown (suc n)
 
   abbrev pub QueryDone : ℕ → Query → Type 0
-  QueryDone n q = numbered queries (suc n) ≡ Some q → is_some (query_type (known messages queries slots) q) ≡ true
+  QueryDone n q = at_number queries (suc n) ≡ Some q → is_some (query_type (known messages queries slots) q) ≡ true
 
   pub record Done (tables : Tables) : Type 0 where
     pub of_slots : Each SlotDone tables.slots

@@ -24,7 +24,7 @@ use Rattle.da_lang.specs.QueryTypes.{Known, Side, given, term_type, operand_side
 use Rattle.da_lang.specs.Scopes.{Scope}
 use Rattle.da_lang.specs.Types.{is_bool, is_int}
 use Rattle.da_lang.specs.Typing.{Slots, known}
-use Rattle.da_lang.specs.World.{numbered}
+use Rattle.da_lang.specs.World.{at_number}
 use Rattle.da_lang.proofs.typing.ExprTypesAt.{typing-Ask, typing-Range, typing-Tuple, typing-SetOf, typing-Or, typing-And, typing-Not, typing-Cmp, typing-Member, typing-Chain, part_typing-of}
 use Rattle.da_lang.proofs.typing.QueryTypesAt.{term_type_at-Foreign, term_type_at-Tuple, operand_side_at-Term, operand_side_at-Agg, operand_side_at-Chain, signed_side_at-of, cond_holds_at-Truth, cond_holds_at-Cmp, cond_holds_at-Not, cond_holds_at-And, cond_holds_at-Or, cond_holds_at-Quant}
 use Rattle.da_types.proofs.resolved.CoveredTables.{Done, asked}
@@ -103,7 +103,7 @@ module _ (messages : List MessageDecl) (queries : List Query) (slots : Slots) wh
   ask_fills : (query : Scope Meaning → Query) → OutsideFills (ask query)
   ask_fills query scope tables fine d =
       let number = suc (length tables.queries) in
-      let (ty, is) = itself_has (given (numbered queries number) (query_type kn)) (subst Fine (typing-Ask kn queries number) fine) in
+      let (ty, is) = itself_has (given (at_number queries number) (query_type kn)) (subst Fine (typing-Ask kn queries number) fine) in
       asked messages queries slots tables (query scope) (λ e. ap is_some (sym (ap (λ o. given o (query_type kn)) e) ∙ is)) d
 
   asked_by : (query : Scope Meaning → Query) (scope : Scope Meaning) (tables : Tables) (ty : Ty) → query_type kn (query scope) ≡ Some ty → Holds tables → Holds (ask query scope tables).1

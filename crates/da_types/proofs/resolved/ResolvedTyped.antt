@@ -14,7 +14,7 @@ use Rattle.da_lang.specs.NameRules.{class_refusals, name_refusals}
 use Rattle.da_lang.specs.QueryTypes.{given, query_type}
 use Rattle.da_lang.specs.Resolution.{resolved, resolved_class}
 use Rattle.da_lang.specs.Typing.{Slots, known, class_breaks, breaks_in, filled, filled_class, filled_slots, has_types, has_queries, IsTyped, Typed}
-use Rattle.da_lang.specs.World.{numbered}
+use Rattle.da_lang.specs.World.{at_number}
 use Rattle.da_lang.proofs.typing.FlowLaws.{filled_knows, filled_size, typed_keeps}
 use Rattle.da_types.proofs.resolved.CallsAllowed.{class_allowed}
 use Rattle.da_types.proofs.resolved.ClassesFill.{CallsOk, class_holds}
@@ -48,7 +48,7 @@ module _ (messages : List MessageDecl) (c : ClassTree) where
 
   class_asked : CallsOk c → class_breaks messages (filled_class messages made) ≡ [] → has_queries messages (filled_class messages made) ≡ true
   class_asked ok e =
-      each_there (λ q. is_some (query_type (known messages made.queries (filled_slots messages made)) q)) (λ n. numbered made.queries (suc n)) made.queries (λ n. refl) (class_done ok e).of_queries
+      each_there (λ q. is_some (query_type (known messages made.queries (filled_slots messages made)) q)) (λ n. at_number made.queries (suc n)) made.queries (λ n. refl) (class_done ok e).of_queries
 
 classes_typed : (messages : List MessageDecl) (cs : List ClassTree) → flat_map class_refusals cs ≡ [] → flat_map (class_breaks messages) (map (filled_class messages) (map resolved_class cs)) ≡ []
     → (list_all has_types (map (filled_class messages) (map resolved_class cs)) ≡ true) × (list_all (has_queries messages) (map (filled_class messages) (map resolved_class cs)) ≡ true)

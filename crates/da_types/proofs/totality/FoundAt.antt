@@ -28,8 +28,8 @@ use Rattle.da_lang.specs.declared.tree.CmpOp.{CmpOp}
 use Rattle.da_lang.specs.Matching.{Row, is_same, where_true}
 use Rattle.da_lang.specs.Queries.{total}
 use Rattle.da_lang.specs.QueryTypes.{given}
-use Rattle.da_lang.specs.World.{Data, numbered}
-use Rattle.da_types.specs.Totality.{compared, Finds, Test, Meant, Number, all_there, truth, found_term_step, found_term, found_match_step, found_match, tuple_found, found_cond_step, found_operand_step, found_agg_step, found_signed_step, found_holds, found_operand, found_agg, found_signed, found_where, integer_found, set_found, aggregate_found, other_found}
+use Rattle.da_lang.specs.World.{Data, at_number}
+use Rattle.da_types.specs.Totality.{compared, Finds, Test, StrictMeaning, Number, all_there, truth, found_term_step, found_term, found_match_step, found_match, tuple_found, found_cond_step, found_operand_step, found_agg_step, found_signed_step, found_holds, found_operand, found_agg, found_signed, found_where, integer_found, set_found, aggregate_found, other_found}
 
 -- functions of a row, each at one row
 pub at_row : {A B : Type 0} (f : A → Row → B) (xs : List A) (row : Row) → map (λ (g : Row → B). g row) (map f xs) ≡ map (λ x. f x row) xs
@@ -43,10 +43,10 @@ module _ (d : Data) (row : Row) where
   pub found_term-Me : found_term d row te.Me ≡ Some (val.Proc d.me)
   found_term-Me = ap (found_term d row) (sym te.rolls-Me) ∙ fold-roll-Term (Option Val) (found_term_step d row) Term-F.Me
 
-  pub found_term-Slot : (s : ℕ) → found_term d row (te.Slot s) ≡ numbered d.slots s
+  pub found_term-Slot : (s : ℕ) → found_term d row (te.Slot s) ≡ at_number d.slots s
   found_term-Slot s = ap (found_term d row) (sym (te.rolls-Slot s)) ∙ fold-roll-Term (Option Val) (found_term_step d row) (Term-F.Slot s)
 
-  pub found_term-Part : (k : ℕ) → found_term d row (te.Part k) ≡ numbered row k
+  pub found_term-Part : (k : ℕ) → found_term d row (te.Part k) ≡ at_number row k
   found_term-Part k = ap (found_term d row) (sym (te.rolls-Part k)) ∙ fold-roll-Term (Option Val) (found_term_step d row) (Term-F.Part k)
 
   pub found_term-Tuple : (parts : List Term) → found_term d row (te.Tuple parts) ≡ given (all_there (map (found_term d row) parts)) (λ vs. Some (val.Tuple vs))
@@ -84,11 +84,11 @@ module _ (d : Data) (row : Row) where
   abbrev operand_at : Operand → Option Val
   operand_at a = found_operand d a row
 
-  cond_layer : (b : Cond-F Cond Operand Agg SignedOperand) → found_holds d (roll-Cond b) row ≡ found_cond_step d (map-Cond Cond Operand Agg SignedOperand Test Meant Meant Number (found_holds d) (found_operand d) (found_agg d) (found_signed d) b) row
-  cond_layer b = ap (λ (f : Test). f row) (fold-roll-Cond Test Meant Meant Number (found_cond_step d) (found_operand_step d) (found_agg_step d) (found_signed_step d) b)
+  cond_layer : (b : Cond-F Cond Operand Agg SignedOperand) → found_holds d (roll-Cond b) row ≡ found_cond_step d (map-Cond Cond Operand Agg SignedOperand Test StrictMeaning StrictMeaning Number (found_holds d) (found_operand d) (found_agg d) (found_signed d) b) row
+  cond_layer b = ap (λ (f : Test). f row) (fold-roll-Cond Test StrictMeaning StrictMeaning Number (found_cond_step d) (found_operand_step d) (found_agg_step d) (found_signed_step d) b)
 
-  operand_layer : (a : Operand-F Cond Operand Agg SignedOperand) → found_operand d (roll-Operand a) row ≡ found_operand_step d (map-Operand Cond Operand Agg SignedOperand Test Meant Meant Number (found_holds d) (found_operand d) (found_agg d) (found_signed d) a) row
-  operand_layer a = ap (λ (f : Meant). f row) (fold-roll-Operand Test Meant Meant Number (found_cond_step d) (found_operand_step d) (found_agg_step d) (found_signed_step d) a)
+  operand_layer : (a : Operand-F Cond Operand Agg SignedOperand) → found_operand d (roll-Operand a) row ≡ found_operand_step d (map-Operand Cond Operand Agg SignedOperand Test StrictMeaning StrictMeaning Number (found_holds d) (found_operand d) (found_agg d) (found_signed d) a) row
+  operand_layer a = ap (λ (f : StrictMeaning). f row) (fold-roll-Operand Test StrictMeaning StrictMeaning Number (found_cond_step d) (found_operand_step d) (found_agg_step d) (found_signed_step d) a)
 
   pub found_holds-Truth : (y : Term) → found_holds d (co.Truth y) row ≡ given (found_term d row y) (λ v. truth (out-Val v))
   found_holds-Truth y = ap cond_at (sym (co.rolls-Truth y)) ∙ cond_layer (Cond-F.Truth y)
@@ -121,10 +121,10 @@ module _ (d : Data) (row : Row) where
       ∙ ap (λ z. given (integer_found (found_operand d a row)) (λ first. given (all_there z) (λ others. Some (val.Int (first +ℤ total others))))) (at_row (found_signed d) more row)
 
   pub found_signed-of : (minus : Bool) (a : Operand) → found_signed d (roll-SignedOperand (record { minus = minus; operand = a })) row ≡ given (integer_found (found_operand d a row)) (λ i. Some (if minus then neg_ℤ i else i))
-  found_signed-of minus a = ap (λ (f : Number). f row) (fold-roll-SignedOperand Test Meant Meant Number (found_cond_step d) (found_operand_step d) (found_agg_step d) (found_signed_step d) (record { minus = minus; operand = a }))
+  found_signed-of minus a = ap (λ (f : Number). f row) (fold-roll-SignedOperand Test StrictMeaning StrictMeaning Number (found_cond_step d) (found_operand_step d) (found_agg_step d) (found_signed_step d) (record { minus = minus; operand = a }))
 
   pub found_agg-of : (op : AggOp) (gens : List RGen) (b : Option Cond) (y : Term) (other : Option Term) → found_agg d (roll-Agg (record { op = op; gens = gens; cond = b; term = y; other = other })) row ≡ given (set_found d gens (found_where d b) y row) (aggregate_found op (other_found d row other))
-  found_agg-of op gens None y other = ap (λ (f : Meant). f row) (fold-roll-Agg Test Meant Meant Number (found_cond_step d) (found_operand_step d) (found_agg_step d) (found_signed_step d) (record { op = op; gens = gens; cond = None; term = y; other = other }))
-  found_agg-of op gens (Some b) y other = ap (λ (f : Meant). f row) (fold-roll-Agg Test Meant Meant Number (found_cond_step d) (found_operand_step d) (found_agg_step d) (found_signed_step d) (record { op = op; gens = gens; cond = Some b; term = y; other = other }))
+  found_agg-of op gens None y other = ap (λ (f : StrictMeaning). f row) (fold-roll-Agg Test StrictMeaning StrictMeaning Number (found_cond_step d) (found_operand_step d) (found_agg_step d) (found_signed_step d) (record { op = op; gens = gens; cond = None; term = y; other = other }))
+  found_agg-of op gens (Some b) y other = ap (λ (f : StrictMeaning). f row) (fold-roll-Agg Test StrictMeaning StrictMeaning Number (found_cond_step d) (found_operand_step d) (found_agg_step d) (found_signed_step d) (record { op = op; gens = gens; cond = Some b; term = y; other = other }))
 
 pub ruleset finding = (found_term-Const, found_term-Me, found_term-Slot, found_term-Part, found_term-Tuple, found_term-Foreign, found_match-Any, found_match-Bind, found_match-Const, found_match-Me, found_match-Equal, found_match-Tuple, found_holds-Truth, found_holds-Cmp, found_holds-Not, found_holds-And, found_holds-Or, found_holds-Quant, found_operand-Term, found_operand-Agg, found_operand-Chain, found_signed-of, found_agg-of)

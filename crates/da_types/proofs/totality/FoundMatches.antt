@@ -19,7 +19,7 @@ use Rattle.da_lang.specs.Queries.{value_at}
 use Rattle.da_lang.specs.QueryTypes.{Known, given, is_typed, each_part, all_types, term_type, pattern_row, pattern_tag, message_row, message_type, slot_type, no_set}
 use Rattle.da_lang.specs.Shaped.{tag_of, as_tag}
 use Rattle.da_lang.specs.Types.{is_of, parts_of}
-use Rattle.da_lang.specs.World.{Entry, Data, or_nothing, numbered}
+use Rattle.da_lang.specs.World.{Entry, Data, or_nothing, at_number}
 use Rattle.da_lang.proofs.MatchingLaws.{term-Const, term-Me, term-Slot, term-Part, term-Tuple, match-Any, match-Bind, match-Const, match-Me, match-Equal, match-Tuple, match-tuples}
 use Rattle.da_lang.proofs.TermInduction.{term_induction, pattern_induction}
 use Rattle.da_lang.proofs.typing.QueryTypesAt.{term_type_at-Slot, term_type_at-Part, term_type_at-Tuple, term_type_at-Foreign, pattern_row_at-Equal, pattern_row_at-Tuple}
@@ -59,7 +59,7 @@ module _ (k : Keeping) (known : Known) (d : Data) (w : Knows k known d) where
 
   part_case : (part : ℕ) → TermFound (te.Part part)
   part_case part ty types row e fits =
-      let (v, there, one) = part_fits k types row part ty fits (flat_is (numbered types part) ty (sym (term_type_at-Part known part types) ∙ e)) in
+      let (v, there, one) = part_fits k types row part ty fits (flat_is (at_number types part) ty (sym (term_type_at-Part known part types) ∙ e)) in
       found_term-Part d row part ∙ there ∙ ap Some (sym (term-Part d.me d.slots row part ∙ ap or_nothing there))
 
   parts_there : (xs : List Term) → AllByRecursion TermFound xs → (found types : List Ty) (row : Row) → all_types (map (λ (p : List Ty → Option Ty). p types) (map (term_type known) xs)) ≡ Some found → RowFits k types row → all_there (map (found_term d row) xs) ≡ Some (map (value_at d row) xs)

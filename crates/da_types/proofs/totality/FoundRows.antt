@@ -17,7 +17,7 @@ use Rattle.da_lang.specs.Matching.{Row, matched, matched_both}
 use Rattle.da_lang.specs.Queries.{candidates, entry_parts, step_rows, extensions}
 use Rattle.da_lang.specs.QueryTypes.{Known, given, when, is_any, pattern_row, message_row, matched_row, slot_type, source_row, peer_row, gen_row, gens_row}
 use Rattle.da_lang.specs.Types.{element_of}
-use Rattle.da_lang.specs.World.{Entry, Data, nothing, numbered, slot_of}
+use Rattle.da_lang.specs.World.{Entry, Data, nothing, at_number, slot_of}
 use Rattle.da_lang.proofs.MatchingLaws.{match-Any}
 use Rattle.da_types.specs.Totality.{all_there, elements, and_finds, with_peer, alone, source_found, peer_found, both_found, steps_found, extensions_found}
 use Rattle.da_types.proofs.totality.KindLaws.{given_parts, when_parts, is_proc_value}
@@ -67,7 +67,7 @@ module _ (k : Keeping) (known : Known) (d : Data) (w : Knows k known d) where
   abbrev steps_of : RGen → Row → Option (List (Val × Option Val)) → Option (List Row)
   steps_of g row found = given found (λ cs. given (all_there (map (both_found d g row) cs)) (λ rs. Some (filter_map (λ r. r) rs)))
 
-  set_there : (g : RGen) (slot : ℕ) (vs : List Val) → numbered d.slots slot ≡ Some (val.Set vs) → elements_of (slot_of d slot) ≡ vs → (row : Row) → steps_of g row (Some (map (alone) vs)) ≡ Some (filter_map (lenient g row) (map (λ x. (x, nothing)) vs)) → StepThere g (source.Slot slot) row
+  set_there : (g : RGen) (slot : ℕ) (vs : List Val) → at_number d.slots slot ≡ Some (val.Set vs) → elements_of (slot_of d slot) ≡ vs → (row : Row) → steps_of g row (Some (map (alone) vs)) ≡ Some (filter_map (lenient g row) (map (λ x. (x, nothing)) vs)) → StepThere g (source.Slot slot) row
   set_there g slot vs there listed row steps =
       ap (λ z. steps_of g row (given z (λ v. given (elements (out-Val v)) (λ members. Some (map (alone) members))))) there
       ∙ ap (λ z. steps_of g row (given (elements z) (λ members. Some (map (alone) members)))) (val.outs-Set vs)

@@ -35,7 +35,7 @@ use Rattle.da_lang.specs.QueryTypes.{Known, Side, given, flat, written_cond, row
 use Rattle.da_lang.specs.Shaped.{Shaped}
 use Rattle.da_lang.specs.Types.{is_of, is_flat, is_int}
 use Rattle.da_lang.specs.Typing.{IsTyped, has_queries}
-use Rattle.da_lang.specs.World.{Data, World, numbered}
+use Rattle.da_lang.specs.World.{Data, World, at_number}
 use Rattle.da_lang.proofs.RowLaws.{terms_of_rows}
 use Rattle.da_types.specs.Totality.{HasValue, AllHaveValues, NothingIsMissing, IsAnswer, QueryHas, counts, counts_by}
 use Rattle.da_types.proofs.totality.Awaits.{condition_holds}
@@ -156,7 +156,7 @@ module _ (p : Program) (w : World) (typed : IsTyped p) (s : Shaped p w) where
       let in_class = each_from_all (has_queries p.messages) p.classes s.class typed.asked (class_has p w.data'.me s.class s.is_class) in
       there_is (query_type here q) (each_from_all (λ q. is_some (query_type here q)) s.class.queries q in_class h)
 
-  numbered_query : (n : ℕ) (q : Query) → numbered s.class.queries n ≡ Some q → QueryHas p s.class w.data' q (query_value s.class.queries n w.data')
+  numbered_query : (n : ℕ) (q : Query) → at_number s.class.queries n ≡ Some q → QueryHas p s.class w.data' q (query_value s.class.queries n w.data')
   numbered_query n q e =
       let (ty, is) = has_type q (numbered_has s.class.queries n q e) in
       let k = knows_here p w s in

@@ -17,7 +17,7 @@ use Rattle.da_lang.specs.Matching.{Row}
 use Rattle.da_lang.specs.QueryTypes.{Known, literal_type, slot_type}
 use Rattle.da_lang.specs.Shaped.{is_declared}
 use Rattle.da_lang.specs.Types.{is_of, all_of}
-use Rattle.da_lang.specs.World.{Entry, Data, numbered, slot_of}
+use Rattle.da_lang.specs.World.{Entry, Data, at_number, slot_of}
 
 pub record Keeping : Type 1 where
   pub Kept : Val → Type 0
@@ -47,7 +47,7 @@ EntryFits k known e = (is_declared known.messages e.message ≡ true) × k.Kept 
 pub record Knows (k : Keeping) (known : Known) (d : Data) : Type 0 where
   pub me : k.Kept (val.Proc d.me)
   pub slots : (slot : ℕ) (ty : Ty) → slot_type known slot ≡ Some ty → Fits k ty (slot_of d slot)
-  pub there : (slot : ℕ) (ty : Ty) → slot_type known slot ≡ Some ty → numbered d.slots slot ≡ Some (slot_of d slot)
+  pub there : (slot : ℕ) (ty : Ty) → slot_type known slot ≡ Some ty → at_number d.slots slot ≡ Some (slot_of d slot)
   pub sent : (e : Entry) → Has d.sent e → EntryFits k known e
   pub received : (e : Entry) → Has d.received e → EntryFits k known e
 
@@ -85,6 +85,6 @@ module _ (k : Keeping) where
   part_got (a ∷ types) (v ∷ row) (suc place) ty fits e = part_got types row place ty fits.1 e
 
   -- a part of a row is there, and has its type
-  pub part_fits : (types : List Ty) (row : Row) (part : ℕ) (ty : Ty) → RowFits k types row → numbered types part ≡ Some ty → (v : Val) × (numbered row part ≡ Some v) × Fits k ty v
+  pub part_fits : (types : List Ty) (row : Row) (part : ℕ) (ty : Ty) → RowFits k types row → at_number types part ≡ Some ty → (v : Val) × (at_number row part ≡ Some v) × Fits k ty v
   part_fits types row zero ty fits e = absurd (cc)
   part_fits types row (suc place) ty fits e = part_got types row place ty fits e

@@ -15,7 +15,7 @@ use Rattle.da_lang.specs.Matching.{Row}
 use Rattle.da_lang.specs.Queries.{value_at}
 use Rattle.da_lang.specs.QueryTypes.{Known, given, flat, no_set, all_types, literal_type, slot_type, term_type}
 use Rattle.da_lang.specs.Types.{is_of, is_flat}
-use Rattle.da_lang.specs.World.{Data, or_nothing, numbered}
+use Rattle.da_lang.specs.World.{Data, or_nothing, at_number}
 use Rattle.da_lang.proofs.MatchingLaws.{term-Const, term-Me, term-Slot, term-Part, term-Tuple}
 use Rattle.da_lang.proofs.TermInduction.{term_induction}
 use Rattle.da_lang.proofs.typing.QueryTypesAt.{term_type_at-Const, term_type_at-Me, term_type_at-Slot, term_type_at-Part, term_type_at-Tuple, term_type_at-Foreign}
@@ -63,7 +63,7 @@ module _ (k : Keeping) (known : Known) (d : Data) (w : Knows k known d) where
 
   part_case : (part : ℕ) → TermFits (te.Part part)
   part_case part ty types row e fits good =
-      let (v, there, one) = part_fits k types row part ty fits (flat_is (numbered types part) ty (sym (term_type_at-Part known part types) ∙ e)) in
+      let (v, there, one) = part_fits k types row part ty fits (flat_is (at_number types part) ty (sym (term_type_at-Part known part types) ∙ e)) in
       subst (Fits k ty) (sym (term-Part d.me d.slots row part ∙ ap or_nothing there)) one
 
   parts_fit : (xs : List Term) → AllByRecursion TermFits xs → (found types : List Ty) (row : Row) → all_types (map (λ (p : List Ty → Option Ty). p types) (map (term_type known) xs)) ≡ Some found → RowFits k types row → AllByRecursion k.Good xs → RowFits k found (map (value_at d row) xs)

@@ -26,11 +26,11 @@ use Rattle.da_lang.specs.declared.query.Term.TheOpen.{Term-F}
 use Rattle.da_lang.specs.declared.query.Term.TheFolds.{fold-roll-Term}
 use Rattle.da_lang.specs.declared.ty.Ty.{Ty}
 use Rattle.da_lang.specs.Matching.{Row, matched_entry}
-use Rattle.da_lang.specs.Queries.{least, least_of_numbered, query_value, value_of_numbered, value_of_query}
+use Rattle.da_lang.specs.Queries.{least_row, least_of_numbered, query_value, value_of_numbered, value_of_query}
 use Rattle.da_lang.specs.QueryTypes.{literal_type, query_row, query_type}
 use Rattle.da_lang.specs.Shaped.{Shaped, IsOf, IsEntry, IsProcess, has_processes, is_declared}
 use Rattle.da_lang.specs.Typing.{handler_row}
-use Rattle.da_lang.specs.World.{World, Entry, numbered}
+use Rattle.da_lang.specs.World.{World, Entry, at_number}
 use Rattle.da_lang.proofs.typing.ShapedAt.{has_processes-Bool, has_processes-Proc, has_processes-Tuple, has_processes-Set}
 use Rattle.da_types.specs.Totality.{IsConstant, constants, constants_step, counts, other_constants, query_constants}
 use Rattle.da_types.proofs.totality.FoundMatches.{flattened}
@@ -168,12 +168,12 @@ module _ (p : Program) where
           record { proper = one.0; narrow = one.1; typed = (query_has (known_here p w s) w.data' (knows_here p w s) q ty e).typed; processes = one.2 }
 
       -- the value of a numbered query but for the integer of a `count` or a `sum` is one that a slot of its type may have
-      pub whole_query : (n : ℕ) (q : Query) (ty : Ty) → numbered s.class.queries n ≡ Some q → query_type (known_here p w s) q ≡ Some ty → ((c : Value) → Has (query_constants q) c → IsConstant p c) → counts q ≡ false → IsOf p ty (query_value s.class.queries n w.data')
+      pub whole_query : (n : ℕ) (q : Query) (ty : Ty) → at_number s.class.queries n ≡ Some q → query_type (known_here p w s) q ≡ Some ty → ((c : Value) → Has (query_constants q) c → IsConstant p c) → counts q ≡ false → IsOf p ty (query_value s.class.queries n w.data')
       whole_query n q ty is e all f = subst (IsOf p ty) (sym (ap (value_of_numbered w.data') is)) (whole_of q ty e all f)
 
       -- the row that a `some` finds, and the one that a handler's patterns take from a message, are of the types of what
       -- they bind, and whole
-      pub whole_least : (n : ℕ) (q : Query) (types : List Ty) (r : Row) → numbered s.class.queries n ≡ Some q → query_row (known_here p w s) q ≡ Some types → least s.class.queries n w.data' ≡ Some r → RowFits whole types r
+      pub whole_least : (n : ℕ) (q : Query) (types : List Ty) (r : Row) → at_number s.class.queries n ≡ Some q → query_row (known_here p w s) q ≡ Some types → least_row s.class.queries n w.data' ≡ Some r → RowFits whole types r
       whole_least n q types r is e found = least_fits whole (known_here p w s) w.data' knows_whole q types r e (sym (ap (least_of_numbered w.data') is) ∙ found)
 
       pub whole_handler : (h : Handler) (e : Entry) (types : List Ty) (r : Row) → IsEntry p e → handler_row p.messages s.class.queries h s.class.slots ≡ Some types → matched_entry w.data' h.message h.from e.message e.peer [] ≡ Some r → RowFits whole types r

@@ -20,7 +20,7 @@ use Rattle.da_lang.specs.declared.ty.Ty.TheVariants as t
 use Rattle.da_lang.specs.QueryTypes.{Known, literal_type, type_at}
 use Rattle.da_lang.specs.Shaped.{Shaped, IsEntry, is_declared, has_processes}
 use Rattle.da_lang.specs.Typing.{known}
-use Rattle.da_lang.specs.World.{World, Entry, Data, or_nothing, numbered, slot_of, class_of, class_of_decl}
+use Rattle.da_lang.specs.World.{World, Entry, Data, or_nothing, at_number, slot_of, class_of, class_of_decl}
 use Rattle.da_types.proofs.totality.KindLaws.{given_parts, when_parts}
 use Rattle.da_types.proofs.totality.Keeping.{Keeping, EntryFits, Knows}
 
@@ -68,13 +68,13 @@ same_place (a ∷ xs) [] k x same e = absurd (omega (arith, same))
 same_place (a ∷ xs) (y ∷ ys) zero x same e = (y, refl)
 same_place (a ∷ xs) (y ∷ ys) (suc k) x same e = same_place xs ys k x (omega (arith, same)) e
 
-same_number : {A B : Type 0} (xs : List A) (ys : List B) (k : ℕ) (x : A) → length ys ≡ length xs → numbered xs k ≡ Some x → (y : B) × (numbered ys k ≡ Some y)
+same_number : {A B : Type 0} (xs : List A) (ys : List B) (k : ℕ) (x : A) → length ys ≡ length xs → at_number xs k ≡ Some x → (y : B) × (at_number ys k ≡ Some y)
 same_number xs ys zero x same e = absurd (cc)
 same_number xs ys (suc k) x same e = same_place xs ys k x same e
 
-pub slot_there : (d : Data) (slots : List (Option Ty)) (slot : ℕ) (ty : Ty) → length d.slots ≡ length slots → type_at slots slot ≡ Some ty → numbered d.slots slot ≡ Some (slot_of d slot)
+pub slot_there : (d : Data) (slots : List (Option Ty)) (slot : ℕ) (ty : Ty) → length d.slots ≡ length slots → type_at slots slot ≡ Some ty → at_number d.slots slot ≡ Some (slot_of d slot)
 slot_there d slots slot ty same e =
-    let (found, is, more) = given_parts (numbered slots slot) _ ty e in
+    let (found, is, more) = given_parts (at_number slots slot) _ ty e in
     let (v, there) = same_number slots d.slots slot found same is in
     there ∙ ap Some (sym (ap or_nothing there))
 
@@ -104,7 +104,7 @@ slice_has [] k x e = absurd (cc)
 slice_has (y ∷ ys) zero x e = inl (cc)
 slice_has (y ∷ ys) (suc k) x e = inr (slice_has ys k x e)
 
-pub numbered_has : {A : Type 0} (xs : List A) (k : ℕ) (x : A) → numbered xs k ≡ Some x → Has xs x
+pub numbered_has : {A : Type 0} (xs : List A) (k : ℕ) (x : A) → at_number xs k ≡ Some x → Has xs x
 numbered_has xs zero x e = absurd (cc)
 numbered_has xs (suc k) x e = slice_has xs k x e
 
@@ -113,4 +113,4 @@ of_decl p None c e = absurd (cc)
 of_decl p (Some decl) c e = slice_has p.classes decl.class c e
 
 pub class_has : (p : Program) (me : ℕ) (c : Class) → class_of p me ≡ Some c → Has p.classes c
-class_has p me c e = of_decl p (numbered p.procs me) c e
+class_has p me c e = of_decl p (at_number p.procs me) c e
