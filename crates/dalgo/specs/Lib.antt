@@ -3,6 +3,7 @@ pub mod Faults
 pub mod FirstForm
 pub mod Lines
 pub mod Replies
+pub mod Told
 pub mod Top
 pub mod Verdict
 pub mod Words

@@ -15,7 +15,9 @@ use Rattle.da_lang.specs.Grammar.{SpellsWithin}
 use Rattle.da_lang.specs.Limits.{Resolves, limit_fault}
 use Rattle.da_lang.specs.NameRules.{name_fault, name_refusals}
 use Rattle.da_lang.specs.Typing.{Typed, type_fault}
-use Rattle.da_parse.specs.Parse.{IsLineOf}
+use Rattle.da_parse.specs.declared.whole.ParseFault.{ParseFault}
+use Rattle.da_parse.specs.declared.whole.ParseFault.TheVariants as parse
+use Rattle.da_parse.specs.Parse.{IsLineOf, parsed}
 use Rattle.dalgo.specs.declared.program.ProgramFault.{ProgramFault}
 use Rattle.dalgo.specs.declared.program.ProgramFault.TheVariants as fault
 use Rattle.dalgo.specs.declared.status.RefusedKind.{RefusedKind}
@@ -32,12 +34,14 @@ pub record HasTree (text : List ℕ) (tree : Tree) : Type 0 where
   pub lexed : tokens text ≡ Ok list
   pub spelled : SpellsWithin 32 tree (toks text list)
 
--- the text has tokens, and they spell no such tree
-pub record HasNoTree (text : List ℕ) : Type 0 where
+-- the text has tokens, and they spell no such tree: this is what the reader of the grammar tells of them
+pub record HasNoTree (text : List ℕ) (why : ParseFault) (line : ℕ) : Type 0 where
   pub size : length text ≤ program_limit
   pub list : List Token
   pub lexed : tokens text ≡ Ok list
   pub none : (tree : Tree) → SpellsWithin 32 tree (toks text list) → ⊥
+  pub told : parsed (toks text list) ≡ Err why
+  pub on : IsLineOf text line
 
 -- the text gives this program: it has a tree, the tree has a program, and that program keeps the rules of types
 pub record Accepts (text : List ℕ) (program : Program) : Type 0 where
@@ -64,7 +68,7 @@ pub record IsMisnamed (text : List ℕ) (kind : ScopeKind) (line : ℕ) : Type 0
   pub has : HasTree text tree
   pub is : name_fault tree ≡ Some (record { kind = kind; line = line })
 
--- it breaks no rule of names, and passes a limit: this is the one that is told
+-- it breaks no rule of names, and exceeds a limit: this is the one that is told
 pub record IsTooLarge (text : List ℕ) (which : LimitKind) (line : ℕ) : Type 0 where
   pub tree : Tree
   pub has : HasTree text tree
@@ -100,33 +104,15 @@ kind_of_limit limit.Variables = kind_is.Variables
 kind_of_limit limit.Parts = kind_is.Parts
 kind_of_limit limit.Generators = kind_is.Generators
 
--- The text is refused so, at this line. Of the texts without a tree it is not said yet which are `syntax` and which
--- are `deep`, nor on which of their lines.
-abbrev pub Refuses : List ℕ → RefusedKind → ℕ → Type 0
-Refuses text kind_is.Size line = (program_limit < length text) × (line ≡ 0)
-Refuses text kind_is.Byte line = IsNotCut text lex.BadByte line
-Refuses text kind_is.Indent line = IsNotCut text lex.BadIndent line
-Refuses text kind_is.Token line = IsNotCut text lex.BadToken line
-Refuses text kind_is.Unclosed line = IsNotCut text lex.Unclosed line
-Refuses text kind_is.Syntax line = HasNoTree text × IsLineOf text line
-Refuses text kind_is.Deep line = HasNoTree text × IsLineOf text line
-Refuses text kind_is.NotYet line = IsMisnamed text name.NotYet line
-Refuses text kind_is.Unknown line = IsMisnamed text name.Unknown line
-Refuses text kind_is.Twice line = IsMisnamed text name.Twice line
-Refuses text kind_is.Shadow line = IsMisnamed text name.Shadow line
-Refuses text kind_is.Recursive line = IsMisnamed text name.Recursive line
-Refuses text kind_is.Yield line = IsMisnamed text name.Yield line
-Refuses text kind_is.Setup line = IsMisnamed text name.Setup line
-Refuses text kind_is.NoRun line = IsMisnamed text name.NoRun line
-Refuses text kind_is.Arity line = IsMisnamed text name.Arity line
-Refuses text kind_is.Classes line = IsTooLarge text limit.Classes line
-Refuses text kind_is.Processes line = IsTooLarge text limit.Processes line
-Refuses text kind_is.Items line = IsTooLarge text limit.Items line
-Refuses text kind_is.Blocks line = IsTooLarge text limit.Blocks line
-Refuses text kind_is.Variables line = IsTooLarge text limit.Variables line
-Refuses text kind_is.Parts line = IsTooLarge text limit.Parts line
-Refuses text kind_is.Generators line = IsTooLarge text limit.Generators line
-Refuses text kind_is.Types line = IsMistyped text line
+-- the text is refused so, at this line, or at 0 where no line is to blame
+pub data Refuses (text : List ℕ) : RefusedKind → ℕ → Type 0 where
+  too_long : program_limit < length text → Refuses text kind_is.Size 0
+  not_cut : (kind : LexKind) (line : ℕ) → IsNotCut text kind line → Refuses text (kind_after kind) line
+  no_program : (line : ℕ) → HasNoTree text (parse.Syntax line) line → Refuses text kind_is.Syntax line
+  too_deep : (line : ℕ) → HasNoTree text (parse.Deep line) line → Refuses text kind_is.Deep line
+  misnamed : (kind : ScopeKind) (line : ℕ) → IsMisnamed text kind line → Refuses text (kind_of_name kind) line
+  too_large : (which : LimitKind) (line : ℕ) → IsTooLarge text which line → Refuses text (kind_of_limit which) line
+  mistyped : (line : ℕ) → IsMistyped text line → Refuses text kind_is.Types line
 
 -- a text that gives no program is refused so, or memory was refused
 abbrev pub IsRefusedAs : List ℕ → ProgramFault → Type 0

@@ -2,7 +2,7 @@
 ghost use Rattle.dalgo.specs.Lines.{badline_text, refused_text};
 ghost use Rattle.da_outside.specs.Outside.{Appends, AppendsFront, Rose};
 ghost use Rattle.dalgo.specs.Top.{status_after as status_after_lem};
-ghost use Rattle.std.specs.Prelude.{◌≡◌, IfErr, IfOk, IsErrOf};
+ghost use Rattle.std.specs.Prelude.{◌≡◌, ◌≤◌, IfErr, IfOk, IsErrOf};
 
 use crate::lines::{bad_line, refused_line};
 use crate::status::{RefusedKind, Status};
@@ -57,6 +57,7 @@ pub fn refuse<K: Sink>(
     ensures front { IfErr result (λ _. AppendsFront (K.taken out.old) (K.taken out.new) (refused_text kind line)) }
     ensures write { IsErrOf result Ending.Write → Rose (K.faults out.old) (K.faults out.new) }
     ensures read { IsErrOf result Ending.Read → ⊥ }
+    ensures writes { K.faults out.old ≤ K.faults out.new }
 {
     let text = refused_line(alloc, kind, line)?;
     say(out, text.as_slice(), Status::Refused { kind, line })
@@ -69,6 +70,7 @@ pub fn refuse_schedule<K: Sink>(alloc: Global, out: &mut K, line: u64) -> Result
     ensures front { IfErr result (λ _. AppendsFront (K.taken out.old) (K.taken out.new) (badline_text line)) }
     ensures write { IsErrOf result Ending.Write → Rose (K.faults out.old) (K.faults out.new) }
     ensures read { IsErrOf result Ending.Read → ⊥ }
+    ensures writes { K.faults out.old ≤ K.faults out.new }
 {
     let text = bad_line(alloc, line)?;
     say(out, text.as_slice(), Status::BadSchedule { line })
@@ -80,6 +82,7 @@ pub fn say<K: Sink>(out: &mut K, bytes: &[u8], status: Status) -> Result<Status,
     ensures front { IfErr result (λ _. AppendsFront (K.taken out.old) (K.taken out.new) bytes.now) }
     ensures write { IsErrOf result Ending.Write → Rose (K.faults out.old) (K.faults out.new) }
     ensures read { IsErrOf result Ending.Read → ⊥ }
+    ensures writes { K.faults out.old ≤ K.faults out.new }
 {
     match write_all(out, bytes) {
         Ok(()) => Ok(status),

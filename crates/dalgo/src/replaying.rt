@@ -2,10 +2,9 @@
 ghost use Rattle.da_lang.specs.declared.program.Program.{Program};
 ghost use Rattle.da_system.specs.Printing.{PrintsOnly};
 ghost use Rattle.da_system.specs.State.{IsNumbered};
-ghost use Rattle.da_outside.specs.Outside.{AppendsFront, Rose};
-ghost use Rattle.dalgo.specs.Replies.{Answers, Begins, BeginsTo, BeginsTold, IsRefused, IsReplayStatus, Ran, ReadCause, RepliesTo, RepliesTold, RunReply};
-ghost use Rattle.da_system.specs.SourceRun.{src_run};
-ghost use Rattle.sched_text.specs.ActionText.{action_text};
+ghost use Rattle.da_outside.specs.Outside.{Appends, AppendsFront, Rose};
+ghost use Rattle.dalgo.specs.Replies.{IsRefused, IsReply, ReadCause, ReplayReply, RunReply, run_status, run_text};
+ghost use Rattle.dalgo.specs.Told.{Begins, Gains, OfTold};
 ghost use Rattle.std.specs.Prelude.{ℕ, ◌≡◌, ◌+◌, ◌≤◌, List, take, IfErr, IfOk, IsErrOf};
 
 use crate::endings::{Ending, refuse, refuse_schedule};
@@ -15,12 +14,12 @@ use crate::status::{RefusedKind, Status};
 use da_lang::{Event, Program};
 use da_outside::{Files, Sink, Trouble, read_all};
 use da_system::System;
-use replay_run::{Outcome, replay as carry_out};
+use replay_run::Outcome;
 use sched_text::{SCHEDULE_LIMIT, SchedFault, read_schedule};
 use std::alloc::Global;
 
 /// Reads the program, refuses it or runs the schedule.
-#[tactic(auto, using(crate::proofs::FrontLemmas::none_told))]
+#[tactic(auto, using(crate::proofs::ToldLemmas::none_replayed))]
 pub fn replay<F: Files, K: Sink>(
     alloc: Global,
     program: &str,
@@ -28,14 +27,17 @@ pub fn replay<F: Files, K: Sink>(
     files: &mut F,
     out: &mut K,
 ) -> Result<Status, Ending>
-    ensures replies { IfOk result (λ status. RepliesTold (F.told files.old program.now) (F.told files.old schedule.now) status (K.taken out.old) (K.taken out.new)) }
-    ensures begun { IfErr result (λ _. BeginsTold (F.told files.old program.now) (F.told files.old schedule.now) (K.taken out.old) (K.taken out.new)) }
+    ensures replies { IfOk result (λ status. OfTold (F.told files.old program.now) (λ t. OfTold (F.told files.old schedule.now)
+        (λ s. Gains (ReplayReply t s) status (K.taken out.old) (K.taken out.new)))) }
+    ensures begun { IfErr result (λ _. OfTold (F.told files.old program.now) (λ t. OfTold (F.told files.old schedule.now)
+        (λ s. Begins (ReplayReply t s) (K.taken out.old) (K.taken out.new)))) }
     ensures read { IsErrOf result Ending.Read → ReadCause (F.told files.old program.now) (F.faults files.old) (F.faults files.new) program.now schedule.now }
-    ensures status { IfOk result IsReplayStatus }
+    ensures status { IfOk result IsReply }
     ensures write { IsErrOf result Ending.Write → Rose (K.faults out.old) (K.faults out.new) }
     ensures unread { IsErrOf result Ending.Read → K.taken out.new ≡ K.taken out.old }
     ensures told { (x : List ℕ) → F.told files.new x ≡ F.told files.old x }
     ensures later { (x : List ℕ) → F.faults files.old x ≤ F.faults files.new x }
+    ensures writes { K.faults out.old ≤ K.faults out.new }
 {
     match read_all(alloc, files, program, PROGRAM_LIMIT) {
         Ok(text) => answer_program(alloc, text.as_slice(), schedule, files, out),
@@ -45,7 +47,7 @@ pub fn replay<F: Files, K: Sink>(
 }
 
 // Refuses the program, or reads the schedule and answers it.
-#[tactic(auto, using(crate::proofs::FrontLemmas::none_to))]
+#[tactic(auto, using(crate::proofs::ToldLemmas::none_begun))]
 fn answer_program<F: Files, K: Sink>(
     alloc: Global,
     text: &[u8],
@@ -53,15 +55,18 @@ fn answer_program<F: Files, K: Sink>(
     files: &mut F,
     out: &mut K,
 ) -> Result<Status, Ending>
-    ensures replies { (t : List ℕ) → text.now ≡ take (PROGRAM_LIMIT + 1) t → IfOk result (λ status. RepliesTo t (F.told files.old name.now) status (K.taken out.old) (K.taken out.new)) }
-    ensures begun { (t : List ℕ) → text.now ≡ take (PROGRAM_LIMIT + 1) t → IfErr result (λ _. BeginsTo t (F.told files.old name.now) (K.taken out.old) (K.taken out.new)) }
+    ensures replies { (t : List ℕ) → text.now ≡ take (PROGRAM_LIMIT + 1) t → IfOk result (λ status. OfTold (F.told files.old name.now)
+        (λ s. Gains (ReplayReply t s) status (K.taken out.old) (K.taken out.new))) }
+    ensures begun { (t : List ℕ) → text.now ≡ take (PROGRAM_LIMIT + 1) t → IfErr result (λ _. OfTold (F.told files.old name.now)
+        (λ s. Begins (ReplayReply t s) (K.taken out.old) (K.taken out.new))) }
     ensures refused { (t : List ℕ) → text.now ≡ take (PROGRAM_LIMIT + 1) t → IsErrOf result Ending.Read → IsRefused t → ⊥ }
     ensures read { IsErrOf result Ending.Read → Rose (F.faults files.old name.now) (F.faults files.new name.now) }
-    ensures status { IfOk result IsReplayStatus }
+    ensures status { IfOk result IsReply }
     ensures write { IsErrOf result Ending.Write → Rose (K.faults out.old) (K.faults out.new) }
     ensures unread { IsErrOf result Ending.Read → K.taken out.new ≡ K.taken out.old }
     ensures told { (x : List ℕ) → F.told files.new x ≡ F.told files.old x }
     ensures later { (x : List ℕ) → F.faults files.old x ≤ F.faults files.new x }
+    ensures writes { K.faults out.old ≤ K.faults out.new }
 {
     if text.len() > PROGRAM_LIMIT {
         return refuse(alloc, out, RefusedKind::Size, 0);
@@ -83,7 +88,7 @@ fn answer_program<F: Files, K: Sink>(
 }
 
 // Refuses the schedule, or runs it.
-#[tactic(auto, using(crate::proofs::FrontLemmas::begins_nothing))]
+#[tactic(auto, using(crate::proofs::ToldLemmas::begins_nothing))]
 fn answer_schedule<K: Sink>(
     alloc: Global,
     program: &Program,
@@ -92,11 +97,12 @@ fn answer_schedule<K: Sink>(
 ) -> Result<Status, Ending>
     requires few { IsNumbered program.now }
     requires prints { PrintsOnly program.now }
-    ensures answers { (whole : List ℕ) → text.now ≡ take (SCHEDULE_LIMIT + 1) whole → IfOk result (λ s. Answers program.now whole s (K.taken out.old) (K.taken out.new)) }
+    ensures answers { (whole : List ℕ) → text.now ≡ take (SCHEDULE_LIMIT + 1) whole → IfOk result (λ status. Gains (RunReply program.now whole) status (K.taken out.old) (K.taken out.new)) }
     ensures begun { (whole : List ℕ) → text.now ≡ take (SCHEDULE_LIMIT + 1) whole → IfErr result (λ _. Begins (RunReply program.now whole) (K.taken out.old) (K.taken out.new)) }
-    ensures status { IfOk result IsReplayStatus }
+    ensures status { IfOk result IsReply }
     ensures write { IsErrOf result Ending.Write → Rose (K.faults out.old) (K.faults out.new) }
     ensures read { IsErrOf result Ending.Read → ⊥ }
+    ensures writes { K.faults out.old ≤ K.faults out.new }
 {
     match read_schedule(alloc, text) {
         Ok(events) => answer_events(alloc, program, events.as_slice(), out),
@@ -115,14 +121,15 @@ fn answer_events<K: Sink>(
 ) -> Result<Status, Ending>
     requires few { IsNumbered program.now }
     requires prints { PrintsOnly program.now }
-    ensures ran { IfOk result (λ s. Ran program.now events.now s (K.taken out.old) (K.taken out.new)) }
-    ensures front { IfErr result (λ _. AppendsFront (K.taken out.old) (K.taken out.new) (action_text (src_run program.now events.now))) }
-    ensures status { IfOk result IsReplayStatus }
+    ensures ran { IfOk result (λ status. (status ≡ run_status program.now events.now) × Appends (K.taken out.old) (K.taken out.new) (run_text program.now events.now)) }
+    ensures front { IfErr result (λ _. AppendsFront (K.taken out.old) (K.taken out.new) (run_text program.now events.now)) }
+    ensures status { IfOk result IsReply }
     ensures write { IsErrOf result Ending.Write → Rose (K.faults out.old) (K.faults out.new) }
     ensures read { IsErrOf result Ending.Read → ⊥ }
+    ensures writes { K.faults out.old ≤ K.faults out.new }
 {
     let mut system = System::new(alloc, program)?;
-    match carry_out(alloc, &mut system, events, out) {
+    match replay_run::replay(alloc, &mut system, events, out) {
         Outcome::Done => Ok(Status::Done),
         Outcome::Forbidden(event) => Ok(Status::Forbidden { event }),
         Outcome::WriteFault => Err(Ending::Write),

@@ -2,7 +2,8 @@
 ghost use Rattle.da_lang.specs.declared.event.Event.{Event};
 ghost use Rattle.da_lang.specs.declared.program.Program.{Program};
 ghost use Rattle.da_outside.specs.Outside.{Appends, AppendsFront, Rose};
-ghost use Rattle.dalgo.specs.Replies.{BeginsCheck, BeginsTold, Checks, ChecksTold, HasReadCause, IsAccepted, IsAnswer, IsCheck, IsOther, IsReplay, Replies, RepliesTold, Runs, RunsWhole};
+ghost use Rattle.dalgo.specs.Replies.{CheckReply, HasReadCause, IsAccepted, IsAnswer, IsCheck, IsOther, IsReplay, ReplayReply, RunsToday, RunsWhole};
+ghost use Rattle.dalgo.specs.Told.{Begins, Gains, OfTold};
 ghost use Rattle.dalgo.specs.Verdict.{Accepts};
 ghost use Rattle.sched_text.specs.ScheduleText.{SpellsSchedule};
 ghost use Rattle.std.specs.Prelude.{ℕ, ◌≡◌, ◌⊎◌, ◌≤◌, List, Some, codes, map};
@@ -23,25 +24,20 @@ pub fn dalgo<F: Files, K: Sink>(
     files: &mut F,
     out: &mut K,
 ) -> Status
-    // The bytes that the sink took are the answer to the two texts, and the status is that of the answer.
-    ensures replies { (p q t s : List ℕ) → IsReplay (map string_bytes words.now) p q → F.told files.old p ≡ Some t → F.told files.old q ≡ Some s
-        → IsAnswer result → Replies t s result (K.taken out.old) (K.taken out.new) }
-
-    // Where a text is not told, the answer is that to some text in its place.
-    ensures replies_told { (p q : List ℕ) → IsReplay (map string_bytes words.now) p q → IsAnswer result
-        → RepliesTold (F.told files.old p) (F.told files.old q) result (K.taken out.old) (K.taken out.new) }
+    // The bytes that the sink took are the reply to the two texts, and the status is that of the reply. Where a text is not
+    // told, it is the reply to some text in its place.
+    ensures replies { (p q : List ℕ) → IsReplay (map string_bytes words.now) p q → IsAnswer result
+        → OfTold (F.told files.old p) (λ t. OfTold (F.told files.old q) (λ s. Gains (ReplayReply t s) result (K.taken out.old) (K.taken out.new))) }
 
     // An accepted program of the form that runs today runs, unless a read or write failed or memory was refused.
     ensures complete { (p q t s : List ℕ) (program : Program) (events : List Event) → IsReplay (map string_bytes words.now) p q
-        → F.told files.old p ≡ Some t → F.told files.old q ≡ Some s → Runs t program → SpellsSchedule s events
+        → F.told files.old p ≡ Some t → F.told files.old q ≡ Some s → RunsToday t program → SpellsSchedule s events
         → (Rose (F.faults files.old p) (F.faults files.new p) → ⊥) → (Rose (F.faults files.old q) (F.faults files.new q) → ⊥)
         → (Rose (K.faults out.old) (K.faults out.new) → ⊥) → RunsWhole program events result (K.taken out.old) (K.taken out.new) }
 
     // `check` is answered in the same way by the program's text alone.
-    ensures checks { (p t : List ℕ) → IsCheck (map string_bytes words.now) p → F.told files.old p ≡ Some t
-        → IsAnswer result → Checks t result (K.taken out.old) (K.taken out.new) }
-    ensures checks_told { (p : List ℕ) → IsCheck (map string_bytes words.now) p
-        → IsAnswer result → ChecksTold (F.told files.old p) result (K.taken out.old) (K.taken out.new) }
+    ensures checks { (p : List ℕ) → IsCheck (map string_bytes words.now) p → IsAnswer result
+        → OfTold (F.told files.old p) (λ t. Gains (CheckReply t) result (K.taken out.old) (K.taken out.new)) }
     ensures accepted { (p t : List ℕ) (program : Program) → IsCheck (map string_bytes words.now) p → F.told files.old p ≡ Some t → Accepts t program
         → (Rose (F.faults files.old p) (F.faults files.new p) → ⊥) → (Rose (K.faults out.old) (K.faults out.new) → ⊥)
         → IsAccepted program result (K.taken out.old) (K.taken out.new) }
@@ -51,18 +47,19 @@ pub fn dalgo<F: Files, K: Sink>(
     ensures only_words { result ≡ Status.Words → IsOther (map string_bytes words.now) }
 
     // Where a write failed or memory was refused, the sink gained a front of the bytes of a reply, or nothing.
-    ensures begun { (p q : List ℕ) → IsReplay (map string_bytes words.now) p q
-        → (IsAnswer result → ⊥) → BeginsTold (F.told files.old p) (F.told files.old q) (K.taken out.old) (K.taken out.new) }
-    ensures begun_check { (p : List ℕ) → IsCheck (map string_bytes words.now) p
-        → (IsAnswer result → ⊥) → BeginsCheck (F.told files.old p) (K.taken out.old) (K.taken out.new) }
+    ensures begun { (p q : List ℕ) → IsReplay (map string_bytes words.now) p q → (IsAnswer result → ⊥)
+        → OfTold (F.told files.old p) (λ t. OfTold (F.told files.old q) (λ s. Begins (ReplayReply t s) (K.taken out.old) (K.taken out.new))) }
+    ensures begun_check { (p : List ℕ) → IsCheck (map string_bytes words.now) p → (IsAnswer result → ⊥)
+        → OfTold (F.told files.old p) (λ t. Begins (CheckReply t) (K.taken out.old) (K.taken out.new)) }
     ensures begun_words { IsOther (map string_bytes words.now) → (IsAnswer result → ⊥) → AppendsFront (K.taken out.old) (K.taken out.new) (codes "words\n") }
 
-    // Each fault has its cause. What files tell stays as it was.
+    // Each fault has its cause. What files tell stays as it was, and no count falls.
     ensures read { result ≡ Status.ReadFault → HasReadCause (map string_bytes words.now) (F.told files.old) (F.faults files.old) (F.faults files.new) }
     ensures unread { result ≡ Status.ReadFault → K.taken out.new ≡ K.taken out.old }
     ensures write { result ≡ Status.WriteFault → Rose (K.faults out.old) (K.faults out.new) }
     ensures told { (x : List ℕ) → F.told files.new x ≡ F.told files.old x }
     ensures counts { (x : List ℕ) → F.faults files.old x ≤ F.faults files.new x }
+    ensures writes { K.faults out.old ≤ K.faults out.new }
 {
     match command_of(words) {
         Command::Replay(names) => {

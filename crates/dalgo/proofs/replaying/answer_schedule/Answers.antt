@@ -2,29 +2,35 @@ use Rattle.std.proofs.Common.{subst, sym}
 use Rattle.std.specs.Prelude.{Err}
 use Rattle.dalgo.specs.declared.status.Status.TheVariants.{BadSchedule}
 use Rattle.dalgo.specs.Lines.{badline_text}
-use Rattle.dalgo.specs.Replies.{RunReply, bad, carried_out}
+use Rattle.dalgo.specs.Replies.{RunReply, bad_schedule, ran, run_status, run_text}
 use Rattle.sched_text.specs.Reading.{IsRead}
 use Rattle.sched_text.specs.ScheduleText.{IsBadSchedule, SpellsSchedule}
-use Rattle.dalgo.proofs.FrontLemmas.{begins_by}
-use Rattle.dalgo.proofs.ReplyLemmas.{answers_bad, answers_ran, bad_within, schedule_within}
+use Rattle.dalgo.proofs.ReplyLemmas.{bad_within, schedule_within}
+use Rattle.dalgo.proofs.ToldLemmas.{begins_by, gains_said}
 use Rattle.dalgo.proofs.replaying.answer_schedule.Goals as goal
 
 pub returns-in-Ok-clause-answers : goal.returns-in-Ok-clause-answers
 returns-in-Ok-clause-answers g c = λ whole is.
-    answers_ran _ whole _ _ _ _ (schedule_within _ whole _ is (subst (SpellsSchedule c.args.text.now) (sym c.as_slice.ensures) c.in-Ok.ensures.read)) c.answer_events.ensures.ran
+    let events = c.as_slice.result.now in
+    gains_said (RunReply c.args.program.now whole) (run_status c.args.program.now events) (run_text c.args.program.now events) _ _ _
+    (ran events (schedule_within _ whole _ is (subst (SpellsSchedule c.args.text.now) (sym c.as_slice.ensures) c.in-Ok.ensures.read))) c.answer_events.ensures.ran
 
 pub returns-in-Ok-clause-begun : goal.returns-in-Ok-clause-begun
 returns-in-Ok-clause-begun g c = λ whole is.
-    begins_by (RunReply c.args.program.now whole) c.answer_events.result _ _ _ _
-    (carried_out c.as_slice.result.now (schedule_within _ whole _ is (subst (SpellsSchedule c.args.text.now) (sym c.as_slice.ensures) c.in-Ok.ensures.read))) c.answer_events.ensures.front
+    let events = c.as_slice.result.now in
+    begins_by (RunReply c.args.program.now whole) c.answer_events.result (run_status c.args.program.now events) (run_text c.args.program.now events) _ _
+    (ran events (schedule_within _ whole _ is (subst (SpellsSchedule c.args.text.now) (sym c.as_slice.ensures) c.in-Ok.ensures.read))) c.answer_events.ensures.front
 
 pub returns-in-Err-BadLine-clause-answers : goal.returns-in-Err-BadLine-clause-answers
 returns-in-Err-BadLine-clause-answers g c = λ whole is.
     let read : IsRead c.args.text.now (Err c.in-Err-BadLine.field-0) = c.in-Err-BadLine.ensures.read in
-    answers_bad _ whole _ _ _ _ (bad_within _ whole _ is (subst (λ e. IsRead c.args.text.now (Err e)) c.in-Err-BadLine.field-0-is read)) c.refuse_schedule.ensures.said
+    let line = c.in-Err-BadLine.line in
+    let wrong : IsBadSchedule whole line = bad_within _ whole _ is (subst (λ e. IsRead c.args.text.now (Err e)) c.in-Err-BadLine.field-0-is read) in
+    gains_said (RunReply c.args.program.now whole) (BadSchedule line) (badline_text line) _ _ _ (bad_schedule line wrong) c.refuse_schedule.ensures.said
 
 pub returns-in-Err-BadLine-clause-begun : goal.returns-in-Err-BadLine-clause-begun
 returns-in-Err-BadLine-clause-begun g c = λ whole is.
     let read : IsRead c.args.text.now (Err c.in-Err-BadLine.field-0) = c.in-Err-BadLine.ensures.read in
-    let wrong : IsBadSchedule whole c.in-Err-BadLine.line = bad_within _ whole _ is (subst (λ e. IsRead c.args.text.now (Err e)) c.in-Err-BadLine.field-0-is read) in
-    begins_by (RunReply c.args.program.now whole) c.refuse_schedule.result (BadSchedule c.in-Err-BadLine.line) (badline_text c.in-Err-BadLine.line) _ _ (bad c.in-Err-BadLine.line wrong) c.refuse_schedule.ensures.front
+    let line = c.in-Err-BadLine.line in
+    let wrong : IsBadSchedule whole line = bad_within _ whole _ is (subst (λ e. IsRead c.args.text.now (Err e)) c.in-Err-BadLine.field-0-is read) in
+    begins_by (RunReply c.args.program.now whole) c.refuse_schedule.result (BadSchedule line) (badline_text line) _ _ (bad_schedule line wrong) c.refuse_schedule.ensures.front

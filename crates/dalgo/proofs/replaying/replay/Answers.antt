@@ -1,8 +1,10 @@
 use Rattle.std.proofs.Common.{inr, ◌∙◌, subst, List, ℕ}
 use Rattle.std.specs.Prelude.{IfErr, IfOk, Option}
-use Rattle.dalgo.specs.Replies.{BeginsTo, RepliesTo}
-use Rattle.dalgo.proofs.FrontLemmas.{begins_told}
-use Rattle.dalgo.proofs.ReplyLemmas.{may_read, replies_told, rose_later}
+use Rattle.dalgo.specs.Replies.{ReplayReply}
+use Rattle.dalgo.specs.Told.{Begins, Gains, OfTold}
+use Rattle.dalgo.specs.Verdict.{program_limit}
+use Rattle.dalgo.proofs.ReplyLemmas.{may_read, rose_later}
+use Rattle.dalgo.proofs.ToldLemmas.{err_of_read, ok_of_read}
 use Rattle.dalgo.proofs.replaying.replay.Goals as goal
 
 pub returns-in-Ok-clause-read : goal.returns-in-Ok-clause-read
@@ -14,14 +16,14 @@ returns-in-Ok-clause-read g c = λ failed.
 
 pub returns-in-Ok-clause-replies : goal.returns-in-Ok-clause-replies
 returns-in-Ok-clause-replies g c =
-    replies_told (g.F.Files.told c.args.files.now c.args.program.now) (g.F.Files.told c.args.files.now c.args.schedule.now) c.in-Ok.text c.answer_program.result _ _ c.in-Ok.ensures.whole
+    ok_of_read (g.F.Files.told c.args.files.now c.args.program.now) (λ t status. OfTold (g.F.Files.told c.args.files.now c.args.schedule.now) (λ s. Gains (ReplayReply t s) status (g.K.Sink.taken c.args.out.now) (g.K.Sink.taken c.answer_program.new.out))) program_limit c.in-Ok.text c.answer_program.result c.in-Ok.ensures.whole
     (λ t is.
-    subst (λ (o : Option (List ℕ)). IfOk c.answer_program.result (λ status. RepliesTo t o status (g.K.Sink.taken c.args.out.now) (g.K.Sink.taken c.answer_program.new.out)))
-    (c.in-Ok.ensures.same c.args.schedule.now) (c.answer_program.ensures.replies t (c.as_slice.ensures ∙ is)))
+    subst (λ (o : Option (List ℕ)). IfOk c.answer_program.result (λ status. OfTold o (λ s. Gains (ReplayReply t s) status (g.K.Sink.taken c.args.out.now) (g.K.Sink.taken c.answer_program.new.out)))) (c.in-Ok.ensures.same c.args.schedule.now)
+    (c.answer_program.ensures.replies t (c.as_slice.ensures ∙ is)))
 
 pub returns-in-Ok-clause-begun : goal.returns-in-Ok-clause-begun
 returns-in-Ok-clause-begun g c =
-    begins_told (g.F.Files.told c.args.files.now c.args.program.now) (g.F.Files.told c.args.files.now c.args.schedule.now) c.in-Ok.text c.answer_program.result _ _ c.in-Ok.ensures.whole
+    err_of_read (g.F.Files.told c.args.files.now c.args.program.now) (λ t. OfTold (g.F.Files.told c.args.files.now c.args.schedule.now) (λ s. Begins (ReplayReply t s) (g.K.Sink.taken c.args.out.now) (g.K.Sink.taken c.answer_program.new.out))) program_limit c.in-Ok.text c.answer_program.result c.in-Ok.ensures.whole
     (λ t is.
-    subst (λ (o : Option (List ℕ)). IfErr c.answer_program.result (λ _. BeginsTo t o (g.K.Sink.taken c.args.out.now) (g.K.Sink.taken c.answer_program.new.out)))
-    (c.in-Ok.ensures.same c.args.schedule.now) (c.answer_program.ensures.begun t (c.as_slice.ensures ∙ is)))
+    subst (λ (o : Option (List ℕ)). IfErr c.answer_program.result (λ _. OfTold o (λ s. Begins (ReplayReply t s) (g.K.Sink.taken c.args.out.now) (g.K.Sink.taken c.answer_program.new.out)))) (c.in-Ok.ensures.same c.args.schedule.now)
+    (c.answer_program.ensures.begun t (c.as_slice.ensures ∙ is)))
