@@ -1,0 +1,9 @@
+pub mod DataKept
+pub mod ExprValues
+pub mod Integers
+pub mod Known
+pub mod Operations
+pub mod Ranges
+pub mod Rules
+pub mod TasksKept
+pub mod Wholes
