@@ -2,8 +2,11 @@ pub mod DataKept
 pub mod ExprValues
 pub mod Integers
 pub mod Known
+pub mod Messages
 pub mod Operations
 pub mod Ranges
 pub mod Rules
+pub mod StatementValues
 pub mod TasksKept
+pub mod TurnsKept
 pub mod Wholes

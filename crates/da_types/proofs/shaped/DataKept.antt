@@ -6,11 +6,18 @@ use Rattle.std.proofs.Common.{◌∙◌, ap, sym, subst, inl, inr, arith}
 use Rattle.std.proofs.lemmas.Bool.{false≢true, and_parts, eqb-true, eqb-false}
 use Rattle.std.proofs.lemmas.List.Elements.{All-nil, All-cons, All-push}
 use Rattle.da_values.specs.declared.val.Val.{Val}
+use Rattle.da_values.specs.declared.val.Val.TheVariants as val
+use Rattle.da_values.specs.Order.{val_cmp}
 use Rattle.da_values.specs.Proper.{IsValue}
-use Rattle.da_values.specs.Sets.{Has}
+use Rattle.da_values.specs.Sets.{Has, set_insert, set_remove}
+use Rattle.da_values.specs.Views.{elements_of}
+use Rattle.da_values.proofs.OrderLaws.{val_order, same_from_val_cmp}
+use Rattle.da_values.proofs.SetLaws.{Ascends-insert, Ascends-remove, of_insert, of_remove}
+use Rattle.da_values.proofs.ViewLaws.{elements_of-Set}
 use Rattle.da_lang.specs.declared.program.Class.{Class}
 use Rattle.da_lang.specs.declared.program.Program.{Program}
 use Rattle.da_lang.specs.declared.ty.Ty.{Ty}
+use Rattle.da_lang.specs.declared.ty.Ty.TheVariants as t
 use Rattle.da_lang.specs.Changes.{none, puts}
 use Rattle.da_lang.specs.Matching.{Row}
 use Rattle.da_lang.specs.QueryTypes.{given, is_typed, slot_type, type_at}
@@ -21,7 +28,8 @@ use Rattle.da_lang.specs.Typing.{Slots, has_type, have_types, known}
 use Rattle.da_lang.specs.World.{Data, Entry, at_number, put_slot, slot_of, value_in}
 use Rattle.da_lang.proofs.ChangeLaws.{changes-slots}
 use Rattle.da_lang.proofs.WorldLaws.{slot-put_there, slot-put_other}
-use Rattle.da_types.proofs.shaped.Wholes.{WholeRow, as_is_of}
+use Rattle.da_types.specs.KeepsShaped.{FitsElement, FitsSlot, FitSlots, MaySend}
+use Rattle.da_types.proofs.shaped.Wholes.{WholeOf, WholeRow, as_is_of, from_is_of, set_parts, set_whole_of}
 use Rattle.da_types.proofs.totality.KindLaws.{given_parts, is_typed_parts}
 
 -- a slot that has a type is one of the slots
@@ -38,7 +46,7 @@ pub slot_within : (c : Class) (slot : ℕ) (ty : Ty) → HasType c slot ty → (
 slot_within c slot ty e = let (found, is, more) = given_parts (at_number c.slots slot) _ ty e in number_within c.slots slot found is
 
 -- the clock stays below 2^63
-later_below : (time : ℕ) → later time < 2 ^ 63
+pub later_below : (time : ℕ) → later time < 2 ^ 63
 unfolding last_time
 later_below time = omega arith
 
@@ -46,12 +54,6 @@ module _ (p : Program) (c : Class) where
   -- a value that a slot may have
   abbrev pub Suits : ℕ → Val → Type 0
   Suits slot v = (ty : Ty) → HasType c slot ty → IsOf p ty v
-
-  -- values that slots may have, as many as there are of both
-  abbrev pub SuitAll : List ℕ → List Val → Type 0
-  SuitAll [] vs = Unit {0}
-  SuitAll (s ∷ ss) [] = Unit {0}
-  SuitAll (s ∷ ss) (v ∷ vs) = Suits s v × SuitAll ss vs
 
   put_value : (d : Data) (s slot : ℕ) (v : Val) (ty : Ty) → ShapedData p c d → Suits s v → HasType c slot ty → (b : Bool) → (slot == s) ≡ b → IsOf p ty (value_in (put_slot d s v).slots slot)
   put_value d s slot v ty shaped suits e true is =
@@ -72,32 +74,48 @@ module _ (p : Program) (c : Class) where
     clock = shaped.clock;
   }
 
-  pub bound_shaped : (ss : List ℕ) (vs : List Val) (d : Data) → ShapedData p c d → SuitAll ss vs → ShapedData p c (bind_all ss vs d)
-  bound_shaped [] vs d shaped suit = shaped
-  bound_shaped (s ∷ ss) [] d shaped suit = shaped
-  bound_shaped (s ∷ ss) (v ∷ vs) d shaped suit = bound_shaped ss vs (put_slot d s v) (put_shaped d s v shaped suit.0) suit.1
+  -- the type of a slot is the only one that it has
+  pub fitting_suits : (s : ℕ) (v : Val) → FitsSlot p c s v → Suits s v
+  fitting_suits s v fits ty at =
+      let both : ◌≡◌ {A = Option Ty} (Some fits.type') (Some ty) = sym fits.has ∙ at in
+      let same : fits.type' ≡ ty = cc in
+      subst (λ z. IsOf p z v) same fits.is
+
+  pub bound_shaped : (ss : List ℕ) (vs : List Val) (d : Data) → ShapedData p c d → FitSlots p c ss vs → ShapedData p c (bind_all ss vs d)
+  bound_shaped [] vs d shaped fit = shaped
+  bound_shaped (s ∷ ss) [] d shaped fit = shaped
+  bound_shaped (s ∷ ss) (v ∷ vs) d shaped fit = bound_shaped ss vs (put_slot d s v) (put_shaped d s v shaped (fitting_suits s v fit.0)) fit.1
+
+  -- a set with an element of its type more, or one less
+  pub inserted_fits : (d : Data) (s : ℕ) (v : Val) → ShapedData p c d → FitsElement p c s v → FitsSlot p c s (val.Set (set_insert val_cmp (elements_of (slot_of d s)) v))
+  inserted_fits d s v shaped fits =
+      let (vs, is, each, up) = set_parts p fits.element (slot_of d s) (from_is_of p (t.Set fits.element) (slot_of d s) (shaped.slots s (t.Set fits.element) fits.has)) in
+      let one = from_is_of p fits.element v fits.is in
+      let set = set_whole_of p fits.element (set_insert val_cmp vs v) (λ u h. elim (of_insert val_cmp val_order same_from_val_cmp vs v u h) [ inl same ↦ subst (WholeOf p fits.element) (sym same) one | inr there ↦ each u there ]) (Ascends-insert val_cmp val_order same_from_val_cmp vs v up) in
+      let same : elements_of (slot_of d s) ≡ vs = ap elements_of is ∙ elements_of-Set vs in
+      record { type' = t.Set fits.element; has = fits.has; is = subst (λ z. IsOf p (t.Set fits.element) (val.Set (set_insert val_cmp z v))) (sym same) (as_is_of p (t.Set fits.element) (val.Set (set_insert val_cmp vs v)) set) }
+
+  pub removed_fits : (d : Data) (s : ℕ) (v : Val) → ShapedData p c d → FitsElement p c s v → FitsSlot p c s (val.Set (set_remove val_cmp (elements_of (slot_of d s)) v))
+  removed_fits d s v shaped fits =
+      let (vs, is, each, up) = set_parts p fits.element (slot_of d s) (from_is_of p (t.Set fits.element) (slot_of d s) (shaped.slots s (t.Set fits.element) fits.has)) in
+      let set = set_whole_of p fits.element (set_remove val_cmp vs v) (λ u h. each u (of_remove val_cmp val_order same_from_val_cmp vs v u up h).0) (Ascends-remove val_cmp val_order same_from_val_cmp vs v up) in
+      let same : elements_of (slot_of d s) ≡ vs = ap elements_of is ∙ elements_of-Set vs in
+      record { type' = t.Set fits.element; has = fits.has; is = subst (λ z. IsOf p (t.Set fits.element) (val.Set (set_remove val_cmp z v))) (sym same) (as_is_of p (t.Set fits.element) (val.Set (set_remove val_cmp vs v)) set) }
 
   pub bound-me : (ss : List ℕ) (vs : List Val) (d : Data) → (bind_all ss vs d).me ≡ d.me
   bound-me [] vs d = refl
   bound-me (s ∷ ss) [] d = refl
   bound-me (s ∷ ss) (v ∷ vs) d = bound-me ss vs (put_slot d s v)
 
-  -- a whole row suits the slots that have its types
-  pub row_suits : (binds : List ℕ) (types : List Ty) (row : Row) → have_types p.messages c.queries c.slots binds types ≡ true → WholeRow p types row → SuitAll binds row
-  row_suits [] types row e fits = tt
-  row_suits (s ∷ ss) [] row e fits = absurd (false≢true e)
-  row_suits (s ∷ ss) (ty ∷ types) [] e fits = tt
-  row_suits (s ∷ ss) (ty ∷ types) (v ∷ vs) e fits =
+  -- a whole row fits the slots that have its types
+  pub row_fits_slots : (binds : List ℕ) (types : List Ty) (row : Row) → have_types p.messages c.queries c.slots binds types ≡ true → WholeRow p types row → FitSlots p c binds row
+  row_fits_slots [] types row e fits = tt
+  row_fits_slots (s ∷ ss) [] row e fits = absurd (false≢true e)
+  row_fits_slots (s ∷ ss) (ty ∷ types) [] e fits = tt
+  row_fits_slots (s ∷ ss) (ty ∷ types) (v ∷ vs) e fits =
       let (first, others) = and_parts (has_type p.messages c.queries c.slots s ty) (have_types p.messages c.queries c.slots ss types) e in
       let is : HasType c s ty = is_typed_parts (slot_type (known p.messages c.queries c.slots) s) ty first in
-      (λ other at. (let both : ◌≡◌ {A = Option Ty} (Some ty) (Some other) = sym is ∙ at in let same : ty ≡ other = cc in subst (λ z. IsOf p z v) same (as_is_of p ty v fits.0)),
-       row_suits ss types vs others fits.1)
-
-  -- a message that may be sent to these processes
-  pub record MaySend (m : Val) (to : List ℕ) : Type 0 where
-    pub proper : IsValue m
-    pub typed : well_typed p m ≡ true
-    pub receivers : (q : ℕ) → Has to q → IsProcess p q
+      (record { type' = ty; has = is; is = as_is_of p ty v fits.0 }, row_fits_slots ss types vs others fits.1)
 
   abbrev entry_of : Val → ℕ → ℕ → Entry
   entry_of m q time = record { message = m; peer = q; time = time }
@@ -113,7 +131,7 @@ module _ (p : Program) (c : Class) where
     clock = small;
   }
 
-  pub sent_shaped : (m : Val) (to : List ℕ) (d : Data) → ShapedData p c d → MaySend m to → ShapedData p c (sent_to m to d)
+  pub sent_shaped : (m : Val) (to : List ℕ) (d : Data) → ShapedData p c d → MaySend p m to → ShapedData p c (sent_to m to d)
   sent_shaped m [] d shaped may = shaped
   sent_shaped m (q ∷ qs) d shaped may =
       let entry : IsEntry p (entry_of m q (later d.clock)) = record { proper = may.proper; typed = may.typed; peer = may.receivers q (inl refl) } in
