@@ -1,12 +1,15 @@
 pub mod DataKept
 pub mod ExprValues
 pub mod Integers
+pub mod KeptShaped
 pub mod Known
 pub mod Messages
 pub mod Operations
 pub mod Ranges
 pub mod Rules
+pub mod RunsKept
 pub mod StatementValues
+pub mod StepsKept
 pub mod TasksKept
 pub mod TurnsKept
 pub mod Wholes
