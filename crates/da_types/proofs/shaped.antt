@@ -1,4 +1,5 @@
 pub mod DataKept
+pub mod ExprParts
 pub mod ExprValues
 pub mod Integers
 pub mod KeptShaped
@@ -10,6 +11,7 @@ pub mod Rules
 pub mod RunsKept
 pub mod StatementValues
 pub mod StepsKept
+pub mod StoreFacts
 pub mod TasksKept
 pub mod TurnsKept
 pub mod Wholes

@@ -1,5 +1,5 @@
 -- A turn, a run and a step of an accepted program lead from shaped worlds to shaped ones, and what they send may be sent.
-use Rattle.std.specs.Prelude.{◌≡◌, ℕ, ◌^◌, ◌<◌, true, List, [], ◌∷◌, Some}
+use Rattle.std.specs.Prelude.{◌≡◌, ℕ, ◌^◌, ◌<◌, ◌⊎◌, true, List, [], ◌∷◌, Some}
 use Rattle.std.specs.List.{All}
 use Rattle.da_values.specs.declared.val.Val.{Val}
 use Rattle.da_values.specs.Proper.{IsValue}
@@ -11,6 +11,7 @@ use Rattle.da_lang.specs.declared.program.Class.{Class}
 use Rattle.da_lang.specs.declared.program.Program.{Program}
 use Rattle.da_lang.specs.declared.ty.Ty.{Ty}
 use Rattle.da_lang.specs.declared.ty.Ty.TheVariants as t
+use Rattle.da_lang.specs.ExprTypes.{ExprType}
 use Rattle.da_lang.specs.Runs.{run_to_yield}
 use Rattle.da_lang.specs.Shaped.{HasType, IsEntry, IsOf, IsProcess, IsTask, Shaped, ShapedData, ShapedTasks, well_typed}
 use Rattle.da_lang.specs.Steps.{Step, Go, Take, Deliver, Stepped, proc_step}
@@ -34,6 +35,10 @@ abbrev pub FitSlots : Program → Class → List ℕ → List Val → Type 0
 FitSlots p c [] vs = Unit {0}
 FitSlots p c (s ∷ ss) [] = Unit {0}
 FitSlots p c (s ∷ ss) (v ∷ vs) = FitsSlot p c s v × FitSlots p c ss vs
+
+-- an expression has a type by itself, or fits one
+abbrev pub IsTypable : ExprType → Type 0
+IsTypable x = (ty : Ty) × ((x.type_ ≡ Some ty) ⊎ (x.fits ty ≡ true))
 
 -- a declared message of the declared types, and processes that are there
 pub record MaySend (p : Program) (m : Val) (to : List ℕ) : Type 0 where

@@ -1,5 +1,5 @@
 -- What the rules of types say of a statement that keeps them, by its form.
-use Rattle.std.specs.Prelude.{◌≡◌, refl, ℕ, Bool, true, ◌&&◌, List, [], ◌∷◌, ◌++◌, map, Option, Some, None, flat_map, slice_get}
+use Rattle.std.specs.Prelude.{◌≡◌, refl, ℕ, Bool, true, ◌&&◌, List, [], ◌∷◌, ◌++◌, map, Option, Some, None, is_some, flat_map, slice_get}
 use Rattle.std.specs.List.{list_all}
 use Rattle.std.proofs.Common.{◌∙◌, ap, sym, subst, inl, inr}
 use Rattle.std.proofs.lemmas.Bool.{false≢true, and_parts}
@@ -79,6 +79,9 @@ module _ (messages : List MessageDecl) (queries : List Query) (slots : Slots) wh
 
     pub send_rule : (x to : RExpr) → kind_of i ≡ ItemKind-F.Send x to → (is_message messages queries slots x ≡ true) × (holds_of (typed messages queries slots to).type_ (is_recipient messages queries slots) ≡ true)
     send_rule x to is = and_parts (is_message messages queries slots x) (holds_of (typed messages queries slots to).type_ (is_recipient messages queries slots)) (by_kind (ItemKind-F.Send x to) is)
+
+    pub output_rule : (x : RExpr) → kind_of i ≡ ItemKind-F.Output x → is_some (typed messages queries slots x).type_ ≡ true
+    output_rule x is = by_kind (ItemKind-F.Output x) is
 
     pub while_rule : (x : RExpr) (body : List Item) → kind_of i ≡ ItemKind-F.While x body → truth (typed messages queries slots x) ≡ true
     while_rule x body is = by_kind (ItemKind-F.While x body) is

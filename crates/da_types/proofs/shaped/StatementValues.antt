@@ -1,5 +1,5 @@
 -- In what a process of a whole program knows, the values of a statement fit what it does with them.
-use Rattle.std.specs.Prelude.{◌≡◌, refl, ℕ, ◌<◌, ◌≤◌, Bool, true, false, ◌&&◌, List, [], ◌∷◌, map, length, Option, Some, None, Ok, Err, slice_get}
+use Rattle.std.specs.Prelude.{◌≡◌, refl, ℕ, ◌<◌, ◌≤◌, Bool, true, false, ◌&&◌, List, [], ◌∷◌, map, length, Option, Some, None, Ok, Err, is_some, slice_get}
 use Rattle.std.specs.List.{All, list_all}
 use Rattle.std.proofs.Common.{◌∙◌, ap, sym, subst, inl, inr}
 use Rattle.std.proofs.lemmas.Bool.{false≢true, and_parts, and_from}
@@ -43,7 +43,7 @@ use Rattle.da_types.proofs.shaped.DataKept.{row_fits_slots}
 use Rattle.da_types.proofs.shaped.ExprValues.{AreThere, IsRight, expr_right}
 use Rattle.da_types.proofs.shaped.Known.{IsWholeProgram, meets}
 use Rattle.da_types.proofs.shaped.Messages.{message_typed, receivers_there, value_tag}
-use Rattle.da_types.proofs.shaped.Rules.{assign_rule, add_rule, del_rule, send_rule, while_rule, for_rule, call_rule, branch_rule, alt_rule, handler_rule, args_rule}
+use Rattle.da_types.proofs.shaped.Rules.{assign_rule, add_rule, del_rule, send_rule, output_rule, while_rule, for_rule, call_rule, branch_rule, alt_rule, handler_rule, args_rule}
 use Rattle.da_types.proofs.shaped.Wholes.{WholeOf, WholeEach, Gives, as_is_of, all_are_of, set_parts}
 use Rattle.da_types.proofs.totality.Awaits.{item_keeps}
 use Rattle.da_types.proofs.totality.KindLaws.{given_parts, holds_parts, is_typed_parts, bool_of_type, bool_type, set_type}
@@ -59,9 +59,20 @@ in_order_parts : (o : Outcome) (os : List Outcome) (vs : List Val) → in_order 
 in_order_parts (Err kind) os vs e = absurd (cc)
 in_order_parts (Ok v) os vs e = let (rest, others, same) = with_first_parts v (in_order os) vs e in (v, rest, refl, others, same)
 
+there_is : {A : Type 0} (x : Option A) → is_some x ≡ true → (a : A) × (x ≡ Some a)
+there_is None e = absurd (false≢true e)
+there_is (Some a) e = (a, refl)
+
 set_up_parts : (found : Option ProcDecl) (call : SetupCall) → IsSetUp found call → (decl : ProcDecl) × (found ≡ Some decl) × (decl.setup ≡ Some call)
 set_up_parts None call is = absurd is
 set_up_parts (Some decl) call is = (decl, refl, is)
+
+-- the elements of a whole set
+all_in : (p : Program) (ty : Ty) (v : Val) (vs : List Val) → v ≡ val.Set vs → WholeEach p ty vs → All (IsOf p ty) (elements_of v)
+all_in p ty v vs same each = subst (All (IsOf p ty)) {x = vs} (sym (ap elements_of same ∙ elements_of-Set vs)) (all_are_of p ty vs each)
+
+elements_are : (p : Program) (ty : Ty) (v : Val) → WholeOf p (t.Set ty) v → All (IsOf p ty) (elements_of v)
+elements_are p ty v one = let (vs, same, each, up) = set_parts p ty v one in all_in p ty v vs same each
 
 module _ (p : Program) (c : Class) (d : Data) (f : IsWholeProgram p) (s : ShapedData p c d) where
   abbrev known_of : Known
@@ -182,6 +193,12 @@ module _ (p : Program) (c : Class) (d : Data) (f : IsWholeProgram p) (s : Shaped
           receivers = receivers_there p to_type w goes (of_type to to_type w (there_by (ItemKind-F.Send x to) to is (inr (inl refl))) has receivers);
         }
 
+    -- what is output is a value of some type
+    pub output_whole : (x : RExpr) (v : Val) → kind_of i ≡ ItemKind-F.Output x → value x ≡ Ok v → (ty : Ty) × IsOf p ty v
+    output_whole x v is e =
+        let (ty, has) = there_is (type_of x).type_ (output_rule p.messages c.queries c.slots i keeps x is) in
+        (ty, as_is_of p ty v (of_type x ty v (there_by (ItemKind-F.Output x) x is (inl refl)) has e))
+
     -- conditions are truth values
     pub while_truth : (x : RExpr) (body : List Item) (v : Val) → kind_of i ≡ ItemKind-F.While x body → value x ≡ Ok v → (b : Bool) × (v ≡ val.Bool b)
     while_truth x body v is e = truth_value x v (there_by (ItemKind-F.While x body) x is (inl refl)) (while_rule p.messages c.queries c.slots i keeps x body is) e
@@ -204,9 +221,7 @@ module _ (p : Program) (c : Class) (d : Data) (f : IsWholeProgram p) (s : Shaped
     elements_fit slot x body v is e =
         let (element, found, has) = holds_parts (given (type_of x).type_ element_of) (has_type p.messages c.queries c.slots slot) (for_rule p.messages c.queries c.slots i keeps slot x body is) in
         let (ty, own, set) = given_parts (type_of x).type_ element_of element found in
-        let one = of_type x (t.Set element) v (there_by (ItemKind-F.For slot x body) x is (inl refl)) (own ∙ ap Some (set_type ty element set)) e in
-        let (vs, same, each, up) = set_parts p element v one in
-        (element, is_typed_parts (slot_type known_of slot) element has, subst (All (IsOf p element)) (sym (ap elements_of same ∙ elements_of-Set vs)) (all_are_of p element vs each))
+        (element, is_typed_parts (slot_type known_of slot) element has, elements_are p element v (of_type x (t.Set element) v (there_by (ItemKind-F.For slot x body) x is (inl refl)) (own ∙ ap Some (set_type ty element set)) e))
 
     -- the arguments of a call fit its parameters
     pub args_fit_params : (args : List BindArg) (body : List Item) (vs : List Val) → kind_of i ≡ ItemKind-F.Call args body → eval_all c.queries (map value_of_arg args) d ≡ Ok vs → FitSlots p c (map slot_of_arg args) vs
