@@ -1,10 +1,12 @@
 pub mod DataKept
 pub mod ExprParts
 pub mod ExprValues
+pub mod HandlersEnd
 pub mod Integers
 pub mod KeptShaped
 pub mod Known
 pub mod Messages
+pub mod NoYields
 pub mod Operations
 pub mod Ranges
 pub mod Rules

@@ -1,5 +1,5 @@
 -- A turn, a run and a step of an accepted program lead from shaped worlds to shaped ones, and what they send may be sent.
-use Rattle.std.specs.Prelude.{◌≡◌, ℕ, ◌^◌, ◌<◌, ◌⊎◌, true, List, [], ◌∷◌, Some}
+use Rattle.std.specs.Prelude.{◌≡◌, ℕ, ◌^◌, ◌<◌, ◌⊎◌, true, false, List, [], ◌∷◌, Some}
 use Rattle.std.specs.List.{All}
 use Rattle.da_values.specs.declared.val.Val.{Val}
 use Rattle.da_values.specs.Proper.{IsValue}
@@ -8,14 +8,16 @@ use Rattle.da_values.specs.Value.{val_of}
 use Rattle.da_lang.specs.declared.event.Action.{Action}
 use Rattle.da_lang.specs.declared.event.Action.TheVariants as act
 use Rattle.da_lang.specs.declared.program.Class.{Class}
+use Rattle.da_lang.specs.declared.program.Handler.{Handler}
+use Rattle.da_lang.specs.declared.program.Item.{Item}
 use Rattle.da_lang.specs.declared.program.Program.{Program}
 use Rattle.da_lang.specs.declared.ty.Ty.{Ty}
 use Rattle.da_lang.specs.declared.ty.Ty.TheVariants as t
 use Rattle.da_lang.specs.ExprTypes.{ExprType}
-use Rattle.da_lang.specs.Runs.{run_to_yield}
-use Rattle.da_lang.specs.Shaped.{HasType, IsEntry, IsOf, IsProcess, IsTask, Shaped, ShapedData, ShapedTasks, well_typed}
+use Rattle.da_lang.specs.Runs.{AtYield, kind_yields, run_to_yield}
+use Rattle.da_lang.specs.Shaped.{HasType, IsEntry, IsOf, IsProcess, IsTask, Shaped, ShapedData, ShapedTasks, Within, well_typed}
 use Rattle.da_lang.specs.Steps.{Step, Go, Take, Deliver, Stepped, proc_step}
-use Rattle.da_lang.specs.Turns.{turn}
+use Rattle.da_lang.specs.Turns.{do_all, kind_of, turn}
 use Rattle.da_lang.specs.World.{Data, Task, World, class_of, opening}
 
 -- a value of the type that a slot of the class has
@@ -84,3 +86,13 @@ pub record KeepsShaped (p : Program) : Type 0 where
   pub turns : (c : Class) (t : Task) (d : Data) (todo : List Task) → ShapedData p c d → IsTask p c d.me t → ShapedTasks p c d.me todo → LeavesShaped p c d.me (turn c t d todo).data' (turn c t d todo).todo (turn c t d todo).actions
   pub runs : (c : Class) (n : ℕ) (d : Data) (todo : List Task) → ShapedData p c d → ShapedTasks p c d.me todo → LeavesShaped p c d.me (run_to_yield c n d todo).data' (run_to_yield c n d todo).todo (run_to_yield c n d todo).actions
   pub steps : (w : World) (s : Step) (r : Stepped) → Shaped p w → MayStep p s → proc_step p w s ≡ Some r → StepsShaped p w.data'.me r
+
+-- no statement in these is a label or an `await`
+abbrev pub HasNoYield : List Item → Type 0
+HasNoYield items = (i : Item) → Within i items → kind_yields (kind_of i) ≡ false
+
+-- What is shown of each accepted program besides: `setup` and handlers end where they began, at no yield point.
+pub record EndsWithoutYield (p : Program) : Type 0 where
+  pub setup : (c : Class) → Has p.classes c → HasNoYield c.setup
+  pub handlers : (c : Class) (h : Handler) → Has p.classes c → Has c.handlers h → HasNoYield h.body
+  pub handled : (c : Class) (h : Handler) (n : ℕ) (d : Data) → Has p.classes c → Has c.handlers h → (run_to_yield c n d (do_all h.body [])).halt ≡ AtYield → ⊥
