@@ -1,4 +1,5 @@
 pub mod DataKept
+pub mod EndedRuns
 pub mod ExprParts
 pub mod ExprValues
 pub mod HandlersEnd

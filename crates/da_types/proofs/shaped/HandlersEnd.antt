@@ -13,6 +13,7 @@ use Rattle.da_lang.specs.declared.program.RExpr.{RExpr}
 use Rattle.da_lang.specs.declared.tree.ClassTree.{ClassTree}
 use Rattle.da_lang.specs.declared.tree.MessageDecl.{MessageDecl}
 use Rattle.da_lang.specs.declared.tree.Tree.{Tree}
+use Rattle.da_lang.specs.Accepted.{IsAccepted}
 use Rattle.da_lang.specs.BodyMeaning.{bind_arg, body_of, body_with, class_slots, copies, copy_of, fresh, named_slots, param_slots, untyped, with_params}
 use Rattle.da_lang.specs.Calls.{called, calls_in, deeds_in, is_yield, yields, yields_within}
 use Rattle.da_lang.specs.ClassParts.{Body, bodies, bodies_where, is_handler, is_setup, method_of, params_if, setup_of, stmts_if}
@@ -21,9 +22,10 @@ use Rattle.da_lang.specs.ExprMeaning.{Tables}
 use Rattle.da_lang.specs.NameRules.{class_refusals, lines_where, name_refusals, yield_in, yields_by}
 use Rattle.da_lang.specs.Resolution.{class_tables, handler, handler_binds, handlers, resolved, resolved_class, run_items, setup_items}
 use Rattle.da_lang.specs.Typing.{filled, filled_class}
-use Rattle.da_types.specs.KeepsShaped.{HasNoYield}
+use Rattle.da_types.specs.KeepsShaped.{EndsWithoutYield, HasNoYield}
 use Rattle.da_types.proofs.resolved.CallsAllowed.{map_none}
 use Rattle.da_types.proofs.resolved.ClassesFill.{find_has}
+use Rattle.da_types.proofs.shaped.EndedRuns.{body_run_ends}
 use Rattle.da_types.proofs.shaped.NoYields.{BlockGoes, DeedGoes, DeedsGo, KindGoes, block_goes, body_goes, call_goes, pass_goes}
 use Rattle.da_types.proofs.totality.Awaits.{no_left, no_right, none_of}
 
@@ -137,3 +139,41 @@ module _ (c : ClassTree) where
   -- from the refusals
   pub yields_refused : class_refusals c ≡ [] → flat_map (yield_in c) (bodies c) ≡ []
   yields_refused e = map_none _ _ (no_right _ _ (no_left _ _ (no_left _ _ (no_left _ _ e))))
+
+-- THE PROGRAM
+classes_named : (t : Tree) → name_refusals t ≡ [] → flat_map class_refusals t.classes ≡ []
+unfolding name_refusals
+classes_named t e = no_left _ _ (no_left _ _ e)
+
+class_from : (t : Tree) (c : Class) → Has (filled (resolved t)).classes c → (ct : ClassTree) × Has t.classes ct × (c ≡ filled_class t.messages (resolved_class ct))
+unfolding filled resolved
+class_from t c h =
+    let (r, among, is) = of_map (filled_class t.messages) (map resolved_class t.classes) c h in
+    let (ct, inside, same) = of_map resolved_class t.classes r among in
+    (ct, inside, is ∙ ap (filled_class t.messages) same)
+
+module _ (p : Program) (accepted : IsAccepted p) where
+  abbrev tree : Tree
+  tree = accepted.resolved.tree
+
+  program_is : p ≡ filled (resolved tree)
+  program_is = accepted.typed.becomes ∙ ap filled accepted.resolved.resolves.becomes
+
+  from_tree : (c : Class) → Has p.classes c → (ct : ClassTree) × (flat_map (yield_in ct) (bodies ct) ≡ []) × (c ≡ filled_class tree.messages (resolved_class ct))
+  from_tree c h =
+      let (ct, inside, is) = class_from tree c (subst (λ (q : Program). Has q.classes c) program_is h) in
+      (ct, yields_refused ct (none_of class_refusals tree.classes (classes_named tree accepted.resolved.resolves.named) ct inside), is)
+
+  pub setup_without_yield : (c : Class) → Has p.classes c → HasNoYield c.setup
+  setup_without_yield c h = let (ct, allowed, is) = from_tree c h in subst (λ (z : Class). HasNoYield z.setup) (sym is) (class_setup_ends ct allowed)
+
+  pub handler_without_yield : (c : Class) (h : Handler) → Has p.classes c → Has c.handlers h → HasNoYield h.body
+  handler_without_yield c h among inside = let (ct, allowed, is) = from_tree c among in class_handler_ends ct allowed h (subst (λ (z : Class). Has z.handlers h) is inside)
+
+  -- SETUP AND HANDLERS END AT NO YIELD POINT
+  pub ends_without_yield : EndsWithoutYield p
+  ends_without_yield = record {
+    setup = setup_without_yield;
+    handlers = handler_without_yield;
+    handled = λ c h n d among inside. body_run_ends c n d h.body (handler_without_yield c h among inside);
+  }
