@@ -1,15 +1,13 @@
 -- What a process knows stays shaped where slots get values of their types, and where declared messages go to processes that
 -- are there or come from them.
-use Rattle.std.specs.Prelude.{◌≡◌, refl, ℕ, zero, suc, ◌+◌, ◌-◌, ◌^◌, ◌<◌, ◌≤◌, ◌==◌, min, max, Bool, true, false, List, [], ◌∷◌, ◌++◌, length, Option, Some, None, slice_get}
-use Rattle.std.specs.List.{All}
+use Rattle.std.specs.Prelude.{◌≡◌, refl, ℕ, zero, suc, ◌^◌, ◌<◌, ◌≤◌, ◌==◌, max, Bool, true, false, List, [], ◌∷◌, length, Option, Some, slice_get}
 use Rattle.std.proofs.Common.{◌∙◌, ap, sym, subst, inl, inr, arith}
 use Rattle.std.proofs.lemmas.Bool.{false≢true, and_parts, eqb-true, eqb-false}
-use Rattle.std.proofs.lemmas.List.Elements.{All-nil, All-cons, All-push}
+use Rattle.std.proofs.lemmas.List.Elements.{All-push}
 use Rattle.da_values.specs.declared.val.Val.{Val}
 use Rattle.da_values.specs.declared.val.Val.TheVariants as val
 use Rattle.da_values.specs.Order.{val_cmp}
-use Rattle.da_values.specs.Proper.{IsValue}
-use Rattle.da_values.specs.Sets.{Has, set_insert, set_remove}
+use Rattle.da_values.specs.Sets.{set_insert, set_remove}
 use Rattle.da_values.specs.Views.{elements_of}
 use Rattle.da_values.proofs.OrderLaws.{val_order, same_from_val_cmp}
 use Rattle.da_values.proofs.SetLaws.{Ascends-insert, Ascends-remove, of_insert, of_remove}
@@ -20,11 +18,11 @@ use Rattle.da_lang.specs.declared.ty.Ty.{Ty}
 use Rattle.da_lang.specs.declared.ty.Ty.TheVariants as t
 use Rattle.da_lang.specs.Changes.{none, puts}
 use Rattle.da_lang.specs.Matching.{Row}
-use Rattle.da_lang.specs.QueryTypes.{given, is_typed, slot_type, type_at}
-use Rattle.da_lang.specs.Shaped.{ShapedData, HasType, IsOf, IsEntry, IsProcess, well_typed}
+use Rattle.da_lang.specs.QueryTypes.{slot_type}
+use Rattle.da_lang.specs.Shaped.{ShapedData, HasType, IsOf, IsEntry}
 use Rattle.da_lang.specs.Steps.{received_at}
 use Rattle.da_lang.specs.Turns.{bind_all, last_time, later, sent_at, sent_to}
-use Rattle.da_lang.specs.Typing.{Slots, has_type, have_types, known}
+use Rattle.da_lang.specs.Typing.{has_type, have_types, known}
 use Rattle.da_lang.specs.World.{Data, Entry, at_number, put_slot, slot_of, value_in}
 use Rattle.da_lang.proofs.ChangeLaws.{changes-slots}
 use Rattle.da_lang.proofs.WorldLaws.{slot-put_there, slot-put_other}

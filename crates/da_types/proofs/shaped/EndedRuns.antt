@@ -1,7 +1,7 @@
 -- A run of statements that hold no yield point stops at none.
-use Rattle.std.specs.Prelude.{◌≡◌, refl, ℕ, zero, suc, ◌+◌, ◌-◌, Bool, true, false, nat_le, if◌then◌else◌, List, [], ◌∷◌, ◌++◌, map, Option, Some, None, Ok, Err}
+use Rattle.std.specs.Prelude.{◌≡◌, refl, ℕ, zero, suc, ◌+◌, ◌-◌, Bool, true, false, nat_le, if◌then◌else◌, List, [], ◌∷◌, map, Ok, Err}
 use Rattle.std.specs.List.{All}
-use Rattle.std.proofs.Common.{◌∙◌, ap, sym, subst, inl, inr}
+use Rattle.std.proofs.Common.{◌∙◌, sym, inl, inr}
 use Rattle.std.proofs.lemmas.Bool.{false≢true}
 use Rattle.std.proofs.lemmas.List.Elements.{All-nil, All-cons, All-append, All-head, All-tail}
 use Rattle.da_values.specs.declared.val.Val.{Val}
@@ -14,16 +14,15 @@ use Rattle.da_lang.specs.declared.program.ItemKind.{ItemKind}
 use Rattle.da_lang.specs.declared.program.ItemKind.TheOpen.{ItemKind-F, Assign, Add, Del, Send, Output, If, While, For, Call, Await, Label, Pass}
 use Rattle.da_lang.specs.declared.program.ItemKind.TheViews.{out-RBranch}
 use Rattle.da_lang.specs.declared.program.RBranch.{RBranch}
-use Rattle.da_lang.specs.declared.program.RExpr.{RExpr}
 use Rattle.da_lang.specs.Arithmetic.{Outcome}
 use Rattle.da_lang.specs.Evaluation.{Outcomes, eval, eval_all}
-use Rattle.da_lang.specs.Runs.{Halt, AtYield, UsedUp, Faults, Ran, stopped, go_after, max_turns, yields, run, run_to_yield}
-use Rattle.da_lang.specs.Shaped.{Within, here, deeper, blocks_of}
-use Rattle.da_lang.specs.Turns.{AfterTurn, choose, do_all, enter, kind_of, kind_turn, line_of, loop_turn, max_packet, packet_len, recipients, send_if, slot_of_arg, turn, value_of_arg, with_outcome, with_outcomes}
+use Rattle.da_lang.specs.Runs.{Halt, AtYield, Ran, stopped, go_after, max_turns, yields, run, run_to_yield}
+use Rattle.da_lang.specs.Shaped.{here, deeper, blocks_of}
+use Rattle.da_lang.specs.Turns.{AfterTurn, choose, do_all, kind_of, kind_turn, line_of, loop_turn, max_packet, packet_len, recipients, send_if, turn, value_of_arg, with_outcome, with_outcomes}
 use Rattle.da_lang.specs.World.{Data, Task, Do, Loop, Prepare}
 use Rattle.da_lang.proofs.RunBounds.{by_truth, go_after_has}
 use Rattle.da_types.specs.KeepsShaped.{HasNoYield}
-use Rattle.da_types.proofs.shaped.NoYields.{ItemGoes, NoYield}
+use Rattle.da_types.proofs.shaped.NoYields.{ItemGoes}
 use Rattle.da_types.proofs.shaped.TasksKept.{branch_block, call_block, for_block, other_block, while_block}
 
 -- what is to do holds no yield point

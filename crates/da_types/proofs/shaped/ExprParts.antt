@@ -1,13 +1,13 @@
 -- Each part of an expression that has a type, or fits one, has a type or fits one too; so the slots and the queries that it
 -- names are there.
-use Rattle.std.specs.Prelude.{◌≡◌, refl, ℕ, Bool, true, false, ◌&&◌, ◌⊎◌, if◌then◌else◌, List, [], ◌∷◌, map, Option, Some, None}
+use Rattle.std.specs.Prelude.{◌≡◌, ℕ, Bool, true, false, ◌&&◌, if◌then◌else◌, List, [], ◌∷◌, map, Option, Some}
 use Rattle.std.specs.List.{list_all}
 use Rattle.std.proofs.Common.{◌∙◌, ap, sym, subst, inl, inr}
 use Rattle.std.proofs.lemmas.Bool.{false≢true, and_parts}
 use Rattle.da_values.specs.Sets.{Has}
-use Rattle.da_values.proofs.Members.{each_from_all, Has-map, of_map}
+use Rattle.da_values.proofs.Members.{each_from_all, Has-map}
 use Rattle.da_lang.specs.declared.program.ChainPart.{ChainPart}
-use Rattle.da_lang.specs.declared.program.ChainPart.{out-ChainPart, roll-ChainPart, roll-out-ChainPart}
+use Rattle.da_lang.specs.declared.program.ChainPart.{out-ChainPart, roll-out-ChainPart}
 use Rattle.da_lang.specs.declared.program.RExpr.{RExpr}
 use Rattle.da_lang.specs.declared.program.RExpr.TheVariants as re
 use Rattle.da_lang.specs.declared.query.Query.{Query}

@@ -1,17 +1,16 @@
 -- A typed expression outside queries faults, or gives a whole value of its type.
-use Rattle.std.specs.Prelude.{◌≡◌, refl, ℕ, ℤ, pos, ◌<◌, ◌^◌, ◌&&◌, not, nat_lt, Bool, true, false, if◌then◌else◌, List, [], ◌∷◌, ◌++◌, map, length, Option, Some, None, Ok, Err}
+use Rattle.std.specs.Prelude.{◌≡◌, refl, ℕ, pos, ◌<◌, ◌^◌, ◌&&◌, not, Bool, true, false, if◌then◌else◌, List, [], ◌∷◌, ◌++◌, map, length, Option, Some, None, Ok, Err}
 use Rattle.std.specs.List.{AllByRecursion, list_all}
-use Rattle.std.proofs.Common.{◌∙◌, ap, sym, subst, inl, inr, arith}
+use Rattle.std.proofs.Common.{◌∙◌, ap, sym, subst, inl, inr}
 use Rattle.std.proofs.lemmas.Bool.{false≢true, and_parts, lt-ltb}
-use Rattle.da_values.specs.declared.val.Val.{Val, out-Val}
+use Rattle.da_values.specs.declared.val.Val.{Val}
 use Rattle.da_values.specs.declared.val.Val.TheVariants as val
 use Rattle.da_values.specs.declared.value.Value.{Value}
 use Rattle.da_values.specs.declared.value.Value.TheVariants as kept
-use Rattle.da_values.specs.Narrow.{is_i64}
 use Rattle.da_values.specs.Order.{val_cmp}
 use Rattle.da_values.specs.Sets.{Has, canon, set_has, set_image}
 use Rattle.da_values.specs.Value.{val_of}
-use Rattle.da_values.specs.Views.{int_of, truth_of, elements_of}
+use Rattle.da_values.specs.Views.{truth_of, elements_of}
 use Rattle.da_values.proofs.Members.{Has-append_left, Has-append_right, Has-map, of_map}
 use Rattle.da_values.proofs.OrderLaws.{val_order, same_from_val_cmp}
 use Rattle.da_values.proofs.SetLaws.{of_canon, Ascends-canon}
@@ -24,8 +23,8 @@ use Rattle.da_lang.specs.declared.tree.ArithOp.{ArithOp}
 use Rattle.da_lang.specs.declared.tree.CmpOp.{CmpOp}
 use Rattle.da_lang.specs.declared.ty.Ty.{Ty}
 use Rattle.da_lang.specs.declared.ty.Ty.TheVariants as t
-use Rattle.da_lang.specs.Arithmetic.{Outcome, arithmetic, range}
-use Rattle.da_lang.specs.Evaluation.{Outcomes, PartMeaning, after, after_all, in_order, with_first, all_true, some_true, asked, chained, eval, eval_all}
+use Rattle.da_lang.specs.Arithmetic.{Outcome, arithmetic}
+use Rattle.da_lang.specs.Evaluation.{Outcomes, PartMeaning, after, after_all, in_order, with_first, all_true, some_true, asked, chained, eval}
 use Rattle.da_lang.specs.ExprTypes.{ExprType, Further, by_itself, gives, int, parts_fit, all_typed, set_type, tuple_typing, set_typing, takes, chain_type, typing, part_typing}
 use Rattle.da_lang.specs.Queries.{compares, query_value}
 use Rattle.da_lang.specs.QueryTypes.{Known, given, holds_of, when, flat, all_types, is_typed, literal_type, slot_type, query_type}
@@ -37,12 +36,11 @@ use Rattle.da_lang.proofs.ExprInduction.{Cases, expr_induction}
 use Rattle.da_lang.proofs.typing.ExprTypesAt.{typing-Const, typing-Procs, typing-Me, typing-Slot, typing-Clock, typing-Ask, typing-Range, typing-Tuple, typing-SetOf, typing-Or, typing-And, typing-Not, typing-Cmp, typing-Member, typing-Chain, part_typing-of}
 use Rattle.da_types.specs.Constants.{Written, all, expr_constants, part_constants}
 use Rattle.da_types.specs.Totality.{IsConstant}
-use Rattle.da_types.proofs.resolved.ConstantsAt.{expr_constants-Const, expr_constants-Procs, expr_constants-Range, expr_constants-Tuple, expr_constants-SetOf, expr_constants-Or, expr_constants-And, expr_constants-Not, expr_constants-Cmp, expr_constants-Member, expr_constants-Chain, part_constants-of}
+use Rattle.da_types.proofs.resolved.ConstantsAt.{expr_constants-Const, expr_constants-Procs, expr_constants-Range, expr_constants-Tuple, expr_constants-SetOf, expr_constants-Chain, part_constants-of}
 use Rattle.da_types.proofs.shaped.Operations.{arithmetic_gives, range_gives}
-use Rattle.da_types.proofs.shaped.Wholes.{WholeOf, WholeRow, WholeEach, Gives, GivesRow, GivesEach, int_whole, truth_whole, process_whole_of, process_there, tuple_whole_of, set_whole_of}
-use Rattle.da_types.proofs.totality.KindLaws.{given_parts, when_parts, holds_parts, is_typed_parts, int_type, tuple_type, set_type as is_set_type, is_proc_value}
+use Rattle.da_types.proofs.shaped.Wholes.{WholeOf, Gives, GivesRow, GivesEach, int_whole, truth_whole, process_whole_of, tuple_whole_of, set_whole_of}
+use Rattle.da_types.proofs.totality.KindLaws.{given_parts, when_parts, holds_parts, is_typed_parts, int_type, tuple_type, set_type as is_set_type}
 use Rattle.da_types.proofs.totality.TermLaws.{literal_fits, flat_is}
-use Rattle.da_types.proofs.totality.WholeValues.{whole}
 use Rattle.da_types.proofs.totality.Worlds.{literal_narrow}
 
 -- the values that are written are there
@@ -195,8 +193,8 @@ module _ (p : Program) (known : Known) (queries : List Query) (d : Data) (w : Me
       as_right (re.Range a b) _ _ (typing-Range known queries a b) (eval-Range queries d a b)
       (given_right p (int (typed a) && int (typed b)) (t.Set t.Int) _
       (λ e. (let (ints_a, ints_b) = and_parts (int (typed a)) (int (typed b)) e in
-             after_gives p t.Int (t.Set t.Int) (value a) _ (one.itself t.Int (int_found (typed a) ints_a))
-             (λ v is_v. after_gives p t.Int (t.Set t.Int) (value b) _ (two.itself t.Int (int_found (typed b) ints_b)) (λ u is_u. range_gives p v u is_v is_u)))))
+      after_gives p t.Int (t.Set t.Int) (value a) _ (one.itself t.Int (int_found (typed a) ints_a))
+      (λ v is_v. after_gives p t.Int (t.Set t.Int) (value b) _ (two.itself t.Int (int_found (typed b) ints_b)) (λ u is_u. range_gives p v u is_v is_u)))))
 
   -- these are truth values, whatever their parts are
   or_case : (es : List RExpr) → AllByRecursion ExprRight es → ExprRight (re.Or es)
@@ -246,11 +244,11 @@ module _ (p : Program) (known : Known) (queries : List Query) (d : Data) (w : Me
       as_right (re.Tuple es) (tuple_typing (map typed es)) o (typing-Tuple known queries es) (eval-Tuple queries d es)
       (record {
         itself = λ ty e. (let (types, are, deep) = given_parts (all_types (map (λ (x : ExprType). x.type_) (map typed es))) (λ types. flat (t.Tuple types)) ty e in
-                          let same = (when_parts (is_flat (t.Tuple types)) (t.Tuple types) ty deep).1 in
-                          subst (λ z. Gives p z o) same (tuple_gives p types (in_order (map value es)) (own_parts es each parts types are)));
+            let same = (when_parts (is_flat (t.Tuple types)) (t.Tuple types) ty deep).1 in
+            subst (λ z. Gives p z o) same (tuple_gives p types (in_order (map value es)) (own_parts es each parts types are)));
         fitting = λ ty e. (let (deep, fit) = and_parts (is_flat ty) (holds_of (parts_of ty) (parts_fit (map typed es))) e in
-                           let (types, are, fits) = holds_parts (parts_of ty) (parts_fit (map typed es)) fit in
-                           subst (λ z. Gives p z o) (sym (tuple_type ty types are)) (tuple_gives p types (in_order (map value es)) (asked_parts es each parts types fits)));
+            let (types, are, fits) = holds_parts (parts_of ty) (parts_fit (map typed es)) fit in
+            subst (λ z. Gives p z o) (sym (tuple_type ty types are)) (tuple_gives p types (in_order (map value es)) (asked_parts es each parts types fits)));
       })
 
   -- the elements of a set
@@ -288,17 +286,18 @@ module _ (p : Program) (known : Known) (queries : List Query) (d : Data) (w : Me
       (record {
         itself = λ ty e. set_found es each parts ty e;
         fitting = λ ty e. (let (deep, fit) = and_parts (is_flat ty) (holds_of (element_of ty) (λ element. list_all (λ (x : ExprType). x.fits element) (map typed es))) e in
-                           let (element, is, fits) = holds_parts (element_of ty) (λ element. list_all (λ (x : ExprType). x.fits element) (map typed es)) fit in
-                           subst (λ z. Gives p z o) (sym (is_set_type ty element is)) (set_gives p element (in_order (map value es)) (asked_elements es each parts element fits)));
+            let (element, is, fits) = holds_parts (element_of ty) (λ element. list_all (λ (x : ExprType). x.fits element) (map typed es)) fit in
+            subst (λ z. Gives p z o) (sym (is_set_type ty element is)) (set_gives p element (in_order (map value es)) (asked_elements es each parts element fits)));
       })
 
   part_case : (o : ArithOp) (a : RExpr) → ExprRight a → PartRight (roll-ChainPart (record { op = o; operand = a }))
   part_case o a one there =
       let right = one (subst (AreThere p) (part_constants-of o a) there) in
       let meaning = part_of-made queries o a in
-      let type' = part_typing-of known queries o a in
-      (ap (λ (z : PartMeaning). z.op) meaning ∙ sym (ap (λ (z : Further). z.op) type'),
-       subst (λ (z : Further). IsRight p z.typing ((part_of queries (roll-ChainPart (record { op = o; operand = a }))).operand d)) (sym type') (subst (λ (z : PartMeaning). IsRight p (typed a) (z.operand d)) (sym meaning) right))
+      let type' = part_typing-of known queries o a in (
+        ap (λ (z : PartMeaning). z.op) meaning ∙ sym (ap (λ (z : Further). z.op) type'),
+        subst (λ (z : Further). IsRight p z.typing ((part_of queries (roll-ChainPart (record { op = o; operand = a }))).operand d)) (sym type') (subst (λ (z : PartMeaning). IsRight p (typed a) (z.operand d)) (sym meaning) right),
+      )
 
   -- a chain, from its first value on
   chained_gives : (ty : Ty) (more : List ChainPart) → AllByRecursion PartRight more → AreThere p (all (map part_constants more)) → list_all (λ (y : Further). takes y.op ty && is_typed y.typing.type_ ty) (map (part_typing known queries) more) ≡ true
@@ -323,8 +322,8 @@ module _ (p : Program) (known : Known) (queries : List Query) (d : Data) (w : Me
       as_right (re.Chain a more) _ o (typing-Chain known queries a more) (eval-Chain queries d a more)
       (itself_right p (chain_type (typed a) (map (part_typing known queries) more)) o
       (λ ty e. (let (first, is, holds) = given_parts (typed a).type_ _ ty e in
-                let (fit, same) = when_parts (list_all (λ (y : Further). takes y.op first && is_typed y.typing.type_ first) (map (part_typing known queries) more)) first ty holds in
-                subst (λ z. Gives p z o) same (after_gives p first first (value a) _ (right.itself first is) (λ v is_v. chained_gives first more each rest fit v is_v)))))
+      let (fit, same) = when_parts (list_all (λ (y : Further). takes y.op first && is_typed y.typing.type_ first) (map (part_typing known queries) more)) first ty holds in
+      subst (λ z. Gives p z o) same (after_gives p first first (value a) _ (right.itself first is) (λ v is_v. chained_gives first more each rest fit v is_v)))))
 
   abbrev cases : Cases
   cases = record {

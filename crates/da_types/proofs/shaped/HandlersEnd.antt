@@ -1,21 +1,19 @@
 -- In an accepted program `setup` and handlers hold no yield point, so the run of a handler stops at none.
-use Rattle.std.specs.Prelude.{◌≡◌, refl, ℕ, zero, suc, ◌+◌, ◌-◌, Bool, true, false, not, ◌||◌, if◌then◌else◌, List, [], ◌∷◌, ◌++◌, map, length, zip, Option, Some, None, filter, filter_map, find, flat_map}
-use Rattle.std.specs.List.{All, AllByRecursion, list_any}
+use Rattle.std.specs.Prelude.{◌≡◌, refl, ℕ, zero, suc, Bool, true, false, ◌||◌, if◌then◌else◌, List, [], ◌∷◌, map, length, zip, Option, Some, None, filter, find, flat_map}
+use Rattle.std.specs.List.{list_any}
 use Rattle.std.proofs.Common.{◌∙◌, ap, sym, subst, inl, inr, ⊎_elim}
 use Rattle.std.proofs.lemmas.Bool.{cases_Bool, false≢true, true≢false, or_left, or_right}
 use Rattle.da_values.specs.Sets.{Has}
 use Rattle.da_values.proofs.Members.{Has-filter, Has-filter_map, any_from_has, of_filter, of_map}
 use Rattle.da_lang.specs.declared.program.Class.{Class}
 use Rattle.da_lang.specs.declared.program.Handler.{Handler}
-use Rattle.da_lang.specs.declared.program.Item.{Item}
 use Rattle.da_lang.specs.declared.program.Program.{Program}
 use Rattle.da_lang.specs.declared.program.RExpr.{RExpr}
 use Rattle.da_lang.specs.declared.tree.ClassTree.{ClassTree}
-use Rattle.da_lang.specs.declared.tree.MessageDecl.{MessageDecl}
 use Rattle.da_lang.specs.declared.tree.Tree.{Tree}
 use Rattle.da_lang.specs.Accepted.{IsAccepted}
-use Rattle.da_lang.specs.BodyMeaning.{bind_arg, body_of, body_with, class_slots, copies, copy_of, fresh, named_slots, param_slots, untyped, with_params}
-use Rattle.da_lang.specs.Calls.{called, calls_in, deeds_in, is_yield, yields, yields_within}
+use Rattle.da_lang.specs.BodyMeaning.{bind_arg, body_with, class_slots, copies, fresh, named_slots, param_slots, untyped, with_params}
+use Rattle.da_lang.specs.Calls.{called, calls_in, deeds_in, is_yield, yields_within}
 use Rattle.da_lang.specs.ClassParts.{Body, bodies, bodies_where, is_handler, is_setup, method_of, params_if, setup_of, stmts_if}
 use Rattle.da_lang.specs.Deeds.{Deed, Doing, Sends, Outputs, Labels, Calls, Loops, Awaits, TimesOut, Other, deeds}
 use Rattle.da_lang.specs.ExprMeaning.{Tables}
@@ -26,7 +24,7 @@ use Rattle.da_types.specs.KeepsShaped.{EndsWithoutYield, HasNoYield}
 use Rattle.da_types.proofs.resolved.CallsAllowed.{map_none}
 use Rattle.da_types.proofs.resolved.ClassesFill.{find_has}
 use Rattle.da_types.proofs.shaped.EndedRuns.{body_run_ends}
-use Rattle.da_types.proofs.shaped.NoYields.{BlockGoes, DeedGoes, DeedsGo, KindGoes, block_goes, body_goes, call_goes, pass_goes}
+use Rattle.da_types.proofs.shaped.NoYields.{DeedGoes, DeedsGo, KindGoes, block_goes, body_goes, call_goes, pass_goes}
 use Rattle.da_types.proofs.totality.Awaits.{no_left, no_right, none_of}
 
 -- METHODS THAT HOLD NO YIELD POINT

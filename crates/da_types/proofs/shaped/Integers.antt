@@ -1,12 +1,12 @@
 -- Integers of 64 bits: what is left by a division is one, and so is each number of a range.
-use Rattle.std.specs.Prelude.{◌≡◌, refl, ℕ, ℤ, zero, suc, pos, negsuc, ◌+◌, ◌-◌, ◌*◌, ◌/◌, ◌%◌, ◌^◌, ◌<◌, ◌≤◌, ◌+ℤ◌, ◌-ℤ◌, ◌*ℤ◌, neg_ℤ, int_lt, unsigned_abs, nat_lt, Bool, true, false, FitsSigned}
-use Rattle.std.specs.Int.{w128, int_gap, int_div_euclid}
-use Rattle.std.proofs.Common.{◌∙◌, ap, sym, subst, arith}
-use Rattle.std.proofs.lemmas.Bool.{ltb-true, lt-ltb, le-ltb, false≢true}
+use Rattle.std.specs.Prelude.{◌≡◌, refl, ℕ, ℤ, zero, suc, pos, negsuc, ◌-◌, ◌/◌, ◌%◌, ◌^◌, ◌<◌, ◌≤◌, ◌-ℤ◌, ◌*ℤ◌, neg_ℤ, int_lt, unsigned_abs, true, false, FitsSigned}
+use Rattle.std.specs.Int.{w128, int_div_euclid}
+use Rattle.std.proofs.Common.{arith}
+use Rattle.std.proofs.lemmas.Bool.{ltb-true, lt-ltb, le-ltb}
 use Rattle.std.proofs.lemmas.Int.{ints, fits_signed_from_abs}
 use Rattle.std.proofs.lemmas.Nat.{div-add-mod', mod_below}
 use Rattle.da_values.specs.Narrow.{is_i64}
-use Rattle.da_lang.specs.Arithmetic.{quotient, remainder}
+use Rattle.da_lang.specs.Arithmetic.{remainder}
 
 -- by the absolute value
 pub is_i64_below : (z : ℤ) → unsigned_abs z < 2 ^ 63 → is_i64 z ≡ true

@@ -1,17 +1,15 @@
 -- In a typed program whose constants are there, what a process knows gives whole values to its expressions.
-use Rattle.std.specs.Prelude.{◌≡◌, refl, ℕ, ◌<◌, ◌^◌, Bool, true, false, ℤ, List, [], length, Option, Some, None, Ok, Err}
+use Rattle.std.specs.Prelude.{◌≡◌, refl, ℕ, ◌<◌, ◌^◌, Bool, true, false, ℤ, List, [], length, Option, Some, Ok, Err}
 use Rattle.std.proofs.Common.{◌∙◌, ap, sym, subst}
 use Rattle.std.proofs.lemmas.Bool.{false≢true}
 use Rattle.da_values.specs.declared.val.Val.{Val}
 use Rattle.da_values.specs.declared.val.Val.TheVariants as val
-use Rattle.da_values.specs.declared.value.Value.{Value}
 use Rattle.da_values.specs.declared.value.Value.TheVariants as kept
-use Rattle.da_values.specs.Narrow.{is_i64, is_narrow}
+use Rattle.da_values.specs.Narrow.{is_narrow}
 use Rattle.da_values.specs.Sets.{Has}
 use Rattle.da_values.proofs.FoldsAt.{is_narrow_of}
 use Rattle.da_lang.specs.declared.program.Class.{Class}
 use Rattle.da_lang.specs.declared.program.Program.{Program}
-use Rattle.da_lang.specs.declared.query.Agg.{Agg}
 use Rattle.da_lang.specs.declared.query.AggOp.{AggOp}
 use Rattle.da_lang.specs.declared.query.AggOp.TheVariants.{Count, Sum, Min, Max}
 use Rattle.da_lang.specs.declared.query.Cond.TheViews.{out-Agg, roll-out-Agg}
@@ -28,7 +26,7 @@ use Rattle.da_lang.specs.Typing.{IsTyped, known}
 use Rattle.da_lang.specs.World.{Data, at_number, slot_of}
 use Rattle.da_lang.proofs.QueryLaws.{agg-made}
 use Rattle.da_types.specs.Constants.{ConstantsAreThere}
-use Rattle.da_types.specs.Totality.{HasValue, IsAnswer, IsConstant, QueryHas, counts, counts_by, query_constants}
+use Rattle.da_types.specs.Totality.{IsAnswer, counts, counts_by}
 use Rattle.da_types.proofs.shaped.ExprValues.{Meets}
 use Rattle.da_types.proofs.shaped.Wholes.{WholeOf, Gives, int_whole, from_is_of}
 use Rattle.da_types.proofs.totality.HaveValues.{nothing_is_missing}

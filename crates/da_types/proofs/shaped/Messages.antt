@@ -1,5 +1,5 @@
 -- A message that a statement sends has the tag that is written in it, and goes to the processes of its second expression.
-use Rattle.std.specs.Prelude.{◌≡◌, refl, ℕ, Bool, true, false, ◌&&◌, ◌||◌, List, [], ◌∷◌, map, length, Option, Some, None, Ok, Err}
+use Rattle.std.specs.Prelude.{◌≡◌, refl, ℕ, Bool, true, false, ◌&&◌, ◌||◌, List, [], ◌∷◌, map, length, Some, Ok, Err}
 use Rattle.std.proofs.Common.{◌∙◌, ap, sym, subst, inl, inr}
 use Rattle.std.proofs.lemmas.Bool.{false≢true, and_from}
 use Rattle.da_values.specs.declared.val.Val.{Val, out-Val}
@@ -29,11 +29,11 @@ use Rattle.da_lang.specs.QueryTypes.{Known, given, holds_of, declared, message_t
 use Rattle.da_lang.specs.Shaped.{IsProcess, as_tag, tag_of, is_declared, has_processes, well_typed}
 use Rattle.da_lang.specs.Turns.{recipients, recipients_in}
 use Rattle.da_lang.specs.Types.{is_of, is_proc, proc_in, proc_value, element_of}
-use Rattle.da_lang.specs.Typing.{text_part, first_part, message_tag}
+use Rattle.da_lang.specs.Typing.{text_part, message_tag}
 use Rattle.da_lang.specs.World.{Data}
 use Rattle.da_lang.proofs.EvaluationLaws.{eval-Const, eval-Tuple}
 use Rattle.da_lang.proofs.typing.TypesAt.{is_of_at-Proc}
-use Rattle.da_types.proofs.shaped.Wholes.{WholeOf, WholeEach, set_parts, process_there}
+use Rattle.da_types.proofs.shaped.Wholes.{WholeOf, set_parts, process_there}
 use Rattle.da_types.proofs.totality.KindLaws.{holds_parts, set_type, from_layer}
 use Rattle.da_types.proofs.totality.TermLaws.{flat_is}
 use Rattle.da_types.proofs.totality.WholeValues.{Whole}

@@ -1,9 +1,9 @@
 -- Statements that hold no label and no `await`, and call no method that does, become such statements.
-use Rattle.std.specs.Prelude.{◌≡◌, refl, ℕ, zero, suc, Bool, true, false, ◌||◌, List, [], ◌∷◌, ◌++◌, map, length, zip, Option, Some, None, option_map, option_to_list, filter_map, flat_map}
-use Rattle.std.specs.List.{AllByRecursion, list_any}
-use Rattle.std.proofs.Common.{◌∙◌, ap, sym, subst, inl, inr, ⊎_elim}
+use Rattle.std.specs.Prelude.{◌≡◌, refl, ℕ, false, List, [], ◌∷◌, ◌++◌, map, length, Option, Some, None, option_map}
+use Rattle.std.specs.List.{AllByRecursion}
+use Rattle.std.proofs.Common.{sym, subst, inl, inr, ⊎_elim}
 use Rattle.da_values.specs.Sets.{Has}
-use Rattle.da_values.proofs.Members.{of_append, of_map}
+use Rattle.da_values.proofs.Members.{of_append}
 use Rattle.da_lang.specs.declared.program.Alt.{Alt}
 use Rattle.da_lang.specs.declared.program.BindArg.{BindArg}
 use Rattle.da_lang.specs.declared.program.Item.{Item}
@@ -11,21 +11,20 @@ use Rattle.da_lang.specs.declared.program.ItemKind.{ItemKind, out-ItemKind}
 use Rattle.da_lang.specs.declared.program.ItemKind.TheViews.{out-roll-Item, out-roll-RBranch}
 use Rattle.da_lang.specs.declared.program.ItemKind.TheOpen.{ItemKind-F, Item-F, RBranch-F}
 use Rattle.da_lang.specs.declared.program.ItemKind.TheVariants as it
-use Rattle.da_lang.specs.declared.program.ItemKind.TheViews.{out-Item, out-RBranch}
+use Rattle.da_lang.specs.declared.program.ItemKind.TheViews.{out-RBranch}
 use Rattle.da_lang.specs.declared.program.RBranch.{RBranch}
 use Rattle.da_lang.specs.declared.program.RExpr.{RExpr}
 use Rattle.da_lang.specs.declared.tree.Branch.{Branch, roll-Branch}
 use Rattle.da_lang.specs.declared.tree.Expr.{Expr}
 use Rattle.da_lang.specs.declared.tree.Stmt.{Stmt}
 use Rattle.da_lang.specs.declared.tree.Stmt.TheVariants as stmt
-use Rattle.da_lang.specs.declared.tree.TimeoutTree.{TimeoutTree}
-use Rattle.da_lang.specs.BodyMeaning.{Becomes, Behind, Copy, Guarded, Stating, as_branch, block, block_if, body_with, bound, calling, each, for_each, fresh, found_number, guarding, ifs, item_at, loop, named_slots, next, slot_of, states, stating, untyped, with_expr, with_exprs}
-use Rattle.da_lang.specs.Deeds.{Deed, Doing, Sends, Outputs, Labels, Calls, Loops, Awaits, TimesOut, Other, all, all_if, deeds, deeds_of, deeds_of_branch}
-use Rattle.da_lang.specs.ExprMeaning.{Meaning, Tables, meant, all_outside}
+use Rattle.da_lang.specs.BodyMeaning.{Becomes, Copy, Guarded, Stating, as_branch, block, block_if, body_with, bound, each, for_each, fresh, found_number, guarding, ifs, item_at, loop, named_slots, next, states, stating, untyped}
+use Rattle.da_lang.specs.Deeds.{Deed, Doing, Labels, Calls, Awaits, all, all_if, deeds, deeds_of, deeds_of_branch}
+use Rattle.da_lang.specs.ExprMeaning.{Meaning, Tables, meant}
 use Rattle.da_lang.specs.ExprNames.{found_names}
 use Rattle.da_lang.specs.Runs.{kind_yields}
-use Rattle.da_lang.specs.Scopes.{Scope, look}
-use Rattle.da_lang.specs.Shaped.{Within, here, deeper, blocks_in}
+use Rattle.da_lang.specs.Scopes.{Scope}
+use Rattle.da_lang.specs.Shaped.{here, deeper, blocks_in}
 use Rattle.da_lang.specs.Turns.{kind_of}
 use Rattle.da_lang.proofs.CondInduction.{Where}
 use Rattle.da_lang.proofs.DeedsAt.{deeds_of-Label, deeds_of-Call, deeds_of-If, deeds_of-While, deeds_of-For, deeds_of-AwaitOne, deeds_of-Await, deeds_of_branch-of}

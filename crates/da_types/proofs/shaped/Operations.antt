@@ -1,5 +1,5 @@
 -- Arithmetic on whole values gives whole values of the same type.
-use Rattle.std.specs.Prelude.{◌≡◌, refl, ℕ, ℤ, zero, suc, pos, negsuc, ◌+ℤ◌, ◌-ℤ◌, ◌*ℤ◌, ◌<◌, ◌^◌, ◌&&◌, ◌||◌, nat_le, unsigned_abs, Bool, true, false, if◌then◌else◌, List, [], ◌∷◌, Option, Some, None, Ok, Err}
+use Rattle.std.specs.Prelude.{◌≡◌, refl, ℤ, zero, suc, pos, negsuc, ◌+ℤ◌, ◌-ℤ◌, ◌*ℤ◌, ◌&&◌, ◌||◌, nat_le, Bool, true, false, if◌then◌else◌, List, Option, Some, None, Ok, Err}
 use Rattle.std.specs.Int.{int_gap}
 use Rattle.std.proofs.Common.{◌∙◌, ap, sym, subst, inl, inr, arith}
 use Rattle.std.proofs.lemmas.Bool.{false≢true, and_parts}
@@ -8,7 +8,7 @@ use Rattle.da_values.specs.declared.val.Val.TheVariants as val
 use Rattle.da_values.specs.declared.val.Val.TheOpen as vo
 use Rattle.da_values.specs.Narrow.{is_i64}
 use Rattle.da_values.specs.Order.{val_cmp}
-use Rattle.da_values.specs.Sets.{Has, Ascends}
+use Rattle.da_values.specs.Sets.{Ascends}
 use Rattle.da_values.specs.Views.{int_of}
 use Rattle.da_values.proofs.OrderLaws.{val_order, same_from_val_cmp}
 use Rattle.da_values.proofs.SetLaws.{of_union, of_intersection, of_difference, Ascends-union, Ascends-intersection, Ascends-difference}

@@ -1,9 +1,9 @@
 -- The numbers of a range are integers of 64 bits, and stand in ascending order.
-use Rattle.std.specs.Prelude.{◌≡◌, refl, ℕ, ℤ, zero, suc, pos, negsuc, ◌+◌, ◌^◌, ◌<◌, ◌≤◌, ◌+ℤ◌, neg_ℤ, int_lt, ◌<ℤ◌, ◌≤ℤ◌, true, List, [], ◌∷◌}
+use Rattle.std.specs.Prelude.{◌≡◌, refl, ℕ, ℤ, zero, suc, pos, negsuc, ◌^◌, ◌+ℤ◌, neg_ℤ, int_lt, ◌<ℤ◌, ◌≤ℤ◌, true}
 use Rattle.std.specs.Int.{int_gap}
 use Rattle.std.specs.Ordering.{int_cmp}
 use Rattle.std.specs.declared.cmp.Ordering.TheVariants.{Less}
-use Rattle.std.proofs.Common.{◌∙◌, ap, sym, subst, arith, inl, inr}
+use Rattle.std.proofs.Common.{◌∙◌, arith, inl, inr}
 use Rattle.std.proofs.lemmas.Bool.{ltb-true, lt-ltb}
 use Rattle.std.proofs.lemmas.Int.{ints}
 use Rattle.da_values.specs.declared.val.Val.{Val}

@@ -1,8 +1,7 @@
 -- What the rules of types say of a statement that keeps them, by its form.
-use Rattle.std.specs.Prelude.{◌≡◌, refl, ℕ, Bool, true, ◌&&◌, List, [], ◌∷◌, ◌++◌, map, Option, Some, None, is_some, flat_map, slice_get}
-use Rattle.std.specs.List.{list_all}
-use Rattle.std.proofs.Common.{◌∙◌, ap, sym, subst, inl, inr}
-use Rattle.std.proofs.lemmas.Bool.{false≢true, and_parts}
+use Rattle.std.specs.Prelude.{◌≡◌, ℕ, true, ◌&&◌, List, [], ◌++◌, map, Some, is_some, flat_map, slice_get}
+use Rattle.std.proofs.Common.{◌∙◌, ap, sym}
+use Rattle.std.proofs.lemmas.Bool.{and_parts}
 use Rattle.da_values.specs.Sets.{Has}
 use Rattle.da_values.proofs.Members.{Has-append_left, Has-map}
 use Rattle.da_lang.specs.declared.program.Alt.{Alt}
@@ -10,7 +9,7 @@ use Rattle.da_lang.specs.declared.program.BindArg.{BindArg}
 use Rattle.da_lang.specs.declared.program.Class.{Class}
 use Rattle.da_lang.specs.declared.program.Handler.{Handler}
 use Rattle.da_lang.specs.declared.program.Item.{Item}
-use Rattle.da_lang.specs.declared.program.ItemKind.{ItemKind, out-ItemKind}
+use Rattle.da_lang.specs.declared.program.ItemKind.{ItemKind}
 use Rattle.da_lang.specs.declared.program.ItemKind.TheFolds.{map-ItemKind, fold_out-ItemKind, fold_out-Alt, fold_out-Item, fold_out-RBranch}
 use Rattle.da_lang.specs.declared.program.ItemKind.TheOpen.{ItemKind-F}
 use Rattle.da_lang.specs.declared.program.ItemKind.TheViews.{out-Alt, out-Item, out-RBranch}

@@ -1,13 +1,13 @@
 -- A run keeps what it found shaped, up to where it stops.
-use Rattle.std.specs.Prelude.{◌≡◌, refl, ℕ, zero, suc, ◌+◌, ◌-◌, Bool, true, false, List, [], ◌∷◌, ◌++◌}
+use Rattle.std.specs.Prelude.{refl, ℕ, zero, suc, ◌+◌, ◌-◌, List, [], ◌∷◌, ◌++◌}
 use Rattle.std.proofs.Common.{sym, subst}
 use Rattle.std.proofs.lemmas.List.Elements.{All-nil, All-append}
 use Rattle.da_lang.specs.declared.event.Action.{Action}
 use Rattle.da_lang.specs.declared.program.Class.{Class}
 use Rattle.da_lang.specs.declared.program.Program.{Program}
-use Rattle.da_lang.specs.Runs.{AtYield, UsedUp, Faults, Ran, stopped, behind, go_after, max_turns, yields, run, run_to_yield}
+use Rattle.da_lang.specs.Runs.{AtYield, Ran, stopped, go_after, max_turns, yields, run, run_to_yield}
 use Rattle.da_lang.specs.Shaped.{ShapedData, ShapedTasks}
-use Rattle.da_lang.specs.Turns.{AfterTurn, turn}
+use Rattle.da_lang.specs.Turns.{turn}
 use Rattle.da_lang.specs.World.{Data, Task}
 use Rattle.da_lang.proofs.RunBounds.{by_truth, go_after_has}
 use Rattle.std.proofs.lemmas.List.Elements.{All-head, All-tail}

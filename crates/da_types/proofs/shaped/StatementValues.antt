@@ -1,12 +1,10 @@
 -- In what a process of a whole program knows, the values of a statement fit what it does with them.
-use Rattle.std.specs.Prelude.{◌≡◌, refl, ℕ, ◌<◌, ◌≤◌, Bool, true, false, ◌&&◌, List, [], ◌∷◌, map, length, Option, Some, None, Ok, Err, is_some, slice_get}
-use Rattle.std.specs.List.{All, list_all}
+use Rattle.std.specs.Prelude.{◌≡◌, refl, ℕ, Bool, true, List, [], ◌∷◌, map, Option, Some, None, Ok, Err, is_some, slice_get}
+use Rattle.std.specs.List.{All}
 use Rattle.std.proofs.Common.{◌∙◌, ap, sym, subst, inl, inr}
 use Rattle.std.proofs.lemmas.Bool.{false≢true, and_parts, and_from}
-use Rattle.da_values.specs.declared.val.Val.{Val, out-Val}
+use Rattle.da_values.specs.declared.val.Val.{Val}
 use Rattle.da_values.specs.declared.val.Val.TheVariants as val
-use Rattle.da_values.specs.declared.value.Value.{Value}
-use Rattle.da_values.specs.Order.{val_cmp}
 use Rattle.da_values.specs.Sets.{Has}
 use Rattle.da_values.specs.Views.{elements_of}
 use Rattle.da_values.proofs.Members.{Has-map}
@@ -31,12 +29,12 @@ use Rattle.da_lang.specs.Evaluation.{Outcomes, in_order, with_first, eval, eval_
 use Rattle.da_lang.specs.ExprTypes.{ExprType, truth}
 use Rattle.da_lang.specs.Matching.{Row, matched_entry}
 use Rattle.da_lang.specs.Queries.{least_row}
-use Rattle.da_lang.specs.QueryTypes.{Known, given, holds_of, is_typed, message_type, query_row, slot_type}
-use Rattle.da_lang.specs.Shaped.{ShapedData, HasType, IsSetUp, IsItemOf, IsOf, IsEntry, IsProcess, well_typed}
+use Rattle.da_lang.specs.QueryTypes.{Known, given, is_typed, message_type, query_row, slot_type}
+use Rattle.da_lang.specs.Shaped.{ShapedData, HasType, IsSetUp, IsItemOf, IsOf, IsEntry}
 use Rattle.da_lang.specs.Turns.{kind_of, recipients, slot_of_arg, value_of_arg}
 use Rattle.da_lang.specs.Types.{element_of, is_bool}
-use Rattle.da_lang.specs.Typing.{typed, known, fits_slot, fits_element, is_element, is_message, is_recipient, takes_elements, fits_params, found_row, has_type, have_found, have_types, handler_row, args_fit, item_breaks, message_tag}
-use Rattle.da_lang.specs.World.{Data, Entry, at_number, class_of, class_of_decl}
+use Rattle.da_lang.specs.Typing.{typed, known, fits_slot, is_recipient, fits_params, found_row, has_type, have_found, have_types, handler_row, args_fit, item_breaks, message_tag}
+use Rattle.da_lang.specs.World.{Data, Entry, at_number, class_of_decl}
 use Rattle.da_types.specs.Constants.{exprs_in, exprs_of, expr_constants}
 use Rattle.da_types.specs.KeepsShaped.{FitsSlot, FitsElement, FitSlots, MaySend}
 use Rattle.da_types.proofs.shaped.DataKept.{row_fits_slots}

@@ -1,5 +1,5 @@
 -- A step keeps its world shaped.
-use Rattle.std.specs.Prelude.{◌≡◌, refl, ℕ, zero, suc, ◌+◌, nat_lt, Bool, true, false, cond, if◌then◌else◌, List, [], ◌∷◌, ◌++◌, Option, Some, None, IfSome}
+use Rattle.std.specs.Prelude.{◌≡◌, refl, ℕ, ◌+◌, nat_lt, List, [], ◌∷◌, ◌++◌, Option, Some, None, IfSome}
 use Rattle.std.specs.List.{All}
 use Rattle.std.proofs.Common.{◌∙◌, ap, sym, subst, inl, inr}
 use Rattle.std.proofs.lemmas.List.Elements.{All-nil, All-cons, All-append, All-head, All-tail}
@@ -8,7 +8,6 @@ use Rattle.da_values.specs.Sets.{Has}
 use Rattle.da_values.specs.Value.{value_of}
 use Rattle.da_lang.specs.declared.event.Action.{Action}
 use Rattle.da_lang.specs.declared.event.Action.TheVariants.{Took, Got, End, Fault}
-use Rattle.da_lang.specs.declared.event.FaultKind.TheVariants.{TooLong}
 use Rattle.da_lang.specs.declared.program.Alt.{Alt}
 use Rattle.da_lang.specs.declared.program.Class.{Class}
 use Rattle.da_lang.specs.declared.program.Handler.{Handler}
@@ -22,11 +21,11 @@ use Rattle.da_lang.specs.declared.program.RBranch.{RBranch}
 use Rattle.da_lang.specs.declared.program.SetupCall.{SetupCall}
 use Rattle.da_lang.specs.Matching.{Row, matched_entry}
 use Rattle.da_lang.specs.Queries.{holds}
-use Rattle.da_lang.specs.Runs.{Halt, AtYield, UsedUp, Faults, Ran, behind, max_turns, run_to_yield, stopped}
+use Rattle.da_lang.specs.Runs.{Halt, AtYield, UsedUp, Faults, Ran, max_turns, run_to_yield}
 use Rattle.da_lang.specs.Shaped.{Shaped, ShapedData, ShapedTasks, IsEntry, IsItemOf, IsSetUp, IsTask}
 use Rattle.da_lang.specs.Steps.{Step, Go, Take, Deliver, Stepped, after_halt, class_step, closing, first_tasks, go_waiting, handle, handled, moved, past_await, past_label, preparing, proc_step, received_at, setup_of_decl, step_in, take_alternative, take_waiting, try_handler}
 use Rattle.da_lang.specs.Turns.{bind_all, bind_found, do_all, kind_of}
-use Rattle.da_lang.specs.World.{Data, Entry, Task, Do, Loop, Prepare, World, at_number, class_of, Phase, New, Waiting}
+use Rattle.da_lang.specs.World.{Data, Task, Do, Loop, Prepare, World, at_number, Phase, New, Waiting}
 use Rattle.da_lang.proofs.RunBounds.{by_truth}
 use Rattle.da_types.specs.KeepsShaped.{LeavesShaped, MayStep, MayTell, StepsShaped}
 use Rattle.da_types.proofs.shaped.DataKept.{bound-me, bound_shaped, received_shaped}

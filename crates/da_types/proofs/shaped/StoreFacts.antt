@@ -1,6 +1,6 @@
 -- Of a statement of a whole program: its expressions have types, so that the slots and queries that they name are there, and
 -- as many slots are bound as there are values.
-use Rattle.std.specs.Prelude.{◌≡◌, refl, ℕ, suc, ◌+◌, Bool, true, false, ◌&&◌, List, [], ◌∷◌, map, length, Option, Some, None, is_some, slice_get}
+use Rattle.std.specs.Prelude.{◌≡◌, refl, ℕ, suc, true, List, [], ◌∷◌, length, Option, Some, None, is_some, slice_get}
 use Rattle.std.proofs.Common.{◌∙◌, ap, sym, subst, inl, inr, arith}
 use Rattle.std.proofs.lemmas.Bool.{false≢true, and_parts}
 use Rattle.da_values.specs.Sets.{Has}
@@ -22,7 +22,7 @@ use Rattle.da_lang.specs.declared.ty.Ty.{Ty}
 use Rattle.da_lang.specs.ExprTypes.{ExprType, truth}
 use Rattle.da_lang.specs.Matching.{Row, matched_entry}
 use Rattle.da_lang.specs.Queries.{least_row}
-use Rattle.da_lang.specs.QueryTypes.{Known, given, holds_of, is_typed, message_type, query_row, slot_type}
+use Rattle.da_lang.specs.QueryTypes.{Known, given, is_typed, message_type, query_row, slot_type}
 use Rattle.da_lang.specs.Shaped.{ShapedData, IsEntry, IsItemOf}
 use Rattle.da_lang.specs.Turns.{kind_of}
 use Rattle.da_lang.specs.Types.{element_of, is_bool}

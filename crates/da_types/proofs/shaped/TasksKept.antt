@@ -1,6 +1,5 @@
 -- What a process has to do comes from its class, also where the blocks of a statement take its place.
-use Rattle.std.specs.Prelude.{◌≡◌, refl, ℕ, List, [], ◌∷◌, ◌++◌, map, Option, Some, None, slice_get}
-use Rattle.std.specs.List.{All}
+use Rattle.std.specs.Prelude.{◌≡◌, refl, ℕ, List, [], ◌∷◌, map}
 use Rattle.std.proofs.Common.{◌∙◌, ap, sym, subst, inl, inr}
 use Rattle.std.proofs.lemmas.List.Elements.{All-nil, All-cons, All-append}
 use Rattle.da_values.specs.Sets.{Has}
@@ -10,16 +9,14 @@ use Rattle.da_lang.specs.declared.program.BindArg.{BindArg}
 use Rattle.da_lang.specs.declared.program.Class.{Class}
 use Rattle.da_lang.specs.declared.program.Handler.{Handler}
 use Rattle.da_lang.specs.declared.program.Item.{Item}
-use Rattle.da_lang.specs.declared.program.ItemKind.{ItemKind, roll-ItemKind, out-ItemKind, roll-out-ItemKind}
+use Rattle.da_lang.specs.declared.program.ItemKind.{ItemKind, roll-ItemKind, roll-out-ItemKind}
 use Rattle.da_lang.specs.declared.program.ItemKind.TheOpen.{ItemKind-F}
 use Rattle.da_lang.specs.declared.program.ItemKind.TheVariants as it
 use Rattle.da_lang.specs.declared.program.ItemKind.TheViews.{out-Alt, out-Item, out-RBranch, roll-out-Item}
-use Rattle.da_lang.specs.declared.program.Item.{roll-Item}
 use Rattle.da_lang.specs.declared.program.Program.{Program}
 use Rattle.da_lang.specs.declared.program.RBranch.{RBranch}
 use Rattle.da_lang.specs.declared.program.RExpr.{RExpr}
 use Rattle.da_lang.specs.BodyMeaning.{item_at}
-use Rattle.da_lang.specs.Limits.{item_lists}
 use Rattle.da_lang.specs.Shaped.{IsItemOf, ShapedTasks, IsTask, Within, here, deeper, blocks_of, blocks_in}
 use Rattle.da_lang.specs.Turns.{do_all, kind_of, line_of}
 use Rattle.da_lang.specs.World.{Task, Do}

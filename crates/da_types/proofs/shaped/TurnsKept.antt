@@ -1,5 +1,5 @@
 -- A turn of a shaped process leaves it shaped, and what it sends may be sent.
-use Rattle.std.specs.Prelude.{◌≡◌, refl, ℕ, ◌^◌, ◌<◌, Bool, true, false, nat_le, cond, if◌then◌else◌, List, [], ◌∷◌, ◌++◌, map, Option, Some, None, Ok, Err}
+use Rattle.std.specs.Prelude.{◌≡◌, refl, ℕ, Bool, true, false, nat_le, if◌then◌else◌, List, [], ◌∷◌, map, Option, Some, None, Ok, Err}
 use Rattle.std.specs.List.{All}
 use Rattle.std.proofs.Common.{◌∙◌, ap, sym, subst, inl, inr}
 use Rattle.std.proofs.lemmas.List.Elements.{All-nil, All-cons, All-head, All-tail}
@@ -7,15 +7,13 @@ use Rattle.da_values.specs.declared.val.Val.{Val}
 use Rattle.da_values.specs.declared.val.Val.TheVariants as val
 use Rattle.da_values.specs.Order.{val_cmp}
 use Rattle.da_values.specs.Sets.{Has, set_insert, set_remove}
-use Rattle.da_values.specs.Value.{val_of, value_of}
+use Rattle.da_values.specs.Value.{value_of}
 use Rattle.da_values.specs.Views.{truth_of, elements_of}
 use Rattle.da_values.proofs.ViewLaws.{val_of-value_of}
-use Rattle.da_lang.specs.declared.event.Action.{Action}
 use Rattle.da_lang.specs.declared.event.Action.TheVariants.{Sent, Out}
 use Rattle.da_lang.specs.declared.event.FaultKind.{FaultKind}
 use Rattle.da_lang.specs.declared.event.FaultKind.TheVariants.{Message}
 use Rattle.da_lang.specs.declared.program.Alt.{Alt}
-use Rattle.da_lang.specs.declared.program.BindArg.{BindArg}
 use Rattle.da_lang.specs.declared.program.Class.{Class}
 use Rattle.da_lang.specs.declared.program.Item.{Item}
 use Rattle.da_lang.specs.declared.program.ItemKind.{ItemKind}
@@ -25,18 +23,17 @@ use Rattle.da_lang.specs.declared.program.ItemKind.TheViews.{out-RBranch}
 use Rattle.da_lang.specs.declared.program.Program.{Program}
 use Rattle.da_lang.specs.declared.program.RBranch.{RBranch}
 use Rattle.da_lang.specs.declared.program.RExpr.{RExpr}
-use Rattle.da_lang.specs.declared.program.SetupCall.{SetupCall}
 use Rattle.da_lang.specs.declared.ty.Ty.{Ty}
 use Rattle.da_lang.specs.Arithmetic.{Outcome}
 use Rattle.da_lang.specs.BodyMeaning.{item_at}
 use Rattle.da_lang.specs.Evaluation.{Outcomes, eval, eval_all}
 use Rattle.da_lang.specs.Matching.{Row}
 use Rattle.da_lang.specs.Queries.{least_row}
-use Rattle.da_lang.specs.Shaped.{ShapedData, ShapedTasks, HasType, IsItemOf, IsLoop, IsOf, IsSetUp, IsTask, blocks_of}
-use Rattle.da_lang.specs.Turns.{AfterTurn, bind_all, bind_found, bind_row, choose, do_all, enter, failed, kind_of, kind_turn, later, line_of, loop_turn, max_packet, packet_len, quiet, recipients, send, send_if, sending, sent_to, slot_of_arg, turn, value_of_arg, with_outcome, with_outcomes}
-use Rattle.da_lang.specs.World.{Data, Task, Do, Loop, Prepare, at_number, put_slot, slot_of}
+use Rattle.da_lang.specs.Shaped.{ShapedData, ShapedTasks, IsItemOf, IsLoop, IsOf, IsTask, blocks_of}
+use Rattle.da_lang.specs.Turns.{AfterTurn, bind_all, bind_found, bind_row, choose, do_all, enter, failed, kind_of, kind_turn, later, line_of, loop_turn, max_packet, packet_len, quiet, recipients, send_if, sending, slot_of_arg, turn, value_of_arg, with_outcome, with_outcomes}
+use Rattle.da_lang.specs.World.{Data, Task, Do, Loop, Prepare, put_slot, slot_of}
 use Rattle.da_types.specs.KeepsShaped.{FitSlots, IsSending, LeavesShaped, MaySend, MayTell}
-use Rattle.da_types.proofs.shaped.DataKept.{Suits, bound-me, bound_shaped, fitting_suits, inserted_fits, later_below, put_shaped, removed_fits, sent-me, sent_shaped}
+use Rattle.da_types.proofs.shaped.DataKept.{bound-me, bound_shaped, fitting_suits, inserted_fits, later_below, put_shaped, removed_fits, sent-me, sent_shaped}
 use Rattle.da_types.proofs.shaped.Known.{IsWholeProgram}
 use Rattle.da_types.proofs.shaped.StatementValues.{added_fits, args_fit_params, assigned_fits, branch_row_fits, deleted_fits, elements_fit, sent_fits, setup_args_fit}
 use Rattle.da_types.proofs.shaped.TasksKept.{block_tasks, branch_block, call_block, do_all_tasks, for_block, for_item, other_block, setup_item, while_block}
@@ -153,11 +150,11 @@ module _ (p : Program) (c : Class) (f : IsWholeProgram p) (line : ℕ) (d : Data
     kind_leaves (Add slot x) is =
         outcome_leaves (value x) _
         (λ v e. (let new = val.Set (set_insert val_cmp (elements_of (slot_of d slot)) v) in
-                 quiet_leaves (put_slot d slot new) todo refl (put_shaped p c d slot new s (fitting_suits p c slot new (inserted_fits p c d slot v s (added_fits p c d f s i stands slot x v is e)))) rest))
+        quiet_leaves (put_slot d slot new) todo refl (put_shaped p c d slot new s (fitting_suits p c slot new (inserted_fits p c d slot v s (added_fits p c d f s i stands slot x v is e)))) rest))
     kind_leaves (Del slot x) is =
         outcome_leaves (value x) _
         (λ v e. (let new = val.Set (set_remove val_cmp (elements_of (slot_of d slot)) v) in
-                 quiet_leaves (put_slot d slot new) todo refl (put_shaped p c d slot new s (fitting_suits p c slot new (removed_fits p c d slot v s (deleted_fits p c d f s i stands slot x v is e)))) rest))
+        quiet_leaves (put_slot d slot new) todo refl (put_shaped p c d slot new s (fitting_suits p c slot new (removed_fits p c d slot v s (deleted_fits p c d f s i stands slot x v is e)))) rest))
     kind_leaves (Send x to) is =
         outcome_leaves (value x) _
         (λ m e. outcome_leaves (value to) _ (λ w e_to. send_leaves (nat_le (packet_len m) max_packet) m (recipients w) (sent_fits p c d f s i stands x to m w is e e_to)))

@@ -1,7 +1,7 @@
 -- Values of a type that are whole: proper, with integers of 64 bits and processes that are there. What they are made of, and
 -- what is made of them.
-use Rattle.std.specs.Prelude.{◌≡◌, refl, ℕ, ℤ, ◌<◌, ◌≤◌, ◌^◌, ◌&&◌, nat_lt, nat_le, Bool, true, List, [], ◌∷◌, map, length, Ok, Err}
-use Rattle.std.specs.List.{All, list_all}
+use Rattle.std.specs.Prelude.{◌≡◌, refl, ℕ, ℤ, ◌<◌, ◌^◌, nat_lt, nat_le, Bool, true, List, [], ◌∷◌, length, Ok, Err}
+use Rattle.std.specs.List.{All}
 use Rattle.std.proofs.Common.{◌∙◌, ap, sym, subst, inl, inr, arith}
 use Rattle.std.proofs.lemmas.Bool.{and_parts, and_from, ltb-true, leb-true, lt-ltb, le-leb}
 use Rattle.std.proofs.lemmas.List.Elements.{All-nil, All-cons}
@@ -21,12 +21,12 @@ use Rattle.da_lang.specs.declared.ty.Ty.TheVariants as t
 use Rattle.da_lang.specs.Arithmetic.{Outcome}
 use Rattle.da_lang.specs.Evaluation.{Outcomes}
 use Rattle.da_lang.specs.Matching.{Row}
-use Rattle.da_lang.specs.Shaped.{IsOf, IsProcess, has_processes}
+use Rattle.da_lang.specs.Shaped.{IsOf, IsProcess}
 use Rattle.da_lang.specs.Types.{is_of}
 use Rattle.da_lang.proofs.typing.ShapedAt.{has_processes-Int, has_processes-Bool, has_processes-Proc}
 use Rattle.da_types.proofs.shaped.Integers.{fits_wide}
 use Rattle.da_types.proofs.totality.Keeping.{Fits, RowFits, row_types, row_kept}
-use Rattle.da_types.proofs.totality.KindLaws.{int_of_type, bool_of_type, set_of_type, is_int_value, is_bool_value, is_proc_value, is_tuple_value, is_set_value}
+use Rattle.da_types.proofs.totality.KindLaws.{int_of_type, set_of_type, is_int_value, is_bool_value, is_proc_value, is_tuple_value, is_set_value}
 use Rattle.da_types.proofs.totality.WholeValues.{whole, Whole, tuple_whole, set_whole, elements_whole}
 
 module _ (p : Program) where
