@@ -37,18 +37,18 @@ abbrev parts : Former {0}
 parts = pair (const Ptr) (pair (const Global) this)
 
 abbrev taken_apart : (X : Type 0) → Inside X → parts.Of X
-taken_apart X inside = (inside.inner.ptr, (inside.inner.alloc, inside.inner.value))
+taken_apart X inside = (inside.on_heap.ptr, (inside.on_heap.alloc, inside.on_heap.value))
 
 abbrev put_together : (X : Type 0) → parts.Of X → Inside X
-put_together X p = record { inner = record { ptr = p.0; alloc = p.1.0; value = p.1.1 } }
+put_together X p = record { on_heap = record { ptr = p.0; alloc = p.1.0; value = p.1.1 } }
 
-abbrev boxed_up : Former {0}
-boxed_up = via parts Inside taken_apart put_together (λ X inside. refl) (λ X p. refl)
+abbrev as_kept : Former {0}
+as_kept = via parts Inside taken_apart put_together (λ X inside. refl) (λ X p. refl)
 
 -- Two types whose values lie alike, along `h`.
 module _ (R R' : RattleType) (h : R.Denot → R'.Denot) where
   abbrev along : Inside R.Denot → Inside R'.Denot
-  along = boxed_up.map R.Denot R'.Denot h
+  along = as_kept.map R.Denot R'.Denot h
 
   abbrev box_along : Box R.Denot Global → Box R'.Denot Global
   box_along b = record { ptr = b.ptr; alloc = b.alloc; value = h b.value }
@@ -72,7 +72,7 @@ module _ (R R' : RattleType) (h : R.Denot → R'.Denot) where
   box_kept same = struct_places (kept.the_type R) (kept.the_type R') (box_along, tt) along (λ inside. refl) refl (laid _ _ _ (box_alike same), tt)
 
   pub the_places : Alike R R' h → Alike (seen.the_row R) (seen.the_row R') ((the_former this).map R.Denot R'.Denot h)
-  the_places same = view_places boxed_up (the_former this) view (λ X Y f inside. refl) (λ X inside. refl) R.Denot R'.Denot h (seen.the_row R).coded (seen.the_row R').coded
+  the_places same = view_places as_kept (the_former this) view (λ X Y f inside. refl) (λ X inside. refl) R.Denot R'.Denot h (seen.the_row R).coded (seen.the_row R').coded
       (invariant R.Denot) (invariant R'.Denot) (λ inside held again. refl) (λ inside held again. refl) (λ inside held. held) (λ inside held. held)
       (over (kept.the_row R)) (over (kept.the_row R')) (box_kept same)
 
