@@ -2,6 +2,7 @@
 #![tactic(auto)]
 
 mod code;
+mod copy;
 mod event;
 mod program;
 mod query;
@@ -10,6 +11,10 @@ mod tree;
 mod ty;
 
 pub use code::Instr;
+pub use copy::{
+    copy_agg, copy_cond, copy_gen, copy_gens, copy_live, copy_operand, copy_pattern, copy_query, copy_term,
+    copy_type, copy_types,
+};
 pub use event::{Action, Event, FaultKind};
 pub use program::{
     Alt, BindArg, ChainPart, Class, Handler, Item, ItemKind, ProcDecl, Program, RBranch, RExpr,
