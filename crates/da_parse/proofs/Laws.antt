@@ -74,6 +74,11 @@ goes_on_expr m.Bar = true
 goes_on_expr m.Has = true
 goes_on_expr k = goes_on_disj k
 
+-- the tokens that may go on with a parameter, by any rule of parameters
+abbrev pub goes_on_param : Mark → Bool
+goes_on_param m.Colon = true
+goes_on_param _ = false
+
 -- the readers of a place are sound for what the grammar has there
 pub record Sounds (p : Place) (room : Room) (deep : Deeper) : Type 0 where
   pub fits : (t : List Tok) → p.may_open (length t) ≡ true → room t

@@ -15,33 +15,33 @@ use Rattle.da_parse.specs.Exprs.{place, at_depth, pattern}
 use Rattle.da_parse.specs.Stmts.{bodies, block_behind_colon, block_at}
 use Rattle.da_parse.specs.Types.{types, type_in, type_at, type_below}
 
--- what members are made of: a type, a type in parentheses, and a block behind its colon
+-- what members are made of: a type, a parameter in parentheses, and a block behind its colon
 pub record Parts : Type 0 where
   pub place : Place
   pub ty : Reader Ty
-  pub inner_ty : Reader Ty
+  pub param : Reader Param
   pub block : Reader (List Stmt)
 
--- where d things are open, by a rule of how many may be; the first number bounds how many more there are
-abbrev pub parts_in : Limit → ℕ → ℕ → Parts
-parts_in limit f d = record { place = place limit f d; ty = type_in (limit d) (types limit f (suc d)); inner_ty = types limit f (suc d); block = block_behind_colon (place limit f d) (bodies limit f (suc d)) }
+-- a parameter with its type
+unfoldable pub typed_param : Reader Ty → Reader Param
+typed_param inner_ty = do
+  n ← word m.Name
+  expect m.Colon
+  x ← inner_ty
+  pure (record { name = n; ty = x })
+
+-- where d things are open, by a rule of how many may be and one of parameters; the first number bounds how many more there are
+abbrev pub parts_in : Limit → Reader Param → ℕ → ℕ → Parts
+parts_in limit param f d = record { place = place limit f d; ty = type_in (limit d) (types limit f (suc d)); param = param; block = block_behind_colon (place limit f d) (bodies limit f (suc d)) }
 
 -- where d things are open, of which there are at most 32
 abbrev pub parts_at : ℕ → Parts
-parts_at d = record { place = at_depth d; ty = type_at d; inner_ty = type_below d; block = block_at d }
+parts_at d = record { place = at_depth d; ty = type_at d; param = typed_param (type_below d); block = block_at d }
 
 module _ (s : Parts) where
-  -- a parameter, in parentheses
-  unfoldable pub param : Reader Param
-  param = do
-    n ← word m.Name
-    expect m.Colon
-    x ← s.inner_ty
-    pure (record { name = n; ty = x })
-
   -- behind `(`
   unfoldable pub params : Reader (List Param)
-  params = closed m.CloseParen param []
+  params = closed m.CloseParen s.param []
 
   unfoldable pub variable : ℕ → Reader Member
   variable at = do

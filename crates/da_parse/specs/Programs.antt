@@ -7,6 +7,7 @@ use Rattle.da_lang.specs.declared.tree.Expr.{Expr}
 use Rattle.da_lang.specs.declared.tree.MainLine.{MainLine}
 use Rattle.da_lang.specs.declared.tree.MainLine.TheVariants as line_tree
 use Rattle.da_lang.specs.declared.tree.MessageDecl.{MessageDecl}
+use Rattle.da_lang.specs.declared.tree.Param.{Param}
 use Rattle.da_lang.specs.declared.tree.Tree.{Tree}
 use Rattle.da_lang.specs.declared.ty.ChannelKind.{ChannelKind}
 use Rattle.da_lang.specs.declared.ty.ChannelKind.TheVariants as kind_of
@@ -17,7 +18,7 @@ use Rattle.da_parse.specs.Lists.{begun, closed, ended}
 use Rattle.da_parse.specs.Place.{Limit, Place, opening}
 use Rattle.da_parse.specs.Exprs.{place, at_depth}
 use Rattle.da_parse.specs.Types.{types, type_below}
-use Rattle.da_parse.specs.Members.{Parts, parts_in, parts_at, members}
+use Rattle.da_parse.specs.Members.{Parts, typed_param, parts_in, parts_at, members}
 
 -- what programs are made of: where nothing is open, with a type in parentheses, and where one thing is
 pub record Outer : Type 0 where
@@ -25,9 +26,13 @@ pub record Outer : Type 0 where
   pub inner_ty : Reader Ty
   pub inside : Parts
 
--- by a rule of how many things may be open; the number bounds how many there are
-abbrev pub outer_in : Limit → ℕ → Outer
-outer_in limit f = record { place = place limit f 0; inner_ty = types limit f 1; inside = parts_in limit (f - 1) 1 }
+-- by a rule of how many things may be open and one of parameters; the number bounds how many there are
+abbrev pub outer_in : Limit → Reader Param → ℕ → Outer
+outer_in limit param f = record { place = place limit f 0; inner_ty = types limit f 1; inside = parts_in limit param (f - 1) 1 }
+
+-- where each parameter has its type
+abbrev pub typed_in : Limit → ℕ → Outer
+typed_in limit f = outer_in limit (typed_param (types limit (f - 1) 2)) f
 
 -- at most 32 things are open
 abbrev pub outermost : Outer
