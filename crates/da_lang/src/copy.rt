@@ -1,9 +1,7 @@
 //! Copies of types and of the parts of queries. Each is equal to what it is made from.
 ghost use Rattle.std.specs.Prelude.{◌≡◌, IfOk};
 
-use crate::query::{
-    Agg, Cond, LivePattern, Operand, Pattern, Query, RGen, SignedOperand, Term,
-};
+use crate::query::{Agg, Cond, LivePattern, Operand, Pattern, Query, RGen, SignedOperand, Term};
 use crate::ty::Ty;
 use da_values::{Boxed, List, NoMemory, copy_value};
 use std::alloc::Global;
@@ -175,10 +173,7 @@ fn copy_conds(alloc: Global, conds: &[Cond]) -> Result<List<Cond>, NoMemory>
 
 // A copy of a condition that may be left out.
 #[cycle(conditions)]
-fn copy_guard(
-    alloc: Global,
-    cond: &Option<Boxed<Cond>>,
-) -> Result<Option<Boxed<Cond>>, NoMemory>
+fn copy_guard(alloc: Global, cond: &Option<Boxed<Cond>>) -> Result<Option<Boxed<Cond>>, NoMemory>
     ensures { IfOk result (λ copy. copy ≡ cond.now) }
 {
     match cond {
