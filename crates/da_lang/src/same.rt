@@ -1,4 +1,5 @@
 //! Equality of the parts of queries. None of it takes memory.
+ghost use Rattle.da_lang.specs.Live.{same_live};
 ghost use Rattle.std.specs.Prelude.{◌≡◌, ◌↔◌, IsTrue};
 
 use crate::query::{
@@ -95,9 +96,10 @@ pub fn same_gen(a: &RGen, b: &RGen) -> bool
         && same_pattern(&a.peer, &b.peer)
 }
 
-/// Whether two live patterns are equal.
+/// Whether two live patterns are equal, and so one among those of a class.
 pub fn same_live(a: &LivePattern, b: &LivePattern) -> bool
-    ensures { IsTrue result ↔ (a.now ≡ b.now) }
+    ensures equal { IsTrue result ↔ (a.now ≡ b.now) }
+    ensures once { result ≡ same_live a.now b.now }
 {
     same_source(a.source, b.source)
         && same_pattern(&a.message, &b.message)
