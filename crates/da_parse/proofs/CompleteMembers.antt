@@ -15,12 +15,12 @@ use Rattle.da_lang.specs.ExprGrammar.{IsPattern, deeper}
 use Rattle.da_lang.specs.StmtGrammar.{IsBlock, BodyIn}
 use Rattle.da_lang.specs.Grammar.{IsParam, IsFrom, IsAt, IsMember, TypedParam, IsParams}
 use Rattle.da_parse.specs.Reader as reader
-use Rattle.da_parse.specs.Reader.{mark, text, rest, same, sees, after, Outcome, Reader, and_then, ◌>>=◌, ◌>>◌, pure, refuse, take_token, eat, expect, word}
+use Rattle.da_parse.specs.Reader.{mark, text, rest, same, sees, Reading, Reader, continued, ◌>>=◌, ◌>>◌, pure, refuse, expect, word}
 use Rattle.da_parse.specs.Place.{Limit}
 use Rattle.da_parse.specs.Types.{types}
 use Rattle.da_parse.specs.Exprs.{pattern}
 use Rattle.da_parse.specs.Members.{Parts, typed_param, parts_in, params, variable, setup, run, method, definition_by, definition, sender, labels, handler, member_by, member, members}
-use Rattle.da_parse.proofs.Steps.{mark-At, mark-Named, eat_is, eat_not, expect_is, not_seen, room-Opens, opening_is, word_is, taken_is, passed_is}
+use Rattle.da_parse.proofs.Steps.{mark-At, mark-Named, behind_is, behind_not, expect_is, not_seen, room-Opens, opening_is, word_is, taking_is, past_is}
 use Rattle.da_parse.proofs.Laws.{IsComplete, Shrinks, Begins, Lacks, Anything, goes_on_param}
 use Rattle.da_parse.proofs.Firsts.{never_seen, next-At}
 use Rattle.da_parse.proofs.ShorterStmts.{begins_name, begins_member, IsParam-begins, IsParam-shrinks, Named-shrinks, IsMember-begins, member_shrinks}
@@ -33,9 +33,9 @@ use Rattle.da_parse.proofs.SoundStmts.{same_line}
 
 labels-complete : (ns : List (List ℕ)) (i r s : List Tok) → IsAt ns i r → At m.Colon r s → labels i ≡ Ok (ns, r)
 unfolding labels
-labels-complete _ i r s IsAt.no_at c = eat_not m.At _ _ (not_seen m.At c refl)
+labels-complete _ i r s IsAt.no_at c = behind_not m.At _ _ (not_seen m.At c refl)
 labels-complete ns i r s (IsAt.labels h l) c =
-    eat_is _ _ h ∙ separated-complete {Stops = Anything} {item = word m.Name} (λ x j q a t. word_is a) Named-shrinks m.Comma (λ j q k. tt) [] ns _ r l tt (not_seen m.Comma c refl)
+    behind_is _ _ h ∙ separated-complete {Stops = Anything} {item = word m.Name} (λ x j q a t. word_is a) Named-shrinks m.Comma (λ j q k. tt) [] ns _ r l tt (not_seen m.Comma c refl)
 
 no_sender : (ns : List (List ℕ)) (i r s : List Tok) → IsAt ns i r → At m.Colon r s → sees m.From i ≡ false
 no_sender _ i r s IsAt.no_at c = not_seen m.From c refl
@@ -72,31 +72,31 @@ module _ (s : Parts) (room : Room) (allows : (t : List Tok) → room t → s.pla
 
   sender-complete : (o : Option PatternTree) (ns : List (List ℕ)) (i r q z : List Tok) → IsFrom Pattern o i r → IsAt ns r q → At m.Colon q z → sender s i ≡ Ok (o, r)
   unfolding sender
-  sender-complete _ ns i r q z IsFrom.no_from l c = eat_not m.From _ _ (no_sender ns i q z l c)
-  sender-complete _ ns i r q z (IsFrom.from {p} h a) l c = eat_is _ _ h ∙ rw (pattern_complete p _ r a tt) refl
+  sender-complete _ ns i r q z IsFrom.no_from l c = behind_not m.From _ _ (no_sender ns i q z l c)
+  sender-complete _ ns i r q z (IsFrom.from {p} h a) l c = behind_is _ _ h ∙ rw (pattern_complete p _ r a tt) refl
 
   -- a member is read by its first token, at its line
-  at_member : {k : Mark} (i : List Tok) {o : Outcome Member} → mark i ≡ Some k → member_by s (sp.line i) (Some k) i ≡ o → member s i ≡ o
+  at_member : {k : Mark} (i : List Tok) {o : Reading Member} → mark i ≡ Some k → member_by s (sp.line i) (Some k) i ≡ o → member s i ≡ o
   unfolding member
   at_member {k} i is e = ap (λ z. member_by s (reader.line i) z i) is ∙ ap (λ at. member_by s at (Some k) i) (same_line i) ∙ e
 
   -- a definition is read by the token behind `def`
-  at_definition : {k : Mark} {i r : List Tok} {o : Outcome Member} → At m.Def i r → mark r ≡ Some k → definition_by s (sp.line i) (Some k) r ≡ o → member s i ≡ o
+  at_definition : {k : Mark} {i r : List Tok} {o : Reading Member} → At m.Def i r → mark r ≡ Some k → definition_by s (sp.line i) (Some k) r ≡ o → member s i ≡ o
   unfolding definition
-  at_definition {k} {i} {r} h is e = at_member i (mark-At h) (passed_is (definition s (sp.line i)) h ∙ ap (λ z. definition_by s (sp.line i) z r) is ∙ e)
+  at_definition {k} {i} {r} h is e = at_member i (mark-At h) (past_is (definition s (sp.line i)) h ∙ ap (λ z. definition_by s (sp.line i) z r) is ∙ e)
 
   member-complete : IsComplete Anything (member s) (IsMember room Type_ (IsParams Parameter) Pattern Block)
   unfolding variable setup run method handler
   member-complete _ i r (IsMember.var {x = x} h n c a e) _ =
-      at_member i (mark-At h) (passed_is (variable s (sp.line i)) h ∙ rw (word_is n, expect_is c, type_complete x _ _ a tt, expect_is e) refl)
+      at_member i (mark-At h) (past_is (variable s (sp.line i)) h ∙ rw (word_is n, expect_is c, type_complete x _ _ a tt, expect_is e) refl)
   member-complete _ i r (IsMember.setup {ps} {b} h k o l c a) _ =
-      at_definition h (mark-At k) (passed_is (setup s (sp.line i)) k ∙ rw (opening_is s.place.may_open allows o, params-complete _ (room-Opens o) ps _ _ l, block_complete b _ _ r c a) refl)
+      at_definition h (mark-At k) (past_is (setup s (sp.line i)) k ∙ rw (opening_is s.place.may_open allows o, params-complete _ (room-Opens o) ps _ _ l, block_complete b _ _ r c a) refl)
   member-complete _ i r (IsMember.run {b} h k o l c a) _ =
-      at_definition h (mark-At k) (passed_is (run s (sp.line i)) k ∙ rw (opening_is s.place.may_open allows o, expect_is l, block_complete b _ _ r c a) refl)
+      at_definition h (mark-At k) (past_is (run s (sp.line i)) k ∙ rw (opening_is s.place.may_open allows o, expect_is l, block_complete b _ _ r c a) refl)
   member-complete _ i r (IsMember.method {n} {ps} {b} h k o l c a) _ =
-      at_definition h (mark-Named k) (taken_is (λ z. method s z (sp.line i)) k ∙ rw (opening_is s.place.may_open allows o, params-complete _ (room-Opens o) ps _ _ l, block_complete b _ _ r c a) refl)
+      at_definition h (mark-Named k) (taking_is (λ z. method s z (sp.line i)) k ∙ rw (opening_is s.place.may_open allows o, params-complete _ (room-Opens o) ps _ _ l, block_complete b _ _ r c a) refl)
   member-complete _ i r (IsMember.receive {p} {o} {ns} {b} h a f l c d) _ =
-      at_member i (mark-At h) (passed_is (handler s (sp.line i)) h ∙ rw (pattern_complete p _ _ a tt, sender-complete o ns _ _ _ _ f l c, labels-complete ns _ _ _ l c, block_complete b _ _ r c d) refl)
+      at_member i (mark-At h) (past_is (handler s (sp.line i)) h ∙ rw (pattern_complete p _ _ a tt, sender-complete o ns _ _ _ _ f l c, labels-complete ns _ _ _ l c, block_complete b _ _ r c d) refl)
 
   pub members-complete : (ms : List Member) (i r : List Tok) → Ended (IsMember room Type_ (IsParams Parameter) Pattern Block) ms i r → members s i ≡ Ok (ms, r)
   unfolding members

@@ -18,12 +18,12 @@ use Rattle.da_lang.specs.ExprGrammar.{IsPattern, deeper}
 use Rattle.da_lang.specs.StmtGrammar.{IsBlock, BodyIn}
 use Rattle.da_lang.specs.Grammar.{IsMember, IsCount, IsMline, IsKind, TypedParam, IsParams, IsMessage, IsClass, IsDecls, IsMain, IsProgram, IsTypedProgram}
 use Rattle.da_parse.specs.Reader as reader
-use Rattle.da_parse.specs.Reader.{mark, text, rest, same, is_mark, sees, after, Outcome, Reader, and_then, ◌>>=◌, ◌>>◌, pure, refuse, peek, take_token, eat, expect, word, number}
+use Rattle.da_parse.specs.Reader.{mark, text, rest, same, is_mark, sees, Reading, Reader, continued, ◌>>=◌, ◌>>◌, pure, refuse, expect, word, number}
 use Rattle.da_parse.specs.Place.{Limit}
 use Rattle.da_parse.specs.Types.{types}
 use Rattle.da_parse.specs.Members.{typed_param, members}
 use Rattle.da_parse.specs.Programs.{Outer, outer_in, typed_in, count, one_of, kind, header_end, message, class, new_line, setup_line, line_by, main_line, main, program_end, decls_by, decls_from, decls, program}
-use Rattle.da_parse.proofs.Steps.{mark-At, mark-Named, rest-At, eat_is, eat_not, expect_is, not_seen, room-Opens, opening_is, word_is, number_is, taken_is, passed_is}
+use Rattle.da_parse.proofs.Steps.{mark-At, mark-Named, rest-At, behind_is, behind_not, expect_is, not_seen, room-Opens, opening_is, word_is, number_is, taking_is, past_is}
 use Rattle.da_parse.proofs.Laws.{IsComplete, Shrinks, Anything, Completes, goes_on_disj}
 use Rattle.da_parse.proofs.Firsts.{begins_type, never_seen, next-At, TypeIn-begins}
 use Rattle.da_parse.proofs.Shorter.{TypeIn-shrinks, deeper-shrinks}
@@ -36,24 +36,24 @@ use Rattle.da_parse.proofs.SoundStmts.{same_line}
 
 count-complete : (o : Option ℕ) (i r : List Tok) → IsCount o i r → sees m.Comma r ≡ false → count i ≡ Ok (o, r)
 unfolding count
-count-complete _ i r IsCount.no_count s = eat_not m.Comma _ _ s
-count-complete _ i r (IsCount.count {n} h a) s = eat_is _ _ h ∙ rw (number_is a) refl
+count-complete _ i r IsCount.no_count s = behind_not m.Comma _ _ s
+count-complete _ i r (IsCount.count {n} h a) s = behind_is _ _ h ∙ rw (number_is a) refl
 
 first_of : {k : Mark} {i r : List Tok} (other : Mark) → At k i r → one_of k other i ≡ Ok (true, r)
 unfolding one_of
-first_of other h = eat_is _ _ h
+first_of other h = behind_is _ _ h
 
 second_of : (k : Mark) {other : Mark} {i r : List Tok} → same other k ≡ false → At other i r → one_of k other i ≡ Ok (false, r)
 unfolding one_of
-second_of k apart h = eat_not k _ _ (not_seen k h apart) ∙ rw (expect_is h) refl
+second_of k apart h = behind_not k _ _ (not_seen k h apart) ∙ rw (expect_is h) refl
 
 kind-complete : (k : ChannelKind) (i r : List Tok) → IsKind k i r → sees m.Channel r ≡ false → kind i ≡ Ok (k, r)
 unfolding kind
-kind-complete _ i r IsKind.no_kind s = eat_not m.Channel _ _ s
-kind-complete _ i r (IsKind.fifo_reliable h a b e) s = eat_is _ _ h ∙ rw (first_of m.Unordered a, first_of m.Unreliable b, expect_is e) refl
-kind-complete _ i r (IsKind.unordered_reliable h a b e) s = eat_is _ _ h ∙ rw (second_of m.Fifo refl a, first_of m.Unreliable b, expect_is e) refl
-kind-complete _ i r (IsKind.fifo_unreliable h a b e) s = eat_is _ _ h ∙ rw (first_of m.Unordered a, second_of m.Reliable refl b, expect_is e) refl
-kind-complete _ i r (IsKind.unordered_unreliable h a b e) s = eat_is _ _ h ∙ rw (second_of m.Fifo refl a, second_of m.Reliable refl b, expect_is e) refl
+kind-complete _ i r IsKind.no_kind s = behind_not m.Channel _ _ s
+kind-complete _ i r (IsKind.fifo_reliable h a b e) s = behind_is _ _ h ∙ rw (first_of m.Unordered a, first_of m.Unreliable b, expect_is e) refl
+kind-complete _ i r (IsKind.unordered_reliable h a b e) s = behind_is _ _ h ∙ rw (second_of m.Fifo refl a, first_of m.Unreliable b, expect_is e) refl
+kind-complete _ i r (IsKind.fifo_unreliable h a b e) s = behind_is _ _ h ∙ rw (first_of m.Unordered a, second_of m.Reliable refl b, expect_is e) refl
+kind-complete _ i r (IsKind.unordered_unreliable h a b e) s = behind_is _ _ h ∙ rw (second_of m.Fifo refl a, second_of m.Reliable refl b, expect_is e) refl
 
 -- the readers of a program are complete for what the grammar has where so many things are open, if anything may be opened there
 pub record OuterCompletes (o : Outer) (room : ℕ → Room) (f : ℕ) (Parameter : Spelling Param) : Type 0 where
@@ -88,17 +88,17 @@ module _ (o : Outer) (room : ℕ → Room) (f : ℕ) (Parameter : Spelling Param
       ∙ rw (rest-At h, word_is a, expect_is e, expect_is p, header_end-complete c l b, completes.members _ (room-Opens b) ms _ _ d) refl
 
   -- a line of `main` is read by its first token, at its line
-  at_line : {k : Mark} (i : List Tok) {out : Outcome MainLine} → mark i ≡ Some k → line_by o (sp.line i) (Some k) i ≡ out → main_line o i ≡ out
+  at_line : {k : Mark} (i : List Tok) {out : Reading MainLine} → mark i ≡ Some k → line_by o (sp.line i) (Some k) i ≡ out → main_line o i ≡ out
   unfolding main_line
   at_line {k} i is e = ap (λ z. line_by o (reader.line i) z i) is ∙ ap (λ at. line_by o at (Some k) i) (same_line i) ∙ e
 
   main_line-complete : (t : List Tok) → room 0 t → IsComplete Anything (main_line o) (IsMline (room 1) (deeper room f 2))
   unfolding new_line setup_line
   main_line-complete t some _ i r (IsMline.new {n} {c} {o = many} a h k b d l p e) _ =
-      at_line i (mark-Named a) (taken_is (λ z. new_line o z (sp.line i)) a
+      at_line i (mark-Named a) (taking_is (λ z. new_line o z (sp.line i)) a
       ∙ rw (expect_is h, expect_is k, opening_is o.inside.place.may_open (completes.inside t some).allows b, word_is d, count-complete many _ _ l (not_seen m.Comma p refl), expect_is p, expect_is e) refl)
   main_line-complete t some _ i r (IsMline.setup {n} {xs} h b a l p e) _ =
-      at_line i (mark-At h) (passed_is (setup_line o (sp.line i)) h
+      at_line i (mark-At h) (past_is (setup_line o (sp.line i)) h
       ∙ rw (
         opening_is o.inside.place.may_open (completes.inside t some).allows b,
         word_is a,
@@ -135,11 +135,11 @@ module _ (o : Outer) (room : ℕ → Room) (f : ℕ) (Parameter : Spelling Param
   no_channel (IsDecls.class c l) a = ap (is_mark m.Channel) (mark-Class c)
 
   -- one step, by the token that is next
-  decls_step : {b : Mark} {out : Outcome Tree} (k : ChannelKind) (n : ℕ) (xs : List MessageDecl) (cs : List ClassTree) (i : List Tok) → mark i ≡ Some b → decls_by o k (decls_from o k n) xs cs (Some b) i ≡ out → decls_from o k (suc n) xs cs i ≡ out
+  decls_step : {b : Mark} {out : Reading Tree} (k : ChannelKind) (n : ℕ) (xs : List MessageDecl) (cs : List ClassTree) (i : List Tok) → mark i ≡ Some b → decls_by o k (decls_from o k n) xs cs (Some b) i ≡ out → decls_from o k (suc n) xs cs i ≡ out
   unfolding decls_from
   decls_step k n xs cs i is e = ap (λ z. decls_by o k (decls_from o k n) xs cs z i) is ∙ e
 
-  decls_over : (k : ChannelKind) (n : ℕ) (xs : List MessageDecl) (cs : List ClassTree) (i : List Tok) {out : Outcome Tree} → mark i ≡ Some m.Def → program_end o k xs cs i ≡ out → decls_from o k n xs cs i ≡ out
+  decls_over : (k : ChannelKind) (n : ℕ) (xs : List MessageDecl) (cs : List ClassTree) (i : List Tok) {out : Reading Tree} → mark i ≡ Some m.Def → program_end o k xs cs i ≡ out → decls_from o k n xs cs i ≡ out
   unfolding decls_from
   decls_over k zero xs cs i is e = e
   decls_over k (suc n) xs cs i is e = ap (λ z. decls_by o k (decls_from o k n) xs cs z i) is ∙ e

@@ -21,7 +21,7 @@ use Rattle.da_parse.specs.Place.{Limit}
 use Rattle.da_parse.specs.Types.{types, type_in}
 use Rattle.da_parse.specs.Exprs.{pattern}
 use Rattle.da_parse.specs.Members.{Parts, typed_param, parts_in, params, variable, setup, run, method, definition_by, definition, sender, labels, handler, member_by, member, members}
-use Rattle.da_parse.proofs.Steps.{eat_ok, word_ok, At-mark, Named-mark}
+use Rattle.da_parse.proofs.Steps.{behind_ok, word_ok, At-mark, Named-mark}
 use Rattle.da_parse.proofs.SoundSteps.{reads, made, passes, names, opening_by}
 use Rattle.da_parse.proofs.SoundTypes.{types-sound, type_there-sound}
 use Rattle.da_parse.proofs.SoundPlaces.{places-sound, pattern_there-sound}
@@ -31,7 +31,7 @@ use Rattle.da_parse.proofs.Laws.{IsSound}
 
 labels-sound : IsSound labels IsAt
 unfolding labels
-labels-sound i y e = elim (eat_ok m.At (separated m.Comma (word m.Name) []) (pure []) i y e) [
+labels-sound i y e = elim (behind_ok m.At (separated m.Comma (word m.Name) []) (pure []) i y e) [
   | inl h ↦ g.labels h.1 (all_separated m.Comma (word m.Name) Named word_ok h.0 y h.2)
   | inr h ↦ made IsAt i y h.1 g.no_at
 ]
@@ -105,7 +105,7 @@ module _ (s : Parts) (room : Room) (fits : (t : List Tok) → s.place.may_open (
 
   sender-sound : IsSound (sender s) (IsFrom Pattern)
   unfolding sender
-  sender-sound i y e = elim (eat_ok m.From (pattern s.place >>= λ x. pure (Some x)) (pure None) i y e) [
+  sender-sound i y e = elim (behind_ok m.From (pattern s.place >>= λ x. pure (Some x)) (pure None) i y e) [
     | inl h ↦ (
         reads (pattern s.place h.0) _ y h.2 (λ u after_u read last.
         made (IsFrom Pattern) i y last (g.from h.1 (pattern_sound h.0 (u, after_u) read))))

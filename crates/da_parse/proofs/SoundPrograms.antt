@@ -20,7 +20,7 @@ use Rattle.da_lang.specs.Grammar as g
 use Rattle.da_lang.specs.Grammar.{IsParam, IsFrom, IsAt, IsMember, IsCount, IsMline, IsKind, IsTypes, TypedParam, IsParams, IsMessage, IsClass, IsDecls, IsMain, IsProgram, IsTypedProgram}
 use Rattle.da_parse.specs.declared.place.Level.TheVariants as level
 use Rattle.da_parse.specs.Reader as reader
-use Rattle.da_parse.specs.Reader.{mark, text, rest, sees, after, Outcome, Reader, and_then, ◌>>=◌, ◌>>◌, pure, refuse, take_token, eat, expect, word, number}
+use Rattle.da_parse.specs.Reader.{mark, text, rest, sees, Reading, Reader, continued, ◌>>=◌, ◌>>◌, pure, refuse, expect, word, number}
 use Rattle.da_parse.specs.Lists.{begun, closed}
 use Rattle.da_parse.specs.Place.{Limit, at_most_32}
 use Rattle.da_parse.specs.Types.{types, type_at, type_below}
@@ -28,7 +28,7 @@ use Rattle.da_parse.specs.Exprs.{at_depth}
 use Rattle.da_parse.specs.Stmts.{block_at, body_below}
 use Rattle.da_parse.specs.Members.{typed_param, members}
 use Rattle.da_parse.specs.Programs.{Outer, outer_in, typed_in, outermost, count, kind_from, one_of, kind, finish, header_end, message, class, new_line, argument, setup_line, line_by, main_line, main, program_end, decls_by, decls_from, decls, program}
-use Rattle.da_parse.proofs.Steps.{chosen_value, eat_ok, number_ok, opening_ok, left, At-mark, Named-mark}
+use Rattle.da_parse.proofs.Steps.{chosen_value, behind_ok, number_ok, opening_ok, left, At-mark, Named-mark}
 use Rattle.da_parse.proofs.SoundSteps.{reads, made, passes, names, opening_by}
 use Rattle.da_parse.proofs.SoundTypes.{types-sound}
 use Rattle.da_parse.proofs.ListSound.{all_closed, all_behind, ended-sound}
@@ -39,7 +39,7 @@ use Rattle.da_parse.proofs.Laws.{IsSound, Sounds}
 
 count-sound : IsSound count IsCount
 unfolding count
-count-sound i y e = elim (eat_ok m.Comma (number >>= λ n. pure (Some n)) (pure None) i y e) [
+count-sound i y e = elim (behind_ok m.Comma (number >>= λ n. pure (Some n)) (pure None) i y e) [
   | inl h ↦ (
       reads (number h.0) _ y h.2 (λ u after_u read last.
       made IsCount i y last (g.count h.1 (number_ok h.0 (u, after_u) read))))
@@ -53,7 +53,7 @@ OneOf k other false i r = At other i r
 
 one_of-sound : (k other : Mark) → IsSound (one_of k other) (OneOf k other)
 unfolding one_of
-one_of-sound k other i y e = elim (eat_ok k (pure true) (expect other >> pure false) i y e) [
+one_of-sound k other i y e = elim (behind_ok k (pure true) (expect other >> pure false) i y e) [
   | inl h ↦ made (OneOf k other) i y h.2 h.1
   | inr h ↦ (
       passes other i _ y h.1 (λ after_u passed last.
@@ -68,7 +68,7 @@ kinds false false t r s q z a b c d = g.unordered_unreliable a b c d
 
 kind-sound : IsSound kind IsKind
 unfolding kind
-kind-sound i y e = elim (eat_ok m.Channel (one_of m.Fifo m.Unordered >>= λ fifo. one_of m.Reliable m.Unreliable >>= λ reliable. expect m.Newline >> pure (kind_from fifo reliable)) (pure kind_of.UnorderedUnreliable) i y e) [
+kind-sound i y e = elim (behind_ok m.Channel (one_of m.Fifo m.Unordered >>= λ fifo. one_of m.Reliable m.Unreliable >>= λ reliable. expect m.Newline >> pure (kind_from fifo reliable)) (pure kind_of.UnorderedUnreliable) i y e) [
   | inl h ↦ (
       let (r, there, e1) = h in
       reads (one_of m.Fifo m.Unordered r) _ y e1 (λ u after_u fifo e2.
@@ -187,20 +187,20 @@ module _ (o : Outer) (room : ℕ → Room) (f : ℕ) (Parameter : Spelling Param
 
 module _ (o : Outer) (room : ℕ → Room) (f : ℕ) (Parameter : Spelling Param) (sounds : OuterSounds o room f Parameter) (k : ChannelKind) where
   -- one step, where the steps after it are sound
-  decls_by-sound : (go_on : List MessageDecl → List ClassTree → Reader Tree)
-      (next : (xs : List MessageDecl) (cs : List ClassTree) (i : List Tok) (y : Tree × List Tok) → go_on xs cs i ≡ Ok y → Rest o room f Parameter sounds k xs cs i y)
-      (xs : List MessageDecl) (cs : List ClassTree) (b : Option Mark) (i : List Tok) (y : Tree × List Tok) → mark i ≡ b → decls_by o k go_on xs cs b i ≡ Ok y → Rest o room f Parameter sounds k xs cs i y
-  decls_by-sound go_on next xs cs (Some m.Message) i y is e =
+  decls_by-sound : (rest_of : List MessageDecl → List ClassTree → Reader Tree)
+      (next : (xs : List MessageDecl) (cs : List ClassTree) (i : List Tok) (y : Tree × List Tok) → rest_of xs cs i ≡ Ok y → Rest o room f Parameter sounds k xs cs i y)
+      (xs : List MessageDecl) (cs : List ClassTree) (b : Option Mark) (i : List Tok) (y : Tree × List Tok) → mark i ≡ b → decls_by o k rest_of xs cs b i ≡ Ok y → Rest o room f Parameter sounds k xs cs i y
+  decls_by-sound rest_of next xs cs (Some m.Message) i y is e =
       reads (message o (reader.line i) (rest i)) _ y e (λ u after_u read e1.
       let x = message-sound o room f Parameter sounds i (rest i) (u, after_u) (At-mark m.Message i is) (subst (λ at. message o at (rest i) ≡ Ok (u, after_u)) (same_line i) read) in
       let (ms, ds, ls, r, whole, ones, end, over) = next (xs ++ u ∷ []) cs after_u y e1 in
       (u ∷ ms, ds, ls, r, whole ∙ ap (λ z. record { kind = k; messages = z; classes = cs ++ ds; main = ls }) (append_assoc xs (u ∷ []) ms), g.IsDecls.message x ones, end, over))
-  decls_by-sound go_on next xs cs (Some m.Class) i y is e =
+  decls_by-sound rest_of next xs cs (Some m.Class) i y is e =
       reads (class o (reader.line i) (rest i)) _ y e (λ u after_u read e1.
       let c = class-sound o room f Parameter sounds i (rest i) (u, after_u) (At-mark m.Class i is) (subst (λ at. class o at (rest i) ≡ Ok (u, after_u)) (same_line i) read) in
       let (ms, ds, ls, r, whole, ones, end, over) = next xs (cs ++ u ∷ []) after_u y e1 in
       (ms, u ∷ ds, ls, r, whole ∙ ap (λ z. record { kind = k; messages = xs ++ ms; classes = z; main = ls }) (append_assoc cs (u ∷ []) ds), g.IsDecls.class c ones, end, over))
-  decls_by-sound go_on next xs cs _ i y is e = program_end-sound o room f Parameter sounds k xs cs i y e
+  decls_by-sound rest_of next xs cs _ i y is e = program_end-sound o room f Parameter sounds k xs cs i y e
 
   decls_from-sound : (n : ℕ) (xs : List MessageDecl) (cs : List ClassTree) (i : List Tok) (y : Tree × List Tok) → decls_from o k n xs cs i ≡ Ok y → Rest o room f Parameter sounds k xs cs i y
   unfolding decls_from

@@ -8,7 +8,7 @@ use Rattle.da_lang.specs.Spelling.{Room}
 use Rattle.da_lang.specs.Grammar.{IsTypedProgram, Spells, SpellsWithin}
 use Rattle.da_parse.specs.declared.cursor.Stop.{Stop}
 use Rattle.da_parse.specs.Parse.{answer, parsed}
-use Rattle.da_parse.specs.Reader.{Outcome}
+use Rattle.da_parse.specs.Reader.{Reading}
 use Rattle.da_parse.specs.Place.{Limit, at_most_32}
 use Rattle.da_parse.specs.Programs.{outermost, program}
 use Rattle.da_parse.proofs.Steps.{read_or}
@@ -53,7 +53,7 @@ outermost-complete x i h =
 
 -- ---- one tree
 
-read_once : {x y : Tree} {o : Outcome Tree} → o ≡ Ok (x, []) → o ≡ Ok (y, []) → x ≡ y
+read_once : {x y : Tree} {o : Reading Tree} → o ≡ Ok (x, []) → o ≡ Ok (y, []) → x ≡ y
 read_once {x = x} a b = ap (read_or x) (sym a ∙ b)
 
 -- the same tokens spell one tree
@@ -99,7 +99,7 @@ SpellsWithin_spells n x i (all, h) = (all, program_spells n x i h)
 
 -- ---- what parsing answers
 
-answer_ok : (tokens : List Tok) (o : Outcome Tree) (x : Tree) → answer tokens o ≡ Ok x → (y : Tree × List Tok) × (o ≡ Ok y) × (y.0 ≡ x)
+answer_ok : (tokens : List Tok) (o : Reading Tree) (x : Tree) → answer tokens o ≡ Ok x → (y : Tree × List Tok) × (o ≡ Ok y) × (y.0 ≡ x)
 answer_ok tokens (Ok y) x e = (y, refl, cc)
 answer_ok tokens (Err s) x e = cc
 
