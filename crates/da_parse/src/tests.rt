@@ -1,58 +1,119 @@
-//! Trees of programs, compared with trees by hand and with one another.
+//! Trees by hand, the line of a refusal, and the limit of nesting.
 
-mod build;
-mod expressions;
-mod programs;
-mod statements;
-
-use crate::ParseFault;
-use build::tree_with;
+use crate::{ParseFault, parse};
+use da_lang::{ArithOp, ChainTree, ChannelKind, Expr, MainLine, Tree};
+use da_lex::lex;
+use da_values::{Boxed, List, NoMemory, copy_bytes};
 use std::alloc::Global;
+use std::test::Fail;
 
-// Whether two statements have one tree.
-fn same_tree(alloc: Global, left: &[u8], right: &[u8]) -> Result<bool, ParseFault> {
-    let first = tree_with(alloc, left)?;
-    let second = tree_with(alloc, right)?;
-    Ok(first == second)
+// The tree of a text. A text that the lexer refuses counts as memory refused, which no row expects.
+fn tree_of(alloc: Global, text: &[u8]) -> Result<Tree, ParseFault> {
+    if text.len() > 1_048_576 {
+        return Err(ParseFault::Memory);
+    }
+    match lex(alloc, text) {
+        Ok(tokens) => parse(alloc, &tokens),
+        Err(_) => Err(ParseFault::Memory),
+    }
 }
 
-// Two statements with one tree, or with two.
-const PAIRS: [(&[u8], &[u8], bool); 21] = [
-    // parentheses that only group
-    (b"x = (1 + 2)", b"x = 1 + 2", true),
-    (b"x = ((true))", b"x = true", true),
-    (b"x = (1 * 2) + 3", b"x = 1 * 2 + 3", true),
-    (b"x = (some y in s)", b"x = some y in s", true),
-    // parentheses that do more
-    (b"x = (a and b) and c", b"x = a and b and c", false),
-    (b"x = (a or b) or c", b"x = a or b or c", false),
-    (b"x = (1 + 2) + 3", b"x = 1 + 2 + 3", false),
-    (b"x = 1 * (2 + 3)", b"x = 1 * 2 + 3", false),
-    (b"x = (1,)", b"x = 1", false),
-    (b"x = not (a and b)", b"x = not a and b", false),
-    (b"x = a or (b and c)", b"x = a or b and c", true),
-    (b"x = (a or b) and c", b"x = a or b and c", false),
-    // a sign
-    (b"x = -7", b"x = 0 - 7", false),
-    (b"x = -y", b"x = 0 - y", true),
-    (b"x = -(7)", b"x = 0 - 7", true),
-    (b"x = - -7", b"x = 0 - -7", true),
-    (b"x = -0", b"x = 0", true),
-    // words and signs of one meaning, and of others
-    (
-        b"x = some y in s | y == 1",
-        b"x = some y in s has y == 1",
-        true,
-    ),
-    (b"x = some y in s", b"x = each y in s", false),
-    (b"x = a < b", b"x = b > a", false),
-    (b"await a", b"await (a)", true),
+// `a = new(P, 3)` on line 2
+fn new_line(alloc: Global) -> Result<MainLine, NoMemory> {
+    Ok(MainLine::New {
+        name: copy_bytes(alloc, b"a")?,
+        class: copy_bytes(alloc, b"P")?,
+        count: Some(3),
+        line: 2,
+    })
+}
+
+// `1 - 2`
+fn difference(alloc: Global) -> Result<Expr, NoMemory> {
+    let mut links = List::new(alloc);
+    links.push(ChainTree {
+        op: ArithOp::Minus,
+        operand: Boxed::new(alloc, Expr::Int(2))?,
+    })?;
+    Ok(Expr::Chain(Boxed::new(alloc, Expr::Int(1))?, links))
+}
+
+// `setup(a, 1 - 2)` on line 3
+fn setup_line(alloc: Global) -> Result<MainLine, NoMemory> {
+    let mut args = List::new(alloc);
+    args.push(difference(alloc)?)?;
+    Ok(MainLine::Setup {
+        name: copy_bytes(alloc, b"a")?,
+        args,
+        line: 3,
+    })
+}
+
+fn by_hand(alloc: Global) -> Result<Tree, NoMemory> {
+    let mut main = List::new(alloc);
+    main.push(new_line(alloc)?)?;
+    main.push(setup_line(alloc)?)?;
+    Ok(Tree {
+        kind: ChannelKind::UnorderedUnreliable,
+        messages: List::new(alloc),
+        classes: List::new(alloc),
+        main,
+    })
+}
+
+#[test]
+fn a_text_has_its_tree(rt: HostRuntime) -> Result<(), Fail> {
+    let text = b"def main():\n  a = new(P, 3)\n  setup(a, (1 - 2))\n";
+    let tree = tree_of(rt.alloc(), text)?;
+    let wanted = by_hand(rt.alloc())?;
+    assert!(rt; tree == wanted);
+    Ok(())
+}
+
+fn refusal(alloc: Global, text: &[u8]) -> Option<ParseFault> {
+    tree_of(alloc, text).err()
+}
+
+// Texts without a tree, each with its line.
+const REFUSED: [(&[u8], u32); 3] = [
+    (b"\n\n", 1),
+    (b"def main():\n  pass\n", 2),
+    (b"\ndef main():\n  a = new(A]\n", 3),
 ];
 
 #[test]
-fn trees_keep_no_grouping(rt: HostRuntime) {
-    let alloc = rt.alloc();
-    for (left, right, same) in PAIRS {
-        assert_eq!(rt; same_tree(alloc, left, right), Ok(same));
+fn texts_without_a_tree(rt: HostRuntime) {
+    for (text, line) in REFUSED {
+        assert_eq!(rt;
+            refusal(rt.alloc(), text),
+            Some(ParseFault::Syntax { line })
+        );
     }
+}
+
+// An argument on line 2 in so many parentheses, inside a block and one parenthesis more.
+fn nested(alloc: Global, parentheses: u8) -> Result<List<u8>, NoMemory> {
+    let mut text = List::new(alloc);
+    text.append(b"def main():\n  setup(a, ")?;
+    for _level in 0..parentheses {
+        text.append(b"(")?;
+    }
+    text.append(b"7")?;
+    for _level in 0..parentheses {
+        text.append(b")")?;
+    }
+    text.append(b")\n")?;
+    Ok(text)
+}
+
+#[test]
+fn thirty_two_things_may_be_open(rt: HostRuntime) -> Result<(), Fail> {
+    let accepted = nested(rt.alloc(), 30)?;
+    assert_eq!(rt; refusal(rt.alloc(), accepted.as_slice()), None);
+    let refused = nested(rt.alloc(), 31)?;
+    assert_eq!(rt;
+        refusal(rt.alloc(), refused.as_slice()),
+        Some(ParseFault::Deep { line: 2 })
+    );
+    Ok(())
 }

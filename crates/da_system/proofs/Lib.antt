@@ -1,4 +1,5 @@
 pub mod RunLemmas
+pub mod StandLemmas
 pub mod StepLemmas
 pub mod StopLaws
 pub mod SystemExamples

@@ -29,7 +29,7 @@ use Rattle.da_lang.specs.Turns.{AfterTurn as Turned, bind_all, bind_found, choos
 use Rattle.da_lang.specs.World.{Data, Do, Loop, New, Phase, Prepare, Task, Waiting, World, class_of, at_number}
 use Rattle.da_lang.proofs.RunBounds.{by_truth, go_after_has}
 use Rattle.da_system.specs.Channels.{Letter, channel, may_arrive, may_lose, may_repeat}
-use Rattle.da_system.specs.SourceRun.{EndsByStop, go_on, src_run_from, stop_from, stop_here}
+use Rattle.da_system.specs.SourceRun.{EndsByStop, SrcRun, at_event, src_run_from}
 use Rattle.da_system.specs.SystemStep.{AfterEvent, SystemState, answers_of, arrive, copy_letter, drop_letter, kept_of, numbers_to, process_step, step_of, stepped, sys_step, told}
 
 abbrev IsNoStop : Action → Type 0
@@ -256,24 +256,24 @@ stop_behind (x ∷ xs) rest k none (b ∷ bs, is) = stop_behind xs rest k none.1
 
 module _ (program : Program) where
   -- a run that an event stops ends so
-  stops_by : (i k : ℕ) (step : Option AfterEvent) (stops : AfterEvent → Option ℕ) (others : AfterEvent → List Action) → ((after : AfterEvent) → stops after ≡ Some k → EndsByStop (others after) k)
-      → stop_here i step stops ≡ Some k → EndsByStop (go_on i step others) k
-  stops_by i k None stops others go is = ([], cc)
-  stops_by i k (Some after) stops others go is = let (before, ends) = go after is in (after.actions ++ before, ap (λ xs. after.actions ++ xs) ends ∙ sym (append_assoc after.actions before (Stop k ∷ [])))
+  stops_by : (i k : ℕ) (s : SystemState) (step : Option AfterEvent) (rest : SystemState → SrcRun) → ((next : SystemState) → (rest next).stop ≡ Some k → EndsByStop (rest next).actions k)
+      → (at_event i s step rest).stop ≡ Some k → EndsByStop (at_event i s step rest).actions k
+  stops_by i k s None rest go is = ([], cc)
+  stops_by i k s (Some after) rest go is = let (before, ends) = go after.state is in (after.actions ++ before, ap (λ xs. after.actions ++ xs) ends ∙ sym (append_assoc after.actions before (Stop k ∷ [])))
 
-  pub stop_ends : (i : ℕ) (s : SystemState) (es : List Event) (k : ℕ) → stop_from program i s es ≡ Some k → EndsByStop (src_run_from program i s es) k
+  pub stop_ends : (i : ℕ) (s : SystemState) (es : List Event) (k : ℕ) → (src_run_from program i s es).stop ≡ Some k → EndsByStop (src_run_from program i s es).actions k
   stop_ends i s [] k is = absurd (let clash : ◌≡◌ {A = Option ℕ} None (Some k) = is in cc)
-  stop_ends i s (e ∷ es) k is = stops_by i k (sys_step program s e) _ _ (λ after. stop_ends (i + 1) after.state es k) is
+  stop_ends i s (e ∷ es) k is = stops_by i k s (sys_step program s e) _ (λ next. stop_ends (i + 1) next es k) is
 
   -- and one that ends so was stopped there
-  ended_by : (i k : ℕ) (step : Option AfterEvent) (stops : AfterEvent → Option ℕ) (others : AfterEvent → List Action) → ((after : AfterEvent) → EndsByStop (others after) k → stops after ≡ Some k)
-      → IfSome step (λ (after : AfterEvent). NoStop after.actions) → EndsByStop (go_on i step others) k → stop_here i step stops ≡ Some k
-  ended_by i k None stops others go none ([], is) = cc
-  ended_by i k None stops others go none (b ∷ [], is) = absurd (let sizes : 1 ≡ 2 = ap length is in omega (arith, sizes))
-  ended_by i k None stops others go none (b ∷ c ∷ bs, is) = absurd (let sizes : 1 ≡ suc (suc (length (bs ++ Stop k ∷ []))) = ap length is in omega (arith, sizes))
-  ended_by i k (Some after) stops others go none ends = go after (stop_behind after.actions (others after) k none ends)
+  ended_by : (i k : ℕ) (s : SystemState) (step : Option AfterEvent) (rest : SystemState → SrcRun) → ((next : SystemState) → EndsByStop (rest next).actions k → (rest next).stop ≡ Some k)
+      → IfSome step (λ (after : AfterEvent). NoStop after.actions) → EndsByStop (at_event i s step rest).actions k → (at_event i s step rest).stop ≡ Some k
+  ended_by i k s None rest go none ([], is) = cc
+  ended_by i k s None rest go none (b ∷ [], is) = absurd (let sizes : 1 ≡ 2 = ap length is in omega (arith, sizes))
+  ended_by i k s None rest go none (b ∷ c ∷ bs, is) = absurd (let sizes : 1 ≡ suc (suc (length (bs ++ Stop k ∷ []))) = ap length is in omega (arith, sizes))
+  ended_by i k s (Some after) rest go none ends = go after.state (stop_behind after.actions (rest after.state).actions k none ends)
 
-  pub ends_stopped : (i : ℕ) (s : SystemState) (es : List Event) (k : ℕ) → EndsByStop (src_run_from program i s es) k → stop_from program i s es ≡ Some k
+  pub ends_stopped : (i : ℕ) (s : SystemState) (es : List Event) (k : ℕ) → EndsByStop (src_run_from program i s es).actions k → (src_run_from program i s es).stop ≡ Some k
   ends_stopped i s [] k ([], is) = absurd (let sizes : 0 ≡ 1 = ap length is in omega (arith, sizes))
   ends_stopped i s [] k (b ∷ bs, is) = absurd (let sizes : 0 ≡ suc (length (bs ++ Stop k ∷ [])) = ap length is in omega (arith, sizes))
-  ends_stopped i s (e ∷ es) k ends = ended_by i k (sys_step program s e) _ _ (λ after. ends_stopped (i + 1) after.state es k) (step_stops program s e) ends
+  ends_stopped i s (e ∷ es) k ends = ended_by i k s (sys_step program s e) _ (λ next. ends_stopped (i + 1) next es k) (step_stops program s e) ends

@@ -184,8 +184,8 @@ sends = refl
 
 -- A RUN, which stops at the first event that is not allowed
 
-stops : src_run (program UnorderedReliable) (Show 1 ∷ Lose 1 2 1 ∷ Show 2 ∷ []) ≡ Answer 1 1 [] ∷ Stop 2 ∷ []
+stops : src_run (program UnorderedReliable) (Show 1 ∷ Lose 1 2 1 ∷ Show 2 ∷ []) ≡ record { actions = Answer 1 1 [] ∷ Stop 2 ∷ []; stop = Some 2; state = start (program UnorderedReliable) }
 stops = refl
 
-runs_to_its_end : src_run (program UnorderedReliable) (Stat 1 ∷ Show 2 ∷ []) ≡ Kept 1 0 ∷ Answer 2 1 [] ∷ []
+runs_to_its_end : src_run (program UnorderedReliable) (Stat 1 ∷ Show 2 ∷ []) ≡ record { actions = Kept 1 0 ∷ Answer 2 1 [] ∷ []; stop = None; state = start (program UnorderedReliable) }
 runs_to_its_end = simp living

@@ -6,36 +6,28 @@ use Rattle.da_lang.specs.declared.event.Event.{Event}
 use Rattle.da_lang.specs.declared.program.Program.{Program}
 use Rattle.da_system.specs.SystemStep.{AfterEvent, SystemState, start, sys_step}
 
--- what a run does at event i: it stops where the event is not allowed
-abbrev pub go_on : ℕ → Option AfterEvent → (AfterEvent → List Action) → List Action
-go_on i None others = Stop i ∷ []
-go_on i (Some after) others = after.actions ++ others after
+-- what a run does, the number of the first event that is not allowed, and the state behind the events before it
+pub record SrcRun : Type 0 where
+  pub actions : List Action
+  pub stop : Option ℕ
+  pub state : SystemState
 
--- the actions of the events from number i on, from this state
-abbrev pub src_run_from : Program → ℕ → SystemState → List Event → List Action
-src_run_from program i s [] = []
-src_run_from program i s (e ∷ es) = go_on i (sys_step program s e) (λ after. src_run_from program (i + 1) after.state es)
+-- these actions, and then the rest of the run
+abbrev pub and_then : List Action → SrcRun → SrcRun
+and_then actions rest = record rest { actions = actions ++ rest.actions }
 
-abbrev pub src_run : Program → List Event → List Action
+-- what a run does at event i by its step: it stops where the event is not allowed
+abbrev pub at_event : ℕ → SystemState → Option AfterEvent → (SystemState → SrcRun) → SrcRun
+at_event i s None rest = record { actions = Stop i ∷ []; stop = Some i; state = s }
+at_event i s (Some after) rest = and_then after.actions (rest after.state)
+
+-- the events run from this state, and are numbered from i on
+abbrev pub src_run_from : Program → ℕ → SystemState → List Event → SrcRun
+src_run_from program i s [] = record { actions = []; stop = None; state = s }
+src_run_from program i s (e ∷ es) = at_event i s (sys_step program s e) (λ next. src_run_from program (i + 1) next es)
+
+abbrev pub src_run : Program → List Event → SrcRun
 src_run program events = src_run_from program 1 (start program) events
-
--- the number of the first event that is not allowed, where they are numbered from i on
-abbrev pub stop_here : ℕ → Option AfterEvent → (AfterEvent → Option ℕ) → Option ℕ
-stop_here i None others = Some i
-stop_here i (Some after) others = others after
-
-abbrev pub stop_from : Program → ℕ → SystemState → List Event → Option ℕ
-stop_from program i s [] = None
-stop_from program i s (e ∷ es) = stop_here i (sys_step program s e) (λ after. stop_from program (i + 1) after.state es)
-
--- the state that the events leave, up to the first that is not allowed
-abbrev pub state_on : SystemState → Option AfterEvent → (AfterEvent → SystemState) → SystemState
-state_on s None others = s
-state_on s (Some after) others = others after
-
-abbrev pub state_after : Program → SystemState → List Event → SystemState
-state_after program s [] = s
-state_after program s (e ∷ es) = state_on s (sys_step program s e) (λ after. state_after program after.state es)
 
 -- the last of these actions is the stop at event i
 abbrev pub EndsByStop : List Action → ℕ → Type 0

@@ -1,5 +1,7 @@
--- The state that a system in code stands for.
-use Rattle.std.specs.Prelude.{◌≡◌, ℕ, ◌+◌, ◌-◌, ◌^◌, ◌<◌, ◌≤◌, List, [], ◌∷◌, length, Option, Some, None}
+-- The states that a system in code stands for.
+use Rattle.std.specs.Prelude.{◌≡◌, ◌↔◌, ℕ, ◌+◌, ◌-◌, ◌^◌, ◌<◌, ◌≤◌, List, [], ◌∷◌, ◌++◌, length, Option, Some, None}
+use Rattle.da_lang.specs.declared.event.Action.{Action}
+use Rattle.da_lang.specs.declared.event.Event.{Event}
 use Rattle.da_lang.specs.declared.event.Event.TheVariants.{Move}
 use Rattle.da_lang.specs.declared.program.Class.{Class}
 use Rattle.da_lang.specs.declared.program.Item.{Item}
@@ -11,7 +13,7 @@ use Rattle.da_system.specs.declared.system.System.{System}
 use Rattle.da_system.specs.Channels.{no_letters}
 use Rattle.da_system.specs.Place.{move_at, world_of}
 use Rattle.da_system.specs.Printing.{PrintsOnly}
-use Rattle.da_system.specs.SystemStep.{SystemState, stepped, sys_step}
+use Rattle.da_system.specs.SystemStep.{AfterEvent, SystemState, stepped, sys_step}
 
 abbrev pub program_of : System → Program
 program_of system = system.program.now
@@ -36,6 +38,25 @@ state_in program ps = record { kind = program.kind; worlds = worlds_from program
 
 abbrev pub state_of : System → SystemState
 state_of system = state_in (program_of system) system.processes
+
+-- the system stands for this state
+pub record Stands (system : System) (s : SystemState) : Type 0 where
+  pub is : s ≡ state_of system
+
+-- it holds of each state that the system stands for
+abbrev pub Whichever : System → (SystemState → Type 0) → Type 0
+Whichever system P = (s : SystemState) → Stands system s → P s
+
+-- the two stand for the same states
+abbrev pub StandAlike : System → System → Type 0
+StandAlike system other = (s : SystemState) → Stands system s ↔ Stands other s
+
+-- the event was allowed in this state, and the system stands for the one that it leads to; its actions were added
+pub record HasStepped (program : Program) (s : SystemState) (e : Event) (system : System) (old new : List Action) : Type 0 where
+  pub after : AfterEvent
+  pub step : sys_step program s e ≡ Some after
+  pub stands : Stands system after.state
+  pub added : new ≡ old ++ after.actions
 
 -- each process of a program has a number of 16 bits
 abbrev pub IsNumbered : Program → Type 0

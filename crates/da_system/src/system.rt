@@ -1,8 +1,8 @@
 //! The processes of a program, and their steps.
 ghost use Rattle.da_lang.specs.World.{class_of as class_of_lem, at_number as numbered_lem};
 ghost use Rattle.da_system.specs.Printing.{PrintsOnly};
-ghost use Rattle.da_system.specs.State.{CanStart, IsNumbered, IsReady, program_of, state_of};
-ghost use Rattle.da_system.specs.SystemStep.{start, sys_step, Steps, Tells};
+ghost use Rattle.da_system.specs.State.{CanStart, HasStepped, IsNumbered, IsReady, StandAlike, Stands, Whichever, program_of, state_of};
+ghost use Rattle.da_system.specs.SystemStep.{SystemState, start, sys_step, Steps, Tells};
 ghost use Rattle.std.specs.Prelude.{◌≡◌, ◌↔◌, [], None, IfOk, IsErrOf, IsSome, IsTrue, MatchOption, OnOk, is_some, option_copied};
 
 use crate::machine::{Start, move_from, start_in};
@@ -34,8 +34,8 @@ impl From<NoMemory> for StepFault {
     }
 }
 
-/// The processes of a program, which run by the events of a schedule. Contracts see them as worlds and channels, by
-/// `state_of`.
+/// The processes of a program, which run by the events of a schedule. Contracts see the states that they stand for, by
+/// `Stands`.
 #[derive(Debug, Drop)]
 pub struct System<'p> {
     alloc: Global,
@@ -46,12 +46,13 @@ pub struct System<'p> {
 impl<'p> System<'p> {
     /// The system before any event. The program has fewer than 65,536 processes, and does no more than print: that much
     /// is asked until the machine for all statements is there.
+    #[tactic(auto, using(crate::proofs::StandLemmas::stands_itself))]
     pub fn new(alloc: Global, program: &'p Program) -> Result<System<'p>, NoMemory>
         requires few { IsNumbered program.now }
         requires prints { PrintsOnly program.now }
         ensures ready { IfOk result IsReady }
         ensures program { IfOk result (λ system. program_of system ≡ program.now) }
-        ensures start { IfOk result (λ system. state_of system ≡ start program.now) }
+        ensures start { IfOk result (λ system. Stands system (start program.now)) }
     {
         let mut processes = List::new(alloc);
         for _place in 0..program.procs.len() {
@@ -65,9 +66,10 @@ impl<'p> System<'p> {
     }
 
     /// Whether the event is allowed.
+    #[tactic(auto, using(crate::proofs::StandLemmas::enabled_whichever))]
     pub fn enabled(&self, e: &Event) -> bool
         requires { IsReady self.now }
-        ensures { IsTrue result ↔ IsSome (sys_step (program_of self.now) (state_of self.now) e.now) }
+        ensures { Whichever self.now (λ s. IsTrue result ↔ IsSome (sys_step (program_of self.now) s e.now)) }
     {
         match e {
             Event::Move { p } => self.start_of(*p).is_some(),
@@ -82,15 +84,16 @@ impl<'p> System<'p> {
 
     /// Makes the step of the event, and adds its actions to `out`. No earlier step on this system has answered
     /// `Memory`.
+    #[tactic(auto, using(crate::proofs::StandLemmas::forbidden_whichever, crate::proofs::StandLemmas::none_kept, crate::proofs::StandLemmas::steps_whichever, crate::proofs::StandLemmas::alike))]
     pub fn step(&mut self, e: &Event, out: &mut List<Action>) -> Result<(), StepFault>
         requires { IsReady self.old }
         ensures ready { OnOk result (IsReady self.new) }
         ensures still_ready { IsErrOf result StepFault.Forbidden → IsReady self.new }
         ensures program { program_of self.new ≡ program_of self.old }
-        ensures steps { OnOk result (Steps (program_of self.old) (state_of self.old) e.now (state_of self.new) out.old out.new) }
-        ensures forbidden { IsErrOf result StepFault.Forbidden → sys_step (program_of self.old) (state_of self.old) e.now ≡ None }
-        ensures allowed { sys_step (program_of self.old) (state_of self.old) e.now ≡ None → IsErrOf result StepFault.Forbidden }
-        ensures same { IsErrOf result StepFault.Forbidden → (state_of self.new ≡ state_of self.old) × (out.new ≡ out.old) }
+        ensures steps { OnOk result (Whichever self.old (λ s. HasStepped (program_of self.old) s e.now self.new out.old out.new)) }
+        ensures forbidden { IsErrOf result StepFault.Forbidden → Whichever self.old (λ s. sys_step (program_of self.old) s e.now ≡ None) }
+        ensures allowed { (s : SystemState) → Stands self.old s → sys_step (program_of self.old) s e.now ≡ None → IsErrOf result StepFault.Forbidden }
+        ensures same { IsErrOf result StepFault.Forbidden → StandAlike self.old self.new × (out.new ≡ out.old) }
     {
         match e {
             Event::Move { p } => self.make_move(*p, out),

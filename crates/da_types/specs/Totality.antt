@@ -47,11 +47,11 @@ use Rattle.da_lang.specs.Evaluation.{asked}
 use Rattle.da_lang.specs.Matching.{Row, is_same, where_true}
 use Rattle.da_lang.specs.Queries.{compares, entry_parts, first_or, holds, last_or, query_value, total}
 use Rattle.da_lang.specs.QueryTypes.{given, is_any, query_type}
-use Rattle.da_lang.specs.Shaped.{Shaped, IsItemOf, has_processes}
+use Rattle.da_lang.specs.Shaped.{ShapedData, IsItemOf, has_processes}
 use Rattle.da_lang.specs.Turns.{kind_of}
 use Rattle.da_lang.specs.Types.{is_of}
 use Rattle.da_lang.specs.Typing.{known}
-use Rattle.da_lang.specs.World.{Data, World, class_of, at_number}
+use Rattle.da_lang.specs.World.{Data, at_number}
 
 -- all of them, where each is there
 abbrev pub all_there : {A : Type 0} → List (Option A) → Option (List A)
@@ -291,6 +291,6 @@ pub record AllHaveValues (p : Program) (c : Class) (d : Data) : Type 0 where
   pub queries : (n : ℕ) (q : Query) → at_number c.queries n ≡ Some q → QueryHas p c d q (query_value c.queries n d)
   pub conditions : (i : Item) (alts : List Alt) (a : Alt) → IsItemOf c i → kind_of i ≡ Await alts → Has alts a → found_holds d (out-Alt a).cond [] ≡ Some (holds d (out-Alt a).cond [])
 
--- What is shown of each typed program: in every shaped world all of the class of its process have values.
+-- What is shown of each typed program: all of a class have values, whatever a process of it knows that is shaped.
 abbrev pub NothingIsMissing : Program → Type 0
-NothingIsMissing p = (w : World) (c : Class) → Shaped p w → class_of p w.data'.me ≡ Some c → AllHaveValues p c w.data'
+NothingIsMissing p = (c : Class) (d : Data) → ShapedData p c d → AllHaveValues p c d

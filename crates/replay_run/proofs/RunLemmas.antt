@@ -1,41 +1,44 @@
 -- A run of events, event by event.
-use Rattle.std.proofs.Common.{◌≡◌, refl, sym, ◌∙◌, ap, subst, ℕ, ◌+◌, ◌<◌, List, [], ◌∷◌, ◌++◌, drop, length, add-one, append-nil, append_assoc, get_or, Bool, true, false}
+use Rattle.std.proofs.Common.{◌≡◌, refl, sym, ◌∙◌, ap, subst, ℕ, ◌+◌, ◌<◌, ◌≤◌, List, [], ◌∷◌, ◌++◌, drop, length, add-one, append-nil, append_assoc, get_or, Bool, true, false}
 use Rattle.std.specs.Prelude.{Option, Some, None, ◌↔◌}
 use Rattle.std.proofs.Math.Seq.{drop-cons}
 use Rattle.std.proofs.lemmas.Grind.{flat_map-append}
 use Rattle.std.proofs.lemmas.Bool.{false≢true}
+use Rattle.std.proofs.lemmas.List.{drop_all}
 use Rattle.da_lang.specs.declared.event.Action.{Action}
 use Rattle.da_lang.specs.declared.event.Action.TheVariants.{Stop}
 use Rattle.da_lang.specs.declared.event.Event.{Event}
 use Rattle.da_lang.specs.declared.program.Program.{Program}
 use Rattle.da_outside.specs.Outside.{Appends, AppendsFront}
 use Rattle.da_outside.proofs.OutsideLemmas.{appends_then, front_before, front_behind}
-use Rattle.da_system.specs.SourceRun.{EndsByStop, go_on, src_run_from, state_after, state_on, stop_from, stop_here}
+use Rattle.da_system.specs.declared.system.System.{System}
+use Rattle.da_system.specs.SourceRun.{EndsByStop, SrcRun, and_then, at_event, src_run_from}
+use Rattle.da_system.specs.State.{HasStepped, Stands, Whichever}
 use Rattle.da_system.specs.SystemStep.{AfterEvent, SystemState, sys_step}
 use Rattle.da_system.proofs.StopLaws.{ends_stopped, stop_ends}
 use Rattle.replay_run.specs.declared.outcome.Outcome.{Outcome}
 use Rattle.replay_run.specs.declared.outcome.Outcome.TheVariants.{Done, Forbidden}
-use Rattle.replay_run.specs.Replay.{HasCarried, HasRun, HasStepped, event_text, outcome_of, run_text, text_of}
+use Rattle.replay_run.specs.Replay.{HasRun, IsDone, IsTried, outcome_of, run_on, run_text, step_text, text_of}
 use Rattle.sched_text.specs.ActionText.{action_line, action_text}
 
 text-append : (xs ys : List Action) → action_text (xs ++ ys) ≡ action_text xs ++ action_text ys
 text-append xs ys = flat_map-append action_line xs ys
 
--- the run from the first state has carried out the events before this place: it led to the state `now`, and a sink gained
--- its text so far
-pub record Came (program : Program) (s : SystemState) (events : List Event) (place : ℕ) (now : SystemState) (before after : Option (List ℕ)) : Type 0 where
+-- The run from the first state has carried out the events before this place: it told these actions, the system stands for
+-- the state that it has come to, and a sink gained its text so far.
+pub record Came (program : Program) (s : SystemState) (events : List Event) (place : ℕ) (system : System) (before after : Option (List ℕ)) : Type 0 where
   pub told : List Action
-  pub run_is : src_run_from program 1 s events ≡ told ++ src_run_from program (place + 1) now (drop place events)
-  pub stop_is : stop_from program 1 s events ≡ stop_from program (place + 1) now (drop place events)
-  pub state_is : state_after program s events ≡ state_after program now (drop place events)
+  pub now : SystemState
+  pub run_is : run_on program s events ≡ and_then told (src_run_from program (place + 1) now (drop place events))
+  pub stands : Stands system now
   pub written : Appends before after (action_text told)
 
-pub came_first : (program : Program) (s : SystemState) (events : List Event) (taken : Option (List ℕ)) → Came program s events 0 s taken taken
-came_first program s events taken = record {
+pub came_first : (program : Program) (s : SystemState) (events : List Event) (system : System) (taken : Option (List ℕ)) → Stands system s → Came program s events 0 system taken taken
+came_first program s events system taken stands = record {
   told = [];
+  now = s;
   run_is = refl;
-  stop_is = refl;
-  state_is = refl;
+  stands = stands;
   written = nothing taken;
 }
   where
@@ -43,19 +46,36 @@ came_first program s events taken = record {
     nothing None = refl
     nothing (Some told) = ap Some (sym (append-nil told))
 
-module _ (program : Program) (s : SystemState) (events : List Event) (place : ℕ) (now : SystemState) (before mid : Option (List ℕ)) (came : Came program s events place now before mid) where
+then_then : (xs ys : List Action) (rest : SrcRun) → and_then xs (and_then ys rest) ≡ and_then (xs ++ ys) rest
+then_then xs ys rest = ap (λ (actions : List Action). let run : SrcRun = record rest { actions = actions } in run) (sym (append_assoc xs ys rest.actions))
+
+module _ (program : Program) (s : SystemState) (events : List Event) (place : ℕ) (system : System) (before mid : Option (List ℕ)) (came : Came program s events place system before mid) where
   abbrev rest : List Event
   rest = drop (place + 1) events
 
+  abbrev left : SrcRun
+  left = src_run_from program (place + 1) came.now (drop place events)
+
   -- the text due is what was written, and that of what is left
-  due : run_text program s events ≡ action_text came.told ++ action_text (src_run_from program (place + 1) now (drop place events))
-  due = ap action_text came.run_is ∙ text-append came.told _
+  due : run_text program s events ≡ action_text came.told ++ action_text left.actions
+  due = ap (λ (run : SrcRun). action_text run.actions) came.run_is ∙ text-append came.told left.actions
 
   -- of the text of what is left a front was written
-  front_left : (new : Option (List ℕ)) (left : List Action) → src_run_from program (place + 1) now (drop place events) ≡ left → AppendsFront mid new (action_text left)
-      → AppendsFront before new (run_text program s events)
-  front_left new left is front =
-      subst (AppendsFront before new) (sym (due ∙ ap (λ actions. action_text came.told ++ action_text actions) is)) (front_behind before mid new (action_text came.told) (action_text left) came.written front)
+  front_left : (new : Option (List ℕ)) (run : SrcRun) → left ≡ run → AppendsFront mid new (action_text run.actions) → AppendsFront before new (run_text program s events)
+  front_left new run is front =
+      subst (AppendsFront before new) (sym (due ∙ ap (λ (r : SrcRun). action_text came.told ++ action_text r.actions) is))
+      (front_behind before mid new (action_text came.told) (action_text run.actions) came.written front)
+
+  -- no event is left
+  pub ran_all : length events ≤ place → HasRun program s events Done system before mid
+  ran_all end =
+      let none : run_on program s events ≡ and_then came.told (record { actions = []; stop = None; state = came.now }) =
+      came.run_is ∙ ap (λ es. and_then came.told (src_run_from program (place + 1) came.now es)) (drop_all place events end) in
+      record {
+        outcome_is = ap (λ (run : SrcRun). outcome_of run.stop) (sym none);
+        stands = subst (λ (run : SrcRun). Stands system run.state) (sym none) came.stands;
+        written = subst (λ (run : SrcRun). Appends before mid (action_text run.actions)) (sym none) (subst (λ actions. Appends before mid (action_text actions)) (sym (append-nil came.told)) came.written);
+      }
 
   -- the event that comes next
   module _ (p : Program) (same : p ≡ program) (other : Event) (inside : place < length events) where
@@ -66,61 +86,80 @@ module _ (program : Program) (s : SystemState) (events : List Event) (place : �
     next_is = drop-cons events place other inside ∙ ap (λ n. next ∷ drop n events) (sym (add-one place))
 
     -- what is left, by the step of this event
-    left_run : (step : Option AfterEvent) → sys_step p now next ≡ step → src_run_from program (place + 1) now (drop place events) ≡ go_on (place + 1) step (λ after. src_run_from program (place + 1 + 1) after.state rest)
-    left_run step is =
-        ap (src_run_from program (place + 1) now) next_is
-        ∙ ap (λ step. go_on (place + 1) step (λ after. src_run_from program (place + 1 + 1) after.state rest)) (ap (λ q. sys_step q now next) (sym same) ∙ is)
-
-    left_stop : (step : Option AfterEvent) → sys_step p now next ≡ step → stop_from program (place + 1) now (drop place events) ≡ stop_here (place + 1) step (λ after. stop_from program (place + 1 + 1) after.state rest)
-    left_stop step is =
-        ap (stop_from program (place + 1) now) next_is
-        ∙ ap (λ step. stop_here (place + 1) step (λ after. stop_from program (place + 1 + 1) after.state rest)) (ap (λ q. sys_step q now next) (sym same) ∙ is)
-
-    left_state : (step : Option AfterEvent) → sys_step p now next ≡ step → state_after program now (drop place events) ≡ state_on now step (λ after. state_after program after.state rest)
-    left_state step is =
-        ap (state_after program now) next_is
-        ∙ ap (λ step. state_on now step (λ after. state_after program after.state rest)) (ap (λ q. sys_step q now next) (sym same) ∙ is)
+    left_is : (step : Option AfterEvent) → sys_step p came.now next ≡ step → left ≡ at_event (place + 1) came.now step (λ state. src_run_from program (place + 1 + 1) state rest)
+    left_is step is =
+        ap (src_run_from program (place + 1) came.now) next_is
+        ∙ ap (λ step. at_event (place + 1) came.now step (λ state. src_run_from program (place + 1 + 1) state rest)) (ap (λ q. sys_step q came.now next) (sym same) ∙ is)
 
     -- it was carried out
-    stepped_on : (s' : SystemState) (new : Option (List ℕ)) → HasStepped p now next s' mid new → Came program s events (place + 1) s' before new
-    stepped_on s' new stepped = record {
-      told = came.told ++ stepped.actions;
-      run_is = came.run_is ∙ ap (λ actions. came.told ++ actions) (left_run _ stepped.is) ∙ sym (append_assoc came.told stepped.actions _);
-      stop_is = came.stop_is ∙ left_stop _ stepped.is;
-      state_is = came.state_is ∙ left_state _ stepped.is;
-      written = subst (Appends before new) (sym (text-append came.told stepped.actions)) (appends_then before mid new _ _ came.written stepped.written);
+    done_on : (next_system : System) (new : Option (List ℕ)) → IsDone p came.now next next_system mid new → Came program s events (place + 1) next_system before new
+    done_on next_system new done = record {
+      told = came.told ++ done.then'.actions;
+      now = done.then'.state;
+      run_is = came.run_is ∙ ap (and_then came.told) (left_is _ done.is) ∙ then_then came.told done.then'.actions _;
+      stands = done.stands;
+      written = subst (Appends before new) (sym (text-append came.told done.then'.actions)) (appends_then before mid new _ _ came.written done.written);
     }
 
-    pub came_on : (allowed : Bool) (s' : SystemState) (new : Option (List ℕ)) → HasCarried p now next allowed s' mid new → allowed ≡ true → Came program s events (place + 1) s' before new
-    came_on true s' new carried is = stepped_on s' new carried
-    came_on false s' new carried is = absurd (false≢true is)
+    pub came_on : (allowed : Bool) (next_system : System) (new : Option (List ℕ)) → IsTried p came.now next allowed next_system mid new → allowed ≡ true → Came program s events (place + 1) next_system before new
+    came_on true next_system new tried is = done_on next_system new tried
+    came_on false next_system new tried is = absurd (false≢true is)
 
     -- an error of the event: of its text a front was written
-    pub fails_here : (new : Option (List ℕ)) → AppendsFront mid new (event_text p now next) → AppendsFront before new (run_text program s events)
-    fails_here new front = by_step (sys_step p now next) refl
+    pub fails_here : (new : Option (List ℕ)) → AppendsFront mid new (step_text p came.now next) → AppendsFront before new (run_text program s events)
+    fails_here new front = by_step (sys_step p came.now next) refl
       where
-        by_step : (step : Option AfterEvent) → sys_step p now next ≡ step → AppendsFront before new (run_text program s events)
+        by_step : (step : Option AfterEvent) → sys_step p came.now next ≡ step → AppendsFront before new (run_text program s events)
         by_step None is =
             let some : AppendsFront mid new [] = subst (λ step. AppendsFront mid new (text_of step)) is front in
-            front_left new _ (left_run None is) (front_before mid new [] _ some)
+            front_left new _ (left_is None is) (front_before mid new [] _ some)
         by_step (Some after) is =
             let some : AppendsFront mid new (action_text after.actions) = subst (λ step. AppendsFront mid new (text_of step)) is front in
-            front_left new _ (left_run (Some after) is) (subst (AppendsFront mid new) (sym (text-append after.actions _)) (front_before mid new (action_text after.actions) _ some))
+            front_left new _ (left_is (Some after) is) (subst (AppendsFront mid new) (sym (text-append after.actions _)) (front_before mid new (action_text after.actions) _ some))
 
     -- it is not allowed, and of the line that says so a front was written
-    pub stop_fails : (allowed : Bool) (s' : SystemState) (still new : Option (List ℕ)) → HasCarried p now next allowed s' mid still → allowed ≡ false
+    pub stop_fails : (allowed : Bool) (next_system : System) (still new : Option (List ℕ)) → IsTried p came.now next allowed next_system mid still → allowed ≡ false
         → AppendsFront still new (action_text (Stop (place + 1) ∷ [])) → AppendsFront before new (run_text program s events)
-    stop_fails true s' still new carried is front = absurd (false≢true (sym is))
-    stop_fails false s' still new carried is front = front_left new _ (left_run None carried.is) (subst (λ x. AppendsFront x new (action_text (Stop (place + 1) ∷ []))) carried.unwritten front)
+    stop_fails true next_system still new tried is front = absurd (false≢true (sym is))
+    stop_fails false next_system still new tried is front = front_left new _ (left_is None tried.is) (subst (λ x. AppendsFront x new (action_text (Stop (place + 1) ∷ []))) tried.unwritten front)
+
+    -- the whole line was written
+    pub stops_here : (allowed : Bool) (next_system : System) (still new : Option (List ℕ)) → IsTried p came.now next allowed next_system mid still → allowed ≡ false
+        → Appends still new (action_text (Stop (place + 1) ∷ [])) → HasRun program s events (Forbidden (place + 1)) next_system before new
+    stops_here true next_system still new tried is written = absurd (false≢true (sym is))
+    stops_here false next_system still new tried is written =
+        let whole : run_on program s events ≡ and_then came.told (record { actions = Stop (place + 1) ∷ []; stop = Some (place + 1); state = came.now }) =
+        came.run_is ∙ ap (and_then came.told) (left_is None tried.is) in
+        record {
+          outcome_is = ap (λ (run : SrcRun). outcome_of run.stop) (sym whole);
+          stands = subst (λ (run : SrcRun). Stands next_system run.state) (sym whole) tried.stands;
+          written = subst (λ (run : SrcRun). Appends before new (action_text run.actions)) (sym whole)
+              (subst (Appends before new) (sym (text-append came.told (Stop (place + 1) ∷ [])))
+              (appends_then before mid new _ _ came.written (subst (λ x. Appends x new (action_text (Stop (place + 1) ∷ []))) tried.unwritten written)));
+        }
 
 -- a run that ended is `Forbidden` exactly where it ends by a stop
-pub stops_exactly : (program : Program) (s : SystemState) (events : List Event) (outcome : Outcome) (s' : SystemState) (before after : Option (List ℕ)) → HasRun program s events outcome s' before after
-    → (i : ℕ) → (outcome ≡ Forbidden i) ↔ EndsByStop (src_run_from program 1 s events) i
-stops_exactly program s events outcome s' before after ran i = (
-  λ is. stop_ends program 1 s events i (forbidden_at (stop_from program 1 s events) i (sym ran.outcome_is ∙ is)),
+pub stops_exactly : (program : Program) (s : SystemState) (events : List Event) (outcome : Outcome) (system : System) (before after : Option (List ℕ)) → HasRun program s events outcome system before after
+    → (i : ℕ) → (outcome ≡ Forbidden i) ↔ EndsByStop (run_on program s events).actions i
+stops_exactly program s events outcome system before after ran i = (
+  λ is. stop_ends program 1 s events i (forbidden_at (run_on program s events).stop i (sym ran.outcome_is ∙ is)),
   λ ends. ran.outcome_is ∙ ap outcome_of (ends_stopped program 1 s events i ends),
 )
   where
     forbidden_at : (stop : Option ℕ) (i : ℕ) → outcome_of stop ≡ Forbidden i → stop ≡ Some i
     forbidden_at None i is = absurd (let clash : Done ≡ Forbidden i = is in cc)
     forbidden_at (Some k) i is = let same : Forbidden k ≡ Forbidden i = is in cc
+
+-- AN EVENT THAT THE SYSTEM HAS CARRIED OUT
+
+module _ (program : Program) (e : Event) (system other : System) (told actions : List Action) (stepped : Whichever system (λ s. HasStepped program s e other [] told)) (same : actions ≡ told) (before after : Option (List ℕ)) where
+  pub is_done : Appends before after (action_text actions) → Whichever system (λ s. IsDone program s e other before after)
+  is_done written = λ s stands.
+      let step = stepped s stands in
+      record { then' = step.after; is = step.step; stands = step.stands; written = subst (λ xs. Appends before after (action_text xs)) (same ∙ step.added) written }
+
+  pub some_done : AppendsFront before after (action_text actions) → Whichever system (λ s. AppendsFront before after (step_text program s e))
+  some_done front = λ s stands.
+      let step = stepped s stands in
+      let text : step_text program s e ≡ action_text step.after.actions = ap text_of step.step in
+      subst (AppendsFront before after) (sym text) (subst (λ xs. AppendsFront before after (action_text xs)) (same ∙ step.added) front)

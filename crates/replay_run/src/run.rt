@@ -1,9 +1,9 @@
 //! The run of a schedule, event by event.
 ghost use Rattle.da_lang.specs.declared.event.Action.TheVariants as action;
 ghost use Rattle.da_outside.specs.Outside.{Appends, AppendsFront, HasCause, Rose};
-ghost use Rattle.da_system.specs.SourceRun.{EndsByStop, src_run_from};
-ghost use Rattle.da_system.specs.State.{IsReady, program_of, state_of};
-ghost use Rattle.replay_run.specs.Replay.{HasCarried, HasEnded, HasRun, event_text, run_text};
+ghost use Rattle.da_system.specs.SourceRun.{EndsByStop};
+ghost use Rattle.da_system.specs.State.{IsReady, Whichever, program_of};
+ghost use Rattle.replay_run.specs.Replay.{HasEnded, HasRun, IsTried, run_on, run_text, step_text};
 ghost use Rattle.sched_text.specs.ActionText.{action_line, action_text};
 ghost use Rattle.std.specs.Prelude.{ℕ, ◌≡◌, ◌↔◌, ◌∷◌, ◌≤◌, List, [], IfOk, OnErr, OnOk};
 
@@ -26,16 +26,17 @@ pub fn replay<K: Sink>(
 ) -> Outcome
     requires { IsReady system.old }
 
-    // The sink gained the text of the run, and the system stands where the events that were carried out lead.
-    ensures ran { HasEnded result → HasRun (program_of system.old) (state_of system.old) events.now result (state_of system.new) (K.taken sink.old) (K.taken sink.new) }
+    // From each state that the system stands for: the sink gained the text of the run, and the system stands where the events
+    // that were carried out lead.
+    ensures ran { HasEnded result → Whichever system.old (λ s. HasRun (program_of system.old) s events.now result system.new (K.taken sink.old) (K.taken sink.new)) }
     ensures ready { HasEnded result → IsReady system.new }
     ensures program { program_of system.new ≡ program_of system.old }
 
     // It is `Forbidden` exactly where the run ends by a stop, at the event of its number.
-    ensures stops { HasEnded result → (i : ℕ) → (result ≡ Outcome.Forbidden i) ↔ EndsByStop (src_run_from (program_of system.old) 1 (state_of system.old) events.now) i }
+    ensures stops { HasEnded result → Whichever system.old (λ s. (i : ℕ) → (result ≡ Outcome.Forbidden i) ↔ EndsByStop (run_on (program_of system.old) s events.now).actions i) }
 
     // However it ended, no more was written than the front of that text.
-    ensures front { AppendsFront (K.taken sink.old) (K.taken sink.new) (run_text (program_of system.old) (state_of system.old) events.now) }
+    ensures front { Whichever system.old (λ s. AppendsFront (K.taken sink.old) (K.taken sink.new) (run_text (program_of system.old) s events.now)) }
 
     // A fault has its cause.
     ensures write { result ≡ Outcome.WriteFault → Rose (K.faults sink.old) (K.faults sink.new) }
@@ -56,14 +57,15 @@ fn run_events<K: Sink>(
     sink: &mut K,
 ) -> Result<Outcome, Trouble>
     requires { IsReady system.old }
-    ensures ran { IfOk result (λ outcome. HasRun (program_of system.old) (state_of system.old) events.now outcome (state_of system.new) (K.taken sink.old) (K.taken sink.new)) }
+    ensures ran { IfOk result (λ outcome. Whichever system.old (λ s. HasRun (program_of system.old) s events.now outcome system.new (K.taken sink.old) (K.taken sink.new))) }
+    ensures ended { IfOk result HasEnded }
     ensures ready { IfOk result (λ _. IsReady system.new) }
     ensures program { program_of system.new ≡ program_of system.old }
-    ensures front { OnErr result (AppendsFront (K.taken sink.old) (K.taken sink.new) (run_text (program_of system.old) (state_of system.old) events.now)) }
+    ensures front { OnErr result (Whichever system.old (λ s. AppendsFront (K.taken sink.old) (K.taken sink.new) (run_text (program_of system.old) s events.now))) }
     ensures cause { HasCause (K.faults sink.old) (K.faults sink.new) result }
 {
     for (place, event) in events.iter().enumerate() {
-        if !carry_out(alloc, system, event, sink)? {
+        if !try_event(alloc, system, event, sink)? {
             let i = place as u64 + 1;
             write_stop(alloc, i, sink)?;
             return Ok(Outcome::Forbidden(i));
@@ -72,18 +74,18 @@ fn run_events<K: Sink>(
     Ok(Outcome::Done)
 }
 
-// Carries out an event and writes its lines, and says whether it is allowed. Where it is not, nothing has changed.
-fn carry_out<K: Sink>(
+// Carries out an event that is allowed, and writes its lines; says whether it is. Where it is not, nothing has changed.
+fn try_event<K: Sink>(
     alloc: Global,
     system: &mut System,
     event: &Event,
     sink: &mut K,
 ) -> Result<bool, Trouble>
     requires { IsReady system.old }
-    ensures carried { IfOk result (λ allowed. HasCarried (program_of system.old) (state_of system.old) event.now allowed (state_of system.new) (K.taken sink.old) (K.taken sink.new)) }
+    ensures tried { IfOk result (λ allowed. Whichever system.old (λ s. IsTried (program_of system.old) s event.now allowed system.new (K.taken sink.old) (K.taken sink.new))) }
     ensures ready { IfOk result (λ _. IsReady system.new) }
     ensures program { program_of system.new ≡ program_of system.old }
-    ensures front { OnErr result (AppendsFront (K.taken sink.old) (K.taken sink.new) (event_text (program_of system.old) (state_of system.old) event.now)) }
+    ensures front { OnErr result (Whichever system.old (λ s. AppendsFront (K.taken sink.old) (K.taken sink.new) (step_text (program_of system.old) s event.now))) }
     ensures cause { HasCause (K.faults sink.old) (K.faults sink.new) result }
 {
     let mut actions = List::new(alloc);

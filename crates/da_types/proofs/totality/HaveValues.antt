@@ -1,4 +1,4 @@
--- In a typed program every query and every condition of an `await` has a value, in every shaped world.
+-- In a typed program each query and each condition of an `await` has a value, whatever a process knows that is shaped.
 use Rattle.std.specs.Prelude.{◌≡◌, refl, ℕ, ℤ, Bool, true, false, if◌then◌else◌, List, [], Option, Some, None, is_some, Ok, Err}
 use Rattle.std.specs.Option.{option_map}
 use Rattle.std.proofs.Common.{◌∙◌, ap, sym, subst}
@@ -32,10 +32,10 @@ use Rattle.da_lang.specs.Arithmetic.{fitted}
 use Rattle.da_lang.specs.Evaluation.{asked, asked_layer}
 use Rattle.da_lang.specs.Queries.{agg_value, holds, query_value, value_of_numbered, value_of_query, rows, term_set}
 use Rattle.da_lang.specs.QueryTypes.{Known, Side, given, flat, written_cond, rows_where, query_type, agg_side, agg_type, cond_holds, term_type}
-use Rattle.da_lang.specs.Shaped.{Shaped}
+use Rattle.da_lang.specs.Shaped.{ShapedData}
 use Rattle.da_lang.specs.Types.{is_of, is_flat, is_int}
 use Rattle.da_lang.specs.Typing.{IsTyped, has_queries}
-use Rattle.da_lang.specs.World.{Data, World, at_number}
+use Rattle.da_lang.specs.World.{Data, at_number}
 use Rattle.da_lang.proofs.RowLaws.{terms_of_rows}
 use Rattle.da_types.specs.Totality.{HasValue, AllHaveValues, NothingIsMissing, IsAnswer, QueryHas, counts, counts_by}
 use Rattle.da_types.proofs.totality.Awaits.{condition_holds}
@@ -147,30 +147,27 @@ there_is : {A : Type 0} (x : Option A) → is_some x ≡ true → (a : A) × (x 
 there_is None e = absurd (false≢true e)
 there_is (Some a) e = (a, refl)
 
-module _ (p : Program) (w : World) (typed : IsTyped p) (s : Shaped p w) where
+module _ (p : Program) (c : Class) (d : Data) (typed : IsTyped p) (s : ShapedData p c d) where
   abbrev here : Known
-  here = known_here p w s
+  here = known_here p c d s
 
-  has_type : (q : Query) → Has s.class.queries q → (ty : Ty) × (query_type here q ≡ Some ty)
+  has_type : (q : Query) → Has c.queries q → (ty : Ty) × (query_type here q ≡ Some ty)
   has_type q h =
-      let in_class = each_from_all (has_queries p.messages) p.classes s.class typed.asked (class_has p w.data'.me s.class s.is_class) in
-      there_is (query_type here q) (each_from_all (λ q. is_some (query_type here q)) s.class.queries q in_class h)
+      let in_class = each_from_all (has_queries p.messages) p.classes c typed.asked (class_has p d.me c s.is_class) in
+      there_is (query_type here q) (each_from_all (λ q. is_some (query_type here q)) c.queries q in_class h)
 
-  numbered_query : (n : ℕ) (q : Query) → at_number s.class.queries n ≡ Some q → QueryHas p s.class w.data' q (query_value s.class.queries n w.data')
+  numbered_query : (n : ℕ) (q : Query) → at_number c.queries n ≡ Some q → QueryHas p c d q (query_value c.queries n d)
   numbered_query n q e =
-      let (ty, is) = has_type q (numbered_has s.class.queries n q e) in
-      let k = knows_here p w s in
-      subst (QueryHas p s.class w.data' q) (sym (ap (value_of_numbered w.data') e)) (ty, is, query_has here w.data' k q ty is, query_answer here w.data' k q ty is)
+      let (ty, is) = has_type q (numbered_has c.queries n q e) in
+      let k = knows_here p c d s in
+      subst (QueryHas p c d q) (sym (ap (value_of_numbered d) e)) (ty, is, query_has here d k q ty is, query_answer here d k q ty is)
 
-  all_have_values : AllHaveValues p s.class w.data'
+  all_have_values : AllHaveValues p c d
   all_have_values = record {
     queries = numbered_query;
-    conditions = λ i alts a is await h. cond_there narrow (λ x. tt) here w.data' (knows_here p w s) (out-Alt a).cond [] [] (condition_holds p s.class typed.keeps (class_has p w.data'.me s.class s.is_class) i is alts a await h) tt;
+    conditions = λ i alts a is await h. cond_there narrow (λ x. tt) here d (knows_here p c d s) (out-Alt a).cond [] [] (condition_holds p c typed.keeps (class_has p d.me c s.is_class) i is alts a await h) tt;
   }
 
 -- THE THEOREM OF TYPES
 pub nothing_is_missing : (p : Program) → IsTyped p → NothingIsMissing p
-nothing_is_missing p typed w c s is =
-    let both : ◌≡◌ {A = Option Class} (Some s.class) (Some c) = sym s.is_class ∙ is in
-    let same : s.class ≡ c = cc in
-    subst (λ z. AllHaveValues p z w.data') same (all_have_values p w typed s)
+nothing_is_missing p typed c d s = all_have_values p c d typed s

@@ -1,5 +1,5 @@
 use Rattle.std.proofs.Common.{◌≡◌, ◌≤◌}
-use Rattle.da_system.specs.State.{IsReady, program_of, state_of}
+use Rattle.da_system.specs.State.{IsReady, Whichever, program_of}
 use Rattle.replay_run.proofs.RunLemmas.{Came}
 use Rattle.replay_run.proofs.run.run_events.Given as goal
 
@@ -7,6 +7,6 @@ abbrev pub invariant-loop-place : goal.invariant-loop-place
 invariant-loop-place g l = record {
   ready : IsReady l.system;
   program : program_of l.system ≡ program_of l.initial.system;
-  came : Came (program_of l.initial.system) (state_of l.initial.system) l.events l.place (state_of l.system) (g.K.Sink.taken l.initial.sink) (g.K.Sink.taken l.sink);
+  came : Whichever l.initial.system (λ s. Came (program_of l.initial.system) s l.events l.place l.system (g.K.Sink.taken l.initial.sink) (g.K.Sink.taken l.sink));
   later : g.K.Sink.faults l.initial.sink ≤ g.K.Sink.faults l.sink;
 }

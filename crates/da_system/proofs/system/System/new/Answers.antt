@@ -3,6 +3,7 @@ use Rattle.std.proofs.lemmas.List.{length-replicate}
 use Rattle.da_lang.specs.World.{World}
 use Rattle.da_system.specs.Channels.{no_letters}
 use Rattle.da_system.specs.SystemStep.{SystemState}
+use Rattle.da_system.proofs.StandLemmas.{stands_itself}
 use Rattle.da_system.proofs.WorldLemmas.{opened}
 use Rattle.da_system.proofs.system.System.new.Goals as goal
 
@@ -16,5 +17,5 @@ returns-clause-ready c = record {
 pub returns-clause-start : goal.returns-clause-start
 returns-clause-start c =
     let all : c.loop-place._place ≡ length c.args.program.now.procs = omega (arith, c.len-place-end.ensures) in
-    ap (λ (ws : List World). let s : SystemState = record { kind = c.args.program.now.kind; worlds = ws; channels = no_letters (length c.args.program.now.procs) } in s)
-    (opened c.args.program.now _ _ c.loop-place.invariant all)
+    stands_itself _ _ (ap (λ (ws : List World). let s : SystemState = record { kind = c.args.program.now.kind; worlds = ws; channels = no_letters (length c.args.program.now.procs) } in s)
+    (opened c.args.program.now _ _ c.loop-place.invariant all))
