@@ -11,4 +11,5 @@ pub mod TermForms
 pub mod TypeForms
 pub mod Walks
 pub mod resolved
+pub mod shaped
 pub mod totality

@@ -1,6 +1,7 @@
 pub mod Aggregates
 pub mod Chains
 pub mod Constants
+pub mod KeepsShaped
 pub mod KnownView
 pub mod Refusing
 pub mod Rows
