@@ -11,4 +11,6 @@ pub mod TermForms
 pub mod TypeForms
 pub mod Walks
 pub mod resolved
+pub mod sound
 pub mod totality
+pub mod written

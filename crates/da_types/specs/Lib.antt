@@ -2,8 +2,10 @@ pub mod Aggregates
 pub mod Chains
 pub mod Constants
 pub mod KnownView
+pub mod QueryChains
 pub mod Refusing
 pub mod Rows
 pub mod SideView
+pub mod Sound
 pub mod Telling
 pub mod Totality

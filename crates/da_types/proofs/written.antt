@@ -1,0 +1,2 @@
+pub mod ExprsFine
+pub mod Says
