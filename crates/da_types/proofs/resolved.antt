@@ -17,6 +17,6 @@ pub mod MeantFills
 pub mod NotesAt
 pub mod ResolvedConstants
 pub mod ResolvedTyped
+pub mod SetupArity
 pub mod StatementConstants
 pub mod StatementsFill
-pub mod Total

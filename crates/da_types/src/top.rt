@@ -3,6 +3,7 @@ ghost use Rattle.da_lang.specs.declared.program.Program.{Program as ProgramOf};
 ghost use Rattle.da_lang.specs.Accepted.{IsAccepted, IsResolved};
 ghost use Rattle.da_lang.specs.Typing.{IsTyped, Typed as TypedAs, breaks_in};
 ghost use Rattle.da_types.specs.Refusing.{IsRefusedAs};
+ghost use Rattle.da_types.specs.Sound.{IsSound};
 ghost use Rattle.da_types.specs.Totality.{NothingIsMissing};
 ghost use Rattle.da_types.specs.declared.top.TypeFault.TheVariants.{Memory};
 ghost use Rattle.std.specs.Prelude.{◌≡◌, [], IfErr, IfOk, MatchResult};
@@ -66,6 +67,7 @@ impl Typed {
         ensures accepted { IsAccepted self.now }
         ensures typed { IsTyped self.now }
         ensures total { NothingIsMissing self.now }
+        ensures sound { IsSound self.now }
     {
         &self.program
     }
@@ -81,9 +83,12 @@ pub fn check_types(alloc: Global, p: Program) -> Result<Typed, TypeFault>
     ensures keeps { IfOk result (λ typed. breaks_in typed ≡ []) }
     ensures refused { IfErr result (IsRefusedAs p) }
 
+    ensures accepted { IfOk result IsAccepted }
+
     // Each slot and each numbered query has a type, and whatever a process of the typed program knows that is shaped,
     // each numbered query and each condition of an `await` has a value.
     ensures total { IfOk result (λ typed. IsTyped typed × NothingIsMissing typed) }
+    ensures sound { IfOk result IsSound }
 
     // A program that keeps the rules is given with its types, or memory was refused.
     ensures only { (q : ProgramOf) → TypedAs p q → MatchResult result (λ found. found ≡ q) (λ fault. fault ≡ Memory) }

@@ -44,6 +44,10 @@ first_has : (calls : List SetupCall) (call : SetupCall) → first_call calls ≡
 first_has [] call is = absurd (cc)
 first_has (x ∷ calls) call is = inl (cc)
 
+pub classes_are : (t : Tree) → (resolved t).classes ≡ map resolved_class t.classes
+unfolding resolved
+classes_are t = refl
+
 module _ (t : Tree) (p : Program) (few : length p.procs < 2 ^ 16) where
   process_good : (n : ℕ) → 0 < n → n ≤ length p.procs → IsConstant p (kept.Proc n)
   process_good n some inside = record {
@@ -99,17 +103,13 @@ module _ (t : Tree) (p : Program) (few : length p.procs < 2 ^ 16) where
       line_good scope name m call names (λ v j. fine v (Has-flat_map line_notes t.main m v stands j)) own x k
   proc_good (main_line.Setup name args line) d call names fine h is x k = absurd h
 
-  classes_are : (resolved t).classes ≡ map resolved_class t.classes
-  unfolding resolved
-  classes_are = refl
-
   in_classes : (writes : AreFine (tree_notes t)) (c : ClassTree) → Has t.classes c → AreFine (class_notes c)
   in_classes writes c has v h = writes v (Has-append_left (flat_map class_notes t.classes) (flat_map line_notes t.main) v (Has-flat_map class_notes t.classes c v has h))
 
   -- each class
   pub good_class : p ≡ resolved t → AreFine (tree_notes t) → (d : Class) → Has p.classes d → (c : ClassTree) × (d ≡ resolved_class c) × GoodClass p d.queries d
   good_class becomes writes d has =
-      let (c, stands, is) = of_map resolved_class t.classes d (subst (λ z. Has z d) (ap (λ (z : Program). z.classes) becomes ∙ classes_are) has) in
+      let (c, stands, is) = of_map resolved_class t.classes d (subst (λ z. Has z d) (ap (λ (z : Program). z.classes) becomes ∙ classes_are t) has) in
       (c, is, subst (λ (z : Class). GoodClass p z.queries z) (sym is) (class_good p c (bodies_good p c (in_classes writes c stands))))
 
   pub constants_by : p ≡ resolved t → AreFine (tree_notes t) → ConstantsAreThere p

@@ -22,11 +22,11 @@ use Rattle.da_types.proofs.resolved.ResolvedConstants.{constants_by, good_class}
 use Rattle.da_types.proofs.resolved.ResolvedTyped.{resolved_is_typed}
 use Rattle.da_types.proofs.sound.BoundRows.{takes_message, takes_row}
 
-filled_classes : (p : Program) → (filled p).classes ≡ map (filled_class p.messages) p.classes
+pub filled_classes : (p : Program) → (filled p).classes ≡ map (filled_class p.messages) p.classes
 unfolding filled
 filled_classes p = refl
 
-filled_procs : (p : Program) → (filled p).procs ≡ p.procs
+pub filled_procs : (p : Program) → (filled p).procs ≡ p.procs
 unfolding filled
 filled_procs p = refl
 

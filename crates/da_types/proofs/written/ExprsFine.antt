@@ -26,10 +26,10 @@ use Rattle.da_types.proofs.written.Says.{Says, nothing, token, opener, name_says
 
 -- a rule whose every spelling says what is noted of it
 abbrev pub ExprSays : Spelling Expr → Type 0
-ExprSays Rule = {x : Expr} {t r : List Tok} → Rule x t r → Says 1 (notes x) t r
+ExprSays Rule = (x : Expr) (t r : List Tok) → Rule x t r → Says 1 (notes x) t r
 
 abbrev pub PatternSays : Spelling PatternTree → Type 0
-PatternSays Rule = {p : PatternTree} {t r : List Tok} → Rule p t r → Says 1 (pattern_notes p) t r
+PatternSays Rule = (p : PatternTree) (t r : List Tok) → Rule p t r → Says 1 (pattern_notes p) t r
 
 pub record DeeperSays (deep : Deeper) : Type 0 where
   pub expr : ExprSays deep.expr
@@ -64,34 +64,34 @@ cmp_says (IsCmp.ge h) = token h
 module _ (Pattern : Spelling PatternTree) (says : PatternSays Pattern) where
   peer_says : {o : Option PeerTree} {t r : List Tok} → IsPeer Pattern o t r → Says 0 (all (option_to_list (option_map peer_notes o))) t r
   peer_says IsPeer.no_peer = nothing
-  peer_says (IsPeer.from h p) = less (omega arith) (after (token h) (noted (append-nil _ ∙ peer_notes-From _) (says p)))
-  peer_says (IsPeer.to h p) = less (omega arith) (after (token h) (noted (append-nil _ ∙ peer_notes-To _) (says p)))
+  peer_says (IsPeer.from h p) = less (omega arith) (after (token h) (noted (append-nil _ ∙ peer_notes-From _) (says _ _ _ p)))
+  peer_says (IsPeer.to h p) = less (omega arith) (after (token h) (noted (append-nil _ ∙ peer_notes-To _) (says _ _ _ p)))
 
   gen_says : {g : GenTree} {t r : List Tok} → IsGen Pattern g t r → Says 1 (gen_notes g) t r
-  gen_says (IsGen.gen p o h x) = noted (gen_notes-of _ _ _) (until (until (both (says p) (peer_says o)) (token h)) (source_says x))
+  gen_says (IsGen.gen p o h x) = noted (gen_notes-of _ _ _) (until (until (both (says _ _ _ p) (peer_says o)) (token h)) (source_says x))
 
   gens_says : {gs : List GenTree} {t r : List Tok} → IsGens Pattern gs t r → Says 1 (all (map gen_notes gs)) t r
-  gens_says = separated_says gen_notes (IsGen Pattern) gen_says
+  gens_says gs = separated_says gen_notes (IsGen Pattern) (λ g t r h. gen_says h) gs
 
-cond_says : (Condition : Spelling Expr) → ExprSays Condition → {o : Option Expr} {t r : List Tok} → IsCond Condition o t r → Says 0 (all (option_to_list (option_map notes o))) t r
+cond_says : {o : Option Expr} {t r : List Tok} (Condition : Spelling Expr) → ExprSays Condition → IsCond Condition o t r → Says 0 (all (option_to_list (option_map notes o))) t r
 cond_says Condition says IsCond.no_cond = nothing
-cond_says Condition says (IsCond.bar h x) = less (omega arith) (after (token h) (noted (append-nil _) (says x)))
-cond_says Condition says (IsCond.has h x) = less (omega arith) (after (token h) (noted (append-nil _) (says x)))
+cond_says Condition says (IsCond.bar h x) = less (omega arith) (after (token h) (noted (append-nil _) (says _ _ _ x)))
+cond_says Condition says (IsCond.has h x) = less (omega arith) (after (token h) (noted (append-nil _) (says _ _ _ x)))
 
 -- chains: there is a sign for each further operand
-module _ (Sign : Spelling ArithOp) (Operand : Spelling Expr) (signs : {o : ArithOp} {t r : List Tok} → Sign o t r → Says 1 [] t r) (says : ExprSays Operand) where
+module _ (Sign : Spelling ArithOp) (Operand : Spelling Expr) (signs : (o : ArithOp) (t r : List Tok) → Sign o t r → Says 1 [] t r) (says : ExprSays Operand) where
   others_say : {ps : List ChainTree} {t r : List Tok} → IsOthers Sign Operand ps t r → Says (length ps) (all (map link_notes ps)) t r
   others_say IsOthers.no_other = nothing
   others_say (IsOthers.other sign x more) =
-      let first = says x in
+      let first = says _ _ _ x in
       let rest = others_say more in
       let one = both (noted (link_notes-of _ _) first) rest in
-      record { size = omega (arith, (signs sign).size, first.size, rest.size); fine = (after (signs sign) one).fine }
+      record { size = omega (arith, (signs _ _ _ sign).size, first.size, rest.size); fine = (after (signs _ _ _ sign) one).fine }
 
   chain_says : ExprSays (IsChain Sign Operand)
-  chain_says (IsChain.lone x) = says x
-  chain_says {_} {t} {r} (IsChain.chain {x} {p} {ps} a more) =
-      let first = says a in
+  chain_says _ _ _ (IsChain.lone x) = says _ _ _ x
+  chain_says _ t r (IsChain.chain {x} {p} {ps} a more) =
+      let first = says _ _ _ a in
       let rest = others_say more in
       let whole = both first rest in
       noted (notes-Chain x (p ∷ ps)) (record {
@@ -100,29 +100,29 @@ module _ (Sign : Spelling ArithOp) (Operand : Spelling Expr) (signs : {o : Arith
       })
 
 module _ (room : Room) (deep : Deeper) (d : DeeperSays deep) where
-  abbrev gens : {gs : List GenTree} {t r : List Tok} → IsGens deep.pattern gs t r → Says 1 (all (map gen_notes gs)) t r
-  gens = gens_says deep.pattern d.pattern
+  gens : {gs : List GenTree} {t r : List Tok} → IsGens deep.pattern gs t r → Says 1 (all (map gen_notes gs)) t r
+  gens gs = gens_says deep.pattern d.pattern gs
 
-  abbrev cond' : {o : Option Expr} {t r : List Tok} → IsCond deep.expr o t r → Says 0 (all (option_to_list (option_map notes o))) t r
-  cond' = cond_says deep.expr d.expr
+  cond' : {o : Option Expr} {t r : List Tok} → IsCond deep.expr o t r → Says 0 (all (option_to_list (option_map notes o))) t r
+  cond' b = cond_says deep.expr d.expr b
 
   atom_says : ExprSays (IsAtom room deep)
-  atom_says (IsAtom.int h) = noted (notes-Int _) (number_says h)
-  atom_says (IsAtom.text h) = noted (notes-Text _) (text_says h)
-  atom_says (IsAtom.yes h) = noted (notes-Truth true) (truth_says true h)
-  atom_says (IsAtom.no h) = noted (notes-Truth false) (truth_says false h)
-  atom_says (IsAtom.me h) = noted notes-Me (token h)
-  atom_says (IsAtom.name h) = noted (notes-Name _) (name_says h)
-  atom_says (IsAtom.clock h o c) = noted notes-Clock (after (token h) (after (opener o) (token c)))
-  atom_says (IsAtom.range h o x comma y c) = noted (notes-Range _ _) (after (token h) (after (opener o) (until (both (until (d.disj x) (token comma)) (d.disj y)) (token c))))
-  atom_says (IsAtom.group o x c) = until (after (opener o) (d.expr x)) (token c)
-  atom_says (IsAtom.tuple o x comma xs) = noted (notes-Tuple _) (after (opener o) (both (until (d.disj x) (token comma)) (closed_says notes deep.disj d.disj xs)))
-  atom_says (IsAtom.set_of o xs) = noted (notes-SetOf _) (after (opener o) (closed_says notes deep.disj d.disj xs))
-  atom_says (IsAtom.comprehension o x colon gs b c) = noted (notes-Comp _ _ _) (after (opener o) (both (until (d.disj x) (token colon)) (until (both (gens gs) (cond' b)) (token c))))
-  atom_says (IsAtom.count h o x c) = noted (notes-Count _) (after (token h) (after (opener o) (until (d.disj x) (token c))))
-  atom_says (IsAtom.sum h o x c) = noted (notes-Sum _) (after (token h) (after (opener o) (until (d.disj x) (token c))))
-  atom_says (IsAtom.min h o x comma y c) = noted (notes-Min _ _) (after (token h) (after (opener o) (until (both (until (d.disj x) (token comma)) (d.disj y)) (token c))))
-  atom_says (IsAtom.max h o x comma y c) = noted (notes-Max _ _) (after (token h) (after (opener o) (until (both (until (d.disj x) (token comma)) (d.disj y)) (token c))))
+  atom_says _ _ _ (IsAtom.int h) = noted (notes-Int _) (number_says h)
+  atom_says _ _ _ (IsAtom.text h) = noted (notes-Text _) (text_says h)
+  atom_says _ _ _ (IsAtom.yes h) = noted (notes-Truth true) (truth_says true h)
+  atom_says _ _ _ (IsAtom.no h) = noted (notes-Truth false) (truth_says false h)
+  atom_says _ _ _ (IsAtom.me h) = noted notes-Me (token h)
+  atom_says _ _ _ (IsAtom.name h) = noted (notes-Name _) (name_says h)
+  atom_says _ _ _ (IsAtom.clock h o c) = noted notes-Clock (after (token h) (after (opener o) (token c)))
+  atom_says _ _ _ (IsAtom.range h o x comma y c) = noted (notes-Range _ _) (after (token h) (after (opener o) (until (both (until (d.disj _ _ _ x) (token comma)) (d.disj _ _ _ y)) (token c))))
+  atom_says _ _ _ (IsAtom.group o x c) = until (after (opener o) (d.expr _ _ _ x)) (token c)
+  atom_says _ _ _ (IsAtom.tuple o x comma xs) = noted (notes-Tuple _) (after (opener o) (both (until (d.disj _ _ _ x) (token comma)) (closed_says notes deep.disj d.disj xs)))
+  atom_says _ _ _ (IsAtom.set_of o xs) = noted (notes-SetOf _) (after (opener o) (closed_says notes deep.disj d.disj xs))
+  atom_says _ _ _ (IsAtom.comprehension o x colon gs b c) = noted (notes-Comp _ _ _) (after (opener o) (both (until (d.disj _ _ _ x) (token colon)) (until (both (gens gs) (cond' b)) (token c))))
+  atom_says _ _ _ (IsAtom.count h o x c) = noted (notes-Count _) (after (token h) (after (opener o) (until (d.disj _ _ _ x) (token c))))
+  atom_says _ _ _ (IsAtom.sum h o x c) = noted (notes-Sum _) (after (token h) (after (opener o) (until (d.disj _ _ _ x) (token c))))
+  atom_says _ _ _ (IsAtom.min h o x comma y c) = noted (notes-Min _ _) (after (token h) (after (opener o) (until (both (until (d.disj _ _ _ x) (token comma)) (d.disj _ _ _ y)) (token c))))
+  atom_says _ _ _ (IsAtom.max h o x comma y c) = noted (notes-Max _ _) (after (token h) (after (opener o) (until (both (until (d.disj _ _ _ x) (token comma)) (d.disj _ _ _ y)) (token c))))
 
   -- an expression that is taken from 0
   zero_and : (x : Expr) → AreFine (notes x) → AreFine (Operands 2 ∷ (Literal (kept.Int (pos 0)) ∷ []) ++ (notes x ++ []))
@@ -134,30 +134,30 @@ module _ (room : Room) (deep : Deeper) (d : DeeperSays deep) where
   negated_notes x = notes-Chain _ _ ∙ ap (λ z. Operands 2 ∷ z ++ (link_notes (roll-ChainTree (record { op = arith_op.Minus; operand = x })) ++ [])) (notes-Int (pos 0)) ∙ ap (λ z. Operands 2 ∷ (Literal (kept.Int (pos 0)) ∷ []) ++ (z ++ [])) (link_notes-of arith_op.Minus x)
 
   unary_says : ExprSays (IsUnary room deep)
-  unary_says (IsUnary.atom x) = atom_says x
-  unary_says (IsUnary.negative o n) = noted (notes-Int _) (after (opener o) (negative_says n))
-  unary_says (IsUnary.minus {x} o not_number a) =
-      let one = after (opener o) (d.unary a) in
+  unary_says _ _ _ (IsUnary.atom x) = atom_says _ _ _ x
+  unary_says _ _ _ (IsUnary.negative o n) = noted (notes-Int _) (after (opener o) (negative_says n))
+  unary_says _ _ _ (IsUnary.minus {x} o not_number a) =
+      let one = after (opener o) (d.unary _ _ _ a) in
       noted (negated_notes x) (record { size = one.size; fine = λ few. zero_and x (one.fine few) })
 
   prod_says : ExprSays (IsProd room deep)
-  prod_says = chain_says IsTimes (IsUnary room deep) times_says unary_says
+  prod_says = chain_says IsTimes (IsUnary room deep) (λ o t r h. times_says h) unary_says
 
   sum_says : ExprSays (IsSum room deep)
-  sum_says = chain_says IsPlus (IsProd room deep) plus_says prod_says
+  sum_says = chain_says IsPlus (IsProd room deep) (λ o t r h. plus_says h) prod_says
 
   comp_says : ExprSays (IsComp room deep)
-  comp_says (IsComp.lone x) = sum_says x
-  comp_says (IsComp.compared x o y) = noted (notes-Cmp _ _ _) (both (until (sum_says x) (cmp_says o)) (sum_says y))
-  comp_says (IsComp.member x h y) = noted (notes-Member _ _) (both (until (sum_says x) (token h)) (sum_says y))
+  comp_says _ _ _ (IsComp.lone x) = sum_says _ _ _ x
+  comp_says _ _ _ (IsComp.compared x o y) = noted (notes-Cmp _ _ _) (both (until (sum_says _ _ _ x) (cmp_says o)) (sum_says _ _ _ y))
+  comp_says _ _ _ (IsComp.member x h y) = noted (notes-Member _ _) (both (until (sum_says _ _ _ x) (token h)) (sum_says _ _ _ y))
 
   neg_says : ExprSays (IsNeg room deep)
-  neg_says (IsNeg.negation o x) = noted (notes-Not _) (after (opener o) (d.neg x))
-  neg_says (IsNeg.comp x) = comp_says x
+  neg_says _ _ _ (IsNeg.negation o x) = noted (notes-Not _) (after (opener o) (d.neg _ _ _ x))
+  neg_says _ _ _ (IsNeg.comp x) = comp_says _ _ _ x
 
   joined_says : (k : Mark) (join : List Expr → Expr) → ((xs : List Expr) → notes (join xs) ≡ all (map notes xs)) → (Operand : Spelling Expr) → ExprSays Operand → ExprSays (IsJoined k join Operand)
-  joined_says k join is Operand says (IsJoined.lone x) = says x
-  joined_says k join is Operand says (IsJoined.joined xs) = noted (is _) (separated_says notes Operand says xs)
+  joined_says k join is Operand says _ _ _ (IsJoined.lone x) = says _ _ _ x
+  joined_says k join is Operand says _ _ _ (IsJoined.joined xs) = noted (is _) (separated_says notes Operand says xs)
 
   conj_says : ExprSays (IsConj room deep)
   conj_says = joined_says m.And ex.And notes-And (IsNeg room deep) neg_says
@@ -166,29 +166,29 @@ module _ (room : Room) (deep : Deeper) (d : DeeperSays deep) where
   disj_says = joined_says m.Or ex.Or notes-Or (IsConj room deep) conj_says
 
   quant_says : ExprSays (IsQuant room deep)
-  quant_says (IsQuant.«some» o gs b) = noted (notes-Quant _ _ _) (after (opener o) (both (gens gs) (cond' b)))
-  quant_says (IsQuant.each o gs b) = noted (notes-Quant _ _ _) (after (opener o) (both (gens gs) (cond' b)))
+  quant_says _ _ _ (IsQuant.«some» o gs b) = noted (notes-Quant _ _ _) (after (opener o) (both (gens gs) (cond' b)))
+  quant_says _ _ _ (IsQuant.each o gs b) = noted (notes-Quant _ _ _) (after (opener o) (both (gens gs) (cond' b)))
 
   pub expr_says : ExprSays (IsExpr room deep)
-  expr_says (IsExpr.quant x) = quant_says x
-  expr_says (IsExpr.disj x) = disj_says x
+  expr_says _ _ _ (IsExpr.quant x) = quant_says _ _ _ x
+  expr_says _ _ _ (IsExpr.disj x) = disj_says _ _ _ x
 
   pub pattern_says : PatternSays (IsPattern room deep)
-  pattern_says (IsPattern.wild h) = noted pattern_notes-Wild (token h)
-  pattern_says (IsPattern.name h) = noted (pattern_notes-Name _) (name_says h)
-  pattern_says (IsPattern.int h) = noted (pattern_notes-Int _) (number_says h)
-  pattern_says (IsPattern.negative h n) = noted (pattern_notes-Int _) (after (token h) (negative_says n))
-  pattern_says (IsPattern.text h) = noted (pattern_notes-Text _) (text_says h)
-  pattern_says (IsPattern.yes h) = noted (pattern_notes-Truth true) (truth_says true h)
-  pattern_says (IsPattern.no h) = noted (pattern_notes-Truth false) (truth_says false h)
-  pattern_says (IsPattern.me h) = noted pattern_notes-Me (token h)
-  pattern_says (IsPattern.equal h x) = noted (pattern_notes-Equal _) (after (token h) (unary_says x))
-  pattern_says (IsPattern.tuple o p comma ps) = noted (pattern_notes-Tuple _) (after (opener o) (both (until (d.pattern p) (token comma)) (closed_says pattern_notes deep.pattern d.pattern ps)))
+  pattern_says _ _ _ (IsPattern.wild h) = noted pattern_notes-Wild (token h)
+  pattern_says _ _ _ (IsPattern.name h) = noted (pattern_notes-Name _) (name_says h)
+  pattern_says _ _ _ (IsPattern.int h) = noted (pattern_notes-Int _) (number_says h)
+  pattern_says _ _ _ (IsPattern.negative h n) = noted (pattern_notes-Int _) (after (token h) (negative_says n))
+  pattern_says _ _ _ (IsPattern.text h) = noted (pattern_notes-Text _) (text_says h)
+  pattern_says _ _ _ (IsPattern.yes h) = noted (pattern_notes-Truth true) (truth_says true h)
+  pattern_says _ _ _ (IsPattern.no h) = noted (pattern_notes-Truth false) (truth_says false h)
+  pattern_says _ _ _ (IsPattern.me h) = noted pattern_notes-Me (token h)
+  pattern_says _ _ _ (IsPattern.equal h x) = noted (pattern_notes-Equal _) (after (token h) (unary_says _ _ _ x))
+  pattern_says _ _ _ (IsPattern.tuple o p comma ps) = noted (pattern_notes-Tuple _) (after (opener o) (both (until (d.pattern _ _ _ p) (token comma)) (closed_says pattern_notes deep.pattern d.pattern ps)))
 
 -- at each depth
 pub deeper_says : (room : ℕ → Room) (f d : ℕ) → DeeperSays (deeper room f d)
 unfolding deeper
-deeper_says room zero d = record { expr = λ h. absurd h; disj = λ h. absurd h; neg = λ h. absurd h; unary = λ h. absurd h; pattern = λ h. absurd h }
+deeper_says room zero d = record { expr = λ x t r h. absurd h; disj = λ x t r h. absurd h; neg = λ x t r h. absurd h; unary = λ x t r h. absurd h; pattern = λ x t r h. absurd h }
 deeper_says room (suc f) d =
     let inner = deeper_says room f (suc d) in
     let deep = deeper room f (suc d) in

@@ -1,6 +1,7 @@
 -- What tokens say: at least so many of them spell something, and what is noted of it is fine where they can be counted by
 -- 32 bits.
 use Rattle.std.specs.Prelude.{◌≡◌, refl, ℕ, zero, suc, pos, neg_ℤ, ◌+◌, ◌-◌, ◌<◌, ◌≤◌, ◌^◌, nat_le, Bool, true, false, ◌&&◌, FitsSigned, List, [], ◌∷◌, ◌++◌, map, length, Option, Some, None, if◌then◌else◌, option_map, option_to_list}
+use Rattle.std.specs.Char.{is_ascii_digit}
 use Rattle.std.specs.Int.{w128}
 use Rattle.std.specs.List.{All, list_all}
 use Rattle.std.specs.Str.Parse.{digits_value}
@@ -76,7 +77,7 @@ in_range digits n true e = go (nat_le (digits_value 10 digits) number_max) refl 
 
 small_number : {n : ℕ} {t r : List Tok} → Number n t r → n ≤ number_max
 unfolding number_of
-small_number (Number.number e is) = in_range _ _ _ is
+small_number {n} (Number.number {t} e is) = in_range t.text n (list_all is_ascii_digit t.text) is
 
 pub number_value : (n : ℕ) → n ≤ number_max → IsFine (Literal (kept.Int (pos n)))
 number_value n few = IsValue.integer (pos n) (fits_signed_from_abs w128 (pos n) (omega (arith, few)))
@@ -119,10 +120,10 @@ pub truth_says : {k : Mark} {t r : List Tok} (b : Bool) → At k t r → Says 1 
 truth_says b h = record { size = (token h).size; fine = λ few. fine_one (Literal (kept.Bool b)) (IsValue.truth b) }
 
 -- lists
-module _ {A : Type 0} (noting : A → Notes) (Item : Spelling A) (says : {x : A} {t r : List Tok} → Item x t r → Says 1 (noting x) t r) where
+module _ {A : Type 0} (noting : A → Notes) (Item : Spelling A) (says : (x : A) (t r : List Tok) → Item x t r → Says 1 (noting x) t r) where
   pub separated_says : {k : Mark} {xs : List A} {t r : List Tok} → Separated k Item xs t r → Says 1 (all (map noting xs)) t r
-  separated_says (Separated.last h) = noted (append-nil _) (says h)
-  separated_says (Separated.more h comma others) = both (says h) (after (token comma) (separated_says others))
+  separated_says (Separated.last h) = noted (append-nil _) (says _ _ _ h)
+  separated_says (Separated.more h comma others) = both (says _ _ _ h) (after (token comma) (separated_says others))
 
   pub closed_says : {k : Mark} {xs : List A} {t r : List Tok} → Closed k Item xs t r → Says 1 (all (map noting xs)) t r
   closed_says (Closed.empty h) = token h
@@ -130,12 +131,12 @@ module _ {A : Type 0} (noting : A → Notes) (Item : Spelling A) (says : {x : A}
 
   pub behind_says : {k : Mark} {xs : List A} {t r : List Tok} → Behind k Item xs t r → Says 0 (all (map noting xs)) t r
   behind_says Behind.none = nothing
-  behind_says (Behind.one comma h others) = less (omega arith) (after (token comma) (both (says h) (behind_says others)))
+  behind_says (Behind.one comma h others) = less (omega arith) (after (token comma) (both (says _ _ _ h) (behind_says others)))
 
   pub many_says : {xs : List A} {t r : List Tok} → Many Item xs t r → Says 0 (all (map noting xs)) t r
   many_says Many.none = nothing
-  many_says (Many.one h others) = less (omega arith) (both (says h) (many_says others))
+  many_says (Many.one h others) = less (omega arith) (both (says _ _ _ h) (many_says others))
 
   pub ended_says : {xs : List A} {t r : List Tok} → Ended Item xs t r → Says 1 (all (map noting xs)) t r
-  ended_says (Ended.ends h over) = noted (append-nil _) (until (says h) (token over))
-  ended_says (Ended.goes_on h others) = both (says h) (ended_says others)
+  ended_says (Ended.ends h over) = noted (append-nil _) (until (says _ _ _ h) (token over))
+  ended_says (Ended.goes_on h others) = both (says _ _ _ h) (ended_says others)
