@@ -12,4 +12,6 @@ pub mod TypeForms
 pub mod Walks
 pub mod resolved
 pub mod shaped
+pub mod sound
 pub mod totality
+pub mod written

@@ -1,4 +1,4 @@
--- In a typed program each query and each condition of an `await` has a value, whatever a process knows that is shaped.
+-- Each query and each condition of an `await` of a typed program has a value, whatever is known that is shaped.
 use Rattle.std.specs.Prelude.{◌≡◌, refl, ℕ, ℤ, Bool, true, false, if◌then◌else◌, List, [], Option, Some, None, is_some, Ok, Err}
 use Rattle.std.specs.Option.{option_map}
 use Rattle.std.proofs.Common.{◌∙◌, ap, sym, subst}
@@ -39,7 +39,7 @@ use Rattle.da_lang.specs.World.{Data, at_number}
 use Rattle.da_lang.proofs.RowLaws.{terms_of_rows}
 use Rattle.da_types.specs.Totality.{HasValue, AllHaveValues, NothingIsMissing, IsAnswer, QueryHas, counts, counts_by}
 use Rattle.da_types.proofs.totality.Awaits.{condition_holds}
-use Rattle.da_types.proofs.totality.FoundAt.{found_holds-Quant}
+use Rattle.da_types.proofs.totality.FoundAt.{strict_holds-Quant}
 use Rattle.da_types.proofs.totality.FoundConds.{agg_there, cond_there, each_cond_there, quant_there, set_there}
 use Rattle.da_types.proofs.totality.Keeping.{Knows}
 use Rattle.da_types.proofs.totality.KindLaws.{given_parts, when_parts, int_of_type, is_bool_value, from_layer}
@@ -57,7 +57,7 @@ module _ (known' : Known) (d : Data) (w : Knows narrow known' d) where
       let same : t.Bool ≡ ty = cc in
       let there = quant_there narrow good known' d w each gens b (each_cond_there narrow good known' d w b) [] found [] (ap (λ z. rows_where known' gens z []) (sym (written known' b)) ∙ typed) tt in
       record {
-        found = ap (λ z. given z (λ v. Some (val.Bool v))) (sym (found_holds-Quant d [] each gens b) ∙ there);
+        strict = ap (λ z. given z (λ v. Some (val.Bool v))) (sym (strict_holds-Quant d [] each gens b) ∙ there);
         typed = subst (λ z. is_of z (val.Bool (holds d (co.Quant each gens b) [])) ≡ true) same (is_bool_value (holds d (co.Quant each gens b) []));
         narrow = λ f. narrow.truth (holds d (co.Quant each gens b) []);
       }
@@ -71,7 +71,7 @@ module _ (known' : Known) (d : Data) (w : Knows narrow known' d) where
       let fit = comp_fits narrow known' d w x gens b found element row_is of_term tt in
       let there = set_there narrow good known' d w gens b (each_cond_there narrow good known' d w b) x [] found [] element row_is cond_is of_term tt in
       record {
-        found = ap (λ z. given z (λ vs. Some (val.Set vs))) there ∙ ap (λ vs. Some (val.Set vs)) (terms_of_rows d x gens b []);
+        strict = ap (λ z. given z (λ vs. Some (val.Set vs))) there ∙ ap (λ vs. Some (val.Set vs)) (terms_of_rows d x gens b []);
         typed = subst (λ z. is_of z (val.Set (term_set d x (rows d gens b []))) ≡ true) same fit.0;
         narrow = λ f. fit.1;
       }
@@ -91,7 +91,7 @@ module _ (known' : Known) (d : Data) (w : Knows narrow known' d) where
       let same : side.ty ≡ ty = cc in
       let there = agg_there narrow good known' d w a [] [] side typed tt in
       record {
-        found = there.0;
+        strict = there.0;
         typed = subst (λ z. is_of z (agg_value d a []) ≡ true) same there.1;
         narrow = λ f. query_kept narrow known' d w (qu.Agg a) ty e (trivially (qu.Agg a)) f;
       }

@@ -1,0 +1,3 @@
+pub mod AcceptedLaws
+pub mod AcceptedSound
+pub mod BoundRows
