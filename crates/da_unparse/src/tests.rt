@@ -1,6 +1,7 @@
 //! Texts that are read and printed, compared with texts by hand.
 
 mod corpus;
+mod parsing;
 
 use crate::print_tree;
 use da_lang::Tree;

@@ -1,22 +1,11 @@
-//! Trees by hand, the line of a refusal, and the limit of nesting.
+//! What texts are read as: trees by hand, the line of a refusal, and the limit of nesting.
 
-use crate::{ParseFault, parse};
+use super::tree_of;
 use da_lang::{ArithOp, ChainTree, ChannelKind, Expr, MainLine, Tree};
-use da_lex::lex;
+use da_parse::ParseFault;
 use da_values::{Boxed, List, NoMemory, copy_bytes};
 use std::alloc::Global;
 use std::test::Fail;
-
-// The tree of a text. A text that the lexer refuses counts as memory refused, which no row expects.
-fn tree_of(alloc: Global, text: &[u8]) -> Result<Tree, ParseFault> {
-    if text.len() > 1_048_576 {
-        return Err(ParseFault::Memory);
-    }
-    match lex(alloc, text) {
-        Ok(tokens) => parse(alloc, &tokens),
-        Err(_) => Err(ParseFault::Memory),
-    }
-}
 
 // `a = new(P, 3)` on line 2
 fn new_line(alloc: Global) -> Result<MainLine, NoMemory> {
