@@ -98,7 +98,7 @@ prepend-ok : (us ts : List Token) (r : Scanned) → prepend us r ≡ Ok ts → (
 prepend-ok us ts (Ok vs) e = (vs, refl, cc)
 prepend-ok us ts (Err f) e = absurd (cc)
 
-after-ok : (l : Levelled) (n : ℕ) (go : Scan → Scanned) (ts : List Token) → after (passed n l) go ≡ Ok ts
+pub after-ok : (l : Levelled) (n : ℕ) (go : Scan → Scanned) (ts : List Token) → after (passed n l) go ≡ Ok ts
     → (us : List Token) × (vs : List Token) × (next : Scan) × (l ≡ Ok (us, next)) × (go (record next { at = next.at + n }) ≡ Ok vs) × (us ++ vs ≡ ts)
 after-ok (Ok (us, next)) n go ts e = let (vs, found, is) = prepend-ok us ts (go (record next { at = next.at + n })) e in (us, vs, next, refl, found, is)
 after-ok (Err f) n go ts e = absurd (cc)
