@@ -2,6 +2,7 @@
 ghost use Rattle.da_lang.specs.declared.program.Program.{Program as ProgramOf};
 ghost use Rattle.da_lang.specs.Accepted.{IsAccepted, IsResolved};
 ghost use Rattle.da_lang.specs.Typing.{IsTyped, Typed as TypedAs, breaks_in};
+ghost use Rattle.da_types.specs.KeepsShaped.{EndsWithoutYield, KeepsShaped};
 ghost use Rattle.da_types.specs.Refusing.{IsRefusedAs};
 ghost use Rattle.da_types.specs.Sound.{IsSound};
 ghost use Rattle.da_types.specs.Totality.{NothingIsMissing};
@@ -68,6 +69,10 @@ impl Typed {
         ensures typed { IsTyped self.now }
         ensures total { NothingIsMissing self.now }
         ensures sound { IsSound self.now }
+
+        // Its worlds stay shaped, and its `setup` and its handlers end at no yield point.
+        ensures shaped { KeepsShaped self.now }
+        ensures ends { EndsWithoutYield self.now }
     {
         &self.program
     }
