@@ -24,7 +24,7 @@ use Rattle.da_lang.specs.declared.tree.Tree.{Tree}
 use Rattle.da_lang.specs.BodyMeaning.{fresh}
 use Rattle.da_lang.specs.ClassParts.{Declared, class_of, params_if, setup_of}
 use Rattle.da_lang.specs.ExprMeaning.{Meaning}
-use Rattle.da_lang.specs.ExprNames.{Role, Made, refused_in, used}
+use Rattle.da_lang.specs.ExprNames.{Part, Role, Local, Made, refused_in, used}
 use Rattle.da_lang.specs.NameRules.{again, again_after, class_made, first_class, made_at, made_class, made_name, main_refusals, main_refusals_at, made_scope, name_refusals, setup_kinds, setup_misfits, twice_of}
 use Rattle.da_lang.specs.Resolution.{class_tables, first_call, made, many, place_of_class, procs_of, resolved, resolved_args, resolved_class, setup_call}
 use Rattle.da_lang.specs.Scopes.{Scope, at_line, entered, look}
@@ -55,8 +55,16 @@ pub record FirstMade (ls : List MainLine) (name : List ℕ) : Type 0 where
   pub made_by : made_class name line ≡ Some class
   pub first : first_class ls name ≡ Some class
 
+first_here : (o later : Option (List ℕ)) (class : List ℕ) → o ≡ Some class → elim o [ Some c ↦ Some c | None ↦ later ] ≡ Some class
+first_here None later class e = absurd (cc)
+first_here (Some c) later class e = e
+
+first_later : (o later : Option (List ℕ)) (class : List ℕ) → o ≡ None → later ≡ Some class → elim o [ Some c ↦ Some c | None ↦ later ] ≡ Some class
+first_later None later class e is = is
+first_later (Some c) later class e is = absurd (cc)
+
 made_behind : (other class : List ℕ) (count : Option ℕ) (line : ℕ) (ls : List MainLine) (name : List ℕ) → bytes_eq other name ≡ false → FirstMade ls name → FirstMade (main_line.New other class count line ∷ ls) name
-made_behind other class count line ls name differs rest = record { line = rest.line; class = rest.class; among = inr rest.among; made_by = rest.made_by; first = rw differs rest.first }
+made_behind other class count line ls name differs rest = record { line = rest.line; class = rest.class; among = inr rest.among; made_by = rest.made_by; first = first_later (made_class name (main_line.New other class count line)) (first_class ls name) rest.class (ap (λ (b : Bool). if b then Some class else None) differs) rest.first }
 
 first_made : (ls : List MainLine) (name : List ℕ) → Has (filter_map made_name ls) name → FirstMade ls name
 first_made [] name h = absurd h
@@ -67,8 +75,8 @@ first_made (main_line.New other class count line ∷ ls) name h = go (bytes_eq o
       line = main_line.New other class count line;
       class = class;
       among = inl refl;
-      made_by = rw same refl;
-      first = rw same refl;
+      made_by = ap (λ (b : Bool). if b then Some class else None) same;
+      first = first_here (made_class name (main_line.New other class count line)) (first_class ls name) class (ap (λ (b : Bool). if b then Some class else None) same);
     }
     go false same h later = made_behind other class count line ls name same (later (⊎_elim (λ is. absurd (true≢false (sym (name_same other name (sym is)) ∙ same))) (λ k. k) h))
 first_made (main_line.Setup other args line ∷ ls) name h =
@@ -191,9 +199,9 @@ module _ (t : Tree) (named : name_refusals t ≡ []) where
       let (earlier, none, among) = at_main t [] t.main in_main (main_line.Setup name xs at_) k in
       let kinds : setup_kinds t earlier name xs ≡ [] = map_none _ _ none in
       let words = no_left (flat_map (refused_in (made_scope earlier)) (ex.Name name ∷ xs)) _ (no_left _ _ kinds) in
-      let may_use : used (look (made_scope earlier) name) ≡ [] = ap (λ z. z.kinds _ (made_scope earlier)) (sym (names_of-Name name)) ∙ no_left (refused_in (made_scope earlier) (ex.Name name)) _ words in
+      let may_use : used (look (made_scope earlier) name) ≡ [] = ap (λ (z : Part). z.kinds Local (made_scope earlier)) (sym (names_of-Name name)) ∙ no_left (refused_in (made_scope earlier) (ex.Name name)) _ words in
       let first = first_made earlier name (looked (filter_map made_name earlier) name may_use) in
-      let own : made_class name (main_line.New name class count line) ≡ Some class = rw (name_same name name refl) refl in
+      let own : made_class name (main_line.New name class count line) ≡ Some class = ap (λ (b : Bool). if b then Some class else None) (name_same name name refl) in
       let same : first.class ≡ class = made_once [] t.main once name first.class class first.line (main_line.New name class count line) (among first.line first.among) h first.made_by own in
       let made_of : class_made t earlier name ≡ Some c = ap (option_and_then (class_of t)) first.first ∙ ap (class_of t) same ∙ known in
       no_misfit xs c (subst (λ o. list_any (setup_misfits xs) (option_to_list o) ≡ false) made_of (none_if (list_any (setup_misfits xs) (option_to_list (class_made t earlier name))) _ (no_right _ _ kinds)))
