@@ -26,7 +26,7 @@ fn main_of(alloc: Global, counts: &[u64]) -> Result<List<MainLine>, NoMemory> {
     Ok(main)
 }
 
-// The line that passes the limit of processes.
+// The line that exceeds the limit of processes.
 fn processes_told(alloc: Global, counts: &[u64]) -> Result<Option<LimitFault>, NoMemory> {
     let main = main_of(alloc, counts)?;
     let mut least = Least::new();

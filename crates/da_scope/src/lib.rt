@@ -3,7 +3,7 @@
 
 mod meaning;
 #[cfg(test)]
-mod rows;
+mod tests;
 mod top;
 
 pub use top::{ScopeFault, resolve};

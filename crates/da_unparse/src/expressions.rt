@@ -6,9 +6,7 @@ ghost use Rattle.std.specs.List.{flat_map};
 ghost use Rattle.std.specs.Prelude.{◌≡◌, ◌++◌, codes, OnOk};
 
 use crate::levels::{Level, asked_by, level_of};
-use crate::words::{
-    cmp_word, op_word, put_source, put_string, quantifier, truth, tuple_end_of,
-};
+use crate::words::{cmp_word, op_word, put_source, put_string, quantifier, truth, tuple_end_of};
 use da_lang::{ChainTree, Expr, GenTree, PatternTree, PeerTree};
 use da_values::{Boxed, Buf, NoMemory, write_number};
 

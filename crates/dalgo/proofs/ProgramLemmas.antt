@@ -12,10 +12,12 @@ use Rattle.da_lang.specs.declared.refusal.LimitKind.TheVariants as limit
 use Rattle.da_lang.specs.declared.refusal.ScopeKind.{ScopeKind}
 use Rattle.da_lang.specs.declared.refusal.ScopeKind.TheVariants as name
 use Rattle.da_lang.specs.declared.tree.Tree.{Tree}
+use Rattle.da_lang.specs.Accepted.{IsWritten}
 use Rattle.da_lang.specs.Grammar.{SpellsWithin}
 use Rattle.da_lang.specs.Limits.{Resolves}
 use Rattle.da_parse.specs.declared.whole.ParseFault.{ParseFault}
 use Rattle.da_parse.specs.declared.whole.ParseFault.TheVariants as parse_fault
+use Rattle.da_parse.proofs.WrittenTrees.{written_tree}
 use Rattle.da_scope.specs.declared.top.ScopeFault.{ScopeFault}
 use Rattle.da_scope.specs.declared.top.ScopeFault.TheVariants as scope
 use Rattle.da_scope.specs.Resolving.{IsRefusedAs as IsNotResolved}
@@ -41,6 +43,9 @@ has_no_tree text list r e few lexed is other only = record {
   lexed = lexed;
   none = λ tree spelled. other (subst (λ (o : Result Tree ParseFault). MatchResult o (λ found. found ≡ tree) (λ e. e ≡ parse_fault.Memory)) is (only tree spelled));
 }
+
+pub is_written : (text : List ℕ) (tree : Tree) → HasTree text tree → IsWritten tree
+is_written text tree has = written_tree text has.list tree has.lexed has.size has.spelled
 
 -- the refusal that is told of a tree
 by_name : (text : List ℕ) (kind : ScopeKind) (line : ℕ) → IsMisnamed text kind line → Refuses text (kind_of_name kind) line
