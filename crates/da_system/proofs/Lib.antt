@@ -1,4 +1,6 @@
+pub mod FlatLemmas
 pub mod RunLemmas
+pub mod SoundLaws
 pub mod StandLemmas
 pub mod StepLemmas
 pub mod StopLaws

@@ -13,13 +13,9 @@ use Rattle.da_lang.specs.declared.program.Program.{Program}
 use Rattle.da_lang.specs.Steps.{Go, Take, Step, Stepped, proc_step}
 use Rattle.da_lang.specs.World.{Data, World, at_number, opening}
 use Rattle.da_system.specs.Channels.{Channels, Letter, after_action, after_actions, channel, may_arrive, may_lose, may_repeat, no_letters, or_empty, put_numbered, with_channel}
+use Rattle.da_system.specs.SoundState.{IsSquare}
 use Rattle.da_system.specs.SystemStep.{AfterEvent, SystemState, arrive, copy_letter, drop_letter, process_step, start, step_of, stepped, sys_step, told}
 use Rattle.da_system.proofs.WorldLemmas.{all_numbered, numbered_none}
-
--- so many lists of as many channels
-pub record IsSquare (count : ℕ) (channels : Channels) : Type 0 where
-  pub senders : length channels ≡ count
-  pub recipients : AllByRecursion (λ (row : List (List Letter)). length row ≡ count) channels
 
 -- a channel for each pair of processes
 abbrev pub IsWhole : SystemState → Type 0
@@ -27,15 +23,15 @@ IsWhole s = IsSquare (length s.worlds) s.channels
 
 -- BEFORE ANY EVENT
 
-all_replicate : {A : Type 0} (P : A → Type 0) (n : ℕ) (x : A) → P x → AllByRecursion P (replicate n x)
+pub all_replicate : {A : Type 0} (P : A → Type 0) (n : ℕ) (x : A) → P x → AllByRecursion P (replicate n x)
 all_replicate P zero x p = tt
 all_replicate P (suc n) x p = (p, all_replicate P n x p)
 
-length-opened : (program : Program) (first n : ℕ) → length (map (opening program) (range_with_len first n)) ≡ n
+pub length-opened : (program : Program) (first n : ℕ) → length (map (opening program) (range_with_len first n)) ≡ n
 length-opened program first zero = refl
 length-opened program first (suc n) = let rest : length (map (opening program) (range_with_len (first + 1) n)) ≡ n = length-opened program (first + 1) n in omega (arith, rest)
 
-square_opens : (n : ℕ) → IsSquare n (no_letters n)
+pub square_opens : (n : ℕ) → IsSquare n (no_letters n)
 square_opens n = record {
   senders = length-replicate n (replicate n []);
   recipients = all_replicate (λ (row : List (List Letter)). length row ≡ n) n (replicate n []) (length-replicate n []);
@@ -46,22 +42,22 @@ start_whole program = subst (λ n. IsSquare n (no_letters (length program.procs)
 
 -- BEHIND EACH EVENT
 
-length-put : {A : Type 0} (xs : List A) (n : ℕ) (x : A) → length (put_numbered xs n x) ≡ length xs
+pub length-put : {A : Type 0} (xs : List A) (n : ℕ) (x : A) → length (put_numbered xs n x) ≡ length xs
 length-put xs zero x = refl
 length-put xs (suc place) x = length-set xs place x
 
 -- an element is replaced by one that is like it, where there is one
-all_set : {A : Type 0} (P : A → Type 0) (xs : List A) (k : ℕ) (x : A) → AllByRecursion P xs → ((y : A) → slice_get xs k ≡ Some y → P y → P x) → AllByRecursion P (slice_set xs k x)
+pub all_set : {A : Type 0} (P : A → Type 0) (xs : List A) (k : ℕ) (x : A) → AllByRecursion P xs → ((y : A) → slice_get xs k ≡ Some y → P y → P x) → AllByRecursion P (slice_set xs k x)
 all_set P [] k x all like = tt
 all_set P (y ∷ ys) zero x all like = (like y refl all.0, all.1)
 all_set P (y ∷ ys) (suc k) x all like = (all.0, all_set P ys k x all.1 like)
 
-all_put : {A : Type 0} (P : A → Type 0) (xs : List A) (n : ℕ) (x : A) → AllByRecursion P xs → ((y : A) → at_number xs n ≡ Some y → P y → P x) → AllByRecursion P (put_numbered xs n x)
+pub all_put : {A : Type 0} (P : A → Type 0) (xs : List A) (n : ℕ) (x : A) → AllByRecursion P xs → ((y : A) → at_number xs n ≡ Some y → P y → P x) → AllByRecursion P (put_numbered xs n x)
 all_put P xs zero x all like = all
 all_put P xs (suc place) x all like = all_set P xs place x all like
 
 module _ (count : ℕ) where
-  square_with : (channels : Channels) (p q : ℕ) (letters : List Letter) → IsSquare count channels → IsSquare count (with_channel channels p q letters)
+  pub square_with : (channels : Channels) (p q : ℕ) (letters : List Letter) → IsSquare count channels → IsSquare count (with_channel channels p q letters)
   square_with channels p q letters square = record {
     senders = length-put channels p _ ∙ square.senders;
     recipients = all_put (λ (row : List (List Letter)). length row ≡ count) channels p _ square.recipients
@@ -72,7 +68,7 @@ module _ (count : ℕ) where
   square_after channels (Sent p q t m) square = square_with channels p q _ square
   square_after channels _ square = square
 
-  squares_after : (channels : Channels) (actions : List Action) → IsSquare count channels → IsSquare count (after_actions channels actions)
+  pub squares_after : (channels : Channels) (actions : List Action) → IsSquare count channels → IsSquare count (after_actions channels actions)
   squares_after channels [] square = square
   squares_after channels (a ∷ others) square = squares_after (after_action channels a) others (square_after channels a square)
 

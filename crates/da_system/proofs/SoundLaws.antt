@@ -1,0 +1,166 @@
+-- The state of a system stays sound, where the worlds of processes stay shaped.
+use Rattle.std.proofs.Common.{◌≡◌, refl, sym, ◌∙◌, ap, subst, ℕ, zero, suc, ◌+◌, ◌<◌, ◌≤◌, Bool, true, false, cond, List, [], ◌∷◌, ◌++◌, length, map, replicate, take, drop, arith}
+use Rattle.std.specs.Prelude.{Option, Some, None, IfSome, is_some, remove}
+use Rattle.std.specs.List.{AllByRecursion, range_with_len}
+use Rattle.std.proofs.lemmas.Bool.{false≢true}
+use Rattle.std.proofs.lemmas.Option.{slice_get_within}
+use Rattle.da_lang.specs.declared.event.Action.{Action}
+use Rattle.da_lang.specs.declared.event.Action.TheVariants.{Sent}
+use Rattle.da_lang.specs.declared.event.Event.{Event}
+use Rattle.da_lang.specs.declared.event.Event.TheVariants as event
+use Rattle.da_lang.specs.declared.program.Program.{Program}
+use Rattle.da_lang.specs.Shaped.{IsProcess, Shaped}
+use Rattle.da_lang.specs.Steps.{Go, Take, Deliver, Step, Stepped, proc_step}
+use Rattle.da_lang.specs.World.{Data, World, at_number, opening}
+use Rattle.da_system.specs.Channels.{Channels, Letter, after_action, after_actions, channel, may_arrive, may_lose, may_repeat, no_letters, or_empty, put_numbered, with_channel, without_letter, without_numbered}
+use Rattle.da_system.specs.SoundState.{AllLetters, IsLetter, IsSoundState, IsSquare, MayArrive, SendsLetter, StaysShaped}
+use Rattle.da_system.specs.SystemStep.{AfterEvent, SystemState, arrive, copy_letter, drop_letter, process_step, start, step_of, stepped, sys_step, told}
+use Rattle.da_system.proofs.SystemLaws.{all_put, all_replicate, length-opened, length-put, letter_there, square_opens, square_with, squares_after}
+use Rattle.da_system.proofs.WorldLemmas.{all_numbered}
+
+-- LISTS
+
+all_append : {A : Type 0} (P : A → Type 0) (xs ys : List A) → AllByRecursion P xs → AllByRecursion P ys → AllByRecursion P (xs ++ ys)
+all_append P [] ys first next = next
+all_append P (x ∷ xs) ys first next = (first.0, all_append P xs ys first.1 next)
+
+all_take : {A : Type 0} (P : A → Type 0) (n : ℕ) (xs : List A) → AllByRecursion P xs → AllByRecursion P (take n xs)
+all_take P zero xs all = tt
+all_take P (suc n) [] all = tt
+all_take P (suc n) (x ∷ xs) all = (all.0, all_take P n xs all.1)
+
+all_drop : {A : Type 0} (P : A → Type 0) (n : ℕ) (xs : List A) → AllByRecursion P xs → AllByRecursion P (drop n xs)
+all_drop P zero xs all = all
+all_drop P (suc n) [] all = tt
+all_drop P (suc n) (x ∷ xs) all = all_drop P n xs all.1
+
+all_without : {A : Type 0} (P : A → Type 0) (xs : List A) (n : ℕ) → AllByRecursion P xs → AllByRecursion P (without_numbered xs n)
+all_without P xs zero all = all
+all_without P xs (suc place) all = all_append P (take place xs) (drop (suc place) xs) (all_take P place xs all) (all_drop P (suc place) xs all)
+
+all_or_empty : {A : Type 0} (P : A → Type 0) (o : Option (List A)) → IfSome o (AllByRecursion P) → AllByRecursion P (or_empty o)
+all_or_empty P None all = tt
+all_or_empty P (Some xs) all = all
+
+-- THE OPENING
+
+module _ (program : Program) (law : StaysShaped program) where
+  abbrev Letters : List Letter → Type 0
+  Letters letters = AllByRecursion (IsLetter program) letters
+
+  abbrev Row : List (List Letter) → Type 0
+  Row row = AllByRecursion Letters row
+
+  opened_from : (first n : ℕ) → 0 < first → first + n ≤ length program.procs + 1 → AllByRecursion (Shaped program) (map (opening program) (range_with_len first n))
+  opened_from first zero some most = tt
+  opened_from first (suc n) some most = (law.opens first (some, omega (arith, most)), opened_from (first + 1) n (omega arith) (omega (arith, most)))
+
+  pub start_sound : IsSoundState program (start program)
+  start_sound =
+      let count : ℕ = length program.procs in
+      record {
+        each = length-opened program 1 count;
+        worlds = opened_from 1 count (omega arith) (omega arith);
+        square = square_opens count;
+        letters = all_replicate Row count (replicate count []) (all_replicate Letters count [] tt);
+      }
+
+  -- CHANNELS
+
+  letters_in : (channels : Channels) (p q : ℕ) → AllLetters program channels → Letters (channel channels p q)
+  letters_in channels p q all =
+      let row : Row (or_empty (at_number channels p)) = all_or_empty Letters (at_number channels p) (all_numbered Row channels p all) in
+      all_or_empty (IsLetter program) (at_number (or_empty (at_number channels p)) q) (all_numbered Letters (or_empty (at_number channels p)) q row)
+
+  letters_with : (channels : Channels) (p q : ℕ) (letters : List Letter) → AllLetters program channels → Letters letters → AllLetters program (with_channel channels p q letters)
+  letters_with channels p q letters all here =
+      all_put Row channels p _ all
+      (λ row there fits. subst (λ (o : Option (List (List Letter))). Row (put_numbered (or_empty o) q letters)) (sym there) (all_put Letters row q letters fits (λ old at kept. here)))
+
+  letters_after : (channels : Channels) (a : Action) → AllLetters program channels → SendsLetter program a → AllLetters program (after_action channels a)
+  letters_after channels (Sent p q t m) all sends = letters_with channels p q _ all (all_append (IsLetter program) (channel channels p q) (record { message = _; time = t } ∷ []) (letters_in channels p q all) (sends, tt))
+  letters_after channels _ all sends = all
+
+  all_after : (channels : Channels) (actions : List Action) → AllLetters program channels → AllByRecursion (SendsLetter program) actions → AllLetters program (after_actions channels actions)
+  all_after channels [] all sends = all
+  all_after channels (a ∷ others) all sends = all_after (after_action channels a) others (letters_after channels a all sends.0) sends.1
+
+  -- a state with other letters in one channel
+  sound_with : (s : SystemState) (p q : ℕ) (letters : List Letter) → IsSoundState program s → Letters letters → IsSoundState program (record s { channels = with_channel s.channels p q letters })
+  sound_with s p q letters sound here = record {
+    each = sound.each;
+    worlds = sound.worlds;
+    square = square_with (length program.procs) s.channels p q letters sound.square;
+    letters = letters_with s.channels p q letters sound.letters here;
+  }
+
+  -- STEPS OF PROCESSES
+
+  abbrev Keeps : Option AfterEvent → Type 0
+  Keeps step = IfSome step (λ (after : AfterEvent). IsSoundState program after.state)
+
+  stepped_sound : (s : SystemState) (p : ℕ) (step : Step) (world : World) (found : Option Stepped) → IsSoundState program s → Shaped program world → MayArrive program step → proc_step program world step ≡ found → Keeps (stepped s p found)
+  stepped_sound s p step world None sound shaped may is = tt
+  stepped_sound s p step world (Some after) sound shaped may is =
+      let (next, sends) = law.steps world step after shaped may is in
+      record {
+        each = length-put s.worlds p after.world ∙ sound.each;
+        worlds = all_put (Shaped program) s.worlds p after.world sound.worlds (λ old there kept. next);
+        square = squares_after (length program.procs) s.channels after.actions sound.square;
+        letters = all_after s.channels after.actions sound.letters sends;
+      }
+
+  of_sound : (s : SystemState) (p : ℕ) (step : Step) (world : Option World) → IsSoundState program s → IfSome world (Shaped program) → MayArrive program step → Keeps (step_of program s p world step)
+  of_sound s p step None sound shaped may = tt
+  of_sound s p step (Some world) sound shaped may = stepped_sound s p step world (proc_step program world step) sound shaped may refl
+
+  process_sound : (s : SystemState) (p : ℕ) (step : Step) → IsSoundState program s → MayArrive program step → Keeps (process_step program s p step)
+  process_sound s p step sound may = of_sound s p step (at_number s.worlds p) sound (all_numbered (Shaped program) s.worlds p sound.worlds) may
+
+  -- LETTERS
+
+  -- a world that is there is that of a process
+  there_process : (s : SystemState) (p : ℕ) → IsSoundState program s → is_some (at_number s.worlds p) ≡ true → IsProcess program p
+  there_process s p sound there = of p (at_number s.worlds p) refl there
+    where
+      of : (n : ℕ) (found : Option World) → at_number s.worlds n ≡ found → is_some found ≡ true → IsProcess program n
+      of n None is some = absurd (false≢true some)
+      of zero (Some world) is some = absurd (false≢true (ap is_some is))
+      of (suc place) (Some world) is some = (omega arith, omega (arith, slice_get_within s.worlds place world is, sound.each))
+
+  arrive_sound : (s : SystemState) (p q i : ℕ) (letter : Option Letter) → at_number (channel s.channels p q) i ≡ letter → IsSoundState program s → Keeps (arrive program s p q i letter)
+  arrive_sound s p q i None is sound = tt
+  arrive_sound s p q i (Some letter) is sound =
+      let is_letter : IsLetter program letter = subst (λ (o : Option Letter). IfSome o (IsLetter program)) is (all_numbered (IsLetter program) (channel s.channels p q) i (letters_in s.channels p q sound.letters)) in
+      let both = letter_there s p q i letter (subst (λ n. IsSquare n s.channels) (sym sound.each) sound.square) is in
+      let rest : IsSoundState program (record s { channels = without_letter s.channels p q i }) =
+      sound_with s p q _ sound (all_without (IsLetter program) (channel s.channels p q) i (letters_in s.channels p q sound.letters)) in
+      process_sound (record s { channels = without_letter s.channels p q i }) q (Deliver letter.message p letter.time) rest
+      (record { proper = is_letter.proper; typed = is_letter.typed; peer = there_process s p sound both.0 })
+
+  drop_sound : (s : SystemState) (p q i : ℕ) (letter : Option Letter) → IsSoundState program s → Keeps (drop_letter s p q i letter)
+  drop_sound s p q i None sound = tt
+  drop_sound s p q i (Some letter) sound = sound_with s p q _ sound (all_without (IsLetter program) (channel s.channels p q) i (letters_in s.channels p q sound.letters))
+
+  copy_sound : (s : SystemState) (p q i : ℕ) (letter : Option Letter) → at_number (channel s.channels p q) i ≡ letter → IsSoundState program s → Keeps (copy_letter s p q letter)
+  copy_sound s p q i None is sound = tt
+  copy_sound s p q i (Some letter) is sound =
+      let is_letter : IsLetter program letter = subst (λ (o : Option Letter). IfSome o (IsLetter program)) is (all_numbered (IsLetter program) (channel s.channels p q) i (letters_in s.channels p q sound.letters)) in
+      sound_with s p q _ sound (all_append (IsLetter program) (channel s.channels p q) (letter ∷ []) (letters_in s.channels p q sound.letters) (is_letter, tt))
+
+  told_sound : (s : SystemState) (world : Option World) (tell : Data → List Action) → IsSoundState program s → Keeps (told s world tell)
+  told_sound s None tell sound = tt
+  told_sound s (Some world) tell sound = sound
+
+  if_sound : (b : Bool) (step : Option AfterEvent) → Keeps step → Keeps (cond b step None)
+  if_sound true step keeps = keeps
+  if_sound false step keeps = tt
+
+  pub step_sound : (s : SystemState) (e : Event) → IsSoundState program s → Keeps (sys_step program s e)
+  step_sound s (event.Move p) sound = process_sound s p Go sound tt
+  step_sound s (event.Take p k) sound = process_sound s p (Take k) sound tt
+  step_sound s (event.Deliver p q i) sound = if_sound (may_arrive s.kind i) _ (arrive_sound s p q i (at_number (channel s.channels p q) i) refl sound)
+  step_sound s (event.Lose p q i) sound = if_sound (may_lose s.kind) _ (drop_sound s p q i (at_number (channel s.channels p q) i) sound)
+  step_sound s (event.Repeat p q i) sound = if_sound (may_repeat s.kind) _ (copy_sound s p q i (at_number (channel s.channels p q) i) refl sound)
+  step_sound s (event.Show p) sound = told_sound s (at_number s.worlds p) _ sound
+  step_sound s (event.Stat p) sound = told_sound s (at_number s.worlds p) _ sound
