@@ -46,11 +46,11 @@ fn sinks_fail_at_their_script(rt: HostRuntime) -> Result<(), Fail> {
     Ok(())
 }
 
-// Whether a reading of a text of 5 bytes makes so many calls: the next one is the one that fails.
-fn reads_in(alloc: Global, limit: usize, calls: u64) -> Result<bool, NoMemory> {
-    let mut files = MemFiles::new(alloc, script_of(alloc, calls + 1)?);
+// Whether this call is the first behind a reading of a text of 5 bytes: it is the one that fails.
+fn is_behind(alloc: Global, limit: u16, call: u64) -> Result<bool, NoMemory> {
+    let mut files = MemFiles::new(alloc, script_of(alloc, call)?);
     files.add(copy_bytes(alloc, b"a")?, copy_bytes(alloc, b"hello")?)?;
-    if read_all(alloc, &mut files, "a", limit).is_err() {
+    if read_all(alloc, &mut files, "a", limit as usize).is_err() {
         return Ok(false);
     }
     Ok(files.read("a", 0, &mut [0u8; 1]).is_err())
@@ -58,8 +58,8 @@ fn reads_in(alloc: Global, limit: usize, calls: u64) -> Result<bool, NoMemory> {
 
 #[test]
 fn no_call_is_made_past_the_limit(rt: HostRuntime) -> Result<(), Fail> {
-    for (limit, calls) in [(0, 1), (3, 1), (4, 1), (5, 2), (9, 2)] {
-        assert!(rt; reads_in(rt.alloc(), limit, calls)?);
+    for (limit, call) in [(0, 2), (3, 2), (4, 2), (5, 3), (9, 3)] {
+        assert!(rt; is_behind(rt.alloc(), limit, call)?);
     }
     Ok(())
 }
