@@ -14,8 +14,6 @@ mod nodes;
 mod numbers;
 mod sizes;
 mod statements;
-#[cfg(test)]
-mod tests;
 mod tree;
 mod types;
 mod walk;

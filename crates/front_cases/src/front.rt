@@ -83,9 +83,9 @@ impl From<TypeFault> for Refusal {
     }
 }
 
-// The tree of a text.
+/// The tree of a text.
 #[tactic(auto, using(da_parse::proofs::WrittenTrees::written_tree))]
-fn tree_of(alloc: Global, text: &[u8]) -> Result<Tree, Refusal>
+pub fn tree_of(alloc: Global, text: &[u8]) -> Result<Tree, Refusal>
     ensures { IfOk result IsWritten }
 {
     if text.len() > MOST_BYTES {

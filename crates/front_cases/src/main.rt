@@ -3,6 +3,8 @@
 
 mod cases;
 mod front;
+#[cfg(test)]
+mod parsing;
 mod words;
 
 use anyhow::Context;
@@ -12,8 +14,8 @@ use front::{Refusal, print_text, typed_of};
 use std::{fs, rt, str};
 
 /// The files of cases, in the order of the answers.
-const FILES: [&str; 7] = [
-    "scopes", "deeds", "limits", "accepted", "long", "copies", "grammar",
+const FILES: [&str; 8] = [
+    "scopes", "deeds", "limits", "accepted", "long", "copies", "grammar", "printing",
 ];
 
 fn main(rt: HostRuntime) -> anyhow::Result<()> {
