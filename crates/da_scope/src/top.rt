@@ -1,5 +1,5 @@
 //! From the tree of a program to the program.
-ghost use Rattle.da_lang.specs.Accepted.{IsWritten};
+ghost use Rattle.da_lang.specs.Accepted.{IsResolved, IsWritten};
 ghost use Rattle.da_lang.specs.Limits.{Resolves};
 ghost use Rattle.da_lang.specs.declared.program.Program.{Program as ProgramOf};
 ghost use Rattle.da_scope.specs.Resolving.{IsRefusedAs};
@@ -51,6 +51,7 @@ const MOST_NODES: u32 = 4_194_304;
 pub fn resolve(alloc: Global, t: &Tree) -> Result<Program, ScopeFault>
     requires written { IsWritten t.now }
     ensures program { IfOk result (Resolves t.now) }
+    ensures resolved { IfOk result IsResolved }
     ensures refused { IfErr result (IsRefusedAs t.now) }
     ensures only { (p : ProgramOf) → Resolves t.now p → MatchResult result (λ found. found ≡ p) (λ fault. fault ≡ Memory) }
 {

@@ -23,3 +23,14 @@ returns-clause-program c = record {
   within = untold limit_rank (limit_refusals c.args.t.now) c.in_ok-kind-2.field-0 c.in_ok-kind-2.ensures c.in_default-2.is;
   becomes = c.in_ok-build_program.ensures;
 }
+
+pub returns-clause-resolved : goal.returns-clause-resolved
+returns-clause-resolved c = record {
+  tree = c.args.t.now;
+  written = c.requires.written;
+  resolves = record {
+    named = untold name_rank (name_refusals c.args.t.now) c.in_ok-kind.field-0 c.in_ok-kind.ensures c.in_default.is;
+    within = untold limit_rank (limit_refusals c.args.t.now) c.in_ok-kind-2.field-0 c.in_ok-kind-2.ensures c.in_default-2.is;
+    becomes = c.in_ok-build_program.ensures;
+  };
+}
