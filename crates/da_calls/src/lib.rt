@@ -9,8 +9,6 @@ mod names;
 mod order;
 mod rows;
 mod search;
-#[cfg(test)]
-mod tests;
 
 pub use graph::CallGraph;
 pub use methods::Method;

@@ -21,6 +21,7 @@ pub mod QueryLaws
 pub mod RowLaws
 pub mod RunBounds
 pub mod RunLaws
+pub mod SameLemmas
 pub mod SendLaws
 pub mod ShownLaws
 pub mod SpelledLaws

@@ -12,7 +12,7 @@ use Rattle.da_lang.specs.declared.query.Pattern.{Pattern}
 use Rattle.da_lang.specs.declared.query.Pattern.TheVariants as pattern
 use Rattle.da_lang.specs.declared.query.Term.{Term}
 use Rattle.da_lang.specs.Live.{varies, live_pattern}
-use Rattle.da_lang.specs.Matching.{Row, Match, is_same, and_then, where_true, match_parts, match_tuple, matched, matched_both, term_value}
+use Rattle.da_lang.specs.Matching.{Row, Match, is_same, and_then, where_true, match_parts, match_tuple, matched, matched_entry, term_value}
 use Rattle.da_lang.specs.World.{Data}
 use Rattle.da_lang.proofs.LiveLaws.{varies-Slot, varies-Part, varies-Tuple, live-Any, live-Bind, live-Const, live-Me, live-Equal, live-Tuple}
 use Rattle.da_lang.proofs.MatchingLaws.{term-Const, term-Me, term-Tuple, term-Foreign, match-Any, match-Bind, match-Const, match-Me, match-Equal, match-Tuple}
@@ -166,24 +166,24 @@ module _ (me : ℕ) where
       let (l, f) = tuple_wider ps each slots (out-Val x) row r (sym (match-Tuple me slots x row ps) ∙ e) in
       wider_as (pattern.Tuple ps) (pattern.Tuple (map live_pattern ps)) (live-Tuple ps) x l (match-Tuple me [] x [] (map live_pattern ps) ∙ f))
 
--- The same of a message and the other process, which is what a generator over a history matches.
+-- The same of a message and the other process.
 
-abbrev pub caught_both : ℕ → Pattern → Pattern → Val → Val → Option Row
-caught_both me message peer x p = and_then (caught me message x) (matched me [] (live_pattern peer) p)
+abbrev pub caught_entry : ℕ → Pattern → Pattern → Val → ℕ → Option Row
+caught_entry me message peer x p = and_then (caught me message x) (matched me [] (live_pattern peer) (val.Proc p))
 
-module _ (d : Data) (message peer : Pattern) (x p : Val) where
-  then_caught : (found : Option Row) (row : Row) → and_then (behind row found) (matched d.me d.slots (live_pattern peer) p) ≡ behind row (and_then found (matched d.me [] (live_pattern peer) p))
+module _ (d : Data) (message peer : Pattern) (x : Val) (p : ℕ) where
+  then_caught : (found : Option Row) (row : Row) → and_then (behind row found) (matched d.me d.slots (live_pattern peer) (val.Proc p)) ≡ behind row (and_then found (matched d.me [] (live_pattern peer) (val.Proc p)))
   then_caught None row = refl
   then_caught (Some l) row =
-      match_live d.me peer d.slots p (row ++ l) ∙ sym (behind_twice row l (caught d.me peer p)) ∙ ap (behind row) (sym (match_live d.me peer [] p l))
+      match_live d.me peer d.slots (val.Proc p) (row ++ l) ∙ sym (behind_twice row l (caught d.me peer (val.Proc p))) ∙ ap (behind row) (sym (match_live d.me peer [] (val.Proc p) l))
 
-  pub both_live : (row : Row) → matched_both d (live_pattern message) (live_pattern peer) x p row ≡ behind row (caught_both d.me message peer x p)
-  both_live row =
-      ap (λ z. and_then z (matched d.me d.slots (live_pattern peer) p)) (match_live d.me message d.slots x row) ∙ then_caught (caught d.me message x) row
+  pub entry_live : (row : Row) → matched_entry d (live_pattern message) (live_pattern peer) x p row ≡ behind row (caught_entry d.me message peer x p)
+  entry_live row =
+      ap (λ z. and_then z (matched d.me d.slots (live_pattern peer) (val.Proc p))) (match_live d.me message d.slots x row) ∙ then_caught (caught d.me message x) row
 
-  pub both_caught : (row r : Row) → matched_both d message peer x p row ≡ Some r → (l : Row) × (caught_both d.me message peer x p ≡ Some l)
-  both_caught row r e =
-      let (s, message_found, peer_found) = both_wider d.me (matched d.me d.slots message x row) (matched d.me d.slots peer p) r e in
+  pub entry_caught : (row r : Row) → matched_entry d message peer x p row ≡ Some r → (l : Row) × (caught_entry d.me message peer x p ≡ Some l)
+  entry_caught row r e =
+      let (s, message_found, peer_found) = both_wider d.me (matched d.me d.slots message x row) (matched d.me d.slots peer (val.Proc p)) r e in
       let (l, message_caught) = match_is_caught d.me message d.slots x row s message_found in
-      let (k, peer_caught) = match_is_caught d.me peer d.slots p s r peer_found in
-      (l ++ k, ap (λ z. and_then z (matched d.me [] (live_pattern peer) p)) message_caught ∙ match_live d.me peer [] p l ∙ ap (behind l) peer_caught)
+      let (k, peer_caught) = match_is_caught d.me peer d.slots (val.Proc p) s r peer_found in
+      (l ++ k, ap (λ z. and_then z (matched d.me [] (live_pattern peer) (val.Proc p))) message_caught ∙ match_live d.me peer [] (val.Proc p) l ∙ ap (behind l) peer_caught)

@@ -1,5 +1,5 @@
 -- What a step is where it is allowed: one equation for each kind of step.
-use Rattle.std.specs.Prelude.{◌≡◌, refl, ℕ, true, List, [], ◌∷◌, Some}
+use Rattle.std.specs.Prelude.{◌≡◌, refl, ℕ, zero, suc, true, List, [], ◌∷◌, Some}
 use Rattle.da_values.specs.declared.val.Val.{Val}
 use Rattle.da_lang.specs.declared.program.Alt.{Alt}
 use Rattle.da_lang.specs.declared.program.Class.{Class}
@@ -9,9 +9,16 @@ use Rattle.da_lang.specs.declared.program.ItemKind.TheViews.{out-Alt}
 use Rattle.da_lang.specs.declared.program.Program.{Program}
 use Rattle.da_lang.specs.Queries.{holds}
 use Rattle.da_lang.specs.Runs.{run_to_yield}
-use Rattle.da_lang.specs.Steps.{Go, Take, Deliver, first_tasks, handle, handled, moved, proc_step, received_at}
+use Rattle.da_lang.specs.Steps.{Go, Take, Deliver, first_tasks, handle, handled, move_step, moved, proc_step, received_at}
 use Rattle.da_lang.specs.Turns.{bind_found, do_all, kind_of}
 use Rattle.da_lang.specs.World.{Task, Do, World, class_of, at_number, New, Waiting}
+
+-- the moves of events: `Move` is the one of number 0, and `Take` by the number of an alternative is its own
+pub move_none : move_step zero ≡ Go
+move_none = refl
+
+pub move_some : (k : ℕ) → move_step (suc k) ≡ Take (suc k)
+move_some k = refl
 
 module _ (program : Program) (class : Class) (w : World) (known : class_of program w.data'.me ≡ Some class) where
   pub step_begins : w.phase ≡ New → proc_step program w Go ≡ Some (moved w.data'.me 0 (run_to_yield class 0 w.data' (first_tasks program class w.data'.me)))

@@ -1,10 +1,10 @@
 -- The live patterns of a class are those of its generators over histories, each once.
-use Rattle.std.specs.Prelude.{◌≡◌, ◌⊎◌, pos, Bool, true, false, not, cond, List, [], ◌∷◌, map, refl}
+use Rattle.std.specs.Prelude.{◌≡◌, ◌⊎◌, ◌↔◌, pos, Bool, true, false, not, cond, List, [], ◌∷◌, map, refl}
 use Rattle.std.specs.List.{filter}
 use Rattle.std.specs.Ordering.{is_eq}
 use Rattle.std.specs.declared.cmp.Ordering.{Ordering}
 use Rattle.std.specs.declared.cmp.Ordering.TheVariants.{Less, Equal, Greater}
-use Rattle.std.proofs.Common.{ap, sym, ◌∙◌, inl, inr}
+use Rattle.std.proofs.Common.{ap, sym, subst, ◌∙◌, inl, inr}
 use Rattle.std.proofs.lemmas.Bool.{false≢true}
 use Rattle.std.proofs.lemmas.Cmp.{tied_itself}
 use Rattle.da_values.specs.declared.val.Val.{Val}
@@ -105,3 +105,13 @@ gen_from_live class p h =
     let (g, there, e) = of_map live_gen (filter (λ z. is_history z.source) (class_gens class)) p (of_once (map live_gen (filter (λ z. is_history z.source) (class_gens class))) p h) in
     let (among, over) = of_filter (λ (z : RGen). is_history z.source) (class_gens class) g there in
     (g, among, over, e)
+
+-- a test that is true exactly of equal live patterns is this one
+pub test_is : (p q : LivePattern) (b : Bool) → (b ≡ true) ↔ (p ≡ q) → b ≡ same_live p q
+test_is p q b decides = go b (same_live p q) refl decides
+  where
+    go : (b c : Bool) → same_live p q ≡ c → (b ≡ true) ↔ (p ≡ q) → b ≡ c
+    go true true e decides = refl
+    go true false e decides = absurd (false≢true (sym e ∙ subst (λ z. same_live p z ≡ true) (decides.0 refl) (same_live-itself p)))
+    go false true e decides = decides.1 (one_from_test p q e)
+    go false false e decides = refl

@@ -67,42 +67,53 @@ pub data IsKind : ChannelKind → List Tok → List Tok → Type 0 where
 
 -- what says whether a token may open one thing more, by how many are open; and how many there are at most
 module _ (room : ℕ → Room) (f : ℕ) where
-  -- "(" [ types ] ")" and "(" [ params ] ")" behind their "("
+  -- "(" [ types ] ")" behind its "("
   abbrev pub IsTypes : Spelling (List Ty)
   IsTypes = Closed m.CloseParen (TypeIn room f 1)
-
-  abbrev pub IsParams : Spelling (List Param)
-  IsParams = Closed m.CloseParen (IsParam (TypeIn room f 2))
 
   -- message
   pub data IsMessage : MessageDecl → List Tok → List Tok → Type 0 where
     message : {n : List ℕ} {xs : List Ty} {t r s q z a : List Tok} → At m.Message t r → Named n r s → Opens m.OpenParen (room 0) s q → IsTypes xs q z → At m.Newline z a → IsMessage (record { tag = n; parts = xs; line = line t }) t a
-
-  -- class
-  pub data IsClass : ClassTree → List Tok → List Tok → Type 0 where
-    class : {n : List ℕ} {ms : List Member} {t r s q z a b c d : List Tok} → At m.Class t r → Named n r s → At m.Extends s q → At m.Process q z → At m.Colon z a → At m.Newline a b → Opens m.Indent (room 0) b c
-        → Ended (IsMember (room 1) (TypeIn room f 1) IsParams (IsPattern (room 1) (deeper room f 2)) (IsBlock (room 1) (deeper room f 2) (BodyIn room f 2))) ms c d
-        → IsClass (record { name = n; members = ms; line = line t }) t d
-
-  -- { message | class }
-  pub data IsDecls : List MessageDecl → List ClassTree → List Tok → List Tok → Type 0 where
-    no_decl : {t : List Tok} → IsDecls [] [] t t
-    message : {x : MessageDecl} {xs : List MessageDecl} {cs : List ClassTree} {t r s : List Tok} → IsMessage x t r → IsDecls xs cs r s → IsDecls (x ∷ xs) cs t s
-    class : {c : ClassTree} {xs : List MessageDecl} {cs : List ClassTree} {t r s : List Tok} → IsClass c t r → IsDecls xs cs r s → IsDecls xs (c ∷ cs) t s
 
   -- main
   pub data IsMain : List MainLine → List Tok → List Tok → Type 0 where
     main : {ls : List MainLine} {t r s q z a b c d : List Tok} → At m.Def t r → At m.Main r s → Opens m.OpenParen (room 0) s q → At m.CloseParen q z → At m.Colon z a → At m.Newline a b → Opens m.Indent (room 0) b c
         → Ended (IsMline (room 1) (deeper room f 2)) ls c d → IsMain ls t d
 
+  -- a parameter with its type, behind the "(" of a member
+  abbrev pub TypedParam : Spelling Param
+  TypedParam = IsParam (TypeIn room f 2)
+
+-- "(" [ params ] ")" behind its "(", where Parameter spells a parameter
+abbrev pub IsParams : Spelling Param → Spelling (List Param)
+IsParams Parameter = Closed m.CloseParen Parameter
+
+-- the same, and what spells a parameter
+module _ (room : ℕ → Room) (f : ℕ) (Parameter : Spelling Param) where
+  -- class
+  pub data IsClass : ClassTree → List Tok → List Tok → Type 0 where
+    class : {n : List ℕ} {ms : List Member} {t r s q z a b c d : List Tok} → At m.Class t r → Named n r s → At m.Extends s q → At m.Process q z → At m.Colon z a → At m.Newline a b → Opens m.Indent (room 0) b c
+        → Ended (IsMember (room 1) (TypeIn room f 1) (IsParams Parameter) (IsPattern (room 1) (deeper room f 2)) (IsBlock (room 1) (deeper room f 2) (BodyIn room f 2))) ms c d
+        → IsClass (record { name = n; members = ms; line = line t }) t d
+
+  -- { message | class }
+  pub data IsDecls : List MessageDecl → List ClassTree → List Tok → List Tok → Type 0 where
+    no_decl : {t : List Tok} → IsDecls [] [] t t
+    message : {x : MessageDecl} {xs : List MessageDecl} {cs : List ClassTree} {t r s : List Tok} → IsMessage room f x t r → IsDecls xs cs r s → IsDecls (x ∷ xs) cs t s
+    class : {c : ClassTree} {xs : List MessageDecl} {cs : List ClassTree} {t r s : List Tok} → IsClass c t r → IsDecls xs cs r s → IsDecls xs (c ∷ cs) t s
+
   -- program
   pub data IsProgram : Tree → List Tok → Type 0 where
-    program : {k : ChannelKind} {xs : List MessageDecl} {cs : List ClassTree} {ls : List MainLine} {t r s : List Tok} → IsKind k t r → IsDecls xs cs r s → IsMain ls s [] → IsProgram (record { kind = k; messages = xs; classes = cs; main = ls }) t
+    program : {k : ChannelKind} {xs : List MessageDecl} {cs : List ClassTree} {ls : List MainLine} {t r s : List Tok} → IsKind k t r → IsDecls xs cs r s → IsMain room f ls s [] → IsProgram (record { kind = k; messages = xs; classes = cs; main = ls }) t
+
+-- a program in which each parameter has its type
+abbrev pub IsTypedProgram : (ℕ → Room) → ℕ → Tree → List Tok → Type 0
+IsTypedProgram room f = IsProgram room f (TypedParam room f)
 
 -- each token is spelled as its mark says, and together they spell the tree
 unfoldable pub Spells : Tree → List Tok → Type 0
-Spells tree tokens = All IsSpelled tokens × ((f : ℕ) × IsProgram (λ d t. Unit {0}) f tree tokens)
+Spells tree tokens = All IsSpelled tokens × ((f : ℕ) × IsTypedProgram (λ d t. Unit {0}) f tree tokens)
 
 -- the same, and none of them opens more than so many things at once
 unfoldable pub SpellsWithin : ℕ → Tree → List Tok → Type 0
-SpellsWithin most tree tokens = All IsSpelled tokens × IsProgram (λ d t. d < most) (suc most) tree tokens
+SpellsWithin most tree tokens = All IsSpelled tokens × IsTypedProgram (λ d t. d < most) (suc most) tree tokens

@@ -1,6 +1,7 @@
 pub mod Accepted
 pub mod Allowed
 pub mod Arithmetic
+pub mod Begins
 pub mod BodyMeaning
 pub mod Calls
 pub mod Changes

@@ -155,7 +155,7 @@ abbrev pub line_of_main : MainLine → ℕ
 line_of_main (main_line.New name class count line) = line
 line_of_main (main_line.Setup name args line) = line
 
--- the line of `main` that passes the limit, where so many were made before
+-- the line of `main` that exceeds the limit, where so many were made before
 abbrev pub processes_over : ℕ → List MainLine → List ℕ
 processes_over before [] = []
 processes_over before (l ∷ ls) = if nat_lt most_processes (before + made_count l) then line_of_main l ∷ [] else processes_over (before + made_count l) ls

@@ -1,5 +1,5 @@
 -- The step of a process: a move, or the delivery of a message.
-use Rattle.std.specs.Prelude.{ℕ, ◌+◌, max, nat_lt, if◌then◌else◌, List, [], ◌∷◌, ◌++◌, Option, Some, None}
+use Rattle.std.specs.Prelude.{ℕ, zero, suc, ◌+◌, max, nat_lt, if◌then◌else◌, List, [], ◌∷◌, ◌++◌, Option, Some, None}
 use Rattle.da_values.specs.declared.val.Val.{Val}
 use Rattle.da_values.specs.Value.{value_of}
 use Rattle.da_lang.specs.declared.event.Action.{Action}
@@ -28,6 +28,11 @@ pub data Step : Type 0 where
   Go : Step
   Take : (k : ℕ) → Step
   Deliver : (message : Val) (sender : ℕ) (time : ℕ) → Step
+
+-- the move that a number names: 0 is the one from the opening or a label
+abbrev pub move_step : ℕ → Step
+move_step zero = Go
+move_step (suc k) = Take (suc k)
 
 -- the world after a step, and what the step did
 pub record Stepped : Type 0 where

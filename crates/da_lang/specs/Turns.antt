@@ -59,7 +59,7 @@ abbrev pub bind_found : List Query → Option ℕ → List ℕ → Data → Data
 bind_found queries None slots d = d
 bind_found queries (Some n) slots d = bind_row slots (least_row queries n d) d
 
--- the clock never passes this
+-- the greatest time of a clock
 unfoldable pub last_time : ℕ
 last_time = 2 ^ 63 - 1
 

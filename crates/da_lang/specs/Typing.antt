@@ -53,7 +53,7 @@ abbrev pub in_turn : List (Slots → Slots) → Slots → Slots
 in_turn [] slots = slots
 in_turn (step ∷ steps) slots = in_turn steps (step slots)
 
--- the tag of a message that is written as a tuple whose first part is a text
+-- the text at the head of a tuple that is sent
 abbrev pub text_part : expr.RExpr-F RExpr ChainPart → Option (List ℕ)
 text_part (expr.Const (kept.Text tag)) = Some tag
 text_part _ = None

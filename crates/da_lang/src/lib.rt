@@ -2,14 +2,20 @@
 #![tactic(auto)]
 
 mod code;
+mod copy;
 mod event;
 mod program;
 mod query;
 mod refusal;
+mod same;
 mod tree;
 mod ty;
 
 pub use code::Instr;
+pub use copy::{
+    copy_agg, copy_cond, copy_gen, copy_gens, copy_live, copy_operand, copy_pattern, copy_query,
+    copy_term, copy_type, copy_types,
+};
 pub use event::{Action, Event, FaultKind};
 pub use program::{
     Alt, BindArg, ChainPart, Class, Handler, Item, ItemKind, ProcDecl, Program, RBranch, RExpr,
@@ -20,6 +26,10 @@ pub use query::{
     SignedOperand, Source, Term,
 };
 pub use refusal::{LimitKind, ScopeKind};
+pub use same::{
+    same_agg, same_cond, same_gen, same_gens, same_live, same_operand, same_pattern, same_query,
+    same_source, same_term, same_value,
+};
 pub use tree::{
     ArithOp, Branch, ChainTree, ClassTree, CmpOp, Expr, GenTree, MainLine, Member, MessageDecl,
     Param, PatternTree, PeerTree, SourceTree, Stmt, TimeoutTree, Tree,

@@ -99,8 +99,8 @@ pub enum ItemKind {
     Pass,
 }
 
-/// A branch of an `if`. `found` is the number of the `some` whose row is bound, and `binds` the slots that take its
-/// parts. The line is that of the header.
+/// A branch of an `if`, with the line of its header. Where the condition is a `some`, `found` numbers that query, and
+/// the slots `binds` take the least row that it finds, part by part.
 #[cycle(item)]
 #[derive(Debug, Drop)]
 pub struct RBranch {
@@ -135,7 +135,7 @@ pub struct Alt {
 pub enum RExpr {
     /// This value.
     Const(Value),
-    /// The set of these processes, which a name of `main` made with a count stands for.
+    /// Several processes as a set: what a name stands for that `main` gave to more than one.
     Procs(List<u16>),
     /// The process itself.
     Me,

@@ -26,7 +26,7 @@ pub enum ScopeKind {
     Arity,
 }
 
-/// A limit that a program passes, in the order in which one is told before another on one line.
+/// A limit that a program exceeds, in the order in which one is told before another on one line.
 #[derive(Clone, Copy, Debug, PartialEq, Eq)]
 pub enum LimitKind {
     /// 32 classes.

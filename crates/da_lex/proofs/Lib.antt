@@ -3,3 +3,4 @@ pub mod AnswerLemmas
 pub mod Facts
 pub mod LevelLemmas
 pub mod ScanFits
+pub mod TokenCounts

@@ -23,10 +23,10 @@ pub struct Scanner {
     pub spaces: u32,
     /// The open levels, the innermost last.
     pub levels: List<u32>,
-    /// How many brackets are open, and the line of the one that was opened last from none open.
+    /// How deep the scan is inside brackets, and the line on which it last went into an outermost one.
     pub brackets: u32,
     pub bracket_line: u32,
-    /// The byte after the last token, and its line, or 1 where there is none.
+    /// Where the last token ended, and on which line; before any token, on line 1.
     pub past: u32,
     pub last_line: u32,
     /// The tokens so far.
@@ -67,7 +67,7 @@ impl Scanner {
         })
     }
 
-    // The spaces before the first token of a line are its level.
+    // A first token has come: its line is indented as far as the line has spaces, and levels open or close by that.
     #[tactic(auto, unfolding(da_values::specs::Tokens::level))]
     fn level(&mut self) -> Result<(), LexFault>
         ensures steps { Steps (spec.level (scan_of self.old)) result self.old self.new }
@@ -200,7 +200,7 @@ impl Scanner {
         Ok(length)
     }
 
-    /// The tokens, at the end of the text, where the last line ends, and the open levels.
+    /// All tokens, once the text is used up: the last line ends there, and each level that is open.
     #[tactic(auto, unfolding(da_values::specs::Tokens::finish))]
     pub fn finish(mut self) -> Result<List<Token>, LexFault>
         ensures { Ends (spec.finish (scan_of self)) self.tokens result }

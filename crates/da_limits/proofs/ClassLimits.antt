@@ -1,4 +1,4 @@
--- What limits a class passes, by its extent and by the queries in its members.
+-- What limits a class exceeds, by its extent and by the queries in its members.
 use Rattle.std.specs.Prelude.{◌≡◌, refl, ℕ, ◌+◌, ◌<◌, ◌≤◌, nat_lt, ◌||◌, ◌&&◌, Bool, true, false, List, [], ◌∷◌, length, map, flat_map, filter, filter_map, find, Option, Some, None, IsSome, Contains}
 use Rattle.std.specs.List.{list_any, fold}
 use Rattle.std.proofs.Common.{◌∙◌, ap, sym, arith, cond, get_or, drop, subst, ⊎_elim}

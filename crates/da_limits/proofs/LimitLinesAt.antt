@@ -1,4 +1,4 @@
--- The lines at which limits are passed, one by one.
+-- The lines at which limits are exceeded, one by one.
 use Rattle.std.specs.Prelude.{◌≡◌, refl, ℕ, zero, suc, ◌+◌, ◌<◌, ◌≤◌, nat_lt, ◌||◌, Bool, true, false, List, [], ◌∷◌, ◌++◌, length, flat_map, Option}
 use Rattle.std.proofs.Common.{◌∙◌, ap, sym, arith, get_or, take, drop, append-nil}
 use Rattle.std.proofs.lemmas.List.{map-append, take_all}

@@ -1,4 +1,4 @@
--- What limits a tree passes outside its classes, one by one.
+-- What limits a tree exceeds outside its classes, one by one.
 use Rattle.std.specs.Prelude.{◌≡◌, refl, ℕ, suc, ◌+◌, ◌<◌, ◌≤◌, min, nat_lt, ◌||◌, Bool, true, false, if◌then◌else◌, List, [], ◌∷◌, length, map, flat_map, drop, Option}
 use Rattle.std.specs.List.{list_any}
 use Rattle.std.proofs.Common.{◌∙◌, ap, sym, arith, get_or, take, ◌-◌, length-drop}

@@ -6,7 +6,7 @@ use Rattle.da_lang.specs.Scopes.{at_lines}
 use Rattle.da_limits.specs.declared.sizes.DeedSize.{DeedSize}
 use Rattle.da_names.specs.Telling.{LimitRefusal as Refusal, telling_limits as telling}
 
--- a limit is passed at these lines
+-- a limit is exceeded at these lines
 unfoldable pub told_at : LimitKind → Option Refusal → List ℕ → Option Refusal
 told_at kind found lines = telling found (at_lines kind lines)
 

@@ -1,4 +1,4 @@
--- What limits a tree passes, in the order in which it is looked for.
+-- What limits a tree exceeds, in the order in which it is looked for.
 use Rattle.std.specs.Prelude.{ℕ, List, [], ◌∷◌, flat_map, Option}
 use Rattle.da_lang.specs.declared.tree.ClassTree.{ClassTree}
 use Rattle.da_lang.specs.declared.tree.MainLine.{MainLine}

@@ -1,4 +1,4 @@
--- What limits a member and a class pass, in the order in which it is looked for.
+-- What limits a member and a class exceed, in the order in which it is looked for.
 use Rattle.std.specs.Prelude.{nat_lt, ◌&&◌, Bool, true, false, if◌then◌else◌, List, [], ◌∷◌, Option, option_to_list, IsSome}
 use Rattle.std.specs.List.{list_any}
 use Rattle.da_lang.specs.declared.refusal.LimitKind.TheVariants as limit

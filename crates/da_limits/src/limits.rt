@@ -1,4 +1,4 @@
-//! Limits: the refusal of a program that passes one.
+//! Limits: the refusal of a program that exceeds one.
 ghost use Rattle.da_lang.specs.Limits.{limit_fault};
 ghost use Rattle.da_lang.specs.NameRules.{name_refusals};
 ghost use Rattle.da_names.specs.Telling.{refusal_of};
@@ -12,8 +12,8 @@ use da_names::{Least, LimitFault};
 use da_values::NoMemory;
 use std::alloc::Global;
 
-/// The limit that is told of a program that names do not refuse: of all that it passes, the one on the least line, and
-/// on one line the least one. Nothing is told exactly where it passes none.
+/// The limit that is told of a program that names do not refuse: of all that it exceeds, the one on the least line, and
+/// on one line the least one. Nothing is told exactly where it exceeds none.
 pub fn limit_fault(alloc: Global, tree: &Tree) -> Result<Option<LimitFault>, NoMemory>
     requires { name_refusals tree.now ≡ [] }
     ensures { IfOk result (λ fault. option_map refusal_of fault ≡ limit_fault tree.now) }
@@ -30,7 +30,7 @@ pub fn limit_fault(alloc: Global, tree: &Tree) -> Result<Option<LimitFault>, NoM
     Ok(least.fault())
 }
 
-// The limits that classes pass, in none of which a call leads back.
+// The limits that classes exceed, in none of which a call leads back.
 fn tell_classes(
     alloc: Global,
     classes: &[ClassTree],

@@ -1,4 +1,4 @@
-//! The lines at which limits are passed.
+//! The lines at which limits are exceeded.
 ghost use Rattle.da_lang.specs.Limits.{line_if, most_generators, most_parts, most_variables};
 ghost use Rattle.da_lang.specs.declared.refusal.LimitKind.TheVariants as limit;
 ghost use Rattle.da_limits.specs.LimitLines.{gen_lines, told_at, wide_lines};
@@ -10,7 +10,7 @@ use crate::sizes::DeedSize;
 use da_lang::LimitKind;
 use da_names::Least;
 
-/// A limit is passed at a line, if it is.
+/// A limit is exceeded at a line, if it is.
 #[tactic(auto, using(crate::proofs::LimitLinesAt::if_rules))]
 pub fn tell_if(holds: bool, kind: LimitKind, line: u32, least: &mut Least<LimitKind>)
     ensures { least.new ≡ told_at kind least.old (line_if holds line) }

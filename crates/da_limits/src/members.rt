@@ -1,4 +1,4 @@
-//! The limits that the members of a class pass.
+//! The limits that the members of a class exceed.
 ghost use Rattle.da_lang.specs.Limits.{wide};
 ghost use Rattle.da_lang.specs.Written.{pattern_written, type_width};
 ghost use Rattle.da_calls.specs.CallGraph.{IsCallGraph};
@@ -15,7 +15,7 @@ use da_names::Least;
 use da_values::{List, NoMemory};
 use std::alloc::Global;
 
-/// The limits that a member passes by itself, and whether a query in it has too many variables.
+/// The limits that a member exceeds by itself, and whether a query in it has too many variables.
 #[tactic(auto, using(crate::proofs::LimitWalkAt::member_rules))]
 pub fn tell_member(
     alloc: Global,
@@ -76,7 +76,7 @@ pub fn tell_member(
     }
 }
 
-// The limits that statements pass. Queries count where a call leads to the statements.
+// The limits that statements exceed. Queries count where a call leads to the statements.
 #[tactic(auto, using(crate::proofs::LimitWalkAt::stmts_rules))]
 fn tell_stmts(
     alloc: Global,

@@ -1,4 +1,4 @@
-//! The limits that a program passes outside its classes.
+//! The limits that a program exceeds outside its classes.
 ghost use Rattle.da_lang.specs.Limits.{line_of_main, most_classes, parts_in_main, parts_in_message, processes_over, wide};
 ghost use Rattle.da_lang.specs.Written.{type_width};
 ghost use Rattle.std.specs.List.{list_any};
@@ -34,7 +34,7 @@ fn tell_lines(classes: &[ClassTree], least: &mut Least<LimitKind>)
     }
 }
 
-/// The line of `main` that passes the limit of processes, if one does. No process is made for that.
+/// The line of `main` that exceeds the limit of processes, if one does. No process is made for that.
 pub fn tell_processes(main: &[MainLine], least: &mut Least<LimitKind>)
     ensures { least.new ≡ told_at limit.Processes least.old (processes_over 0 main.now) }
 {

@@ -1,4 +1,4 @@
-//! The limits that a class passes.
+//! The limits that a class exceeds.
 ghost use Rattle.da_lang.specs.Limits.{line_if, most_blocks, most_items, most_variables};
 ghost use Rattle.da_lang.specs.declared.refusal.LimitKind.TheVariants as limit;
 ghost use Rattle.da_calls.specs.CallGraph.{IsCallGraph};
@@ -19,7 +19,7 @@ use da_names::Least;
 use da_values::NoMemory;
 use std::alloc::Global;
 
-/// The limits that a class passes. No call in it leads back.
+/// The limits that a class exceeds. No call in it leads back.
 pub fn tell_class(
     alloc: Global,
     class: &ClassTree,
@@ -36,7 +36,7 @@ pub fn tell_class(
     Ok(())
 }
 
-// The limits that the extent of a class passes. Some query has too many variables, or none has.
+// The limits that the extent of a class exceeds. Some query has too many variables, or none has.
 fn tell_extent(extent: Extent, many: bool, line: u32, least: &mut Least<LimitKind>)
     ensures { least.new ≡ told_at limit.Variables (told_at limit.Blocks (told_at limit.Items least.old (line_if (nat_lt most_items extent.items) line)) (line_if (nat_lt most_blocks extent.blocks) line)) (line_if (nat_lt most_variables extent.slots || many) line) }
 {
@@ -50,7 +50,7 @@ fn tell_extent(extent: Extent, many: bool, line: u32, least: &mut Least<LimitKin
     );
 }
 
-// The limits that the members of a class pass by themselves, and whether a query in one has too many variables.
+// The limits that the members of a class exceed by themselves, and whether a query in one has too many variables.
 fn tell_members(
     alloc: Global,
     graph: &CallGraph<'_>,

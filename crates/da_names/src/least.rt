@@ -67,7 +67,7 @@ pub struct Fault<K> {
 /// A rule of names that is broken.
 pub type NameFault = Fault<ScopeKind>;
 
-/// A limit that is passed.
+/// A limit that is exceeded.
 pub type LimitFault = Fault<LimitKind>;
 
 /// The refusal to be told of those that were found so far.

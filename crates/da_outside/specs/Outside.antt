@@ -8,12 +8,13 @@ use Rattle.da_outside.specs.declared.outside.Trouble.TheVariants.{Failed}
 abbrev pub Rose : ℕ → ℕ → Type 0
 Rose before now = min (before + 1) (2 ^ 64 - 1) ≤ now
 
--- `Failed` comes only where the count rose, and the count does not fall
+-- the count does not fall, `Failed` comes only where it rose, and it rises only with `Failed`
 pub record HasCause {T : Type 0} (before now : ℕ) (result : Result T Trouble) : Type 0 where
   pub later : before ≤ now
   pub failed : IsErrOf result Failed → Rose before now
+  pub rises : before < now → IsErrOf result Failed
 
--- n of these bytes, from a place on, stand at the front of the buffer: at least one where some are left
+-- a piece of n bytes that begins at a place: the buffer holds it in front, and it is empty only at the end or for want of room
 pub record ReadsFrom (bytes : List ℕ) (at n : ℕ) (buf : List ℕ) : Type 0 where
   pub read : take n buf ≡ take n (drop at bytes)
   pub within : n ≤ length (drop at bytes)

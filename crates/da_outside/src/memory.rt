@@ -61,7 +61,7 @@ impl Files for MemFiles {
     ghost use Rattle.da_outside.specs.Memory.{files_of, read_fails, reads_of};
     ghost use Rattle.da_outside.specs.Outside.{HasCause, ReadsTold};
     ghost use Rattle.da_outside.specs.Script.{script_after};
-    ghost use Rattle.std.specs.Prelude.{ℕ, List, IfOk, IsErrOf, IsOk, MatchBool};
+    ghost use Rattle.std.specs.Prelude.{ℕ, ◌<◌, List, IfOk, IsErrOf, IsOk, MatchBool};
 
     ghost told = { λ files name. bytes_named files.files name };
 
@@ -73,6 +73,7 @@ impl Files for MemFiles {
         ensures same { (x : List ℕ) → bytes_named (files_of self.new) x ≡ bytes_named (files_of self.old) x }
         ensures cause { HasCause (reads_of self.old).faults (reads_of self.new).faults result }
         ensures later { (x : List ℕ) → (reads_of self.old).faults ≤ (reads_of self.new).faults }
+        ensures rises { (x : List ℕ) → (reads_of self.old).faults < (reads_of self.new).faults → IsErrOf result Trouble.Failed }
         ensures fails { MatchBool (read_fails self.old name.now) (IsErrOf result Trouble.Failed) (IsOk result) }
         ensures script { reads_of self.new ≡ script_after (reads_of self.old) result }
         ensures files { files_of self.new ≡ files_of self.old }

@@ -1,6 +1,6 @@
 //! What the program meets outside: a source of named files, and a sink.
 ghost use Rattle.da_outside.specs.Outside.{Appends, HasCause, ReadsTold};
-ghost use Rattle.std.specs.Prelude.{ℕ, ◌≡◌, ◌<◌, ◌≤◌, List, Option, length, take, IfOk, OnErr};
+ghost use Rattle.std.specs.Prelude.{ℕ, ◌≡◌, ◌<◌, ◌≤◌, List, Option, length, take, IfOk, IsErrOf, OnErr};
 
 use da_values::NoMemory;
 use thiserror::Error;
@@ -35,15 +35,17 @@ pub trait Files {
     /// How often a read of a name has failed.
     ghost faults: { Self → List ℕ → ℕ };
 
-    /// Reads bytes of the name from the place `at` on, as many as it likes up to the length of `buf`: at least one
-    /// where some are left and `buf` is not empty. 0 is the end. The told bytes of every name stay as they are.
+    /// Fills the front of `buf` with what stands at the place `at`, and says how many bytes came. A short answer is no
+    /// end; 0 is one, unless `buf` has no room. Reading changes nothing that is told, and makes a count rise only
+    /// where it fails.
     fn read(&mut self, name: &str, at: u64, buf: &mut [u8]) -> Result<usize, Trouble>
         requires { at ≤ 16777216 }
         ensures bound { IfOk result (λ n. n ≤ length buf.new) }
         ensures bytes { IfOk result (λ n. ReadsTold (told self.old name.now) at n buf.new) }
         ensures same { (x : List ℕ) → told self.new x ≡ told self.old x }
         ensures cause { HasCause (faults self.old name.now) (faults self.new name.now) result }
-        ensures later { (x : List ℕ) → faults self.old x ≤ faults self.new x };
+        ensures later { (x : List ℕ) → faults self.old x ≤ faults self.new x }
+        ensures rises { (x : List ℕ) → faults self.old x < faults self.new x → IsErrOf result Trouble.Failed };
 }
 
 /// A sink of bytes.
@@ -54,7 +56,8 @@ pub trait Sink {
     /// How often a write has failed.
     ghost faults: { Self → ℕ };
 
-    /// Takes bytes from the front of `bytes`, and says how many: at least one where there are some.
+    /// Takes a first part of `bytes`, of at least one byte where there are some, and says how many. After a trouble it
+    /// has taken none, and the count rises only where the write failed.
     fn write(&mut self, bytes: &[u8]) -> Result<usize, Trouble>
         ensures bound { IfOk result (λ n. n ≤ length bytes.now) }
         ensures some { IfOk result (λ n. 0 < length bytes.now → 0 < n) }

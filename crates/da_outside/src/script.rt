@@ -6,8 +6,8 @@ ghost use Rattle.std.specs.Prelude.{◌≡◌, ◌≤◌};
 use crate::outside::Trouble;
 use da_values::List;
 
-/// The calls that fail, counted from 1, with how many calls there were and how many failed. A count stays at the greatest
-/// u64 from there on.
+/// A plan of failures: `named` holds the numbers of the calls that are to fail (the first call has number 1). Beside it
+/// two tallies, of all calls so far and of those that failed. Neither goes past the greatest u64.
 #[derive(Debug, Drop)]
 pub struct Script {
     named: List<u64>,

@@ -1,6 +1,6 @@
 //! Whole texts from a source, and to a sink.
 ghost use Rattle.da_outside.specs.Outside.{Appends, AppendsFront, EndsAt, HasCause, IsFront, IsWhole};
-ghost use Rattle.std.specs.Prelude.{ℕ, ◌≡◌, ◌+◌, ◌<◌, ◌≤◌, List, length, take, IfOk, OnErr, OnOk};
+ghost use Rattle.std.specs.Prelude.{ℕ, ◌≡◌, ◌+◌, ◌<◌, ◌≤◌, List, length, take, IfOk, IsErrOf, OnErr, OnOk};
 
 use crate::outside::{Files, Sink, Trouble};
 use da_values::{Buf, List};
@@ -20,6 +20,7 @@ pub fn read_all<F: Files>(
     ensures same { (x : List ℕ) → F.told files.new x ≡ F.told files.old x }
     ensures cause { HasCause (F.faults files.old name.now) (F.faults files.new name.now) result }
     ensures later { (x : List ℕ) → F.faults files.old x ≤ F.faults files.new x }
+    ensures rises { (x : List ℕ) → F.faults files.old x < F.faults files.new x → IsErrOf result Trouble.Failed }
 {
     let mut text = List::new(alloc);
     'pieces: while text.len() <= limit {
@@ -47,6 +48,7 @@ fn read_piece<F: Files>(
     ensures same { (x : List ℕ) → F.told files.new x ≡ F.told files.old x }
     ensures cause { HasCause (F.faults files.old name.now) (F.faults files.new name.now) result }
     ensures later { (x : List ℕ) → F.faults files.old x ≤ F.faults files.new x }
+    ensures rises { (x : List ℕ) → F.faults files.old x < F.faults files.new x → IsErrOf result Trouble.Failed }
 {
     let mut piece = [0u8; PIECE];
     let count = files.read(name, text.len() as u64, &mut piece[..room])?;

@@ -10,12 +10,12 @@ use Rattle.da_lang.specs.declared.tree.Expr.TheVariants as ex
 use Rattle.da_lang.specs.declared.tree.GenTree.{GenTree}
 use Rattle.da_lang.specs.Spelling.{Spelling, Room, At, Opens, Separated}
 use Rattle.da_lang.specs.ExprGrammar.{Deeper, IsTimes, IsPlus, IsOthers, IsChain, IsProd, IsSum, IsCmp, IsComp, IsNeg, IsJoined, IsConj, IsDisj, IsGens, IsCond, IsQuant, IsExpr}
-use Rattle.da_parse.specs.Reader.{Outcome, Reader, pure, mark, rest, sees, ◌>>=◌}
+use Rattle.da_parse.specs.Reader.{Reading, Reader, pure, mark, rest, sees, ◌>>=◌}
 use Rattle.da_parse.specs.Lists.{others}
 use Rattle.da_parse.specs.Place.{Place}
 use Rattle.da_parse.specs.Exprs.{times_op, plus_op, cmp_op_at, quantifier, chained, joined, product, sum, comparison, negation, conjunction, disjunction, quantification, expression_by, expression}
 use Rattle.da_parse.proofs.Laws.{IsComplete, Shrinks, Anything, Lacks, is_next, Completes, goes_on_prod, goes_on_sum, goes_on_comp, goes_on_conj, goes_on_disj, goes_on_expr}
-use Rattle.da_parse.proofs.Steps.{mark-At, sees-At, rest-At, eat_is, eat_not, not_seen, mark-Opens, At-Opens, room-Opens, opens_is}
+use Rattle.da_parse.proofs.Steps.{mark-At, sees-At, rest-At, behind_is, behind_not, not_seen, mark-Opens, At-Opens, room-Opens, opens_is}
 use Rattle.da_parse.proofs.Shorter.{Shrinking, IsTimes-shrinks, IsPlus-shrinks, IsUnary-shrinks, IsProd-shrinks, IsNeg-shrinks, IsConj-shrinks}
 use Rattle.da_parse.proofs.Firsts.{Beginning, begins_sum, never_seen, lacked, fewer, next-At, not_quantified, IsComp-begins, IsDisj-begins}
 use Rattle.da_parse.proofs.ListComplete.{separated-complete, others-complete, IsOthers-stops}
@@ -124,9 +124,9 @@ joined-complete : {Stops : List Tok → Type 0} {operand : Reader Expr} {Operand
     (k : Mark) (join : List Expr → Expr) (between : (i r : List Tok) → At k i r → Stops i)
     (x : Expr) (i r : List Tok) → IsJoined k join Operand x i r → Stops r → sees k r ≡ false → joined k join operand i ≡ Ok (x, r)
 unfolding joined
-joined-complete complete shrinks k join between x i r (IsJoined.lone a) s n = rw (complete _ _ _ a s) (eat_not k _ _ n)
+joined-complete complete shrinks k join between x i r (IsJoined.lone a) s n = rw (complete _ _ _ a s) (behind_not k _ _ n)
 joined-complete complete shrinks k join between _ i r (IsJoined.joined (Separated.more {x} {xs} a h l)) s n =
-    rw (complete _ _ _ a (between _ _ h)) (eat_is _ _ h ∙ rw (separated-complete complete shrinks k between (x ∷ []) xs _ r l s n) refl)
+    rw (complete _ _ _ a (between _ _ h)) (behind_is _ _ h ∙ rw (separated-complete complete shrinks k between (x ∷ []) xs _ r l s n) refl)
 
 module _ (p : Place) (room : Room) (deep : Deeper) (shrinking : Shrinking deep) (beginning : Beginning deep) (c : Completes p room deep) where
   pub product-complete : IsComplete (Lacks goes_on_prod) (product p) (IsProd room deep)
@@ -142,12 +142,12 @@ module _ (p : Place) (room : Room) (deep : Deeper) (shrinking : Shrinking deep) 
   pub comparison-complete : IsComplete (Lacks goes_on_comp) (comparison p) (IsComp room deep)
   unfolding comparison
   comparison-complete x i r (IsComp.lone a) s =
-      rw (sum-complete x i r a (lacks_sum r s)) (eat_not m.In _ _ (lacked goes_on_comp m.In r refl s) ∙ rw (no_cmp (mark r) s) refl)
+      rw (sum-complete x i r a (lacks_sum r s)) (behind_not m.In _ _ (lacked goes_on_comp m.In r refl s) ∙ rw (no_cmp (mark r) s) refl)
   comparison-complete _ i r (IsComp.compared a h b) s =
       let (is, passed, ends, no_member) = cmp_is h in
-      rw (sum-complete _ _ _ a ends) (eat_not m.In _ _ no_member ∙ rw (is, passed, sum-complete _ _ _ b (lacks_sum r s)) refl)
+      rw (sum-complete _ _ _ a ends) (behind_not m.In _ _ no_member ∙ rw (is, passed, sum-complete _ _ _ b (lacks_sum r s)) refl)
   comparison-complete _ i r (IsComp.member a h b) s =
-      rw (sum-complete _ _ _ a (next-At goes_on_sum h)) (eat_is _ _ h ∙ rw (sum-complete _ _ _ b (lacks_sum r s)) refl)
+      rw (sum-complete _ _ _ a (next-At goes_on_sum h)) (behind_is _ _ h ∙ rw (sum-complete _ _ _ b (lacks_sum r s)) refl)
 
   pub negation-complete : IsComplete (Lacks goes_on_comp) (negation p) (IsNeg room deep)
   unfolding negation
@@ -171,7 +171,7 @@ module _ (p : Place) (room : Room) (deep : Deeper) (shrinking : Shrinking deep) 
   quantification-complete each {gs = gs} {o = o} b l d s =
       rw (opens_is p.may_open c.allows b, generators-complete p room deep shrinking beginning c _ (room-Opens b) gs _ _ l (IsCond-ends p room deep shrinking beginning c o _ _ d s), condition-complete p room deep shrinking beginning c _ (room-Opens b) o _ _ d s) refl
 
-  at_expression : {k : Option Bool} (i : List Tok) {o : Outcome Expr} → quantifier (mark i) ≡ k → expression_by p k i ≡ o → expression p i ≡ o
+  at_expression : {k : Option Bool} (i : List Tok) {o : Reading Expr} → quantifier (mark i) ≡ k → expression_by p k i ≡ o → expression p i ≡ o
   unfolding expression
   at_expression {k} i is e = ap (λ z. expression_by p z i) is ∙ e
 

@@ -6,7 +6,7 @@ use Rattle.da_lang.specs.declared.tree.Expr.{Expr}
 use Rattle.da_lang.specs.Spelling.{Room, Opens, Closed, Behind}
 use Rattle.da_lang.specs.ExprGrammar.{Deeper, IsExpr, IsPattern, deeper}
 use Rattle.da_parse.specs.declared.place.Level.TheVariants as level
-use Rattle.da_parse.specs.Reader.{take_token, ◌>>◌, sees}
+use Rattle.da_parse.specs.Reader.{◌>>◌, sees, past}
 use Rattle.da_parse.specs.Lists.{begun, closed}
 use Rattle.da_parse.specs.Place.{Limit, Place, at_most_32}
 use Rattle.da_parse.specs.Exprs.{place, expression, pattern}
@@ -97,7 +97,7 @@ module _ (p : Place) (room : Room) (deep : Deeper) (ready : Ready p room deep) w
 
   -- expressions that each stand behind a comma, behind a parenthesis
   pub behind_commas-complete : {t s : List Tok} → Opens m.OpenParen room t s → (xs : List Expr) (i r : List Tok) → Behind m.Comma deep.disj xs i r → Lacks goes_on_disj r → sees m.Comma r ≡ false
-      → begun m.Comma (take_token >> p.expr level.Disj) [] i ≡ Ok (xs, r)
+      → begun m.Comma (past (p.expr level.Disj)) [] i ≡ Ok (xs, r)
   behind_commas-complete o xs i r l s c =
       behind-complete (ready.completes.disj _ (room-Opens o)) ready.shrinking.disj m.Comma (λ j q h. next-At goes_on_disj h) [] xs i r l s c
 

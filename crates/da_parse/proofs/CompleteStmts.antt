@@ -13,11 +13,11 @@ use Rattle.da_lang.specs.Spelling.{Spelling, Room, At, Opens, Named, Closed, Man
 use Rattle.da_lang.specs.ExprGrammar.{Deeper, IsExpr, deeper}
 use Rattle.da_lang.specs.StmtGrammar.{IsBlock, IsBranch, IsElse, IsTimeout, IsStmt, BodyIn}
 use Rattle.da_parse.specs.Reader as reader
-use Rattle.da_parse.specs.Reader.{mark, text, rest, same, sees, after, Outcome, Reader, and_then, ◌>>=◌, ◌>>◌, pure, refuse, take_token, eat, expect, word}
+use Rattle.da_parse.specs.Reader.{mark, text, rest, same, sees, Reading, Reader, continued, ◌>>=◌, ◌>>◌, pure, refuse, expect, word}
 use Rattle.da_parse.specs.Place.{Limit, Place}
 use Rattle.da_parse.specs.Exprs.{place, expression}
 use Rattle.da_parse.specs.Stmts.{branch_of, in_parens, arguments, assigned, changed, called, named, sending, output, passing, label, block, block_behind_colon, branch, otherwise, timeout, conditional, while_loop, for_loop, alternatives, awaiting, stmt_by, stmt, stmts, bodies}
-use Rattle.da_parse.proofs.Steps.{mark-At, mark-Named, sees-At, rest-At, eat_is, eat_not, expect_is, not_seen, At-Opens, room-Opens, opening_is, word_is, taken_is}
+use Rattle.da_parse.proofs.Steps.{mark-At, mark-Named, sees-At, rest-At, behind_is, behind_not, expect_is, not_seen, At-Opens, room-Opens, opening_is, word_is, taking_is}
 use Rattle.da_parse.proofs.Laws.{IsComplete, Shrinks, Lacks, Anything, Completes, goes_on_expr, goes_on_disj}
 use Rattle.da_parse.proofs.Firsts.{Beginning, deeper-begins, begins_disj, never_seen, lacked, apart, next-At}
 use Rattle.da_parse.proofs.Shorter.{Shrinking, deeper-shrinks}
@@ -70,14 +70,14 @@ module _ (p : Place) (room : Room) (deep : Deeper) (beginning : Beginning deep) 
 
   otherwise-complete : IsComplete (Lacks goes_on_stmt) (otherwise p body) (IsElse room deep Body)
   unfolding otherwise
-  otherwise-complete _ i r IsElse.no_else s = eat_not m.Else _ _ (lacked goes_on_stmt m.Else i refl s)
-  otherwise-complete _ i r (IsElse.otherwise {b} h c l) s = eat_is _ _ h ∙ rw (block_behind_colon-complete b _ _ r c l) refl
+  otherwise-complete _ i r IsElse.no_else s = behind_not m.Else _ _ (lacked goes_on_stmt m.Else i refl s)
+  otherwise-complete _ i r (IsElse.otherwise {b} h c l) s = behind_is _ _ h ∙ rw (block_behind_colon-complete b _ _ r c l) refl
 
   timeout-complete : IsComplete (Lacks goes_on_stmt) (timeout p body) (IsTimeout room deep Body)
   unfolding timeout
-  timeout-complete _ i r IsTimeout.no_timeout s = eat_not m.Timeout _ _ (lacked goes_on_stmt m.Timeout i refl s)
+  timeout-complete _ i r IsTimeout.no_timeout s = behind_not m.Timeout _ _ (lacked goes_on_stmt m.Timeout i refl s)
   timeout-complete _ i r (IsTimeout.timeout {b} h c l) s =
-      eat_is _ _ h ∙ rw (block_behind_colon-complete b _ _ r c l) (ap (λ at. Ok (Some (roll-TimeoutTree (record { body = b; line = at })), r)) (same_line i))
+      behind_is _ _ h ∙ rw (block_behind_colon-complete b _ _ r c l) (ap (λ at. Ok (Some (roll-TimeoutTree (record { body = b; line = at })), r)) (same_line i))
 
   conditional-complete : (b : Branch) (bs : List Branch) (o : Option (List Stmt)) (at : ℕ) (i r s q : List Tok) → IsBranch room deep Body m.If b i r → Many (IsBranch room deep Body m.Elif) bs r s → IsElse room deep Body o s q
       → Lacks goes_on_stmt q → conditional p body at i ≡ Ok (stmt_tree.If (b ∷ bs) o at, q)
@@ -100,26 +100,26 @@ module _ (p : Place) (room : Room) (deep : Deeper) (beginning : Beginning deep) 
       ) refl
 
   -- a statement is read by its first token, at its line
-  at_stmt : {k : Mark} (i : List Tok) {o : Outcome Stmt} → mark i ≡ Some k → stmt_by p body (sp.line i) (Some k) i ≡ o → stmt p body i ≡ o
+  at_stmt : {k : Mark} (i : List Tok) {o : Reading Stmt} → mark i ≡ Some k → stmt_by p body (sp.line i) (Some k) i ≡ o → stmt p body i ≡ o
   unfolding stmt
   at_stmt {k} i is e = ap (λ z. stmt_by p body (reader.line i) z i) is ∙ ap (λ at. stmt_by p body at (Some k) i) (same_line i) ∙ e
 
-  named_stmt : {b : List ℕ} {i r : List Tok} {o : Outcome Stmt} → Named b i r → named p b (sp.line i) r ≡ o → stmt p body i ≡ o
-  named_stmt {b} {i} h e = at_stmt i (mark-Named h) (taken_is (λ n. named p n (sp.line i)) h ∙ e)
+  named_stmt : {b : List ℕ} {i r : List Tok} {o : Reading Stmt} → Named b i r → named p b (sp.line i) r ≡ o → stmt p body i ≡ o
+  named_stmt {b} {i} h e = at_stmt i (mark-Named h) (taking_is (λ n. named p n (sp.line i)) h ∙ e)
 
   -- a word at the head of a statement is passed
-  word_stmt : {k : Mark} {i r : List Tok} {o : Outcome Stmt} (next : Reader Stmt) → At k i r → ((j : List Tok) → stmt_by p body (sp.line i) (Some k) j ≡ next (rest j)) → next r ≡ o → stmt p body i ≡ o
+  word_stmt : {k : Mark} {i r : List Tok} {o : Reading Stmt} (next : Reader Stmt) → At k i r → ((j : List Tok) → stmt_by p body (sp.line i) (Some k) j ≡ next (rest j)) → next r ≡ o → stmt p body i ≡ o
   word_stmt {i = i} next h is e = at_stmt i (mark-At h) (is i ∙ ap next (rest-At h) ∙ e)
 
   stmt-complete : IsComplete (Lacks goes_on_stmt) (stmt p body) (IsStmt room deep Body)
   unfolding named assigned changed called sending output passing label while_loop for_loop awaiting
-  stmt-complete _ i r (IsStmt.assign {x = x} n h a e) s = named_stmt n (eat_is _ _ h ∙ rw (expression_complete x _ _ a (next-At goes_on_expr e), expect_is e) refl)
+  stmt-complete _ i r (IsStmt.assign {x = x} n h a e) s = named_stmt n (behind_is _ _ h ∙ rw (expression_complete x _ _ a (next-At goes_on_expr e), expect_is e) refl)
   stmt-complete _ i r (IsStmt.add {x = x} n h k o a c e) s =
-      named_stmt n (eat_not m.Assign _ _ (not_seen m.Assign h refl) ∙ eat_is _ _ h ∙ eat_is _ _ k ∙ rw (in_parens-complete p room deep beginning shrinking completes x _ _ _ _ o a c, expect_is e) refl)
+      named_stmt n (behind_not m.Assign _ _ (not_seen m.Assign h refl) ∙ behind_is _ _ h ∙ behind_is _ _ k ∙ rw (in_parens-complete p room deep beginning shrinking completes x _ _ _ _ o a c, expect_is e) refl)
   stmt-complete _ i r (IsStmt.remove {x = x} n h k o a c e) s =
-      named_stmt n (eat_not m.Assign _ _ (not_seen m.Assign h refl) ∙ eat_is _ _ h ∙ eat_not m.Add _ _ (not_seen m.Add k refl) ∙ rw (expect_is k, in_parens-complete p room deep beginning shrinking completes x _ _ _ _ o a c, expect_is e) refl)
+      named_stmt n (behind_not m.Assign _ _ (not_seen m.Assign h refl) ∙ behind_is _ _ h ∙ behind_not m.Add _ _ (not_seen m.Add k refl) ∙ rw (expect_is k, in_parens-complete p room deep beginning shrinking completes x _ _ _ _ o a c, expect_is e) refl)
   stmt-complete _ i r (IsStmt.call {xs = xs} n o l e) s =
-      named_stmt n (eat_not m.Assign _ _ (not_seen m.Assign (At-Opens o) refl) ∙ eat_not m.Dot _ _ (not_seen m.Dot (At-Opens o) refl) ∙ rw (arguments-complete p room deep beginning shrinking completes xs _ _ _ o l, expect_is e) refl)
+      named_stmt n (behind_not m.Assign _ _ (not_seen m.Assign (At-Opens o) refl) ∙ behind_not m.Dot _ _ (not_seen m.Dot (At-Opens o) refl) ∙ rw (arguments-complete p room deep beginning shrinking completes xs _ _ _ o l, expect_is e) refl)
   stmt-complete _ i r (IsStmt.send {x} {y} h a k b e) s =
       word_stmt (sending p (sp.line i)) h (λ j. refl) (rw (expression_complete x _ _ a (next-At goes_on_expr k), expect_is k, expression_complete y _ _ b (next-At goes_on_expr e), expect_is e) refl)
   stmt-complete _ i r (IsStmt.output {x} h o a c e) s =
@@ -132,10 +132,10 @@ module _ (p : Place) (room : Room) (deep : Deeper) (beginning : Beginning deep) 
   stmt-complete _ i r (IsStmt.for {x = x} {b = b} h n k a c l) s =
       word_stmt (for_loop p body (sp.line i)) h (λ j. refl) (rw (word_is n, expect_is k, expression_complete x _ _ a (next-At goes_on_expr c), block_behind_colon-complete b _ _ r c l) refl)
   stmt-complete _ i r (IsStmt.await_one {x} h a e) s =
-      word_stmt (awaiting p body (sp.line i)) h (λ j. refl) (rw (expression_complete x _ _ a (next-At goes_on_expr e)) (eat_is _ _ e))
+      word_stmt (awaiting p body (sp.line i)) h (λ j. refl) (rw (expression_complete x _ _ a (next-At goes_on_expr e)) (behind_is _ _ e))
   stmt-complete _ i r (IsStmt.await {bs = bs} {o = o} (IsBranch.branch {x} {b} h a c k) l e) s =
       word_stmt (awaiting p body (sp.line i)) h (λ j. refl)
-      (rw (expression_complete x _ _ a (next-At goes_on_expr c)) (eat_not m.Newline _ _ (not_seen m.Newline c refl) ∙ alternatives-complete x b bs o (sp.line i) _ _ _ _ r c k l e s))
+      (rw (expression_complete x _ _ a (next-At goes_on_expr c)) (behind_not m.Newline _ _ (not_seen m.Newline c refl) ∙ alternatives-complete x b bs o (sp.line i) _ _ _ _ r c k l e s))
 
   pub stmts-complete : (xs : List Stmt) (i r : List Tok) → Ended (IsStmt room deep Body) xs i r → stmts p body i ≡ Ok (xs, r)
   unfolding stmts

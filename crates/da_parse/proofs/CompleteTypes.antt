@@ -8,11 +8,11 @@ use Rattle.da_lang.specs.declared.ty.Ty.{Ty}
 use Rattle.da_lang.specs.declared.ty.Ty.TheVariants as ty
 use Rattle.da_lang.specs.Spelling.{Spelling, Room, At, Opens, Closed}
 use Rattle.da_lang.specs.TypeGrammar.{IsType, TypeIn}
-use Rattle.da_parse.specs.Reader.{Outcome, Reader, pure, mark}
+use Rattle.da_parse.specs.Reader.{Reading, Reader, pure, mark}
 use Rattle.da_parse.specs.Place.{Limit}
 use Rattle.da_parse.specs.Types.{set_type, tuple_type, type_by, type_in, types}
 use Rattle.da_parse.proofs.Laws.{IsComplete, Shrinks, Begins, Anything}
-use Rattle.da_parse.proofs.Steps.{mark-At, expect_is, mark-Opens, room-Opens, opens_is, opening_is, passed_is}
+use Rattle.da_parse.proofs.Steps.{mark-At, expect_is, mark-Opens, room-Opens, opens_is, opening_is, past_is}
 use Rattle.da_parse.proofs.Shorter.{TypeIn-shrinks}
 use Rattle.da_parse.proofs.Firsts.{begins_type, TypeIn-begins}
 use Rattle.da_parse.proofs.ListComplete.{closed-complete}
@@ -63,16 +63,16 @@ module _ (may_open : ℕ → Bool) (inner : Reader Ty) (room : Room) (Inner : Sp
   tuple_type-complete {x} {xs} reads a h l =
       rw (reads _ _ _ a tt, expect_is h, closed-complete reads shrinks m.CloseParen begins_type begins refl refl (λ i j c. tt) (λ i j c. tt) (x ∷ []) xs _ _ l) refl
 
-  at_type : {k : Mark} (i : List Tok) {o : Outcome Ty} → mark i ≡ Some k → type_by may_open inner (Some k) i ≡ o → type_in may_open inner i ≡ o
+  at_type : {k : Mark} (i : List Tok) {o : Reading Ty} → mark i ≡ Some k → type_by may_open inner (Some k) i ≡ o → type_in may_open inner i ≡ o
   unfolding type_in
   at_type {k} i is e = ap (λ z. type_by may_open inner z i) is ∙ e
 
   pub type_in-complete : IsComplete Anything (type_in may_open inner) (IsType room Inner)
-  type_in-complete _ i r (IsType.int h) s = at_type i (mark-At h) (passed_is (pure ty.Int) h)
-  type_in-complete _ i r (IsType.bool h) s = at_type i (mark-At h) (passed_is (pure ty.Bool) h)
-  type_in-complete _ i r (IsType.str h) s = at_type i (mark-At h) (passed_is (pure ty.Text) h)
-  type_in-complete _ i r (IsType.proc h) s = at_type i (mark-At h) (passed_is (pure ty.Proc) h)
-  type_in-complete _ i r (IsType.set h o a c) s = at_type i (mark-At h) (passed_is (set_type may_open inner) h ∙ set_type-complete o a c)
+  type_in-complete _ i r (IsType.int h) s = at_type i (mark-At h) (past_is (pure ty.Int) h)
+  type_in-complete _ i r (IsType.bool h) s = at_type i (mark-At h) (past_is (pure ty.Bool) h)
+  type_in-complete _ i r (IsType.str h) s = at_type i (mark-At h) (past_is (pure ty.Text) h)
+  type_in-complete _ i r (IsType.proc h) s = at_type i (mark-At h) (past_is (pure ty.Proc) h)
+  type_in-complete _ i r (IsType.set h o a c) s = at_type i (mark-At h) (past_is (set_type may_open inner) h ∙ set_type-complete o a c)
   type_in-complete _ i r (IsType.tuple o a h l) s = at_type i (mark-Opens o) (rw (opens_is may_open allows o) (tuple_type-complete (complete _ (room-Opens o)) a h l))
 
 module _ (limit : Limit) (room : ℕ → Room) (allows : (d : ℕ) (t : List Tok) → room d t → limit d (length t) ≡ true) where

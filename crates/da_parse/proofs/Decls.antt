@@ -4,7 +4,7 @@ use Rattle.da_values.specs.Marks.{Tok}
 use Rattle.da_lang.specs.declared.tree.ClassTree.{ClassTree}
 use Rattle.da_lang.specs.declared.tree.MessageDecl.{MessageDecl}
 use Rattle.da_lang.specs.declared.ty.ChannelKind.{ChannelKind}
-use Rattle.da_parse.specs.Reader.{◌>>=◌, peek}
+use Rattle.da_parse.specs.Reader.{by_mark}
 use Rattle.da_parse.specs.Programs.{Outer, decls, decls_from, decls_by, program_end}
 
 module _ (o : Outer) (k : ChannelKind) where
@@ -13,7 +13,7 @@ module _ (o : Outer) (k : ChannelKind) where
   decls_start i = refl
 
   pub decls_turn : (n at : ℕ) (xs : List MessageDecl) (cs : List ClassTree) (i : List Tok) → at < n
-      → decls_from o k (n - at) xs cs i ≡ (peek >>= decls_by o k (decls_from o k (n - (at + 1))) xs cs) i
+      → decls_from o k (n - at) xs cs i ≡ by_mark (decls_by o k (decls_from o k (n - (at + 1))) xs cs) i
   unfolding decls_from
   decls_turn n at xs cs i h = let e : n - at ≡ suc (n - (at + 1)) = omega arith in ap (λ c. decls_from o k c xs cs i) e
 

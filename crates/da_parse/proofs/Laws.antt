@@ -1,9 +1,9 @@
--- The laws between readers and the grammar: what is read is spelled so, and what is spelled so is read so.
+-- In what sense a reader and a relation of the grammar agree, in either direction.
 use Rattle.std.specs.Prelude.{◌≡◌, ◌<◌, Bool, true, false, List, length, Option, Some, None, Ok}
 use Rattle.da_values.specs.declared.token.Mark.{Mark}
 use Rattle.da_values.specs.declared.token.Mark.TheVariants as m
 use Rattle.da_values.specs.Marks.{Tok}
-use Rattle.da_lang.specs.Spelling.{Spelling, Room}
+use Rattle.da_lang.specs.Spelling.{Spelling, Room, At}
 use Rattle.da_lang.specs.ExprGrammar.{Deeper}
 use Rattle.da_parse.specs.declared.place.Level.TheVariants as level
 use Rattle.da_parse.specs.Reader.{Reader, mark}
@@ -33,6 +33,10 @@ Begins {A} one G = (x : A) (i r : List Tok) → G x i r → is_next one (mark i)
 -- the next token is none of these
 abbrev pub Lacks : (Mark → Bool) → List Tok → Type 0
 Lacks one r = is_next one (mark r) ≡ false
+
+-- it stands behind a token of this mark
+pub data Led (k : Mark) {A : Type 0} (G : Spelling A) : A → List Tok → List Tok → Type 0 where
+  led : {x : A} {t r s : List Tok} → At k t r → G x r s → Led k G x t s
 
 -- whatever follows
 abbrev pub Anything : List Tok → Type 0
@@ -73,6 +77,11 @@ goes_on_expr m.Comma = true
 goes_on_expr m.Bar = true
 goes_on_expr m.Has = true
 goes_on_expr k = goes_on_disj k
+
+-- the tokens that may go on with a parameter, by any rule of parameters
+abbrev pub goes_on_param : Mark → Bool
+goes_on_param m.Colon = true
+goes_on_param _ = false
 
 -- the readers of a place are sound for what the grammar has there
 pub record Sounds (p : Place) (room : Room) (deep : Deeper) : Type 0 where

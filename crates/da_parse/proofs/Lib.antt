@@ -28,3 +28,4 @@ pub mod Spelled
 pub mod Steps
 pub mod Texts
 pub mod WholePrograms
+pub mod WrittenTrees

@@ -8,17 +8,17 @@ use Rattle.da_lang.specs.declared.tree.ChainTree.{ChainTree, roll-ChainTree}
 use Rattle.da_lang.specs.declared.tree.Expr.{Expr}
 use Rattle.da_lang.specs.Spelling.{Spelling, At, Separated, Closed, Behind, Many, Ended}
 use Rattle.da_lang.specs.ExprGrammar.{IsOthers}
-use Rattle.da_parse.specs.Reader.{Outcome, Reader, ◌>>◌, mark, rest, same, sees, take_token}
+use Rattle.da_parse.specs.Reader.{Reading, Reader, ◌>>◌, mark, rest, same, sees, past}
 use Rattle.da_parse.specs.Lists.{separated, separated_from, begun, begun_from, ended, ended_from, closed, others, others_from}
-use Rattle.da_parse.proofs.Laws.{IsComplete, Shrinks, Begins}
-use Rattle.da_parse.proofs.Steps.{At-sees, shorter-At, eat_is, eat_not, expect_is, sees-At, not_seen, passed_is}
+use Rattle.da_parse.proofs.Laws.{IsComplete, Shrinks, Begins, Led, led}
+use Rattle.da_parse.proofs.Steps.{At-sees, shorter-At, behind_is, behind_not, expect_is, sees-At, not_seen, past_is}
 use Rattle.da_parse.proofs.Firsts.{never_seen, Separated-begins}
 
 -- what was found, one more, and the others
-append_one : {A : Type 0} (found : List A) (x : A) (xs : List A) (r : List Tok) {o : Outcome (List A)} → o ≡ Ok ((found ++ x ∷ []) ++ xs, r) → o ≡ Ok (found ++ x ∷ xs, r)
+append_one : {A : Type 0} (found : List A) (x : A) (xs : List A) (r : List Tok) {o : Reading (List A)} → o ≡ Ok ((found ++ x ∷ []) ++ xs, r) → o ≡ Ok (found ++ x ∷ xs, r)
 append_one found x xs r e = e ∙ ap (λ z. Ok (z, r)) (append_assoc found (x ∷ []) xs)
 
-append_none : {A : Type 0} (found : List A) (r : List Tok) → ◌≡◌ {A = Outcome (List A)} (Ok (found, r)) (Ok (found ++ [], r))
+append_none : {A : Type 0} (found : List A) (r : List Tok) → ◌≡◌ {A = Reading (List A)} (Ok (found, r)) (Ok (found ++ [], r))
 append_none found r = ap (λ z. Ok (z, r)) (sym (append-nil found))
 
 module _ {A : Type 0} {Stops : List Tok → Type 0} {item : Reader A} {Item : Spelling A} (complete : IsComplete Stops item Item) (shrinks : Shrinks Item) where
@@ -27,10 +27,10 @@ module _ {A : Type 0} {Stops : List Tok → Type 0} {item : Reader A} {Item : Sp
       → Separated k Item xs i r → Stops r → sees k r ≡ false → length i ≤ n → separated_from k item n found i ≡ Ok (found ++ xs, r)
   unfolding separated_from
   separated_from-complete k between zero found _ i r (Separated.last a) s c turns = absurd (omega (arith, shrinks _ _ _ a))
-  separated_from-complete k between (suc n) found _ i r (Separated.last a) s c turns = rw (complete _ _ _ a s) (eat_not k _ _ c)
+  separated_from-complete k between (suc n) found _ i r (Separated.last a) s c turns = rw (complete _ _ _ a s) (behind_not k _ _ c)
   separated_from-complete k between zero found _ i r (Separated.more a h l) s c turns = absurd (omega (arith, shrinks _ _ _ a))
   separated_from-complete k between (suc n) found _ i r (Separated.more {x} {xs} a h l) s c turns =
-      rw (complete _ _ _ a (between _ _ h)) (eat_is _ _ h ∙ append_one found x xs r (separated_from-complete k between n (found ++ x ∷ []) xs _ r l s c (omega (arith, shrinks _ _ _ a, shorter-At h))))
+      rw (complete _ _ _ a (between _ _ h)) (behind_is _ _ h ∙ append_one found x xs r (separated_from-complete k between n (found ++ x ∷ []) xs _ r l s c (omega (arith, shrinks _ _ _ a, shorter-At h))))
 
   pub separated-complete : (k : Mark) (between : (i r : List Tok) → At k i r → Stops i) (found xs : List A) (i r : List Tok)
       → Separated k Item xs i r → Stops r → sees k r ≡ false → separated k item found i ≡ Ok (found ++ xs, r)
@@ -42,9 +42,9 @@ module _ {A : Type 0} {Stops : List Tok → Type 0} {item : Reader A} {Item : Sp
       (commas : (i r : List Tok) → At m.Comma i r → Stops i) (over : (i r : List Tok) → At close i r → Stops i) (found xs : List A) (i r : List Tok)
       → Closed close Item xs i r → closed close item found i ≡ Ok (found ++ xs, r)
   unfolding closed
-  closed-complete close one begins apart differs commas over found _ i r (Closed.empty h) = eat_is _ _ h ∙ append_none found r
+  closed-complete close one begins apart differs commas over found _ i r (Closed.empty h) = behind_is _ _ h ∙ append_none found r
   closed-complete close one begins apart differs commas over found xs i r (Closed.full l h) =
-      eat_not close _ _ (never_seen one close i apart (Separated-begins Item one begins _ xs i _ l))
+      behind_not close _ _ (never_seen one close i apart (Separated-begins Item one begins _ xs i _ l))
       ∙ rw (separated-complete m.Comma commas found xs i _ l (over _ _ h) (not_seen m.Comma h differs), expect_is h) refl
 
   -- what follows the first of several may follow the element before it
@@ -76,11 +76,11 @@ module _ {A : Type 0} {Stops : List Tok → Type 0} {item : Reader A} {Item : Sp
       → Ended Item xs i r → length i ≤ n → ended_from item n found i ≡ Ok (found ++ xs, r)
   unfolding ended_from
   ended_from-complete starts over zero found _ i r (Ended.ends a h) turns = absurd (omega (arith, shrinks _ _ _ a))
-  ended_from-complete starts over (suc n) found _ i r (Ended.ends a h) turns = rw (complete _ _ _ a (over _ _ h)) (eat_is _ _ h)
+  ended_from-complete starts over (suc n) found _ i r (Ended.ends a h) turns = rw (complete _ _ _ a (over _ _ h)) (behind_is _ _ h)
   ended_from-complete starts over zero found _ i r (Ended.goes_on a l) turns = absurd (omega (arith, shrinks _ _ _ a))
   ended_from-complete starts over (suc n) found _ i r (Ended.goes_on {x} {xs} a l) turns =
       let (other, s) = Ended-starts starts xs _ r l in
-      rw (complete _ _ _ a s) (eat_not m.Dedent _ _ other ∙ append_one found x xs r (ended_from-complete starts over n (found ++ x ∷ []) xs _ r l (omega (arith, shrinks _ _ _ a))))
+      rw (complete _ _ _ a s) (behind_not m.Dedent _ _ other ∙ append_one found x xs r (ended_from-complete starts over n (found ++ x ∷ []) xs _ r l (omega (arith, shrinks _ _ _ a))))
 
   -- one or more up to a `Dedent`, which begins none, where an element may end before it and before another
   pub ended-complete : (starts : (x : A) (i r : List Tok) → Item x i r → (sees m.Dedent i ≡ false) × Stops i) (over : (i r : List Tok) → At m.Dedent i r → Stops i) (xs : List A) (i r : List Tok)
@@ -90,20 +90,24 @@ module _ {A : Type 0} {Stops : List Tok → Type 0} {item : Reader A} {Item : Sp
 
 -- ---- elements that each stand behind a token
 
--- an element behind a token of this mark
-abbrev After : {A : Type 0} → Mark → Spelling A → Spelling A
-After k Item x i r = (s : List Tok) × At k i s × Item x s r
-
-Behind-many : {A : Type 0} (k : Mark) (Item : Spelling A) (xs : List A) (i r : List Tok) → Behind k Item xs i r → Many (After k Item) xs i r
+Behind-many : {A : Type 0} (k : Mark) (Item : Spelling A) (xs : List A) (i r : List Tok) → Behind k Item xs i r → Many (Led k Item) xs i r
 Behind-many k Item _ i r Behind.none = Many.none
-Behind-many k Item _ i r (Behind.one h a l) = Many.one (_, h, a) (Behind-many k Item _ _ _ l)
+Behind-many k Item _ i r (Behind.one h a l) = Many.one (led h a) (Behind-many k Item _ _ _ l)
+
+led-complete : {A : Type 0} {Stops : List Tok → Type 0} {item : Reader A} {Item : Spelling A} → IsComplete Stops item Item → (k : Mark) → IsComplete Stops (past item) (Led k Item)
+led-complete {item = item} complete k _ i r (led h a) s = past_is item h ∙ complete _ _ _ a s
+
+led-shrinks : {A : Type 0} {Item : Spelling A} → Shrinks Item → (k : Mark) → Shrinks (Led k Item)
+led-shrinks shrinks k _ i r (led h a) = omega (arith, shorter-At h, shrinks _ _ _ a)
+
+led-sees : {A : Type 0} (k : Mark) (Item : Spelling A) (x : A) (i r : List Tok) → Led k Item x i r → sees k i ≡ true
+led-sees k Item _ i r (led h a) = sees-At h
 
 pub behind-complete : {A : Type 0} {Stops : List Tok → Type 0} {item : Reader A} {Item : Spelling A} (complete : IsComplete Stops item Item) (shrinks : Shrinks Item)
     (k : Mark) (between : (i r : List Tok) → At k i r → Stops i) (found xs : List A) (i r : List Tok)
-    → Behind k Item xs i r → Stops r → sees k r ≡ false → begun k (take_token >> item) found i ≡ Ok (found ++ xs, r)
+    → Behind k Item xs i r → Stops r → sees k r ≡ false → begun k (past item) found i ≡ Ok (found ++ xs, r)
 behind-complete {item = item} {Item = Item} complete shrinks k between found xs i r l s c =
-    begun-complete {item = take_token >> item} {Item = After k Item} (λ x j q h t. passed_is item h.1 ∙ complete _ _ _ h.2 t) (λ x j q h. omega (arith, shorter-At h.1, shrinks _ _ _ h.2))
-    k (λ x j q h. sees-At h.1) between found xs i r (Behind-many k Item xs i r l) s c
+    begun-complete {item = past item} {Item = Led k Item} (led-complete complete k) (led-shrinks shrinks k) k (led-sees k Item) between found xs i r (Behind-many k Item xs i r l) s c
 
 -- ---- the further operands of a chain
 

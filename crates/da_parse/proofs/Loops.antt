@@ -1,13 +1,12 @@
 -- One turn of each reader of lists, as a loop takes it.
 use Rattle.std.proofs.Common.{◌≡◌, ℕ, suc, ◌+◌, ◌-◌, ◌<◌, ◌≤◌, List, [], ◌∷◌, ◌++◌, length, Option, refl, ap, arith}
-use Rattle.std.specs.Prelude.{if◌then◌else◌}
 use Rattle.da_values.specs.declared.token.Mark.{Mark}
 use Rattle.da_values.specs.declared.token.Mark.TheVariants as m
 use Rattle.da_values.specs.Marks.{Tok}
 use Rattle.da_lang.specs.declared.tree.ArithOp.{ArithOp}
 use Rattle.da_lang.specs.declared.tree.ChainTree.{ChainTree}
 use Rattle.da_lang.specs.declared.tree.Expr.{Expr}
-use Rattle.da_parse.specs.Reader.{Reader, ◌>>=◌, pure, refuse, peek, next_is, eat}
+use Rattle.da_parse.specs.Reader.{Reader, ◌>>=◌, pure, refuse, by_mark, if_next, behind}
 use Rattle.da_parse.specs.Lists.{separated, separated_from, begun, begun_from, ended, ended_from, others, others_by, others_from}
 
 module _ {A : Type 0} (k : Mark) (item : Reader A) where
@@ -16,7 +15,7 @@ module _ {A : Type 0} (k : Mark) (item : Reader A) where
   separated_start found i = refl
 
   pub separated_turn : (n at : ℕ) (found : List A) (i : List Tok) → at < n
-      → separated_from k item (n - at) found i ≡ (item >>= λ x. eat k >>= λ more. if more then separated_from k item (n - (at + 1)) (found ++ x ∷ []) else pure (found ++ x ∷ [])) i
+      → separated_from k item (n - at) found i ≡ (item >>= λ x. behind k (separated_from k item (n - (at + 1)) (found ++ x ∷ [])) (pure (found ++ x ∷ []))) i
   unfolding separated_from
   separated_turn n at found i h = let e : n - at ≡ suc (n - (at + 1)) = omega arith in ap (λ c. separated_from k item c found i) e
 
@@ -29,7 +28,7 @@ module _ {A : Type 0} (k : Mark) (item : Reader A) where
   begun_start found i = refl
 
   pub begun_turn : (n at : ℕ) (found : List A) (i : List Tok) → at < n
-      → begun_from k item (n - at) found i ≡ (next_is k >>= λ more. if more then (item >>= λ x. begun_from k item (n - (at + 1)) (found ++ x ∷ [])) else pure found) i
+      → begun_from k item (n - at) found i ≡ if_next k (item >>= λ x. begun_from k item (n - (at + 1)) (found ++ x ∷ [])) (pure found) i
   unfolding begun_from
   begun_turn n at found i h = let e : n - at ≡ suc (n - (at + 1)) = omega arith in ap (λ c. begun_from k item c found i) e
 
@@ -43,7 +42,7 @@ module _ {A : Type 0} (item : Reader A) where
   ended_start i = refl
 
   pub ended_turn : (n at : ℕ) (found : List A) (i : List Tok) → at < n
-      → ended_from item (n - at) found i ≡ (item >>= λ x. eat m.Dedent >>= λ over. if over then pure (found ++ x ∷ []) else ended_from item (n - (at + 1)) (found ++ x ∷ [])) i
+      → ended_from item (n - at) found i ≡ (item >>= λ x. behind m.Dedent (pure (found ++ x ∷ [])) (ended_from item (n - (at + 1)) (found ++ x ∷ []))) i
   unfolding ended_from
   ended_turn n at found i h = let e : n - at ≡ suc (n - (at + 1)) = omega arith in ap (λ c. ended_from item c found i) e
 
@@ -57,7 +56,7 @@ module _ (sign : Option Mark → Option ArithOp) (operand : Reader Expr) where
   others_start i = refl
 
   pub others_turn : (n at : ℕ) (found : List ChainTree) (i : List Tok) → at < n
-      → others_from sign operand (n - at) found i ≡ (peek >>= λ k. others_by sign operand (others_from sign operand (n - (at + 1))) found (sign k)) i
+      → others_from sign operand (n - at) found i ≡ by_mark (λ k. others_by sign operand (others_from sign operand (n - (at + 1))) found (sign k)) i
   unfolding others_from
   others_turn n at found i h = let e : n - at ≡ suc (n - (at + 1)) = omega arith in ap (λ c. others_from sign operand c found i) e
 

@@ -170,15 +170,15 @@ module _ (room : Room) (deep : Deeper) where
   IsMline-begins _ i r (IsMline.new n h k o c l p e) = next-Named begins_line n
   IsMline-begins _ i r (IsMline.setup h o n l p e) = next-At begins_line h
 
-module _ (room : ℕ → Room) (f : ℕ) where
+pub IsMessage-shrinks : (room : ℕ → Room) (f : ℕ) → Shrinks (IsMessage room f)
+IsMessage-shrinks room f _ i r (IsMessage.message h n o l e) = omega (arith, shorter-At h, shorter-Named n, shorter-Opens o, Closed-shrinks (TypeIn room f 1) (TypeIn-shrinks room f 1) _ _ _ _ l, shorter-At e)
+
+module _ (room : ℕ → Room) (f : ℕ) (Parameter : Spelling Param) (shrinks : Shrinks Parameter) where
   -- what the members of a class pass
-  pub member_shrinks : Shrinks (IsMember (room 1) (TypeIn room f 1) (IsParams room f) (IsPattern (room 1) (deeper room f 2)) (IsBlock (room 1) (deeper room f 2) (BodyIn room f 2)))
-  member_shrinks = IsMember-shrinks (room 1) (TypeIn room f 1) (IsParams room f) (IsPattern (room 1) (deeper room f 2)) (IsBlock (room 1) (deeper room f 2) (BodyIn room f 2))
-      (TypeIn-shrinks room f 1) (Closed-shrinks (IsParam (TypeIn room f 2)) (IsParam-shrinks (TypeIn room f 2) (TypeIn-shrinks room f 2)) m.CloseParen)
+  pub member_shrinks : Shrinks (IsMember (room 1) (TypeIn room f 1) (IsParams Parameter) (IsPattern (room 1) (deeper room f 2)) (IsBlock (room 1) (deeper room f 2) (BodyIn room f 2)))
+  member_shrinks = IsMember-shrinks (room 1) (TypeIn room f 1) (IsParams Parameter) (IsPattern (room 1) (deeper room f 2)) (IsBlock (room 1) (deeper room f 2) (BodyIn room f 2))
+      (TypeIn-shrinks room f 1) (Closed-shrinks Parameter shrinks m.CloseParen)
       (IsPattern-shrinks (room 1) (deeper room f 2) (deeper-shrinks room f 2)) (IsBlock-shrinks (room 1) (deeper room f 2) (deeper-shrinks room f 2) (BodyIn room f 2) (BodyIn-shrinks room f 2))
 
-  pub IsMessage-shrinks : Shrinks (IsMessage room f)
-  IsMessage-shrinks _ i r (IsMessage.message h n o l e) = omega (arith, shorter-At h, shorter-Named n, shorter-Opens o, Closed-shrinks (TypeIn room f 1) (TypeIn-shrinks room f 1) _ _ _ _ l, shorter-At e)
-
-  pub IsClass-shrinks : Shrinks (IsClass room f)
+  pub IsClass-shrinks : Shrinks (IsClass room f Parameter)
   IsClass-shrinks _ i r (IsClass.class h n e p c l o ms) = omega (arith, shorter-At h, shorter-Named n, shorter-At e, shorter-At p, shorter-At c, shorter-At l, shorter-Opens o, Ended-shrinks _ member_shrinks _ _ _ ms)

@@ -22,7 +22,7 @@ use Rattle.da_parse.specs.Exprs as exprs
 use Rattle.da_parse.specs.Exprs.{quantifier, source_by, source, generator_with, generator, generators, condition, no_argument, first_argument, last_argument, one_argument, two_arguments, grouped_by, grouped, comprehension, braced, atom_by, atom}
 use Rattle.da_parse.proofs.Steps.{expect_ok, At-mark, Named-mark}
 use Rattle.da_parse.proofs.Laws.{IsSound, Sounds}
-use Rattle.da_parse.proofs.SoundSteps.{reads, made, passes, eats, numbers, quotes, opened_by, opening_by}
+use Rattle.da_parse.proofs.SoundSteps.{reads, made, passes, passes_or, numbers, quotes, opened_by, opening_by}
 use Rattle.da_parse.proofs.ListSound.{separated-sound, all_separated, closed-sound}
 
 -- What holds of everything that stands deeper: without a quantifier it is an expression too, and it has a first token.
@@ -59,9 +59,9 @@ module _ (p : Place) (room : Room) (deep : Deeper) (s : Sounds p room deep) wher
   generator-sound i y e =
       reads (p.pattern i) _ y e (λ message r read e1.
       let of = s.pattern i (message, r) read in
-      eats m.From _ _ r y e1
+      passes_or m.From _ _ r y e1
       (λ q h e2. generator_with-sound message peer_tree.From i r q y of (λ x z there. g.IsPeer.from h there) e2)
-      (λ no e2. eats m.To _ _ r y e2
+      (λ no e2. passes_or m.To _ _ r y e2
       (λ q h e3. generator_with-sound message peer_tree.To i r q y of (λ x z there. g.IsPeer.to h there) e3)
       (λ nor e3. reads (source r) _ y e3 (λ from q goes last.
       let (z, h, through) = source-sound r (from, q) goes in
@@ -73,9 +73,9 @@ module _ (p : Place) (room : Room) (deep : Deeper) (s : Sounds p room deep) wher
 
   pub condition-sound : IsSound (condition p) (IsCond deep.expr)
   unfolding condition
-  condition-sound i y e = eats m.Bar _ _ i y e
+  condition-sound i y e = passes_or m.Bar _ _ i y e
       (λ r h e1. reads (p.expr level.Expr r) _ y e1 (λ x q read last. made (IsCond deep.expr) i y last (g.bar h (s.expr r (x, q) read))))
-      (λ no e1. eats m.Has _ _ i y e1
+      (λ no e1. passes_or m.Has _ _ i y e1
       (λ r h e2. reads (p.expr level.Expr r) _ y e2 (λ x q read last. made (IsCond deep.expr) i y last (g.has h (s.expr r (x, q) read))))
       (λ nor last. made (IsCond deep.expr) i y last g.no_cond))
 
@@ -144,13 +144,13 @@ module _ (p : Place) (room : Room) (deep : Deeper) (s : Sounds p room deep) wher
   -- behind `{`
   braced-sound : (t i : List Tok) (y : Expr × List Tok) → Opens m.OpenBrace room t i → braced p i ≡ Ok y → IsAtom room deep y.0 t y.1
   unfolding braced
-  braced-sound t i y opened e = eats m.CloseBrace _ _ i y e
+  braced-sound t i y opened e = passes_or m.CloseBrace _ _ i y e
       (λ r over last. made (IsAtom room deep) t y last (g.set_of opened (spelling.empty over)))
       (λ some e1. reads (p.expr level.Disj i) _ y e1 (λ x r read e2.
       let term = s.disj i (x, r) read in
-      eats m.Colon _ _ r y e2
+      passes_or m.Colon _ _ r y e2
       (λ q colon e3. comprehension-sound x t i r q y opened term colon e3)
-      (λ no e3. eats m.Comma _ _ r y e3
+      (λ no e3. passes_or m.Comma _ _ r y e3
       (λ q comma e4. reads (separated m.Comma (p.expr level.Disj) (x ∷ []) q) _ y e4 (λ all z others e5.
       passes m.CloseBrace z _ y e5 (λ a over last.
       let (xs, is, spelled) = separated-sound m.Comma (p.expr level.Disj) deep.disj s.disj (x ∷ []) q (all, z) others in
@@ -186,7 +186,7 @@ module _ (p : Place) (room : Room) (deep : Deeper) (s : Sounds p room deep) (sha
   grouped_by-sound None t i y opened e =
       reads (p.expr level.Disj i) _ y e (λ x r read e1.
       let inside = s.disj i (x, r) read in
-      eats m.Comma _ _ r y e1
+      passes_or m.Comma _ _ r y e1
       (λ q comma e2. reads (closed m.CloseParen (p.expr level.Disj) (x ∷ []) q) _ y e2 (λ all z others last.
       let (xs, is, spelled) = closed-sound m.CloseParen (p.expr level.Disj) deep.disj s.disj (x ∷ []) q (all, z) others in
       made (IsAtom room deep) t y last (subst (λ l. IsAtom room deep (ex.Tuple l) t z) (sym is) (g.IsAtom.tuple opened inside comma spelled))))

@@ -22,7 +22,7 @@ use Rattle.da_parse.specs.Place.{Place}
 use Rattle.da_parse.specs.Exprs.{times_op, plus_op, cmp_op_at, quantifier, chained, joined, constant, generators, condition, behind_minus, unary, product, sum, compared_by, comparison, negation, conjunction, disjunction, quantification, expression_by, expression, tuple_pattern, pattern_by, pattern}
 use Rattle.da_parse.proofs.Steps.{chosen, At-sees, At-mark, Named-mark, NotAt-sees}
 use Rattle.da_parse.proofs.Laws.{IsSound, Sounds}
-use Rattle.da_parse.proofs.SoundSteps.{reads, made, passes, eats, numbers, quotes, opened_by}
+use Rattle.da_parse.proofs.SoundSteps.{reads, made, passes, passes_or, numbers, quotes, opened_by}
 use Rattle.da_parse.proofs.ListSound.{separated-sound, closed-sound, others-sound}
 use Rattle.da_parse.proofs.SoundExprs.{Shaped, generators-sound, condition-sound, atom-sound}
 
@@ -84,7 +84,7 @@ unfolding joined
 joined-sound k join operand Operand sound i y e =
     reads (operand i) _ y e (λ x r read e1.
     let first = sound i (x, r) read in
-    eats k _ _ r y e1
+    passes_or k _ _ r y e1
     (λ q word e2. reads (separated k operand (x ∷ []) q) _ y e2 (λ all z others last.
     let (xs, is, spelled) = separated-sound k operand Operand sound (x ∷ []) q (all, z) others in
     made (IsJoined k join Operand) i y last (subst (λ l. IsJoined k join Operand (join l) i z) (sym is) (joined_more x xs first word spelled))))
@@ -137,7 +137,7 @@ module _ (p : Place) (room : Room) (deep : Deeper) (s : Sounds p room deep) (sha
   comparison-sound i y e =
       reads (sum p i) _ y e (λ x r read e1.
       let left = sum-sound i (x, r) read in
-      eats m.In _ _ r y e1
+      passes_or m.In _ _ r y e1
       (λ q word e2. reads (sum p q) _ y e2 (λ z a right last. made (IsComp room deep) i y last (g.member left word (sum-sound q (z, a) right))))
       (λ no e2. compared_by-sound (cmp_op_at (mark r)) x i r y refl left e2))
 

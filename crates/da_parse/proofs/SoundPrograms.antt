@@ -7,6 +7,7 @@ use Rattle.da_values.specs.Marks.{Tok}
 use Rattle.da_lang.specs.declared.tree.ClassTree.{ClassTree}
 use Rattle.da_lang.specs.declared.tree.MainLine.{MainLine}
 use Rattle.da_lang.specs.declared.tree.MessageDecl.{MessageDecl}
+use Rattle.da_lang.specs.declared.tree.Param.{Param}
 use Rattle.da_lang.specs.declared.tree.Tree.{Tree}
 use Rattle.da_lang.specs.declared.ty.ChannelKind.{ChannelKind}
 use Rattle.da_lang.specs.declared.ty.ChannelKind.TheVariants as kind_of
@@ -16,29 +17,29 @@ use Rattle.da_lang.specs.TypeGrammar.{TypeIn}
 use Rattle.da_lang.specs.ExprGrammar.{IsPattern, deeper}
 use Rattle.da_lang.specs.StmtGrammar.{IsBlock, BodyIn}
 use Rattle.da_lang.specs.Grammar as g
-use Rattle.da_lang.specs.Grammar.{IsParam, IsFrom, IsAt, IsMember, IsCount, IsMline, IsKind, IsTypes, IsParams, IsMessage, IsClass, IsDecls, IsMain, IsProgram}
+use Rattle.da_lang.specs.Grammar.{IsParam, IsFrom, IsAt, IsMember, IsCount, IsMline, IsKind, IsTypes, TypedParam, IsParams, IsMessage, IsClass, IsDecls, IsMain, IsProgram, IsTypedProgram}
 use Rattle.da_parse.specs.declared.place.Level.TheVariants as level
 use Rattle.da_parse.specs.Reader as reader
-use Rattle.da_parse.specs.Reader.{mark, text, rest, sees, after, Outcome, Reader, and_then, ◌>>=◌, ◌>>◌, pure, refuse, take_token, eat, expect, word, number}
+use Rattle.da_parse.specs.Reader.{mark, text, rest, sees, Reading, Reader, continued, ◌>>=◌, ◌>>◌, pure, refuse, expect, word, number}
 use Rattle.da_parse.specs.Lists.{begun, closed}
 use Rattle.da_parse.specs.Place.{Limit, at_most_32}
-use Rattle.da_parse.specs.Types.{type_at, type_below}
+use Rattle.da_parse.specs.Types.{types, type_at, type_below}
 use Rattle.da_parse.specs.Exprs.{at_depth}
 use Rattle.da_parse.specs.Stmts.{block_at, body_below}
-use Rattle.da_parse.specs.Members.{members}
-use Rattle.da_parse.specs.Programs.{Outer, outer_in, outermost, count, kind_from, one_of, kind, finish, header_end, message, class, new_line, argument, setup_line, line_by, main_line, main, program_end, decls_by, decls_from, decls, program}
-use Rattle.da_parse.proofs.Steps.{chosen_value, eat_ok, number_ok, opening_ok, left, At-mark, Named-mark}
+use Rattle.da_parse.specs.Members.{typed_param, members}
+use Rattle.da_parse.specs.Programs.{Outer, outer_in, typed_in, outermost, count, kind_from, one_of, kind, finish, header_end, message, class, new_line, argument, setup_line, line_by, main_line, main, program_end, decls_by, decls_from, decls, program}
+use Rattle.da_parse.proofs.Steps.{chosen_value, behind_ok, number_ok, opening_ok, left, At-mark, Named-mark}
 use Rattle.da_parse.proofs.SoundSteps.{reads, made, passes, names, opening_by}
 use Rattle.da_parse.proofs.SoundTypes.{types-sound}
 use Rattle.da_parse.proofs.ListSound.{all_closed, all_behind, ended-sound}
 use Rattle.da_parse.proofs.SoundStmts.{same_line}
-use Rattle.da_parse.proofs.SoundMembers.{members_there-sound}
+use Rattle.da_parse.proofs.SoundMembers.{typed_param-sound, members_there-sound}
 use Rattle.da_parse.proofs.SoundPlaces.{places-sound}
 use Rattle.da_parse.proofs.Laws.{IsSound, Sounds}
 
 count-sound : IsSound count IsCount
 unfolding count
-count-sound i y e = elim (eat_ok m.Comma (number >>= λ n. pure (Some n)) (pure None) i y e) [
+count-sound i y e = elim (behind_ok m.Comma (number >>= λ n. pure (Some n)) (pure None) i y e) [
   | inl h ↦ (
       reads (number h.0) _ y h.2 (λ u after_u read last.
       made IsCount i y last (g.count h.1 (number_ok h.0 (u, after_u) read))))
@@ -52,7 +53,7 @@ OneOf k other false i r = At other i r
 
 one_of-sound : (k other : Mark) → IsSound (one_of k other) (OneOf k other)
 unfolding one_of
-one_of-sound k other i y e = elim (eat_ok k (pure true) (expect other >> pure false) i y e) [
+one_of-sound k other i y e = elim (behind_ok k (pure true) (expect other >> pure false) i y e) [
   | inl h ↦ made (OneOf k other) i y h.2 h.1
   | inr h ↦ (
       passes other i _ y h.1 (λ after_u passed last.
@@ -67,7 +68,7 @@ kinds false false t r s q z a b c d = g.unordered_unreliable a b c d
 
 kind-sound : IsSound kind IsKind
 unfolding kind
-kind-sound i y e = elim (eat_ok m.Channel (one_of m.Fifo m.Unordered >>= λ fifo. one_of m.Reliable m.Unreliable >>= λ reliable. expect m.Newline >> pure (kind_from fifo reliable)) (pure kind_of.UnorderedUnreliable) i y e) [
+kind-sound i y e = elim (behind_ok m.Channel (one_of m.Fifo m.Unordered >>= λ fifo. one_of m.Reliable m.Unreliable >>= λ reliable. expect m.Newline >> pure (kind_from fifo reliable)) (pure kind_of.UnorderedUnreliable) i y e) [
   | inl h ↦ (
       let (r, there, e1) = h in
       reads (one_of m.Fifo m.Unordered r) _ y e1 (λ u after_u fifo e2.
@@ -89,13 +90,13 @@ finish-sound i y e = elim (chosen_value (length i == 0) (Ok (tt, i)) (refuse i) 
 ]
 
 -- the readers of a program are sound for what the grammar has where so many things are open
-pub record OuterSounds (o : Outer) (room : ℕ → Room) (f : ℕ) : Type 0 where
+pub record OuterSounds (o : Outer) (room : ℕ → Room) (f : ℕ) (Parameter : Spelling Param) : Type 0 where
   pub fits : (t : List Tok) → o.place.may_open (length t) ≡ true → room 0 t
   pub types : IsSound o.inner_ty (TypeIn room f 1)
   pub inside : Sounds o.inside.place (room 1) (deeper room f 2)
-  pub members : IsSound (members o.inside) (Ended (IsMember (room 1) (TypeIn room f 1) (IsParams room f) (IsPattern (room 1) (deeper room f 2)) (IsBlock (room 1) (deeper room f 2) (BodyIn room f 2))))
+  pub members : IsSound (members o.inside) (Ended (IsMember (room 1) (TypeIn room f 1) (IsParams Parameter) (IsPattern (room 1) (deeper room f 2)) (IsBlock (room 1) (deeper room f 2) (BodyIn room f 2))))
 
-module _ (o : Outer) (room : ℕ → Room) (f : ℕ) (sounds : OuterSounds o room f) where
+module _ (o : Outer) (room : ℕ → Room) (f : ℕ) (Parameter : Spelling Param) (sounds : OuterSounds o room f Parameter) where
   header_end-sound : (i : List Tok) (y : Unit {0} × List Tok) → header_end o i ≡ Ok y → (r : List Tok) × (s : List Tok) × At m.Colon i r × At m.Newline r s × Opens m.Indent (room 0) s y.1
   unfolding header_end
   header_end-sound i y e =
@@ -113,7 +114,7 @@ module _ (o : Outer) (room : ℕ → Room) (f : ℕ) (sounds : OuterSounds o roo
       made (IsMessage room f) t y last
       (g.IsMessage.message there name opened (all_closed m.CloseParen o.inner_ty (TypeIn room f 1) sounds.types after_v (w, after_w) read) over)))))
 
-  class-sound : (t i : List Tok) (y : ClassTree × List Tok) → At m.Class t i → class o (sp.line t) i ≡ Ok y → IsClass room f y.0 t y.1
+  class-sound : (t i : List Tok) (y : ClassTree × List Tok) → At m.Class t i → class o (sp.line t) i ≡ Ok y → IsClass room f Parameter y.0 t y.1
   unfolding class
   class-sound t i y there e =
       names i _ y e (λ u after_u name e1.
@@ -122,7 +123,7 @@ module _ (o : Outer) (room : ℕ → Room) (f : ℕ) (sounds : OuterSounds o roo
       reads (header_end o after_w) _ y e3 (λ x after_x header e4.
       reads (members o.inside after_x) _ y e4 (λ k after_k read last.
       let (a, b, colon, over, opened) = header_end-sound after_w (x, after_x) header in
-      made (IsClass room f) t y last
+      made (IsClass room f Parameter) t y last
       (g.IsClass.class there name extends process colon over opened (sounds.members after_x (k, after_k) read)))))))
 
   new_line-sound : (n : List ℕ) (t i : List Tok) (y : MainLine × List Tok) → Named n t i → new_line o n (sp.line t) i ≡ Ok y → IsMline (room 1) (deeper room f 2) y.0 t y.1
@@ -174,7 +175,7 @@ module _ (o : Outer) (room : ℕ → Room) (f : ℕ) (sounds : OuterSounds o roo
   -- a program whose kind, messages and classes so far are known: the further ones are spelled here, then `main`, and nothing is left
   abbrev Rest : ChannelKind → List MessageDecl → List ClassTree → List Tok → Tree × List Tok → Type 0
   Rest k xs cs i y = (ms : List MessageDecl) × (ds : List ClassTree) × (ls : List MainLine) × (r : List Tok)
-      × (y.0 ≡ record { kind = k; messages = xs ++ ms; classes = cs ++ ds; main = ls }) × IsDecls room f ms ds i r × IsMain room f ls r [] × (y.1 ≡ [])
+      × (y.0 ≡ record { kind = k; messages = xs ++ ms; classes = cs ++ ds; main = ls }) × IsDecls room f Parameter ms ds i r × IsMain room f ls r [] × (y.1 ≡ [])
 
   program_end-sound : (k : ChannelKind) (xs : List MessageDecl) (cs : List ClassTree) (i : List Tok) (y : Tree × List Tok) → program_end o k xs cs i ≡ Ok y → Rest k xs cs i y
   unfolding program_end
@@ -184,50 +185,54 @@ module _ (o : Outer) (room : ℕ → Room) (f : ℕ) (sounds : OuterSounds o roo
       let (over, ended_there) = finish-sound rest_of (u, end) done in
       ([], [], ls, i, cc (append-nil xs, append-nil cs), g.no_decl, subst (IsMain room f ls i) over (main-sound i (ls, rest_of) read), sym (ap left last) ∙ ended_there)))
 
-module _ (o : Outer) (room : ℕ → Room) (f : ℕ) (sounds : OuterSounds o room f) (k : ChannelKind) where
+module _ (o : Outer) (room : ℕ → Room) (f : ℕ) (Parameter : Spelling Param) (sounds : OuterSounds o room f Parameter) (k : ChannelKind) where
   -- one step, where the steps after it are sound
-  decls_by-sound : (go_on : List MessageDecl → List ClassTree → Reader Tree)
-      (next : (xs : List MessageDecl) (cs : List ClassTree) (i : List Tok) (y : Tree × List Tok) → go_on xs cs i ≡ Ok y → Rest o room f sounds k xs cs i y)
-      (xs : List MessageDecl) (cs : List ClassTree) (b : Option Mark) (i : List Tok) (y : Tree × List Tok) → mark i ≡ b → decls_by o k go_on xs cs b i ≡ Ok y → Rest o room f sounds k xs cs i y
-  decls_by-sound go_on next xs cs (Some m.Message) i y is e =
+  decls_by-sound : (rest_of : List MessageDecl → List ClassTree → Reader Tree)
+      (next : (xs : List MessageDecl) (cs : List ClassTree) (i : List Tok) (y : Tree × List Tok) → rest_of xs cs i ≡ Ok y → Rest o room f Parameter sounds k xs cs i y)
+      (xs : List MessageDecl) (cs : List ClassTree) (b : Option Mark) (i : List Tok) (y : Tree × List Tok) → mark i ≡ b → decls_by o k rest_of xs cs b i ≡ Ok y → Rest o room f Parameter sounds k xs cs i y
+  decls_by-sound rest_of next xs cs (Some m.Message) i y is e =
       reads (message o (reader.line i) (rest i)) _ y e (λ u after_u read e1.
-      let x = message-sound o room f sounds i (rest i) (u, after_u) (At-mark m.Message i is) (subst (λ at. message o at (rest i) ≡ Ok (u, after_u)) (same_line i) read) in
+      let x = message-sound o room f Parameter sounds i (rest i) (u, after_u) (At-mark m.Message i is) (subst (λ at. message o at (rest i) ≡ Ok (u, after_u)) (same_line i) read) in
       let (ms, ds, ls, r, whole, ones, end, over) = next (xs ++ u ∷ []) cs after_u y e1 in
       (u ∷ ms, ds, ls, r, whole ∙ ap (λ z. record { kind = k; messages = z; classes = cs ++ ds; main = ls }) (append_assoc xs (u ∷ []) ms), g.IsDecls.message x ones, end, over))
-  decls_by-sound go_on next xs cs (Some m.Class) i y is e =
+  decls_by-sound rest_of next xs cs (Some m.Class) i y is e =
       reads (class o (reader.line i) (rest i)) _ y e (λ u after_u read e1.
-      let c = class-sound o room f sounds i (rest i) (u, after_u) (At-mark m.Class i is) (subst (λ at. class o at (rest i) ≡ Ok (u, after_u)) (same_line i) read) in
+      let c = class-sound o room f Parameter sounds i (rest i) (u, after_u) (At-mark m.Class i is) (subst (λ at. class o at (rest i) ≡ Ok (u, after_u)) (same_line i) read) in
       let (ms, ds, ls, r, whole, ones, end, over) = next xs (cs ++ u ∷ []) after_u y e1 in
       (ms, u ∷ ds, ls, r, whole ∙ ap (λ z. record { kind = k; messages = xs ++ ms; classes = z; main = ls }) (append_assoc cs (u ∷ []) ds), g.IsDecls.class c ones, end, over))
-  decls_by-sound go_on next xs cs _ i y is e = program_end-sound o room f sounds k xs cs i y e
+  decls_by-sound rest_of next xs cs _ i y is e = program_end-sound o room f Parameter sounds k xs cs i y e
 
-  decls_from-sound : (n : ℕ) (xs : List MessageDecl) (cs : List ClassTree) (i : List Tok) (y : Tree × List Tok) → decls_from o k n xs cs i ≡ Ok y → Rest o room f sounds k xs cs i y
+  decls_from-sound : (n : ℕ) (xs : List MessageDecl) (cs : List ClassTree) (i : List Tok) (y : Tree × List Tok) → decls_from o k n xs cs i ≡ Ok y → Rest o room f Parameter sounds k xs cs i y
   unfolding decls_from
-  decls_from-sound zero xs cs i y e = program_end-sound o room f sounds k xs cs i y e
+  decls_from-sound zero xs cs i y e = program_end-sound o room f Parameter sounds k xs cs i y e
   decls_from-sound (suc n) xs cs i y e = decls_by-sound (decls_from o k n) (decls_from-sound n) xs cs (mark i) i y refl e
 
 -- what is read as a program is spelled so, and nothing is left
-pub program-sound : (o : Outer) (room : ℕ → Room) (f : ℕ) → OuterSounds o room f → (i : List Tok) (y : Tree × List Tok) → program o i ≡ Ok y → IsProgram room f y.0 i × (y.1 ≡ [])
+pub program-sound : (o : Outer) (room : ℕ → Room) (f : ℕ) (Parameter : Spelling Param) → OuterSounds o room f Parameter → (i : List Tok) (y : Tree × List Tok) → program o i ≡ Ok y → IsProgram room f Parameter y.0 i × (y.1 ≡ [])
 unfolding program decls
-program-sound o room f sounds i y e =
+program-sound o room f Parameter sounds i y e =
     reads (kind i) _ y e (λ u after_u read e1.
-    let (ms, ds, ls, r, whole, ones, end, over) = decls_from-sound o room f sounds u (length after_u) [] [] after_u y e1 in
-    (subst (λ z. IsProgram room f z i) (sym whole) (g.program (kind-sound i (u, after_u) read) ones end), over))
+    let (ms, ds, ls, r, whole, ones, end, over) = decls_from-sound o room f Parameter sounds u (length after_u) [] [] after_u y e1 in
+    (subst (λ z. IsProgram room f Parameter z i) (sym whole) (g.program (kind-sound i (u, after_u) read) ones end), over))
 
 -- by a rule of how many things may be open, which allows no more than that of the grammar
 module _ (limit : Limit) (room : ℕ → Room) (fits : (d : ℕ) (t : List Tok) → limit d (length t) ≡ true → room d t) where
-  outer_sound : (f n : ℕ) → 1 ≤ f → f ≤ n → OuterSounds (outer_in limit f) room n
-  outer_sound f n some few = record {
+  outer_sound : (param : Reader Param) (Parameter : Spelling Param) → IsSound param Parameter → (f n : ℕ) → 1 ≤ f → f ≤ n → OuterSounds (outer_in limit param f) room n Parameter
+  outer_sound param Parameter param_sound f n some few = record {
     fits = (places-sound limit room fits f n 0 few).fits;
     types = types-sound limit room fits f n 1 few;
     inside = places-sound limit room fits (f - 1) n 1 (omega (arith, few));
-    members = members_there-sound limit room fits (f - 1) n 1 (omega (arith, some, few));
+    members = members_there-sound limit room fits param Parameter param_sound (f - 1) n 1 (omega (arith, some, few));
   }
 
-  pub program_in-sound : (f n : ℕ) → 1 ≤ f → f ≤ n → (i : List Tok) (y : Tree × List Tok) → program (outer_in limit f) i ≡ Ok y → IsProgram room n y.0 i × (y.1 ≡ [])
-  program_in-sound f n some few i y e = program-sound (outer_in limit f) room n (outer_sound f n some few) i y e
+  -- where each parameter has its type
+  pub program_in-sound : (f n : ℕ) → 1 ≤ f → f ≤ n → (i : List Tok) (y : Tree × List Tok) → program (typed_in limit f) i ≡ Ok y → IsTypedProgram room n y.0 i × (y.1 ≡ [])
+  program_in-sound f n some few i y e =
+      let param = typed_param (types limit (f - 1) 2) in
+      let param_sound : IsSound param (TypedParam room n) = typed_param-sound (types limit (f - 1) 2) (TypeIn room n 2) (types-sound limit room fits (f - 1) n 2 (omega (arith, few))) in
+      program-sound (typed_in limit f) room n (TypedParam room n) (outer_sound param (TypedParam room n) param_sound f n some few) i y e
 
 -- the reader of the code is one of these
-pub outermost_is : outermost ≡ outer_in at_most_32 32
+pub outermost_is : outermost ≡ typed_in at_most_32 32
 unfolding at_depth type_at type_below block_at body_below
 outermost_is = refl

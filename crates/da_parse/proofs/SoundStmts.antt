@@ -16,12 +16,12 @@ use Rattle.da_lang.specs.StmtGrammar as g
 use Rattle.da_lang.specs.StmtGrammar.{IsBlock, IsBranch, IsElse, IsTimeout, IsStmt, BodyIn}
 use Rattle.da_parse.specs.declared.place.Level.TheVariants as level
 use Rattle.da_parse.specs.Reader as reader
-use Rattle.da_parse.specs.Reader.{mark, text, rest, sees, after, Outcome, Reader, and_then, ◌>>=◌, ◌>>◌, pure, refuse, take_token, eat, expect, word}
+use Rattle.da_parse.specs.Reader.{mark, text, rest, sees, Reading, Reader, continued, ◌>>=◌, ◌>>◌, pure, refuse, expect, word, behind}
 use Rattle.da_parse.specs.Lists.{begun}
 use Rattle.da_parse.specs.Place.{Limit, Place}
 use Rattle.da_parse.specs.Exprs.{place, expression}
 use Rattle.da_parse.specs.Stmts.{branch_of, in_parens, arguments, assigned, changed, called, named, sending, output, passing, label, simple_by, block, block_behind_colon, branch, otherwise, timeout, conditional, while_loop, for_loop, alternatives, awaiting, stmt_by, stmt, stmts, bodies}
-use Rattle.da_parse.proofs.Steps.{eat_ok, At-mark, Named-mark}
+use Rattle.da_parse.proofs.Steps.{behind_ok, At-mark, Named-mark}
 use Rattle.da_parse.proofs.SoundSteps.{reads, made, passes, names, opening_by}
 use Rattle.da_parse.proofs.SoundPlaces.{places-sound, expression_there-sound}
 use Rattle.da_parse.proofs.ListSound.{IsSoundAt, all_closed, begun-sound, ended-sound}
@@ -57,7 +57,7 @@ module _ (p : Place) (room : Room) (deep : Deeper) (sounds : Sounds p room deep)
 
   changed-sound : (b : List ℕ) (t s i : List Tok) (y : Stmt × List Tok) → Named b t s → At m.Dot s i → changed p b (sp.line t) i ≡ Ok y → IsStmt room deep Body y.0 t y.1
   unfolding changed
-  changed-sound b t s i y name dot e = elim (eat_ok m.Add (in_parens p >>= λ x. expect m.Newline >> pure (stmt_tree.Add b x (sp.line t))) (expect m.Del >> (in_parens p >>= λ x. expect m.Newline >> pure (stmt_tree.Del b x (sp.line t)))) i y e) [
+  changed-sound b t s i y name dot e = elim (behind_ok m.Add (in_parens p >>= λ x. expect m.Newline >> pure (stmt_tree.Add b x (sp.line t))) (expect m.Del >> (in_parens p >>= λ x. expect m.Newline >> pure (stmt_tree.Del b x (sp.line t)))) i y e) [
     | inl h ↦ (
         let (r, adds, e1) = h in
         reads (in_parens p r) _ y e1 (λ u after_u read e2.
@@ -88,9 +88,9 @@ module _ (p : Place) (room : Room) (deep : Deeper) (sounds : Sounds p room deep)
 
   named-sound : (b : List ℕ) (t i : List Tok) (y : Stmt × List Tok) → Named b t i → named p b (sp.line t) i ≡ Ok y → IsStmt room deep Body y.0 t y.1
   unfolding named
-  named-sound b t i y name e = elim (eat_ok m.Assign (assigned p b (sp.line t)) (eat m.Dot >>= λ dot. if dot then changed p b (sp.line t) else called p b (sp.line t)) i y e) [
+  named-sound b t i y name e = elim (behind_ok m.Assign (assigned p b (sp.line t)) (behind m.Dot (changed p b (sp.line t)) (called p b (sp.line t))) i y e) [
     | inl h ↦ assigned-sound b t i h.0 y name h.1 h.2
-    | inr h ↦ elim (eat_ok m.Dot (changed p b (sp.line t)) (called p b (sp.line t)) i y h.1) [
+    | inr h ↦ elim (behind_ok m.Dot (changed p b (sp.line t)) (called p b (sp.line t)) i y h.1) [
       | inl d ↦ changed-sound b t i d.0 y name d.1 d.2
       | inr d ↦ called-sound b t i y name d.1
     ]
@@ -159,7 +159,7 @@ module _ (p : Place) (room : Room) (deep : Deeper) (sounds : Sounds p room deep)
 
   otherwise-sound : IsSound (otherwise p body) (IsElse room deep Body)
   unfolding otherwise
-  otherwise-sound i y e = elim (eat_ok m.Else (block_behind_colon p body >>= λ b. pure (Some b)) (pure None) i y e) [
+  otherwise-sound i y e = elim (behind_ok m.Else (block_behind_colon p body >>= λ b. pure (Some b)) (pure None) i y e) [
     | inl h ↦ (
         let (r, there, e1) = h in
         reads (block_behind_colon p body r) _ y e1 (λ u after_u read last.
@@ -170,7 +170,7 @@ module _ (p : Place) (room : Room) (deep : Deeper) (sounds : Sounds p room deep)
 
   timeout-sound : IsSound (timeout p body) (IsTimeout room deep Body)
   unfolding timeout
-  timeout-sound i y e = elim (eat_ok m.Timeout (block_behind_colon p body >>= λ b. pure (Some (roll-TimeoutTree (record { body = b; line = reader.line i })))) (pure None) i y e) [
+  timeout-sound i y e = elim (behind_ok m.Timeout (block_behind_colon p body >>= λ b. pure (Some (roll-TimeoutTree (record { body = b; line = reader.line i })))) (pure None) i y e) [
     | inl h ↦ (
         let (r, there, e1) = h in
         reads (block_behind_colon p body r) _ y e1 (λ u after_u read last.
@@ -221,7 +221,7 @@ module _ (p : Place) (room : Room) (deep : Deeper) (sounds : Sounds p room deep)
   awaiting-sound t i y there e =
       reads (expression p i) _ y e (λ u after_u read e1.
       let x = expression_sound i (u, after_u) read in
-      elim (eat_ok m.Newline (pure (stmt_tree.AwaitOne u (sp.line t))) (alternatives p body u (sp.line t)) after_u y e1) [
+      elim (behind_ok m.Newline (pure (stmt_tree.AwaitOne u (sp.line t))) (alternatives p body u (sp.line t)) after_u y e1) [
         | inl h ↦ made (IsStmt room deep Body) t y h.2 (g.await_one there x h.1)
         | inr h ↦ alternatives-sound u t i after_u y there x h.1
       ])

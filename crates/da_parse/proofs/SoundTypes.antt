@@ -8,7 +8,7 @@ use Rattle.da_lang.specs.declared.ty.Ty.TheVariants as ty
 use Rattle.da_lang.specs.Spelling.{Spelling, Room, At, Opens}
 use Rattle.da_lang.specs.TypeGrammar as g
 use Rattle.da_lang.specs.TypeGrammar.{IsType, TypeIn}
-use Rattle.da_parse.specs.Reader.{mark, rest, Reader, ◌>>◌, pure, take_token}
+use Rattle.da_parse.specs.Reader.{mark, rest, Reader, ◌>>◌, pure, past}
 use Rattle.da_parse.specs.Lists.{closed}
 use Rattle.da_parse.specs.Place.{Limit}
 use Rattle.da_parse.specs.Types.{set_type, tuple_type, type_by, type_in, types}
@@ -38,7 +38,7 @@ module _ (may_open : ℕ → Bool) (room : Room) (fits : (t : List Tok) → may_
       made (IsType room Inner) t y last (subst (λ l. IsType room Inner (ty.Tuple l) t q) (sym is) (g.tuple opened (sound i (x, r) read) comma spelled)))))
 
   -- a type of one word
-  word-sound : (x : Ty) (i : List Tok) (y : Ty × List Tok) → IsType room Inner x i (rest i) → (take_token >> pure x) i ≡ Ok y → IsType room Inner y.0 i y.1
+  word-sound : (x : Ty) (i : List Tok) (y : Ty × List Tok) → IsType room Inner x i (rest i) → past (pure x) i ≡ Ok y → IsType room Inner y.0 i y.1
   word-sound x i y spelled e = made (IsType room Inner) i y e spelled
 
   type_by-sound : (k : Option Mark) (i : List Tok) (y : Ty × List Tok) → mark i ≡ k → type_by may_open inner k i ≡ Ok y → IsType room Inner y.0 i y.1

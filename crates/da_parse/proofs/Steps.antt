@@ -11,15 +11,16 @@ use Rattle.da_lang.specs.Literals.{text_of}
 use Rattle.da_lang.specs.Spelling.{Room, At, at, Opens, opens, NotAt, not_at, Named, named, Number, number, Quoted, quoted}
 use Rattle.da_parse.specs.declared.cursor.Stop.TheVariants.{Deep}
 use Rattle.da_parse.specs.Reader as reader
-use Rattle.da_parse.specs.Reader.{same, mark, text, rest, is_mark, sees, after, Outcome, Reader, and_then, ◌>>=◌, ◌>>◌, pure, refuse, take_token, expect, word, stands_for}
+use Rattle.da_parse.specs.Reader.{same, mark, text, rest, rest_if, is_mark, sees, Reading, Reader, continued, refuse, past, taking, behind, expect, word, stands_for}
 use Rattle.da_parse.specs.Place as place
 
 pub same_marks : (a b : Mark) → same a b ≡ true → a ≡ b
 same_marks a b e = same_true the_type (search rules) a b e
 
-pub bind_ok : {A B : Type 0} (o : Outcome A) (f : A → Reader B) (y : B × List Tok) → and_then o f ≡ Ok y → (p : A × List Tok) × (o ≡ Ok p) × (f p.0 p.1 ≡ Ok y)
-bind_ok (Ok p) f y e = (p, refl, e)
-bind_ok (Err s) f y e = cc
+-- something was read, and what follows was read behind it
+pub went_on : {A B : Type 0} (o : Reading A) (f : A → Reader B) (y : B × List Tok) → continued f o ≡ Ok y → (p : A × List Tok) × (o ≡ Ok p) × (f p.0 p.1 ≡ Ok y)
+went_on (Ok p) f y e = (p, refl, e)
+went_on (Err s) f y e = cc
 
 pub chosen : {B : Type 0} (b : Bool) (p q : Reader B) (i : List Tok) (y : B × List Tok) → (if b then p else q) i ≡ Ok y → ((b ≡ true) × (p i ≡ Ok y)) ⊎ ((b ≡ false) × (q i ≡ Ok y))
 chosen true p q i y e = inl (refl, e)
@@ -33,12 +34,12 @@ pub bool_cases : (b : Bool) → (b ≡ true) ⊎ (b ≡ false)
 bool_cases true = inl refl
 bool_cases false = inr refl
 
--- what an outcome leaves, and what was read, where something was
-abbrev pub left : {A : Type 0} → Outcome A → List Tok
+-- what a reading leaves, and what was read, where something was
+abbrev pub left : {A : Type 0} → Reading A → List Tok
 left (Ok p) = p.1
 left (Err e) = []
 
-abbrev pub read_or : {A : Type 0} → A → Outcome A → A
+abbrev pub read_or : {A : Type 0} → A → Reading A → A
 read_or a (Ok p) = p.0
 read_or a (Err e) = a
 
@@ -57,26 +58,18 @@ pub Named-mark : (i : List Tok) → mark i ≡ Some m.Name → Named (text i) i 
 Named-mark [] e = cc
 Named-mark (t ∷ r) e = named (cc)
 
-pub after_true : (k : Mark) (i : List Tok) → sees k i ≡ true → after k i ≡ rest i
-unfolding after
-after_true k i e = ap (λ b. if b then rest i else i) e
-
-pub after_false : (k : Mark) (i : List Tok) → sees k i ≡ false → after k i ≡ i
-unfolding after
-after_false k i e = ap (λ b. if b then rest i else i) e
-
 -- a token of this mark was passed, or there is none
-pub eat_ok : {B : Type 0} (k : Mark) (p q : Reader B) (i : List Tok) (y : B × List Tok) → (if sees k i then p else q) (after k i) ≡ Ok y
+pub behind_ok : {B : Type 0} (k : Mark) (p q : Reader B) (i : List Tok) (y : B × List Tok) → behind k p q i ≡ Ok y
     → ((r : List Tok) × At k i r × (p r ≡ Ok y)) ⊎ ((sees k i ≡ false) × (q i ≡ Ok y))
-eat_ok k p q i y e = elim (chosen (sees k i) p q (after k i) y e) [
-  | inl h ↦ inl (rest i, At-sees k i h.0, sym (ap p (after_true k i h.0)) ∙ h.1)
-  | inr h ↦ inr (h.0, sym (ap q (after_false k i h.0)) ∙ h.1)
+behind_ok k p q i y e = elim (chosen (sees k i) p q (rest_if (sees k i) i) y e) [
+  | inl h ↦ inl (rest i, At-sees k i h.0, sym (ap (λ b. p (rest_if b i)) h.0) ∙ h.1)
+  | inr h ↦ inr (h.0, sym (ap (λ b. q (rest_if b i)) h.0) ∙ h.1)
 ]
 
 pub expect_ok : (k : Mark) (i : List Tok) (y : Unit {0} × List Tok) → expect k i ≡ Ok y → At k i y.1
 unfolding expect
 expect_ok k i y e = elim (chosen_value (sees k i) (Ok (tt, rest i)) (refuse i) (Ok y) e) [
-  | inl h ↦ (let passed : rest i ≡ y.1 = ap (λ (o : Outcome (Unit {0})). left o) h.1 in subst (At k i) passed (At-sees k i h.0))
+  | inl h ↦ (let passed : rest i ≡ y.1 = ap (λ (o : Reading (Unit {0})). left o) h.1 in subst (At k i) passed (At-sees k i h.0))
   | inr h ↦ cc
 ]
 
@@ -125,7 +118,7 @@ pub opens_ok : (may_open : ℕ → Bool) (room : Room) (fits : (t : List Tok) �
     → At k i (rest i) → place.opens may_open i ≡ Ok y → Opens k room i y.1
 unfolding place.opens
 opens_ok may_open room fits k i y there e = elim (chosen_value (may_open (length i)) (Ok (tt, rest i)) (Err (Deep (length i))) (Ok y) e) [
-  | inl h ↦ (let passed : rest i ≡ y.1 = ap (λ (o : Outcome (Unit {0})). left o) h.1 in subst (Opens k room i) passed (opens (fits i h.0) there))
+  | inl h ↦ (let passed : rest i ≡ y.1 = ap (λ (o : Reading (Unit {0})). left o) h.1 in subst (Opens k room i) passed (opens (fits i h.0) there))
   | inr h ↦ cc
 ]
 
@@ -157,13 +150,11 @@ pub sees-At : {k : Mark} {i r : List Tok} → At k i r → sees k i ≡ true
 unfolding sees
 sees-At {k} (at {t} {r} e) = true_same the_type t.mark k e
 
-pub eat_is : {B : Type 0} {k : Mark} {i r : List Tok} (p q : Reader B) → At k i r → (if sees k i then p else q) (after k i) ≡ p r
-eat_is {k = k} {i = i} {r = r} p q h =
-    let seen = sees-At h in
-    ap (λ b. (if b then p else q) (after k i)) seen ∙ ap p (after_true k i seen ∙ rest-At h)
+pub behind_is : {B : Type 0} {k : Mark} {i r : List Tok} (p q : Reader B) → At k i r → behind k p q i ≡ p r
+behind_is {k = k} {i = i} {r = r} p q h = ap (λ b. (if b then p else q) (rest_if b i)) (sees-At h) ∙ ap p (rest-At h)
 
-pub eat_not : {B : Type 0} (k : Mark) {i : List Tok} (p q : Reader B) → sees k i ≡ false → (if sees k i then p else q) (after k i) ≡ q i
-eat_not k {i} p q h = ap (λ b. (if b then p else q) (after k i)) h ∙ ap q (after_false k i h)
+pub behind_not : {B : Type 0} (k : Mark) {i : List Tok} (p q : Reader B) → sees k i ≡ false → behind k p q i ≡ q i
+behind_not k {i} p q h = ap (λ b. (if b then p else q) (rest_if b i)) h
 
 pub expect_is : {k : Mark} {i r : List Tok} → At k i r → expect k i ≡ Ok (tt, r)
 unfolding expect
@@ -223,9 +214,9 @@ shorter-Number (number e is) = omega arith
 pub shorter-Quoted : {b : List ℕ} {i r : List Tok} → Quoted b i r → length r < length i
 shorter-Quoted (quoted e is) = omega arith
 
-pub taken_is : {A : Type 0} {b : List ℕ} {i r : List Tok} (f : List ℕ → Reader A) → Named b i r → (take_token >>= f) i ≡ f b r
-taken_is f (named e) = refl
+pub taking_is : {A : Type 0} {b : List ℕ} {i r : List Tok} (f : List ℕ → Reader A) → Named b i r → taking f i ≡ f b r
+taking_is f (named e) = refl
 
 -- a token of this mark that is passed
-pub passed_is : {A : Type 0} {k : Mark} {i r : List Tok} (p : Reader A) → At k i r → (take_token >> p) i ≡ p r
-passed_is p (at e) = refl
+pub past_is : {A : Type 0} {k : Mark} {i r : List Tok} (p : Reader A) → At k i r → past p i ≡ p r
+past_is p (at e) = refl

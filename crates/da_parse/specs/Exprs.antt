@@ -1,5 +1,5 @@
 -- How expressions and patterns are read, rule by rule.
-use Rattle.std.specs.Prelude.{ℕ, zero, suc, ◌-◌, pos, neg_ℤ, Bool, true, false, if◌then◌else◌, List, [], ◌∷◌, Option, Some, None}
+use Rattle.std.specs.Prelude.{ℕ, zero, suc, ◌-◌, pos, neg_ℤ, Bool, true, false, List, [], ◌∷◌, Option, Some, None}
 use Rattle.da_values.specs.declared.token.Mark.{Mark}
 use Rattle.da_values.specs.declared.token.Mark.TheVariants as m
 use Rattle.da_lang.specs.declared.tree.ArithOp.{ArithOp}
@@ -19,7 +19,7 @@ use Rattle.da_lang.specs.declared.tree.SourceTree.TheVariants as source_tree
 use Rattle.da_lang.specs.ExprGrammar.{negated}
 use Rattle.da_parse.specs.declared.place.Level.{Level}
 use Rattle.da_parse.specs.declared.place.Level.TheVariants as level
-use Rattle.da_parse.specs.Reader.{Reader, ◌>>=◌, ◌>>◌, pure, refuse, peek, next_is, take_token, eat, expect, number, quoted}
+use Rattle.da_parse.specs.Reader.{Reader, ◌>>=◌, ◌>>◌, pure, refuse, past, taking, by_mark, if_next, behind, expect, number, quoted}
 use Rattle.da_parse.specs.Lists.{separated, closed, others}
 use Rattle.da_parse.specs.Place.{Limit, Place, at_most_32, opens, opening}
 
@@ -58,32 +58,30 @@ chained x (p ∷ ps) = ex.Chain x (p ∷ ps)
 unfoldable pub joined : Mark → (List Expr → Expr) → Reader Expr → Reader Expr
 joined k join operand = do
   x ← operand
-  more ← eat k
-  if more then (do xs ← separated k operand (x ∷ []); pure (join xs)) else pure x
+  behind k (do xs ← separated k operand (x ∷ []); pure (join xs)) (pure x)
 
 abbrev pub source_by : Option Mark → Reader SourceTree
-source_by (Some m.Received) = take_token >> pure source_tree.Received
-source_by (Some m.Sent) = take_token >> pure source_tree.Sent
-source_by (Some m.Name) = take_token >>= λ b. pure (source_tree.Name b)
+source_by (Some m.Received) = past (pure source_tree.Received)
+source_by (Some m.Sent) = past (pure source_tree.Sent)
+source_by (Some m.Name) = taking (λ b. pure (source_tree.Name b))
 source_by _ = refuse
 
 -- `in` and what a generator goes through
 unfoldable pub source : Reader SourceTree
 source = do
   expect m.In
-  k ← peek
-  source_by k
+  by_mark source_by
 
 abbrev pub made : PatternTree → Option PeerTree → SourceTree → GenTree
 made message other from = roll-GenTree (record { message = message; peer = other; source = from })
 
 -- `_`, a negative integer, a truth value or `self`, in a pattern
 abbrev pub constant : Mark → Reader PatternTree
-constant m.Wild = take_token >> pure pat.Wild
-constant m.Minus = take_token >> (number >>= λ n. pure (pat.Int (neg_ℤ (pos n))))
-constant m.True = take_token >> pure (pat.Truth true)
-constant m.False = take_token >> pure (pat.Truth false)
-constant m.SelfWord = take_token >> pure pat.Me
+constant m.Wild = past (pure pat.Wild)
+constant m.Minus = past (number >>= λ n. pure (pat.Int (neg_ℤ (pos n))))
+constant m.True = past (pure (pat.Truth true))
+constant m.False = past (pure (pat.Truth false))
+constant m.SelfWord = past (pure pat.Me)
 constant _ = refuse
 
 module _ (p : Place) where
@@ -97,20 +95,14 @@ module _ (p : Place) where
   unfoldable pub generator : Reader GenTree
   generator = do
     message ← p.pattern
-    is_from ← eat m.From
-    if is_from then generator_with message peer_tree.From else (do
-      is_to ← eat m.To
-      if is_to then generator_with message peer_tree.To else (source >>= λ from. pure (made message None from)))
+    behind m.From (generator_with message peer_tree.From)
+        (behind m.To (generator_with message peer_tree.To) (source >>= λ from. pure (made message None from)))
 
   unfoldable pub generators : Reader (List GenTree)
   generators = separated m.Comma generator []
 
   unfoldable pub condition : Reader (Option Expr)
-  condition = do
-    bar ← eat m.Bar
-    if bar then (p.expr level.Expr >>= λ x. pure (Some x)) else (do
-      has ← eat m.Has
-      if has then (p.expr level.Expr >>= λ x. pure (Some x)) else pure None)
+  condition = behind m.Bar (p.expr level.Expr >>= λ x. pure (Some x)) (behind m.Has (p.expr level.Expr >>= λ x. pure (Some x)) (pure None))
 
   -- `()`
   unfoldable pub no_argument : Reader (Unit {0})
@@ -152,11 +144,10 @@ module _ (p : Place) where
     pure x
   grouped_by None = do
     x ← p.expr level.Disj
-    is_tuple ← eat m.Comma
-    if is_tuple then (do xs ← closed m.CloseParen (p.expr level.Disj) (x ∷ []); pure (ex.Tuple xs)) else (do expect m.CloseParen; pure x)
+    behind m.Comma (do xs ← closed m.CloseParen (p.expr level.Disj) (x ∷ []); pure (ex.Tuple xs)) (do expect m.CloseParen; pure x)
 
   unfoldable pub grouped : Reader Expr
-  grouped = peek >>= λ k. grouped_by (quantifier k)
+  grouped = by_mark (λ k. grouped_by (quantifier k))
 
   -- behind `{ term :`
   unfoldable pub comprehension : Expr → Reader Expr
@@ -168,49 +159,41 @@ module _ (p : Place) where
 
   -- behind `{`
   unfoldable pub braced : Reader Expr
-  braced = do
-    is_empty ← eat m.CloseBrace
-    if is_empty then pure (ex.SetOf []) else (do
-      x ← p.expr level.Disj
-      is_comprehension ← eat m.Colon
-      if is_comprehension then comprehension x else (do
-        goes_on ← eat m.Comma
-        if goes_on then (do xs ← separated m.Comma (p.expr level.Disj) (x ∷ []); expect m.CloseBrace; pure (ex.SetOf xs)) else (do expect m.CloseBrace; pure (ex.SetOf (x ∷ [])))))
+  braced =
+      behind m.CloseBrace (pure (ex.SetOf [])) (p.expr level.Disj >>= λ x.
+      behind m.Colon (comprehension x) (
+      behind m.Comma (do xs ← separated m.Comma (p.expr level.Disj) (x ∷ []); expect m.CloseBrace; pure (ex.SetOf xs)) (do expect m.CloseBrace; pure (ex.SetOf (x ∷ [])))))
 
   abbrev pub word : Mark → Reader Expr
-  word m.True = take_token >> pure (ex.Truth true)
-  word m.False = take_token >> pure (ex.Truth false)
-  word m.SelfWord = take_token >> pure ex.Me
-  word m.LogicalTime = take_token >> (no_argument >> pure ex.Clock)
-  word m.Range = take_token >> two_arguments ex.Range
-  word m.Count = take_token >> (one_argument >>= λ x. pure (ex.Count x))
-  word m.Sum = take_token >> (one_argument >>= λ x. pure (ex.Sum x))
-  word m.Min = take_token >> two_arguments ex.Min
-  word m.Max = take_token >> two_arguments ex.Max
+  word m.True = past (pure (ex.Truth true))
+  word m.False = past (pure (ex.Truth false))
+  word m.SelfWord = past (pure ex.Me)
+  word m.LogicalTime = past (no_argument >> pure ex.Clock)
+  word m.Range = past (two_arguments ex.Range)
+  word m.Count = past (one_argument >>= λ x. pure (ex.Count x))
+  word m.Sum = past (one_argument >>= λ x. pure (ex.Sum x))
+  word m.Min = past (two_arguments ex.Min)
+  word m.Max = past (two_arguments ex.Max)
   word _ = refuse
 
   abbrev pub atom_by : Option Mark → Reader Expr
   atom_by (Some m.Number) = number >>= λ n. pure (ex.Int (pos n))
   atom_by (Some m.Quoted) = quoted >>= λ b. pure (ex.Text b)
-  atom_by (Some m.Name) = take_token >>= λ b. pure (ex.Name b)
+  atom_by (Some m.Name) = taking (λ b. pure (ex.Name b))
   atom_by (Some m.OpenParen) = opens p.may_open >> grouped
   atom_by (Some m.OpenBrace) = opens p.may_open >> braced
   atom_by (Some k) = word k
   atom_by None = refuse
 
   unfoldable pub atom : Reader Expr
-  atom = peek >>= atom_by
+  atom = by_mark atom_by
 
   -- behind a `-` of an expression
   unfoldable pub behind_minus : Reader Expr
-  behind_minus = do
-    is_literal ← next_is m.Number
-    if is_literal then (number >>= λ n. pure (ex.Int (neg_ℤ (pos n)))) else (p.expr level.Unary >>= λ x. pure (negated x))
+  behind_minus = if_next m.Number (number >>= λ n. pure (ex.Int (neg_ℤ (pos n)))) (p.expr level.Unary >>= λ x. pure (negated x))
 
   unfoldable pub unary : Reader Expr
-  unary = do
-    has_sign ← next_is m.Minus
-    if has_sign then opens p.may_open >> behind_minus else atom
+  unary = if_next m.Minus (opens p.may_open >> behind_minus) atom
 
   unfoldable pub product : Reader Expr
   product = do
@@ -225,19 +208,16 @@ module _ (p : Place) where
     pure (chained x ps)
 
   abbrev pub compared_by : Expr → Option CmpOp → Reader Expr
-  compared_by x (Some op) = take_token >> (sum >>= λ y. pure (ex.Cmp op x y))
+  compared_by x (Some op) = past (sum >>= λ y. pure (ex.Cmp op x y))
   compared_by x None = pure x
 
   unfoldable pub comparison : Reader Expr
   comparison = do
     x ← sum
-    is_member ← eat m.In
-    if is_member then (sum >>= λ y. pure (ex.Member x y)) else (peek >>= λ k. compared_by x (cmp_op_at k))
+    behind m.In (sum >>= λ y. pure (ex.Member x y)) (by_mark (λ k. compared_by x (cmp_op_at k)))
 
   unfoldable pub negation : Reader Expr
-  negation = do
-    has_not ← next_is m.Not
-    if has_not then opens p.may_open >> (p.expr level.Neg >>= λ x. pure (ex.Not x)) else comparison
+  negation = if_next m.Not (opens p.may_open >> (p.expr level.Neg >>= λ x. pure (ex.Not x))) comparison
 
   unfoldable pub conjunction : Reader Expr
   conjunction = joined m.And ex.And negation
@@ -257,7 +237,7 @@ module _ (p : Place) where
   expression_by None = disjunction
 
   unfoldable pub expression : Reader Expr
-  expression = peek >>= λ k. expression_by (quantifier k)
+  expression = by_mark (λ k. expression_by (quantifier k))
 
   abbrev pub at_level : Level → Reader Expr
   at_level level.Expr = expression
@@ -274,16 +254,16 @@ module _ (p : Place) where
     pure (pat.Tuple xs)
 
   abbrev pub pattern_by : Option Mark → Reader PatternTree
-  pattern_by (Some m.Name) = take_token >>= λ b. pure (pat.Name b)
+  pattern_by (Some m.Name) = taking (λ b. pure (pat.Name b))
   pattern_by (Some m.Number) = number >>= λ n. pure (pat.Int (pos n))
   pattern_by (Some m.Quoted) = quoted >>= λ b. pure (pat.Text b)
   pattern_by (Some m.OpenParen) = opens p.may_open >> tuple_pattern
-  pattern_by (Some m.Assign) = take_token >> (unary >>= λ x. pure (pat.Equal x))
+  pattern_by (Some m.Assign) = past (unary >>= λ x. pure (pat.Equal x))
   pattern_by (Some k) = constant k
   pattern_by None = refuse
 
   unfoldable pub pattern : Reader PatternTree
-  pattern = peek >>= pattern_by
+  pattern = by_mark pattern_by
 
 -- the place where d things are open; the first number bounds how many more there are
 unfoldable pub place : Limit → ℕ → ℕ → Place

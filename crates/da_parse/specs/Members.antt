@@ -1,5 +1,5 @@
 -- How the members of a class are read.
-use Rattle.std.specs.Prelude.{ℕ, suc, if◌then◌else◌, List, [], Option, Some, None}
+use Rattle.std.specs.Prelude.{ℕ, suc, List, [], Option, Some, None}
 use Rattle.da_values.specs.declared.token.Mark.{Mark}
 use Rattle.da_values.specs.declared.token.Mark.TheVariants as m
 use Rattle.da_lang.specs.declared.tree.Member.{Member}
@@ -8,40 +8,40 @@ use Rattle.da_lang.specs.declared.tree.Param.{Param}
 use Rattle.da_lang.specs.declared.tree.PatternTree.{PatternTree}
 use Rattle.da_lang.specs.declared.tree.Stmt.{Stmt}
 use Rattle.da_lang.specs.declared.ty.Ty.{Ty}
-use Rattle.da_parse.specs.Reader.{Reader, ◌>>=◌, ◌>>◌, pure, refuse, peek, here, take_token, eat, expect, word}
+use Rattle.da_parse.specs.Reader.{Reader, ◌>>=◌, ◌>>◌, pure, refuse, past, taking, by_mark, at_line, behind, expect, word}
 use Rattle.da_parse.specs.Lists.{separated, closed, ended}
 use Rattle.da_parse.specs.Place.{Limit, Place, opening}
 use Rattle.da_parse.specs.Exprs.{place, at_depth, pattern}
 use Rattle.da_parse.specs.Stmts.{bodies, block_behind_colon, block_at}
 use Rattle.da_parse.specs.Types.{types, type_in, type_at, type_below}
 
--- what members are made of: a type, a type in parentheses, and a block behind its colon
+-- what members are made of: a type, a parameter in parentheses, and a block behind its colon
 pub record Parts : Type 0 where
   pub place : Place
   pub ty : Reader Ty
-  pub inner_ty : Reader Ty
+  pub param : Reader Param
   pub block : Reader (List Stmt)
 
--- where d things are open, by a rule of how many may be; the first number bounds how many more there are
-abbrev pub parts_in : Limit → ℕ → ℕ → Parts
-parts_in limit f d = record { place = place limit f d; ty = type_in (limit d) (types limit f (suc d)); inner_ty = types limit f (suc d); block = block_behind_colon (place limit f d) (bodies limit f (suc d)) }
+-- a parameter with its type
+unfoldable pub typed_param : Reader Ty → Reader Param
+typed_param inner_ty = do
+  n ← word m.Name
+  expect m.Colon
+  x ← inner_ty
+  pure (record { name = n; ty = x })
+
+-- where d things are open, by a rule of how many may be and one of parameters; the first number bounds how many more there are
+abbrev pub parts_in : Limit → Reader Param → ℕ → ℕ → Parts
+parts_in limit param f d = record { place = place limit f d; ty = type_in (limit d) (types limit f (suc d)); param = param; block = block_behind_colon (place limit f d) (bodies limit f (suc d)) }
 
 -- where d things are open, of which there are at most 32
 abbrev pub parts_at : ℕ → Parts
-parts_at d = record { place = at_depth d; ty = type_at d; inner_ty = type_below d; block = block_at d }
+parts_at d = record { place = at_depth d; ty = type_at d; param = typed_param (type_below d); block = block_at d }
 
 module _ (s : Parts) where
-  -- a parameter, in parentheses
-  unfoldable pub param : Reader Param
-  param = do
-    n ← word m.Name
-    expect m.Colon
-    x ← s.inner_ty
-    pure (record { name = n; ty = x })
-
   -- behind `(`
   unfoldable pub params : Reader (List Param)
-  params = closed m.CloseParen param []
+  params = closed m.CloseParen s.param []
 
   unfoldable pub variable : ℕ → Reader Member
   variable at = do
@@ -74,25 +74,21 @@ module _ (s : Parts) where
 
   -- behind `def`
   abbrev pub definition_by : ℕ → Option Mark → Reader Member
-  definition_by at (Some m.Setup) = take_token >> setup at
-  definition_by at (Some m.Run) = take_token >> run at
-  definition_by at (Some m.Name) = take_token >>= λ n. method n at
+  definition_by at (Some m.Setup) = past (setup at)
+  definition_by at (Some m.Run) = past (run at)
+  definition_by at (Some m.Name) = taking (λ n. method n at)
   definition_by at _ = refuse
 
   unfoldable pub definition : ℕ → Reader Member
-  definition at = peek >>= definition_by at
+  definition at = by_mark (definition_by at)
 
   -- behind the pattern of the message
   unfoldable pub sender : Reader (Option PatternTree)
-  sender = do
-    found ← eat m.From
-    if found then (pattern s.place >>= λ x. pure (Some x)) else pure None
+  sender = behind m.From (pattern s.place >>= λ x. pure (Some x)) (pure None)
 
 -- behind the pattern of the sender
 unfoldable pub labels : Reader (List (List ℕ))
-labels = do
-  found ← eat m.At
-  if found then separated m.Comma (word m.Name) [] else pure []
+labels = behind m.At (separated m.Comma (word m.Name) []) (pure [])
 
 module _ (s : Parts) where
   unfoldable pub handler : ℕ → Reader Member
@@ -104,16 +100,13 @@ module _ (s : Parts) where
     pure (member_tree.Receive p o ns b at)
 
   abbrev pub member_by : ℕ → Option Mark → Reader Member
-  member_by at (Some m.Var) = take_token >> variable s at
-  member_by at (Some m.Def) = take_token >> definition s at
-  member_by at (Some m.Receive) = take_token >> handler at
+  member_by at (Some m.Var) = past (variable s at)
+  member_by at (Some m.Def) = past (definition s at)
+  member_by at (Some m.Receive) = past (handler at)
   member_by at _ = refuse
 
   unfoldable pub member : Reader Member
-  member = do
-    at ← here
-    k ← peek
-    member_by at k
+  member = at_line (λ at. by_mark (member_by at))
 
   unfoldable pub members : Reader (List Member)
   members = ended member

@@ -7,7 +7,7 @@ use Rattle.da_parse.specs.declared.cursor.Stop.{Stop}
 use Rattle.da_parse.specs.declared.cursor.Stop.TheVariants as stop
 use Rattle.da_parse.specs.declared.whole.ParseFault.{ParseFault}
 use Rattle.da_parse.specs.declared.whole.ParseFault.TheVariants as fault
-use Rattle.da_parse.specs.Reader.{Outcome}
+use Rattle.da_parse.specs.Reader.{Reading}
 use Rattle.da_parse.specs.Programs.{outermost, program}
 
 abbrev pub line_or_one : List Tok → ℕ
@@ -23,7 +23,7 @@ fault_of tokens stop.Memory = fault.Memory
 fault_of tokens (stop.Syntax left) = fault.Syntax (line_at tokens left)
 fault_of tokens (stop.Deep left) = fault.Deep (line_at tokens left)
 
-abbrev pub answer : List Tok → Outcome Tree → Result Tree ParseFault
+abbrev pub answer : List Tok → Reading Tree → Result Tree ParseFault
 answer tokens (Ok (tree, rest)) = Ok tree
 answer tokens (Err stop) = Err (fault_of tokens stop)
 

@@ -7,17 +7,18 @@ use Rattle.da_lang.specs.declared.tree.Expr.{Expr}
 use Rattle.da_lang.specs.declared.tree.MainLine.{MainLine}
 use Rattle.da_lang.specs.declared.tree.MainLine.TheVariants as line_tree
 use Rattle.da_lang.specs.declared.tree.MessageDecl.{MessageDecl}
+use Rattle.da_lang.specs.declared.tree.Param.{Param}
 use Rattle.da_lang.specs.declared.tree.Tree.{Tree}
 use Rattle.da_lang.specs.declared.ty.ChannelKind.{ChannelKind}
 use Rattle.da_lang.specs.declared.ty.ChannelKind.TheVariants as kind_of
 use Rattle.da_lang.specs.declared.ty.Ty.{Ty}
 use Rattle.da_parse.specs.declared.place.Level.TheVariants as level
-use Rattle.da_parse.specs.Reader.{Reader, ◌>>=◌, ◌>>◌, pure, refuse, peek, here, take_token, eat, expect, word, number}
+use Rattle.da_parse.specs.Reader.{Reader, ◌>>=◌, ◌>>◌, pure, refuse, past, taking, by_mark, at_line, behind, expect, word, number}
 use Rattle.da_parse.specs.Lists.{begun, closed, ended}
 use Rattle.da_parse.specs.Place.{Limit, Place, opening}
 use Rattle.da_parse.specs.Exprs.{place, at_depth}
 use Rattle.da_parse.specs.Types.{types, type_below}
-use Rattle.da_parse.specs.Members.{Parts, parts_in, parts_at, members}
+use Rattle.da_parse.specs.Members.{Parts, typed_param, parts_in, parts_at, members}
 
 -- what programs are made of: where nothing is open, with a type in parentheses, and where one thing is
 pub record Outer : Type 0 where
@@ -25,18 +26,20 @@ pub record Outer : Type 0 where
   pub inner_ty : Reader Ty
   pub inside : Parts
 
--- by a rule of how many things may be open; the number bounds how many there are
-abbrev pub outer_in : Limit → ℕ → Outer
-outer_in limit f = record { place = place limit f 0; inner_ty = types limit f 1; inside = parts_in limit (f - 1) 1 }
+-- by a rule of how many things may be open and one of parameters; the number bounds how many there are
+abbrev pub outer_in : Limit → Reader Param → ℕ → Outer
+outer_in limit param f = record { place = place limit f 0; inner_ty = types limit f 1; inside = parts_in limit param (f - 1) 1 }
+
+-- where each parameter has its type
+abbrev pub typed_in : Limit → ℕ → Outer
+typed_in limit f = outer_in limit (typed_param (types limit (f - 1) 2)) f
 
 -- at most 32 things are open
 abbrev pub outermost : Outer
 outermost = record { place = at_depth 0; inner_ty = type_below 0; inside = parts_at 1 }
 
 unfoldable pub count : Reader (Option ℕ)
-count = do
-  found ← eat m.Comma
-  if found then (number >>= λ n. pure (Some n)) else pure None
+count = behind m.Comma (number >>= λ n. pure (Some n)) (pure None)
 
 abbrev pub kind_from : Bool → Bool → ChannelKind
 kind_from true true = kind_of.FifoReliable
@@ -46,18 +49,14 @@ kind_from false false = kind_of.UnorderedUnreliable
 
 -- a word, or the other word
 unfoldable pub one_of : Mark → Mark → Reader Bool
-one_of k other = do
-  found ← eat k
-  if found then pure true else (do expect other; pure false)
+one_of k other = behind k (pure true) (do expect other; pure false)
 
 unfoldable pub kind : Reader ChannelKind
-kind = do
-  found ← eat m.Channel
-  if found then (do
-    fifo ← one_of m.Fifo m.Unordered
-    reliable ← one_of m.Reliable m.Unreliable
-    expect m.Newline
-    pure (kind_from fifo reliable)) else pure kind_of.UnorderedUnreliable
+kind = behind m.Channel (do
+  fifo ← one_of m.Fifo m.Unordered
+  reliable ← one_of m.Reliable m.Unreliable
+  expect m.Newline
+  pure (kind_from fifo reliable)) (pure kind_of.UnorderedUnreliable)
 
 abbrev pub finish : Reader (Unit {0})
 finish = λ i. if length i == 0 then Ok (tt, i) else refuse i
@@ -103,7 +102,7 @@ module _ (o : Outer) where
 
   -- an argument with the comma before it
   abbrev pub argument : Reader Expr
-  argument = take_token >> o.inside.place.expr level.Disj
+  argument = past (o.inside.place.expr level.Disj)
 
   -- behind `setup`
   unfoldable pub setup_line : ℕ → Reader MainLine
@@ -116,15 +115,12 @@ module _ (o : Outer) where
     pure (line_tree.Setup n xs at)
 
   abbrev pub line_by : ℕ → Option Mark → Reader MainLine
-  line_by at (Some m.Name) = take_token >>= λ n. new_line n at
-  line_by at (Some m.Setup) = take_token >> setup_line at
+  line_by at (Some m.Name) = taking (λ n. new_line n at)
+  line_by at (Some m.Setup) = past (setup_line at)
   line_by at _ = refuse
 
   unfoldable pub main_line : Reader MainLine
-  main_line = do
-    at ← here
-    k ← peek
-    line_by at k
+  main_line = at_line (λ at. by_mark (line_by at))
 
   unfoldable pub main : Reader (List MainLine)
   main = do
@@ -144,14 +140,14 @@ module _ (o : Outer) where
 
 module _ (o : Outer) (k : ChannelKind) where
   abbrev pub decls_by : (List MessageDecl → List ClassTree → Reader Tree) → List MessageDecl → List ClassTree → Option Mark → Reader Tree
-  decls_by go_on xs cs (Some m.Message) = here >>= λ at. take_token >> (message o at >>= λ x. go_on (xs ++ x ∷ []) cs)
-  decls_by go_on xs cs (Some m.Class) = here >>= λ at. take_token >> (class o at >>= λ c. go_on xs (cs ++ c ∷ []))
-  decls_by go_on xs cs _ = program_end o k xs cs
+  decls_by next xs cs (Some m.Message) = at_line (λ at. past (message o at >>= λ x. next (xs ++ x ∷ []) cs))
+  decls_by next xs cs (Some m.Class) = at_line (λ at. past (class o at >>= λ c. next xs (cs ++ c ∷ [])))
+  decls_by next xs cs _ = program_end o k xs cs
 
   -- messages and classes behind those found, and the rest of the program
   unfoldable pub decls_from : ℕ → List MessageDecl → List ClassTree → Reader Tree
   decls_from zero xs cs = program_end o k xs cs
-  decls_from (suc n) xs cs = peek >>= decls_by (decls_from n) xs cs
+  decls_from (suc n) xs cs = by_mark (decls_by (decls_from n) xs cs)
 
 module _ (o : Outer) where
   unfoldable pub decls : ChannelKind → Reader Tree

@@ -1,6 +1,5 @@
--- The steps that the reader of each rule is made of. A reader gives what it read and the tokens behind it, or where it
--- stopped.
-use Rattle.std.specs.Prelude.{◌≡◌, ◌≢◌, ℕ, Bool, false, List, [], ◌∷◌, length, Option, Some, None, Result, Ok, Err, if◌then◌else◌}
+-- How rules read tokens: what a rule looks at, what it asks for, and how it goes on.
+use Rattle.std.specs.Prelude.{◌≡◌, ◌≢◌, ℕ, Bool, true, false, List, [], ◌∷◌, length, Option, Some, None, Result, Ok, Err, if◌then◌else◌}
 use denote.Enum.Bare.{sameb}
 use Rattle.da_values.specs.contracts.token.Mark.{the_type}
 use Rattle.da_values.specs.declared.token.Mark.{Mark}
@@ -11,11 +10,9 @@ use Rattle.da_lang.specs.Literals.{text_of}
 use Rattle.da_parse.specs.declared.cursor.Stop.{Stop}
 use Rattle.da_parse.specs.declared.cursor.Stop.TheVariants.{Memory, Syntax}
 
--- `==` on marks
-abbrev pub same : Mark → Mark → Bool
-same = sameb the_type
+-- ---- the tokens that are left
 
--- of the next token
+-- the mark, the bytes and the line of the next one
 abbrev pub mark : List Tok → Option Mark
 mark [] = None
 mark (t ∷ ts) = Some t.mark
@@ -28,9 +25,14 @@ abbrev pub line : List Tok → ℕ
 line [] = 0
 line (t ∷ ts) = t.line
 
+-- those behind it
 abbrev pub rest : List Tok → List Tok
 rest [] = []
 rest (t ∷ ts) = ts
+
+-- `==` on marks
+abbrev pub same : Mark → Mark → Bool
+same = sameb the_type
 
 abbrev pub is_mark : Mark → Option Mark → Bool
 is_mark k None = false
@@ -38,64 +40,66 @@ is_mark k (Some other) = same other k
 
 -- the next token has this mark
 unfoldable pub sees : Mark → List Tok → Bool
-sees k ts = is_mark k (mark ts)
+sees k i = is_mark k (mark i)
 
--- what is left where a token with this mark is passed if it is next
-unfoldable pub after : Mark → List Tok → List Tok
-after k ts = if sees k ts then rest ts else ts
+-- those that are left where the next one is passed, and where it is not
+abbrev pub rest_if : Bool → List Tok → List Tok
+rest_if true i = rest i
+rest_if false i = i
 
-abbrev pub Outcome : Type 0 → Type 0
-Outcome A = Result (A × List Tok) Stop
+-- ---- what a rule makes of them
+
+-- a value with the tokens that are left behind it, or where the rule stopped
+abbrev pub Reading : Type 0 → Type 0
+Reading A = Result (A × List Tok) Stop
 
 abbrev pub Reader : Type 0 → Type 0
-Reader A = List Tok → Outcome A
+Reader A = List Tok → Reading A
 
-abbrev pub and_then : {A B : Type 0} → Outcome A → (A → Reader B) → Outcome B
-and_then (Ok p) f = f p.0 p.1
-and_then (Err e) f = Err e
-
-infixl 10 ◌>>=◌
-abbrev pub ◌>>=◌ : {A B : Type 0} → Reader A → (A → Reader B) → Reader B
-p >>= f = λ i. and_then (p i) f
-
-infixl 10 ◌>>◌
-abbrev pub ◌>>◌ : {A B : Type 0} → Reader A → Reader B → Reader B
-p >> q = p >>= (λ _. q)
-
+-- nothing is passed
 abbrev pub pure : {A : Type 0} → A → Reader A
 pure a = λ i. Ok (a, i)
 
+-- the rule stops at the next token
 abbrev pub refusal : List Tok → Stop
 refusal i = Syntax (length i)
 
--- stops at the next token
 abbrev pub refuse : {A : Type 0} → Reader A
 refuse = λ i. Err (refusal i)
 
-abbrev pub peek : Reader (Option Mark)
-peek = λ i. Ok (mark i, i)
+-- ---- a rule that begins with the next token
 
--- whether the next token has this mark
-abbrev pub next_is : Mark → Reader Bool
-next_is k = λ i. Ok (sees k i, i)
+-- whatever it is it is passed, and its bytes are not needed
+abbrev pub past : {A : Type 0} → Reader A → Reader A
+past p = λ i. p (rest i)
 
--- the line of the next token
-abbrev pub here : Reader ℕ
-here = λ i. Ok (line i, i)
+-- the same with its bytes
+abbrev pub taking : {A : Type 0} → (List ℕ → Reader A) → Reader A
+taking f = λ i. f (text i) (rest i)
 
--- the bytes of the next token, which is passed
-abbrev pub take_token : Reader (List ℕ)
-take_token = λ i. Ok (text i, rest i)
+-- a rule for each mark
+abbrev pub by_mark : {A : Type 0} → (Option Mark → Reader A) → Reader A
+by_mark f = λ i. f (mark i) i
 
--- whether the next token has this mark; it is passed where it has
-abbrev pub eat : Mark → Reader Bool
-eat k = λ i. Ok (sees k i, after k i)
+-- a rule that keeps the line
+abbrev pub at_line : {A : Type 0} → (ℕ → Reader A) → Reader A
+at_line f = λ i. f (line i) i
+
+-- one rule where the token has this mark, and one where it has not
+abbrev pub if_next : {A : Type 0} → Mark → Reader A → Reader A → Reader A
+if_next k p q = λ i. (if sees k i then p else q) i
+
+-- the same, where the token with this mark is passed: a part that may be missing
+abbrev pub behind : {A : Type 0} → Mark → Reader A → Reader A → Reader A
+behind k p q = λ i. (if sees k i then p else q) (rest_if (sees k i) i)
+
+-- ---- tokens that must stand there
 
 -- a token with this mark
 unfoldable pub expect : Mark → Reader (Unit {0})
 expect k = λ i. if sees k i then Ok (tt, rest i) else refuse i
 
--- the bytes of a token with this mark
+-- the same with its bytes
 unfoldable pub word : Mark → Reader (List ℕ)
 word k = λ i. if sees k i then Ok (text i, rest i) else refuse i
 
@@ -112,7 +116,22 @@ number = λ i. if sees m.Number i then stands_for (number_of (text i)) i else re
 unfoldable pub quoted : Reader (List ℕ)
 quoted = λ i. if sees m.Quoted i then stands_for (text_of (text i)) i else refuse i
 
--- what a function that reads ensures: the reader's outcome, unless memory is refused
-abbrev pub Reads : {A : Type 0} → Outcome A → Result A Stop → List Tok → Type 0
-Reads outcome (Ok a) new = outcome ≡ Ok (a, new)
-Reads outcome (Err e) new = e ≢ Memory → outcome ≡ Err e
+-- ---- rules one behind the other
+
+-- goes on where the first part ended, if it did not stop
+abbrev pub continued : {A B : Type 0} → (A → Reader B) → Reading A → Reading B
+continued next (Ok read) = next read.0 read.1
+continued next (Err stop) = Err stop
+
+infixl 10 ◌>>=◌
+abbrev pub ◌>>=◌ : {A B : Type 0} → Reader A → (A → Reader B) → Reader B
+first >>= next = λ i. continued next (first i)
+
+infixl 10 ◌>>◌
+abbrev pub ◌>>◌ : {A B : Type 0} → Reader A → Reader B → Reader B
+first >> second = first >>= (λ _. second)
+
+-- ---- what a function that reads ensures: it reads as the rule does, unless memory is refused
+abbrev pub Reads : {A : Type 0} → Reading A → Result A Stop → List Tok → Type 0
+Reads reading (Ok a) new = reading ≡ Ok (a, new)
+Reads reading (Err e) new = e ≢ Memory → reading ≡ Err e

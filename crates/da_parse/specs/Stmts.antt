@@ -1,5 +1,5 @@
 -- How statements and blocks are read.
-use Rattle.std.specs.Prelude.{ℕ, zero, suc, ◌-◌, if◌then◌else◌, List, [], ◌∷◌, Option, Some, None}
+use Rattle.std.specs.Prelude.{ℕ, zero, suc, ◌-◌, List, [], ◌∷◌, Option, Some, None}
 use Rattle.da_values.specs.declared.token.Mark.{Mark}
 use Rattle.da_values.specs.declared.token.Mark.TheVariants as m
 use Rattle.da_lang.specs.declared.tree.Branch.{Branch, roll-Branch}
@@ -8,7 +8,7 @@ use Rattle.da_lang.specs.declared.tree.Stmt.{Stmt}
 use Rattle.da_lang.specs.declared.tree.Stmt.TheVariants as stmt_tree
 use Rattle.da_lang.specs.declared.tree.TimeoutTree.{TimeoutTree, roll-TimeoutTree}
 use Rattle.da_parse.specs.declared.place.Level.TheVariants as level
-use Rattle.da_parse.specs.Reader.{Reader, ◌>>=◌, ◌>>◌, pure, refuse, peek, here, take_token, eat, expect, word}
+use Rattle.da_parse.specs.Reader.{Reader, ◌>>=◌, ◌>>◌, pure, refuse, past, taking, by_mark, at_line, behind, expect, word}
 use Rattle.da_parse.specs.Lists.{begun, ended, closed}
 use Rattle.da_parse.specs.Place.{Limit, Place, at_most_32, opening}
 use Rattle.da_parse.specs.Exprs.{place, at_depth, expression}
@@ -43,9 +43,7 @@ module _ (p : Place) where
 
   -- behind `NAME.`
   unfoldable pub changed : List ℕ → ℕ → Reader Stmt
-  changed name at = do
-    adds ← eat m.Add
-    if adds then (do x ← in_parens; expect m.Newline; pure (stmt_tree.Add name x at)) else (do expect m.Del; x ← in_parens; expect m.Newline; pure (stmt_tree.Del name x at))
+  changed name at = behind m.Add (do x ← in_parens; expect m.Newline; pure (stmt_tree.Add name x at)) (do expect m.Del; x ← in_parens; expect m.Newline; pure (stmt_tree.Del name x at))
 
   unfoldable pub called : List ℕ → ℕ → Reader Stmt
   called name at = do
@@ -55,11 +53,7 @@ module _ (p : Place) where
 
   -- behind a name
   unfoldable pub named : List ℕ → ℕ → Reader Stmt
-  named name at = do
-    is_assigned ← eat m.Assign
-    if is_assigned then assigned name at else (do
-      is_changed ← eat m.Dot
-      if is_changed then changed name at else called name at)
+  named name at = behind m.Assign (assigned name at) (behind m.Dot (changed name at) (called name at))
 
   unfoldable pub sending : ℕ → Reader Stmt
   sending at = do
@@ -89,11 +83,11 @@ label at = do
 module _ (p : Place) where
   -- a statement without blocks, by its first token
   abbrev pub simple_by : ℕ → Option Mark → Reader Stmt
-  simple_by at (Some m.Name) = take_token >>= λ b. named p b at
-  simple_by at (Some m.Send) = take_token >> sending p at
-  simple_by at (Some m.Output) = take_token >> output p at
-  simple_by at (Some m.Pass) = take_token >> passing at
-  simple_by at (Some m.Dashes) = take_token >> label at
+  simple_by at (Some m.Name) = taking (λ b. named p b at)
+  simple_by at (Some m.Send) = past (sending p at)
+  simple_by at (Some m.Output) = past (output p at)
+  simple_by at (Some m.Pass) = past (passing at)
+  simple_by at (Some m.Dashes) = past (label at)
   simple_by at _ = refuse
 
 -- the reader of the statements in a block, up to its end
@@ -112,23 +106,16 @@ module _ (p : Place) (body : Reader (List Stmt)) where
 
   -- the word of a header, its condition, and its block
   unfoldable pub branch : Reader Branch
-  branch = do
-    at ← here
-    take_token
+  branch = at_line (λ at. past (do
     x ← expression p
     b ← block_behind_colon
-    pure (branch_of x b at)
+    pure (branch_of x b at)))
 
   unfoldable pub otherwise : Reader (Option (List Stmt))
-  otherwise = do
-    found ← eat m.Else
-    if found then (block_behind_colon >>= λ b. pure (Some b)) else pure None
+  otherwise = behind m.Else (block_behind_colon >>= λ b. pure (Some b)) (pure None)
 
   unfoldable pub timeout : Reader (Option TimeoutTree)
-  timeout = do
-    at ← here
-    found ← eat m.Timeout
-    if found then (block_behind_colon >>= λ b. pure (Some (roll-TimeoutTree (record { body = b; line = at })))) else pure None
+  timeout = at_line (λ at. behind m.Timeout (block_behind_colon >>= λ b. pure (Some (roll-TimeoutTree (record { body = b; line = at })))) (pure None))
 
   unfoldable pub conditional : ℕ → Reader Stmt
   conditional at = do
@@ -162,21 +149,17 @@ module _ (p : Place) (body : Reader (List Stmt)) where
   unfoldable pub awaiting : ℕ → Reader Stmt
   awaiting at = do
     x ← expression p
-    is_over ← eat m.Newline
-    if is_over then pure (stmt_tree.AwaitOne x at) else alternatives x at
+    behind m.Newline (pure (stmt_tree.AwaitOne x at)) (alternatives x at)
 
   abbrev pub stmt_by : ℕ → Option Mark → Reader Stmt
   stmt_by at (Some m.If) = conditional at
-  stmt_by at (Some m.While) = take_token >> while_loop at
-  stmt_by at (Some m.For) = take_token >> for_loop at
-  stmt_by at (Some m.Await) = take_token >> awaiting at
+  stmt_by at (Some m.While) = past (while_loop at)
+  stmt_by at (Some m.For) = past (for_loop at)
+  stmt_by at (Some m.Await) = past (awaiting at)
   stmt_by at k = simple_by p at k
 
   unfoldable pub stmt : Reader Stmt
-  stmt = do
-    at ← here
-    k ← peek
-    stmt_by at k
+  stmt = at_line (λ at. by_mark (stmt_by at))
 
   unfoldable pub stmts : Reader (List Stmt)
   stmts = ended stmt

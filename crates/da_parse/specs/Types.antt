@@ -4,7 +4,7 @@ use Rattle.da_values.specs.declared.token.Mark.{Mark}
 use Rattle.da_values.specs.declared.token.Mark.TheVariants as m
 use Rattle.da_lang.specs.declared.ty.Ty.{Ty}
 use Rattle.da_lang.specs.declared.ty.Ty.TheVariants as ty
-use Rattle.da_parse.specs.Reader.{Reader, ◌>>=◌, ◌>>◌, pure, refuse, peek, take_token, expect}
+use Rattle.da_parse.specs.Reader.{Reader, ◌>>=◌, ◌>>◌, pure, refuse, past, by_mark, expect}
 use Rattle.da_parse.specs.Lists.{closed}
 use Rattle.da_parse.specs.Place.{Limit, at_most_32, opens, opening}
 
@@ -26,16 +26,16 @@ module _ (may_open : ℕ → Bool) (inner : Reader Ty) where
     pure (ty.Tuple xs)
 
   abbrev pub type_by : Option Mark → Reader Ty
-  type_by (Some m.Int) = take_token >> pure ty.Int
-  type_by (Some m.Bool) = take_token >> pure ty.Bool
-  type_by (Some m.Str) = take_token >> pure ty.Text
-  type_by (Some m.Proc) = take_token >> pure ty.Proc
-  type_by (Some m.Set) = take_token >> set_type
+  type_by (Some m.Int) = past (pure ty.Int)
+  type_by (Some m.Bool) = past (pure ty.Bool)
+  type_by (Some m.Str) = past (pure ty.Text)
+  type_by (Some m.Proc) = past (pure ty.Proc)
+  type_by (Some m.Set) = past set_type
   type_by (Some m.OpenParen) = opens may_open >> tuple_type
   type_by _ = refuse
 
   unfoldable pub type_in : Reader Ty
-  type_in = peek >>= type_by
+  type_in = by_mark type_by
 
 -- a type where d things are open; the first number bounds how many more there are
 unfoldable pub types : Limit → ℕ → ℕ → Reader Ty

@@ -126,10 +126,9 @@ impl<'a> Cursor<'a> {
     }
 
     /// Passes the next token where it has this mark, and says whether it had.
-    #[tactic(auto, unfolding(crate::specs::Reader::after))]
     pub fn eat(&mut self, mark: Mark) -> bool
         ensures found { result ≡ reader.sees mark self.old }
-        ensures after { self.new ≡ reader.after mark self.old }
+        ensures rest { self.new ≡ reader.rest_if result self.old }
     {
         let found = self.sees(mark);
         if found {

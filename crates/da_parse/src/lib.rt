@@ -12,8 +12,6 @@ mod programs;
 mod queries;
 mod simple;
 mod stmts;
-#[cfg(test)]
-mod tests;
 mod types;
 mod whole;
 

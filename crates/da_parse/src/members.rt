@@ -2,8 +2,9 @@
 ghost use Rattle.std.specs.Prelude.{[], ◌∷◌, ◌≡◌, ◌≤◌, ◌<◌};
 ghost use Rattle.da_parse.specs.Lists.{separated};
 ghost use Rattle.da_parse.specs.Members as spec;
-ghost use Rattle.da_parse.specs.Members.{parts_at};
+ghost use Rattle.da_parse.specs.Members.{parts_at, typed_param};
 ghost use Rattle.da_parse.specs.Reader.{Reads, word};
+ghost use Rattle.da_parse.specs.Types.{type_below};
 
 use crate::cursor::{Cursor, Stop};
 use crate::patterns::pattern_at;
@@ -15,10 +16,10 @@ use da_values::{List, Mark, copy_bytes};
 use std::alloc::Global;
 
 /// A parameter, in parentheses that were opened where `depth` things are open.
-#[tactic(auto, unfolding(crate::specs::Members::param), using(crate::proofs::Depth::type_there))]
+#[tactic(auto, unfolding(crate::specs::Members::typed_param), using(crate::proofs::Depth::type_there))]
 fn param(alloc: Global, tokens: &mut Cursor<'_>, depth: usize) -> Result<Param, Stop>
     requires { depth < 32 }
-    ensures { Reads (spec.param (parts_at depth) tokens.old) result tokens.new }
+    ensures { Reads (typed_param (type_below depth) tokens.old) result tokens.new }
 {
     let name = tokens.word(alloc, Mark::Name)?;
     tokens.expect(Mark::Colon)?;
@@ -30,7 +31,7 @@ fn param(alloc: Global, tokens: &mut Cursor<'_>, depth: usize) -> Result<Param, 
 #[tactic(auto, using(crate::proofs::Loops::separated_loop))]
 fn some_params(alloc: Global, tokens: &mut Cursor<'_>, depth: usize) -> Result<List<Param>, Stop>
     requires { depth < 32 }
-    ensures { Reads (separated Mark.Comma (spec.param (parts_at depth)) [] tokens.old) result tokens.new }
+    ensures { Reads (separated Mark.Comma (typed_param (type_below depth)) [] tokens.old) result tokens.new }
 {
     let mut found = List::new(alloc);
     for _turn in 0..tokens.left() {

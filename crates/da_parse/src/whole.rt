@@ -63,10 +63,10 @@ fn read_tree(alloc: Global, tokens: &Tokens<'_>) -> Result<Tree, ParseFault>
     }
 }
 
-/// The tree that the tokens of a text spell, if they spell one in which no more than 32 things are open at once; there is
-/// one such tree. Otherwise the answer tells the line of the token at which the reader of the grammar stopped, since no
-/// program goes on so or one thing too many is opened there; the end of the text counts as a last token. What is proved
-/// of a fault is that its line is one of the text, and that no tree is spelled within that nesting.
+/// Reads a whole text by the grammar. The tree of an answer is spelled by the tokens with at most 32 things open at a time,
+/// and a tree that is spelled so is the answer, or memory ran out; the same tokens spell no second one. A refusal names the
+/// line at which reading ended, that of a token, or of the last token where the text ends too early. The clauses say that
+/// such a text has no tree within this nesting and that the line is one of the text, but not that it is the first at fault.
 pub fn parse(alloc: Global, tokens: &Tokens<'_>) -> Result<Tree, ParseFault>
     // What is read is spelled so, where the tokens are those of their text.
     ensures spelled { tokens_of tokens.now.text.now ≡ Ok tokens.now.list → IfOk result (λ tree. SpellsWithin 32 tree (toks tokens.now.text.now tokens.now.list)) }

@@ -1,6 +1,5 @@
 pub mod Arguments
 pub mod BodiesAt
-pub mod CappedSums
 pub mod ClassAt
 pub mod CondsAt
 pub mod CopiesAt
@@ -16,3 +15,4 @@ pub mod SlotLaws
 pub mod SlotScopeLaws
 pub mod StatementsAt
 pub mod TermsAt
+pub mod WithinLimits

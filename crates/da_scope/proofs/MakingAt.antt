@@ -1,5 +1,5 @@
 -- The processes of `main`, line by line.
-use Rattle.std.proofs.Common.{◌≡◌, ◌∙◌, ap, sym, refl, ℕ, ◌+◌, ◌-◌, ◌<◌, List, [], ◌∷◌, ◌++◌, length, get_or, take, drop, map, flat_map, append_assoc, append-nil, replicate, Option, false, true, take-append-drop, arith}
+use Rattle.std.proofs.Common.{◌≡◌, ◌∙◌, ap, sym, refl, ℕ, ◌+◌, ◌-◌, ◌<◌, ◌≤◌, List, [], ◌∷◌, ◌++◌, length, get_or, take, drop, map, flat_map, append_assoc, append-nil, replicate, Option, false, true, take-append-drop, arith}
 use Rattle.std.specs.Prelude.{is_some}
 use Rattle.std.proofs.lemmas.Grind.{flat_map-append}
 use Rattle.std.proofs.lemmas.List.Sums.{sum_by-cons}
@@ -32,6 +32,9 @@ made-last before (k ∷ lines) l =
 -- a line less
 pub before_step : (rest earlier : List MainLine) (l : MainLine) (before less count : ℕ) → rest ≡ earlier ++ l ∷ [] → before ≡ made_by rest → count ≡ made_count l → less ≡ before - count → less ≡ made_by earlier
 before_step rest earlier l before less count is all one fewer = omega (arith, all, one, fewer, ap made_by is, made_by-last earlier l)
+
+pub before_within : (rest earlier : List MainLine) (l : MainLine) → rest ≡ earlier ++ l ∷ [] → made_by rest ≤ 64 → made_by earlier ≤ 64
+before_within rest earlier l is few = omega (arith, few, ap made_by is, made_by-last earlier l)
 
 pub made_step : (lines rest earlier : List MainLine) (l : MainLine) (less : ℕ) (scope grown : Scope Meaning) → rest ≡ earlier ++ l ∷ [] → made 0 lines ≡ made 0 rest ++ scope → less ≡ made_by earlier
     → grown ≡ made_entry less l ++ scope → made 0 lines ≡ made 0 earlier ++ grown

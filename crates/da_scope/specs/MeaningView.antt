@@ -8,4 +8,4 @@ abbrev pub meaning_of : Meaning → means.Meaning
 meaning_of (InSlot slot) = means.InSlot slot
 meaning_of (InRow part) = means.InRow part
 meaning_of (OneProcess process) = means.OneProcess process
-meaning_of (Processes first count) = means.Processes (range_with_len first count)
+meaning_of (Processes row) = means.Processes (range_with_len row.first row.count)

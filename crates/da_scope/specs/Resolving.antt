@@ -6,7 +6,7 @@ use Rattle.da_lang.specs.NameRules.{name_fault, name_refusals}
 use Rattle.da_scope.specs.declared.top.ScopeFault.{ScopeFault}
 use Rattle.da_scope.specs.declared.top.ScopeFault.TheVariants.{Refused, Limit, Memory}
 
--- names refuse the tree so; or they do not, and it passes this limit; or memory was refused
+-- names refuse the tree so; or they do not, and it exceeds this limit; or memory was refused
 abbrev pub IsRefusedAs : Tree → ScopeFault → Type 0
 IsRefusedAs t (Refused kind line) = name_fault t ≡ Some (record { kind = kind; line = line })
 IsRefusedAs t (Limit which line) = (name_refusals t ≡ []) × (limit_fault t ≡ Some (record { kind = which; line = line }))

@@ -2,8 +2,6 @@
 #![tactic(auto)]
 
 mod meaning;
-#[cfg(test)]
-mod rows;
 mod top;
 
 pub use top::{ScopeFault, resolve};

@@ -20,7 +20,4 @@ pub mod scope;
 pub mod slots;
 pub mod tables;
 pub mod term;
-#[cfg(test)]
-mod tests;
-pub mod types;
 pub mod variables;

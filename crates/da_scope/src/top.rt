@@ -1,4 +1,5 @@
 //! From the tree of a program to the program.
+ghost use Rattle.da_lang.specs.Accepted.{IsResolved, IsWritten};
 ghost use Rattle.da_lang.specs.Limits.{Resolves};
 ghost use Rattle.da_lang.specs.declared.program.Program.{Program as ProgramOf};
 ghost use Rattle.da_scope.specs.Resolving.{IsRefusedAs};
@@ -7,7 +8,7 @@ ghost use Rattle.std.specs.Prelude.{◌≡◌, IfErr, IfOk, MatchResult};
 
 use crate::meaning::program::build_program;
 use da_lang::{LimitKind, Program, ScopeKind, Tree};
-use da_limits::limit_fault;
+use da_limits::{copied_nodes, limit_fault};
 use da_names::{LimitFault, NameFault, name_fault};
 use da_values::NoMemory;
 use std::alloc::Global;
@@ -19,8 +20,8 @@ pub enum ScopeFault {
     /// A rule of names is broken at this line.
     #[error("line {line} breaks a rule of names")]
     Refused { kind: ScopeKind, line: u32 },
-    /// No rule of names is broken, and this limit is passed at this line.
-    #[error("line {line} passes a limit")]
+    /// No rule of names is broken, and this limit is exceeded at this line.
+    #[error("line {line} exceeds a limit")]
     Limit { which: LimitKind, line: u32 },
     /// Memory was refused.
     #[error("no memory is left")]
@@ -38,12 +39,19 @@ impl From<NoMemory> for ScopeFault {
     }
 }
 
+/// The most nodes that a program may have with its calls inlined. More would take gigabytes, so they are refused as
+/// memory is.
+const MOST_NODES: u32 = 4_194_304;
+
 /// The program of a tree: each name has its slot, each call has a copy of its method's body, and the queries are
-/// numbered. `Refused` comes exactly where a rule of names is broken: at the least such line, and there of the first
-/// kind. `Limit` comes exactly where none is broken and a limit is passed, told in the same way. Time and memory are in
-/// step with the tree and with the program that is given.
+/// numbered. `Refused` names the least line at which a rule of names is broken, and there the first kind; `Limit` comes
+/// only where none is broken, and names a limit that is exceeded in the same way. A tree that names and limits allow gets
+/// its program or `Memory`, which comes where memory was refused, and before anything is built where the program would
+/// have more than 4,194,304 nodes.
 pub fn resolve(alloc: Global, t: &Tree) -> Result<Program, ScopeFault>
+    requires written { IsWritten t.now }
     ensures program { IfOk result (Resolves t.now) }
+    ensures resolved { IfOk result IsResolved }
     ensures refused { IfErr result (IsRefusedAs t.now) }
     ensures only { (p : ProgramOf) → Resolves t.now p → MatchResult result (λ found. found ≡ p) (λ fault. fault ≡ Memory) }
 {
@@ -52,6 +60,9 @@ pub fn resolve(alloc: Global, t: &Tree) -> Result<Program, ScopeFault>
     }
     if let Some(LimitFault { kind, line }) = limit_fault(alloc, t)? {
         return Err(ScopeFault::Limit { which: kind, line });
+    }
+    if copied_nodes(alloc, t)? > MOST_NODES {
+        return Err(ScopeFault::Memory);
     }
     Ok(build_program(alloc, t)?)
 }

@@ -11,4 +11,7 @@ pub mod TermForms
 pub mod TypeForms
 pub mod Walks
 pub mod resolved
+pub mod shaped
+pub mod sound
 pub mod totality
+pub mod written

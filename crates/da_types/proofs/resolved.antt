@@ -1,5 +1,7 @@
 pub mod BlocksFill
 pub mod CallsAllowed
+pub mod ChainsAt
+pub mod ClassConstants
 pub mod ClassesFill
 pub mod ConstantsAt
 pub mod ConstantsFill
@@ -9,10 +11,12 @@ pub mod ExprConstants
 pub mod ExprsFill
 pub mod FewProcesses
 pub mod FineExprs
+pub mod FoundSome
 pub mod ItemConstants
-pub mod LiteralsAt
 pub mod MeantFills
+pub mod NotesAt
+pub mod ResolvedConstants
 pub mod ResolvedTyped
+pub mod SetupArity
 pub mod StatementConstants
 pub mod StatementsFill
-pub mod Total

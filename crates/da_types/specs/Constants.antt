@@ -1,5 +1,5 @@
--- The values that are written in a tree, and the constants of the expressions of a resolved program.
-use Rattle.std.specs.Prelude.{◌≡◌, List, [], ◌∷◌, ◌++◌, map, Some, flat_map, option_to_list}
+-- What is written in a tree, and the constants of the expressions of a resolved program.
+use Rattle.std.specs.Prelude.{◌≡◌, ℕ, suc, ◌^◌, ◌<◌, length, List, [], ◌∷◌, ◌++◌, map, Some, flat_map, option_to_list}
 use Rattle.da_values.specs.declared.value.Value.{Value}
 use Rattle.da_values.specs.declared.value.Value.TheVariants as kept
 use Rattle.da_values.specs.Proper.{IsValue}
@@ -37,96 +37,109 @@ use Rattle.da_lang.specs.Shaped.{IsItemOf}
 use Rattle.da_lang.specs.Turns.{kind_of}
 use Rattle.da_types.specs.Totality.{IsConstant, query_constants}
 
--- the values of all parts
-abbrev pub Written : Type 0
-Written = List Value
+-- what is noted of a tree: a value that is written, or how many operands a chain has
+pub data Note : Type 0 where
+  Literal : Value → Note
+  Operands : ℕ → Note
 
-abbrev pub all : List Written → Written
+abbrev pub Notes : Type 0
+Notes = List Note
+
+-- those of all parts
+abbrev pub all : {A : Type 0} → List (List A) → List A
 all parts = flat_map (λ part. part) parts
 
-abbrev pub literals_step : Expr-F Written Written Written Written Written → Written
-literals_step (Expr-F.Quant each gens cond) = all gens ++ all (option_to_list cond)
-literals_step (Expr-F.Or xs) = all xs
-literals_step (Expr-F.And xs) = all xs
-literals_step (Expr-F.Not x) = x
-literals_step (Expr-F.Cmp o x y) = x ++ y
-literals_step (Expr-F.Member x y) = x ++ y
-literals_step (Expr-F.Chain x more) = x ++ all more
-literals_step (Expr-F.«Expr::Int» number) = kept.Int number ∷ []
-literals_step (Expr-F.«Expr::Text» bytes) = kept.Text bytes ∷ []
-literals_step (Expr-F.«Expr::Truth» truth) = kept.Bool truth ∷ []
-literals_step Expr-F.«Expr::Me» = []
-literals_step (Expr-F.«Expr::Name» name) = []
-literals_step Expr-F.Clock = []
-literals_step (Expr-F.Range x y) = x ++ y
-literals_step (Expr-F.«Expr::Tuple» xs) = all xs
-literals_step (Expr-F.SetOf xs) = all xs
-literals_step (Expr-F.Comp x gens cond) = x ++ (all gens ++ all (option_to_list cond))
-literals_step (Expr-F.Count x) = x
-literals_step (Expr-F.Sum x) = x
-literals_step (Expr-F.Min x other) = x ++ other
-literals_step (Expr-F.Max x other) = x ++ other
+abbrev pub notes_step : Expr-F Notes Notes Notes Notes Notes → Notes
+notes_step (Expr-F.Quant each gens cond) = all gens ++ all (option_to_list cond)
+notes_step (Expr-F.Or xs) = all xs
+notes_step (Expr-F.And xs) = all xs
+notes_step (Expr-F.Not x) = x
+notes_step (Expr-F.Cmp o x y) = x ++ y
+notes_step (Expr-F.Member x y) = x ++ y
+notes_step (Expr-F.Chain x more) = Operands (suc (length more)) ∷ x ++ all more
+notes_step (Expr-F.«Expr::Int» number) = Literal (kept.Int number) ∷ []
+notes_step (Expr-F.«Expr::Text» bytes) = Literal (kept.Text bytes) ∷ []
+notes_step (Expr-F.«Expr::Truth» truth) = Literal (kept.Bool truth) ∷ []
+notes_step Expr-F.«Expr::Me» = []
+notes_step (Expr-F.«Expr::Name» name) = []
+notes_step Expr-F.Clock = []
+notes_step (Expr-F.Range x y) = x ++ y
+notes_step (Expr-F.«Expr::Tuple» xs) = all xs
+notes_step (Expr-F.SetOf xs) = all xs
+notes_step (Expr-F.Comp x gens cond) = x ++ (all gens ++ all (option_to_list cond))
+notes_step (Expr-F.Count x) = x
+notes_step (Expr-F.Sum x) = x
+notes_step (Expr-F.Min x other) = x ++ other
+notes_step (Expr-F.Max x other) = x ++ other
 
-abbrev pub pattern_step : PatternTree-F Written Written Written Written Written → Written
-pattern_step PatternTree-F.Wild = []
-pattern_step (PatternTree-F.«PatternTree::Name» name) = []
-pattern_step (PatternTree-F.«PatternTree::Int» number) = kept.Int number ∷ []
-pattern_step (PatternTree-F.«PatternTree::Text» bytes) = kept.Text bytes ∷ []
-pattern_step (PatternTree-F.«PatternTree::Truth» truth) = kept.Bool truth ∷ []
-pattern_step PatternTree-F.«PatternTree::Me» = []
-pattern_step (PatternTree-F.Equal x) = x
-pattern_step (PatternTree-F.«PatternTree::Tuple» parts) = all parts
+abbrev pub pattern_notes_step : PatternTree-F Notes Notes Notes Notes Notes → Notes
+pattern_notes_step PatternTree-F.Wild = []
+pattern_notes_step (PatternTree-F.«PatternTree::Name» name) = []
+pattern_notes_step (PatternTree-F.«PatternTree::Int» number) = Literal (kept.Int number) ∷ []
+pattern_notes_step (PatternTree-F.«PatternTree::Text» bytes) = Literal (kept.Text bytes) ∷ []
+pattern_notes_step (PatternTree-F.«PatternTree::Truth» truth) = Literal (kept.Bool truth) ∷ []
+pattern_notes_step PatternTree-F.«PatternTree::Me» = []
+pattern_notes_step (PatternTree-F.Equal x) = x
+pattern_notes_step (PatternTree-F.«PatternTree::Tuple» parts) = all parts
 
-abbrev pub peer_step : PeerTree-F Written Written Written Written Written → Written
-peer_step (PeerTree-F.From pattern) = pattern
-peer_step (PeerTree-F.To pattern) = pattern
+abbrev pub peer_notes_step : PeerTree-F Notes Notes Notes Notes Notes → Notes
+peer_notes_step (PeerTree-F.From pattern) = pattern
+peer_notes_step (PeerTree-F.To pattern) = pattern
 
-abbrev pub link_step : ChainTree-F Written Written Written Written Written → Written
-link_step link = link.operand
+abbrev pub link_notes_step : ChainTree-F Notes Notes Notes Notes Notes → Notes
+link_notes_step link = link.operand
 
-abbrev pub gen_step : GenTree-F Written Written Written Written Written → Written
-gen_step g = g.message ++ all (option_to_list g.peer)
+abbrev pub gen_notes_step : GenTree-F Notes Notes Notes Notes Notes → Notes
+gen_notes_step g = g.message ++ all (option_to_list g.peer)
 
--- the values that are written in an expression
-unfoldable pub literals : Expr → Written
-literals = fold-Expr Written Written Written Written Written literals_step pattern_step peer_step link_step gen_step
+-- the notes of an expression
+unfoldable pub notes : Expr → Notes
+notes = fold-Expr Notes Notes Notes Notes Notes notes_step pattern_notes_step peer_notes_step link_notes_step gen_notes_step
 
-unfoldable pub pattern_literals : PatternTree → Written
-pattern_literals = fold-PatternTree Written Written Written Written Written literals_step pattern_step peer_step link_step gen_step
+unfoldable pub pattern_notes : PatternTree → Notes
+pattern_notes = fold-PatternTree Notes Notes Notes Notes Notes notes_step pattern_notes_step peer_notes_step link_notes_step gen_notes_step
 
-unfoldable pub peer_literals : PeerTree → Written
-peer_literals = fold-PeerTree Written Written Written Written Written literals_step pattern_step peer_step link_step gen_step
+unfoldable pub peer_notes : PeerTree → Notes
+peer_notes = fold-PeerTree Notes Notes Notes Notes Notes notes_step pattern_notes_step peer_notes_step link_notes_step gen_notes_step
 
-unfoldable pub link_literals : ChainTree → Written
-link_literals = fold-ChainTree Written Written Written Written Written literals_step pattern_step peer_step link_step gen_step
+unfoldable pub link_notes : ChainTree → Notes
+link_notes = fold-ChainTree Notes Notes Notes Notes Notes notes_step pattern_notes_step peer_notes_step link_notes_step gen_notes_step
 
-unfoldable pub gen_literals : GenTree → Written
-gen_literals = fold-GenTree Written Written Written Written Written literals_step pattern_step peer_step link_step gen_step
+unfoldable pub gen_notes : GenTree → Notes
+gen_notes = fold-GenTree Notes Notes Notes Notes Notes notes_step pattern_notes_step peer_notes_step link_notes_step gen_notes_step
 
 -- in a tree: in its statements, in the patterns of its handlers, and in `main`
-abbrev pub deed_literals : Deed → Written
-deed_literals d = flat_map literals d.says
+abbrev pub deed_notes : Deed → Notes
+deed_notes d = flat_map notes d.says
 
-abbrev pub place_literals : Place → Written
-place_literals (InHandler message from labels) = flat_map pattern_literals (message ∷ option_to_list from)
-place_literals _ = []
+abbrev pub place_notes : Place → Notes
+place_notes (InHandler message from labels) = flat_map pattern_notes (message ∷ option_to_list from)
+place_notes _ = []
 
-abbrev pub body_literals : Body → Written
-body_literals b = place_literals b.place ++ flat_map deed_literals (deeds b.stmts)
+abbrev pub body_notes : Body → Notes
+body_notes b = place_notes b.place ++ flat_map deed_notes (deeds b.stmts)
 
-abbrev pub class_literals : ClassTree → Written
-class_literals c = flat_map body_literals (bodies c)
+abbrev pub class_notes : ClassTree → Notes
+class_notes c = flat_map body_notes (bodies c)
 
-abbrev pub line_literals : MainLine → Written
-line_literals (main_line.New name class count line) = []
-line_literals (main_line.Setup name args line) = flat_map literals args
+abbrev pub line_notes : MainLine → Notes
+line_notes (main_line.New name class count line) = []
+line_notes (main_line.Setup name args line) = flat_map notes args
 
-abbrev pub tree_literals : Tree → Written
-tree_literals t = flat_map class_literals t.classes ++ flat_map line_literals t.main
+abbrev pub tree_notes : Tree → Notes
+tree_notes t = flat_map class_notes t.classes ++ flat_map line_notes t.main
 
--- a tree in which only values are written that there are: integers of an i128 and texts of bytes that a text may have
-abbrev pub WritesValues : Tree → Type 0
-WritesValues t = (v : Value) → Has (tree_literals t) v → IsValue (val_of v)
+-- a value that there is: an integer of an i128, a text of bytes that a text may have; operands whose sum fits in an i128
+abbrev pub IsFine : Note → Type 0
+IsFine (Literal value) = IsValue (val_of value)
+IsFine (Operands count) = count < 2 ^ 32
+
+abbrev pub AreFine : Notes → Type 0
+AreFine notes = (x : Note) → Has notes x → IsFine x
+
+-- the constants of expressions
+abbrev pub Written : Type 0
+Written = List Value
 
 -- the constants of an expression outside queries, the processes of its sets of processes among them
 abbrev pub expr_constants_step : RExpr-F Written Written → Written
@@ -171,9 +184,8 @@ exprs_in _ = []
 abbrev pub exprs_of : Item → List RExpr
 exprs_of i = exprs_in (kind_of i)
 
--- What is shown of each resolved program of a tree in which only values are written that there are: those of which its
--- numbered queries make their values, and those in the expressions of its statements and of its lines of `setup`, are values
--- that there are, and their processes are there.
+-- The constants of which the numbered queries of a program make their values, and those in the expressions of its
+-- statements and of its lines of `setup`, are values that there are, and their processes are there.
 pub record ConstantsAreThere (p : Program) : Type 0 where
   pub of_queries : (c : Class) (q : Query) (v : Value) → Has p.classes c → Has c.queries q → Has (query_constants q) v → IsConstant p v
   pub of_statements : (c : Class) (i : Item) (x : RExpr) (v : Value) → Has p.classes c → IsItemOf c i → Has (exprs_of i) x → Has (expr_constants x) v → IsConstant p v

@@ -1,7 +1,7 @@
--- Queries and conditions read strictly: nothing stands in for a value that is not there. A slot or a part that is
--- missing has no value, nor has an expression of no form of queries, an operand that is no integer, a condition that is
--- no truth value, a comparison of two kinds, or a source that is no set. In a typed program every query and every
--- condition of an `await` has one.
+-- The queries and conditions of a class read strictly: where the language takes some value for one that is missing, a strict
+-- reading has none. None has a slot or a part that is not there, an expression outside the forms of queries, an operand that
+-- is no integer, a condition that is no truth value, a comparison of two kinds, a source that is no set. What is shown is
+-- that in a typed program all of them have one, which is the one that the language gives.
 use Rattle.std.specs.Prelude.{◌≡◌, ℕ, ℤ, pos, ◌+ℤ◌, neg_ℤ, Bool, true, false, not, if◌then◌else◌, List, [], ◌∷◌, ◌++◌, map, Option, Some, None, Ok, Err, length, nat_eq}
 use Rattle.std.specs.List.{list_any, list_all, filter_map, flat_map}
 use Rattle.da_values.specs.declared.val.Val.{Val, out-Val}
@@ -44,14 +44,14 @@ use Rattle.da_lang.specs.declared.tree.CmpOp.{CmpOp}
 use Rattle.da_lang.specs.declared.ty.Ty.{Ty}
 use Rattle.da_lang.specs.Arithmetic.{Outcome}
 use Rattle.da_lang.specs.Evaluation.{asked}
-use Rattle.da_lang.specs.Matching.{Row, is_same, where_true}
-use Rattle.da_lang.specs.Queries.{compares, entry_parts, first_or, holds, last_or, query_value, total}
+use Rattle.da_lang.specs.Matching.{Row, Candidate, Element, Message, is_same, where_true}
+use Rattle.da_lang.specs.Queries.{compares, entry_candidate, first_or, holds, last_or, query_value, total}
 use Rattle.da_lang.specs.QueryTypes.{given, is_any, query_type}
-use Rattle.da_lang.specs.Shaped.{Shaped, IsItemOf, has_processes}
+use Rattle.da_lang.specs.Shaped.{ShapedData, IsItemOf, has_processes}
 use Rattle.da_lang.specs.Turns.{kind_of}
 use Rattle.da_lang.specs.Types.{is_of}
 use Rattle.da_lang.specs.Typing.{known}
-use Rattle.da_lang.specs.World.{Data, World, class_of, at_number}
+use Rattle.da_lang.specs.World.{Data, at_number}
 
 -- all of them, where each is there
 abbrev pub all_there : {A : Type 0} → List (Option A) → Option (List A)
@@ -76,29 +76,22 @@ abbrev pub compared : CmpOp → Val → Val → Option Bool
 compared op v w = if nat_eq (kind (out-Val v)) (kind (out-Val w)) then Some (compares op (val_cmp v w)) else None
 
 -- what a pattern does with a value: the row that it gives or that there is none, if each term in it has a value
-abbrev pub Finds : Type 0
-Finds = Val → Row → Option (Option Row)
+abbrev pub StrictMatch : Type 0
+StrictMatch = Val → Row → Option (Option Row)
 
-abbrev pub and_finds : Option Row → (Row → Option (Option Row)) → Option (Option Row)
-and_finds None go_on = Some None
-and_finds (Some row) go_on = go_on row
+abbrev pub and_strictly : Option Row → (Row → Option (Option Row)) → Option (Option Row)
+and_strictly None go_on = Some None
+and_strictly (Some row) go_on = go_on row
 
-abbrev pub parts_found : List Finds → List Val → Row → Option (Option Row)
-parts_found [] [] row = Some (Some row)
-parts_found [] (x ∷ xs) row = Some None
-parts_found (m ∷ ms) [] row = Some None
-parts_found (m ∷ ms) (x ∷ xs) row = given (m x row) (λ found. and_finds found (parts_found ms xs))
+abbrev pub strict_parts : List StrictMatch → List Val → Row → Option (Option Row)
+strict_parts [] [] row = Some (Some row)
+strict_parts [] (x ∷ xs) row = Some None
+strict_parts (m ∷ ms) [] row = Some None
+strict_parts (m ∷ ms) (x ∷ xs) row = given (m x row) (λ found. and_strictly found (strict_parts ms xs))
 
-abbrev pub tuple_found : List Finds → vo.Val-F Val → Row → Option (Option Row)
-tuple_found ms (vo.Tuple xs) row = parts_found ms xs row
-tuple_found ms _ row = Some None
-
--- a candidate of a source, with the other process, which an element of a set has not
-abbrev pub with_peer : Val × Val → Val × Option Val
-with_peer c = (c.0, Some c.1)
-
-abbrev pub alone : Val → Val × Option Val
-alone x = (x, None)
+abbrev pub strict_tuple : List StrictMatch → vo.Val-F Val → Row → Option (Option Row)
+strict_tuple ms (vo.Tuple xs) row = strict_parts ms xs row
+strict_tuple ms _ row = Some None
 
 -- conditions, operands, and the further parts of chains, in a row
 abbrev pub Test : Type 0
@@ -110,129 +103,129 @@ StrictMeaning = Row → Option Val
 abbrev pub Number : Type 0
 Number = Row → Option ℤ
 
-abbrev pub test_found : Option Test → Test
-test_found None row = Some true
-test_found (Some test) row = test row
+abbrev pub strict_test : Option Test → Test
+strict_test None row = Some true
+strict_test (Some test) row = test row
 
 -- the rows that meet a condition, which has a value in each
 abbrev pub with_row : Bool → Row → List Row → List Row
 with_row b row rows = if b then row ∷ rows else rows
 
-abbrev pub rows_found : Test → List Row → Option (List Row)
-rows_found test [] = Some []
-rows_found test (row ∷ rows) = given (test row) (λ b. given (rows_found test rows) (λ others. Some (with_row b row others)))
+abbrev pub strict_rows : Test → List Row → Option (List Row)
+strict_rows test [] = Some []
+strict_rows test (row ∷ rows) = given (test row) (λ b. given (strict_rows test rows) (λ others. Some (with_row b row others)))
 
-abbrev pub integer_found : Option Val → Option ℤ
-integer_found x = given x (λ v. integer (out-Val v))
+abbrev pub strict_integer : Option Val → Option ℤ
+strict_integer x = given x (λ v. integer (out-Val v))
 
 -- of the elements of a set, ascending; `min` and `max` have a value for where there are none
-abbrev pub aggregate_found : AggOp → Option Val → List Val → Option Val
-aggregate_found Count other xs = Some (val.Int (pos (length xs)))
-aggregate_found Sum other xs = given (all_there (map (λ v. integer (out-Val v)) xs)) (λ is. Some (val.Int (total is)))
-aggregate_found Min other xs = given other (λ v. Some (first_or v xs))
-aggregate_found Max other xs = given other (λ v. Some (last_or v xs))
+abbrev pub strict_aggregate : AggOp → Option Val → List Val → Option Val
+strict_aggregate Count other xs = Some (val.Int (pos (length xs)))
+strict_aggregate Sum other xs = given (all_there (map (λ v. integer (out-Val v)) xs)) (λ is. Some (val.Int (total is)))
+strict_aggregate Min other xs = given other (λ v. Some (first_or v xs))
+strict_aggregate Max other xs = given other (λ v. Some (last_or v xs))
 
 module _ (d : Data) where
   -- the value of a term in a row, if it has one
-  abbrev pub found_term_step : Row → term.Term-F (Option Val) → Option Val
-  found_term_step row (term.Const c) = Some (val_of c)
-  found_term_step row term.Me = Some (val.Proc d.me)
-  found_term_step row (term.Slot s) = at_number d.slots s
-  found_term_step row (term.Part k) = at_number row k
-  found_term_step row (term.Tuple parts) = given (all_there parts) (λ vs. Some (val.Tuple vs))
-  found_term_step row term.Foreign = None
+  abbrev pub strict_term_step : Row → term.Term-F (Option Val) → Option Val
+  strict_term_step row (term.Const c) = Some (val_of c)
+  strict_term_step row term.Me = Some (val.Proc d.me)
+  strict_term_step row (term.Slot s) = at_number d.slots s
+  strict_term_step row (term.Part k) = at_number row k
+  strict_term_step row (term.Tuple parts) = given (all_there parts) (λ vs. Some (val.Tuple vs))
+  strict_term_step row term.Foreign = None
 
-  abbrev pub found_term : Row → Term → Option Val
-  found_term row = fold-Term (Option Val) (found_term_step row)
+  abbrev pub strict_term : Row → Term → Option Val
+  strict_term row = fold-Term (Option Val) (strict_term_step row)
 
-  abbrev pub found_match_step : pattern.Pattern-F Finds → Finds
-  found_match_step pattern.Any x row = Some (Some row)
-  found_match_step pattern.Bind x row = Some (Some (row ++ x ∷ []))
-  found_match_step (pattern.Const c) x row = Some (where_true (is_same x (val_of c)) row)
-  found_match_step pattern.Me x row = Some (where_true (is_same x (val.Proc d.me)) row)
-  found_match_step (pattern.Equal t) x row = given (found_term row t) (λ v. Some (where_true (is_same x v) row))
-  found_match_step (pattern.Tuple ms) x row = tuple_found ms (out-Val x) row
+  abbrev pub strict_match_step : pattern.Pattern-F StrictMatch → StrictMatch
+  strict_match_step pattern.Any x row = Some (Some row)
+  strict_match_step pattern.Bind x row = Some (Some (row ++ x ∷ []))
+  strict_match_step (pattern.Const c) x row = Some (where_true (is_same x (val_of c)) row)
+  strict_match_step pattern.Me x row = Some (where_true (is_same x (val.Proc d.me)) row)
+  strict_match_step (pattern.Equal t) x row = given (strict_term row t) (λ v. Some (where_true (is_same x v) row))
+  strict_match_step (pattern.Tuple ms) x row = strict_tuple ms (out-Val x) row
 
-  abbrev pub found_match : Pattern → Finds
-  found_match = fold-Pattern Finds found_match_step
+  abbrev pub strict_match : Pattern → StrictMatch
+  strict_match = fold-Pattern StrictMatch strict_match_step
 
   -- all that a source has
-  abbrev pub source_found : Source → Option (List (Val × Option Val))
-  source_found source.Received = Some (map (λ e. with_peer (entry_parts e)) d.received)
-  source_found source.Sent = Some (map (λ e. with_peer (entry_parts e)) d.sent)
-  source_found (source.Slot s) = given (at_number d.slots s) (λ v. given (elements (out-Val v)) (λ members. Some (map alone members)))
+  abbrev pub strict_source : Source → Option (List Candidate)
+  strict_source source.Received = Some (map entry_candidate d.received)
+  strict_source source.Sent = Some (map entry_candidate d.sent)
+  strict_source (source.Slot s) = given (at_number d.slots s) (λ v. given (elements (out-Val v)) (λ members. Some (map Element members)))
 
-  -- only `_` goes with no process
-  abbrev pub peer_found : Pattern → Option Val → Row → Option (Option Row)
-  peer_found p None row = if is_any (out-Pattern p) then Some (Some row) else None
-  peer_found p (Some x) row = found_match p x row
+  -- an element of a set has no other process, with which only `_` goes
+  abbrev pub no_peer : Pattern → Row → Option (Option Row)
+  no_peer p row = if is_any (out-Pattern p) then Some (Some row) else None
 
-  abbrev pub both_found : RGen → Row → Val × Option Val → Option (Option Row)
-  both_found g row c = given (found_match g.message c.0 row) (λ found. and_finds found (peer_found g.peer c.1))
+  abbrev pub strict_candidate : RGen → Row → Candidate → Option (Option Row)
+  strict_candidate g row (Element x) = given (strict_match g.message x row) (λ found. and_strictly found (no_peer g.peer))
+  strict_candidate g row (Message x p) = given (strict_match g.message x row) (λ found. and_strictly found (strict_match g.peer (val.Proc p)))
 
   -- a row's extensions
-  abbrev pub steps_found : RGen → Row → Option (List Row)
-  steps_found g row = given (source_found g.source) (λ cs. given (all_there (map (both_found g row) cs)) (λ found. Some (filter_map (λ r. r) found)))
+  abbrev pub strict_steps : RGen → Row → Option (List Row)
+  strict_steps g row = given (strict_source g.source) (λ cs. given (all_there (map (strict_candidate g row) cs)) (λ found. Some (filter_map (λ r. r) found)))
 
-  abbrev pub extensions_found : List RGen → Row → Option (List Row)
-  extensions_found [] row = Some (row ∷ [])
-  extensions_found (g ∷ gs) row = given (steps_found g row) (λ rs. given (all_there (map (extensions_found gs) rs)) (λ found. Some (flat_map (λ r. r) found)))
+  abbrev pub strict_extensions : List RGen → Row → Option (List Row)
+  strict_extensions [] row = Some (row ∷ [])
+  strict_extensions (g ∷ gs) row = given (strict_steps g row) (λ rs. given (all_there (map (strict_extensions gs) rs)) (λ found. Some (flat_map (λ r. r) found)))
 
   -- conditions, operands, and the further parts of chains, in a row
-  abbrev pub found_cond_step : Cond-F Test StrictMeaning StrictMeaning Number → Test
-  found_cond_step (Cond-F.Truth t) row = given (found_term row t) (λ v. truth (out-Val v))
-  found_cond_step (Cond-F.Cmp op a b) row = given (a row) (λ v. given (b row) (compared op v))
-  found_cond_step (Cond-F.Not b) row = given (b row) (λ v. Some (not v))
-  found_cond_step (Cond-F.And bs) row = given (all_there (map (λ b. b row) bs)) (λ vs. Some (list_all (λ v. v) vs))
-  found_cond_step (Cond-F.Or bs) row = given (all_there (map (λ b. b row) bs)) (λ vs. Some (list_any (λ v. v) vs))
-  found_cond_step (Cond-F.Quant each gens b) row =
-      given (extensions_found gens row) (λ rs. given (all_there (map (test_found b) rs)) (λ vs. Some (if each then list_all (λ v. v) vs else list_any (λ v. v) vs)))
+  abbrev pub strict_cond_step : Cond-F Test StrictMeaning StrictMeaning Number → Test
+  strict_cond_step (Cond-F.Truth t) row = given (strict_term row t) (λ v. truth (out-Val v))
+  strict_cond_step (Cond-F.Cmp op a b) row = given (a row) (λ v. given (b row) (compared op v))
+  strict_cond_step (Cond-F.Not b) row = given (b row) (λ v. Some (not v))
+  strict_cond_step (Cond-F.And bs) row = given (all_there (map (λ b. b row) bs)) (λ vs. Some (list_all (λ v. v) vs))
+  strict_cond_step (Cond-F.Or bs) row = given (all_there (map (λ b. b row) bs)) (λ vs. Some (list_any (λ v. v) vs))
+  strict_cond_step (Cond-F.Quant each gens b) row =
+      given (strict_extensions gens row) (λ rs. given (all_there (map (strict_test b) rs)) (λ vs. Some (if each then list_all (λ v. v) vs else list_any (λ v. v) vs)))
 
-  abbrev pub found_operand_step : Operand-F Test StrictMeaning StrictMeaning Number → StrictMeaning
-  found_operand_step (Operand-F.Term t) row = found_term row t
-  found_operand_step (Operand-F.Agg a) row = a row
-  found_operand_step (Operand-F.Chain a more) row =
-      given (integer_found (a row)) (λ first. given (all_there (map (λ n. n row) more)) (λ others. Some (val.Int (first +ℤ total others))))
+  abbrev pub strict_operand_step : Operand-F Test StrictMeaning StrictMeaning Number → StrictMeaning
+  strict_operand_step (Operand-F.Term t) row = strict_term row t
+  strict_operand_step (Operand-F.Agg a) row = a row
+  strict_operand_step (Operand-F.Chain a more) row =
+      given (strict_integer (a row)) (λ first. given (all_there (map (λ n. n row) more)) (λ others. Some (val.Int (first +ℤ total others))))
 
-  abbrev pub other_found : Row → Option Term → Option Val
-  other_found row None = None
-  other_found row (Some t) = found_term row t
+  abbrev pub strict_other : Row → Option Term → Option Val
+  strict_other row None = None
+  strict_other row (Some t) = strict_term row t
 
-  abbrev pub terms_found : Term → List Row → Option (List Val)
-  terms_found t rs = given (all_there (map (λ r. found_term r t) rs)) (λ vs. Some (canon val_cmp vs))
+  abbrev pub strict_terms : Term → List Row → Option (List Val)
+  strict_terms t rs = given (all_there (map (λ r. strict_term r t) rs)) (λ vs. Some (canon val_cmp vs))
 
   -- the set of a term over the rows of generators that meet a condition
-  abbrev pub set_found : List RGen → Option Test → Term → Row → Option (List Val)
-  set_found gens b t row = given (given (extensions_found gens row) (rows_found (test_found b))) (terms_found t)
+  abbrev pub strict_set : List RGen → Option Test → Term → Row → Option (List Val)
+  strict_set gens b t row = given (given (strict_extensions gens row) (strict_rows (strict_test b))) (strict_terms t)
 
-  abbrev pub found_agg_step : Agg-F Test StrictMeaning StrictMeaning Number → StrictMeaning
-  found_agg_step a row = given (set_found a.gens a.cond a.term row) (aggregate_found a.op (other_found row a.other))
+  abbrev pub strict_agg_step : Agg-F Test StrictMeaning StrictMeaning Number → StrictMeaning
+  strict_agg_step a row = given (strict_set a.gens a.cond a.term row) (strict_aggregate a.op (strict_other row a.other))
 
-  abbrev pub found_signed_step : SignedOperand-F Test StrictMeaning StrictMeaning Number → Number
-  found_signed_step s row = given (integer_found (s.operand row)) (λ i. Some (if s.minus then neg_ℤ i else i))
+  abbrev pub strict_signed_step : SignedOperand-F Test StrictMeaning StrictMeaning Number → Number
+  strict_signed_step s row = given (strict_integer (s.operand row)) (λ i. Some (if s.minus then neg_ℤ i else i))
 
   -- whether a condition holds of a row, if it has a value there
-  abbrev pub found_holds : Cond → Test
-  found_holds = fold-Cond Test StrictMeaning StrictMeaning Number found_cond_step found_operand_step found_agg_step found_signed_step
+  abbrev pub strict_holds : Cond → Test
+  strict_holds = fold-Cond Test StrictMeaning StrictMeaning Number strict_cond_step strict_operand_step strict_agg_step strict_signed_step
 
-  abbrev pub found_operand : Operand → StrictMeaning
-  found_operand = fold-Operand Test StrictMeaning StrictMeaning Number found_cond_step found_operand_step found_agg_step found_signed_step
+  abbrev pub strict_operand : Operand → StrictMeaning
+  strict_operand = fold-Operand Test StrictMeaning StrictMeaning Number strict_cond_step strict_operand_step strict_agg_step strict_signed_step
 
-  abbrev pub found_agg : Agg → StrictMeaning
-  found_agg = fold-Agg Test StrictMeaning StrictMeaning Number found_cond_step found_operand_step found_agg_step found_signed_step
+  abbrev pub strict_agg : Agg → StrictMeaning
+  strict_agg = fold-Agg Test StrictMeaning StrictMeaning Number strict_cond_step strict_operand_step strict_agg_step strict_signed_step
 
-  abbrev pub found_signed : SignedOperand → Number
-  found_signed = fold-SignedOperand Test StrictMeaning StrictMeaning Number found_cond_step found_operand_step found_agg_step found_signed_step
+  abbrev pub strict_signed : SignedOperand → Number
+  strict_signed = fold-SignedOperand Test StrictMeaning StrictMeaning Number strict_cond_step strict_operand_step strict_agg_step strict_signed_step
 
-  abbrev pub found_where : Option Cond → Option Test
-  found_where None = None
-  found_where (Some b) = Some (found_holds b)
+  abbrev pub strict_where : Option Cond → Option Test
+  strict_where None = None
+  strict_where (Some b) = Some (strict_holds b)
 
   -- what a query gives, if it has a value
-  abbrev pub found_query : Query → Option Val
-  found_query (query.Quant each gens b) = given (found_cond_step (Cond-F.Quant each gens (found_where b)) []) (λ v. Some (val.Bool v))
-  found_query (query.Comp t gens b) = given (set_found gens (found_where b) t []) (λ vs. Some (val.Set vs))
-  found_query (query.Agg a) = found_agg a []
+  abbrev pub strict_query : Query → Option Val
+  strict_query (query.Quant each gens b) = given (strict_cond_step (Cond-F.Quant each gens (strict_where b)) []) (λ v. Some (val.Bool v))
+  strict_query (query.Comp t gens b) = given (strict_set gens (strict_where b) t []) (λ vs. Some (val.Set vs))
+  strict_query (query.Agg a) = strict_agg a []
 
 -- a `count` or a `sum`, whose integer may lie outside an i64
 abbrev pub counts_by : AggOp → Bool
@@ -271,7 +264,7 @@ pub record IsConstant (p : Program) (c : Value) : Type 0 where
 
 -- A query has this value, which is of its type, and whose integers lie in an i64 but for that of a `count` or a `sum`.
 pub record HasValue (d : Data) (q : Query) (ty : Ty) (v : Val) : Type 0 where
-  pub found : found_query d q ≡ Some v
+  pub strict : strict_query d q ≡ Some v
   pub typed : is_of ty v ≡ true
   pub narrow : counts q ≡ false → is_narrow v ≡ true
 
@@ -289,8 +282,8 @@ QueryHas p c d q v = (ty : Ty) × (query_type (known p.messages c.queries c.slot
 -- condition of each alternative of an `await`. It is the one that they have where other values stand in for missing ones.
 pub record AllHaveValues (p : Program) (c : Class) (d : Data) : Type 0 where
   pub queries : (n : ℕ) (q : Query) → at_number c.queries n ≡ Some q → QueryHas p c d q (query_value c.queries n d)
-  pub conditions : (i : Item) (alts : List Alt) (a : Alt) → IsItemOf c i → kind_of i ≡ Await alts → Has alts a → found_holds d (out-Alt a).cond [] ≡ Some (holds d (out-Alt a).cond [])
+  pub conditions : (i : Item) (alts : List Alt) (a : Alt) → IsItemOf c i → kind_of i ≡ Await alts → Has alts a → strict_holds d (out-Alt a).cond [] ≡ Some (holds d (out-Alt a).cond [])
 
--- What is shown of each typed program: in every shaped world all of the class of its process have values.
+-- What is shown of each typed program: all of a class have values, whatever a process of it knows that is shaped.
 abbrev pub NothingIsMissing : Program → Type 0
-NothingIsMissing p = (w : World) (c : Class) → Shaped p w → class_of p w.data'.me ≡ Some c → AllHaveValues p c w.data'
+NothingIsMissing p = (c : Class) (d : Data) → ShapedData p c d → AllHaveValues p c d

@@ -13,8 +13,8 @@ use crate::known::Known;
 use crate::patterns::{gens_row, row_where};
 use crate::sides::{Side, agg_type, are_comparable, chain_side, is_operand, plain_of};
 use crate::terms::term_type;
-use crate::types::{copy_types, is_bool, is_flat_set};
-use da_lang::{Agg, Cond, Operand, RGen, SignedOperand, Term, Ty};
+use crate::types::{is_bool, is_flat_set};
+use da_lang::{Agg, Cond, Operand, RGen, SignedOperand, Term, Ty, copy_types};
 use da_values::{Boxed, List, NoMemory};
 use std::alloc::Global;
 

@@ -14,10 +14,10 @@ use crate::queries::query_type;
 use crate::sides::asks_order;
 use crate::terms::literal_type;
 use crate::types::{
-    copy_type, element_of, flat, flat_copy, flat_of, is_bool, is_flat, is_int, is_ordered, is_set,
-    is_typed, parts_of, same_type, tuple_of,
+    element_of, flat, flat_copy, flat_of, is_bool, is_flat, is_int, is_ordered, is_set, is_typed,
+    parts_of, same_type, tuple_of,
 };
-use da_lang::{ArithOp, ChainPart, CmpOp, Query, RExpr, Ty};
+use da_lang::{ArithOp, ChainPart, CmpOp, Query, RExpr, Ty, copy_type};
 use da_values::{Boxed, List, NoMemory};
 use std::alloc::Global;
 

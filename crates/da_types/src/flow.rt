@@ -10,8 +10,10 @@ use crate::expressions::expr_type;
 use crate::known::{Known, member};
 use crate::patterns::{message_row, pattern_row};
 use crate::queries::query_row;
-use crate::types::{copy_type, element_of};
-use da_lang::{Alt, Class, Handler, Item, ItemKind, MessageDecl, Query, RBranch, RExpr, Ty};
+use crate::types::element_of;
+use da_lang::{
+    Alt, Class, Handler, Item, ItemKind, MessageDecl, Query, RBranch, RExpr, Ty, copy_type,
+};
 use da_values::{List, NoMemory};
 use std::alloc::Global;
 

@@ -6,8 +6,8 @@ ghost use Rattle.da_types.specs.KnownView.{known_of};
 ghost use Rattle.std.specs.Option.{option_copied};
 ghost use Rattle.std.specs.Prelude.{◌≡◌, IfOk, bytes_eq, find};
 
-use crate::types::{copy_types, element_of, flat};
-use da_lang::{MessageDecl, Ty};
+use crate::types::{element_of, flat};
+use da_lang::{MessageDecl, Ty, copy_types};
 use da_values::NoMemory;
 use std::alloc::Global;
 

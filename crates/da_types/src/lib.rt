@@ -13,8 +13,6 @@ mod queries;
 mod rules;
 mod sides;
 mod terms;
-#[cfg(test)]
-mod tests;
 mod top;
 mod types;
 

@@ -7,8 +7,8 @@ ghost use Rattle.std.specs.Prelude.{◌≡◌, IfOk, map};
 
 use crate::known::Known;
 use crate::terms::{literal_type, term_type};
-use crate::types::{copy_type, is_flat, is_proc, is_typed, parts_of};
-use da_lang::{Pattern, RGen, Source, Ty};
+use crate::types::{is_flat, is_proc, is_typed, parts_of};
+use da_lang::{Pattern, RGen, Source, Ty, copy_type};
 use da_values::{List, NoMemory, Value};
 use std::alloc::Global;
 

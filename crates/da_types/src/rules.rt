@@ -126,7 +126,7 @@ fn is_message(
     }
 }
 
-// The tag of a message that is written as a tuple whose first part is a text.
+// The text that a written tuple begins with, which tags the message that it is.
 #[tactic(auto, using(crate::proofs::BreakForms::expr_forms))]
 fn message_tag(x: &RExpr) -> Option<&[u8]>
     ensures { option_copied result ≡ tag_of_message (out-RExpr x.now) }

@@ -1,4 +1,4 @@
-//! Types: copies, forms, comparison, order and levels.
+//! Types: forms, comparison, order and levels.
 ghost use Rattle.da_lang.specs.declared.ty.Ty.TheVariants.{Set, Tuple};
 ghost use Rattle.da_lang.specs.QueryTypes.{flat as flat_where, given, is_typed as typed_as};
 ghost use Rattle.da_lang.specs.Types.{all_same, element_of as element_in, is_bool as bool_type, is_flat as flat_type, is_int as int_type, is_proc as proc_type, is_set as set_type, is_text as text_type, levels, ordered, parts_of as parts_in, same_type};
@@ -6,39 +6,12 @@ ghost use Rattle.std.specs.List.{list_all};
 ghost use Rattle.std.specs.Option.{option_copied};
 ghost use Rattle.std.specs.Prelude.{◌≡◌, IfOk, map, nat_le};
 
-use da_lang::Ty;
-use da_values::{Boxed, List, NoMemory};
+use da_lang::{Ty, copy_type};
+use da_values::{List, NoMemory};
 use std::alloc::Global;
 
 /// The most levels of a type.
 const MOST_LEVELS: u8 = 32;
-
-/// A copy of a type.
-#[cycle(copy)]
-pub fn copy_type(alloc: Global, ty: &Ty) -> Result<Ty, NoMemory>
-    ensures { IfOk result (λ copy. copy ≡ ty.now) }
-{
-    match ty {
-        Ty::Int => Ok(Ty::Int),
-        Ty::Bool => Ok(Ty::Bool),
-        Ty::Text => Ok(Ty::Text),
-        Ty::Proc => Ok(Ty::Proc),
-        Ty::Tuple(parts) => Ok(Ty::Tuple(copy_types(alloc, parts.as_slice())?)),
-        Ty::Set(element) => Ok(Ty::Set(Boxed::new(alloc, copy_type(alloc, element.get())?)?)),
-    }
-}
-
-/// Copies of types.
-#[cycle(copy)]
-pub fn copy_types(alloc: Global, types: &[Ty]) -> Result<List<Ty>, NoMemory>
-    ensures { IfOk result (λ copy. copy ≡ types.now) }
-{
-    let mut copy = List::new(alloc);
-    for ty in types {
-        copy.push(copy_type(alloc, ty)?)?;
-    }
-    Ok(copy)
-}
 
 /// Whether it is `int`.
 #[tactic(auto, using(crate::proofs::TypeForms::type_forms))]

@@ -11,7 +11,7 @@ use Rattle.da_lang.specs.declared.tree.Tree.{Tree}
 use Rattle.da_lang.specs.declared.ty.ChannelKind.{ChannelKind}
 use Rattle.da_lang.specs.declared.ty.ChannelKind.TheVariants as kind
 use Rattle.da_lang.specs.Grammar as gr
-use Rattle.da_lang.specs.Grammar.{IsCount, IsMline, IsKind, IsMessage, IsClass, IsDecls, IsMain, IsProgram}
+use Rattle.da_lang.specs.Grammar.{IsCount, IsMline, IsKind, IsMessage, IsMain, TypedParam, IsClass, IsDecls, IsProgram, IsTypedProgram}
 use Rattle.da_lang.specs.Spelling as g
 use Rattle.da_lang.specs.Spelling.{Spelling, Opens, Behind}
 use Rattle.da_lang.specs.ExprGrammar.{deeper}
@@ -94,23 +94,23 @@ module _ (R : ℕ → Type 0) (down : (d : ℕ) → R (suc d) → R d) (f : ℕ)
   message-begins : (x : MessageDecl) (level : ℕ) → Begins level (message_lines x level)
   message-begins x level = record { first = _; others = _; is = refl }
 
-  classes-again : (xs : List MessageDecl) (cs : List ClassTree) (i r : List Tok) → IsDecls (λ d t. R d) f xs cs i r → (n : ℕ) (rest : List Line) → Low 0 rest
-      → (now : List ClassTree) × (next : ℕ) × (map unlined_class now ≡ map unlined_class cs) × IsDecls (λ d t. R d) f [] now (lines_toks n 0 (all_lines class_lines cs 0 ++ rest)) (lines_toks next 0 rest)
+  classes-again : (xs : List MessageDecl) (cs : List ClassTree) (i r : List Tok) → IsDecls (λ d t. R d) f (TypedParam (λ d t. R d) f) xs cs i r → (n : ℕ) (rest : List Line) → Low 0 rest
+      → (now : List ClassTree) × (next : ℕ) × (map unlined_class now ≡ map unlined_class cs) × IsDecls (λ d t. R d) f (TypedParam (λ d t. R d) f) [] now (lines_toks n 0 (all_lines class_lines cs 0 ++ rest)) (lines_toks next 0 rest)
   classes-again _ _ i r gr.IsDecls.no_decl n rest low = ([], n, refl, gr.IsDecls.no_decl)
   classes-again _ _ i r (gr.IsDecls.message {xs} {cs} h l) n rest low = classes-again xs cs _ _ l n rest low
   classes-again _ _ i r (gr.IsDecls.class {c} {xs} {cs} h l) n rest low =
       let one = class-again R down f c _ _ h n 0 (all_lines class_lines cs 0 ++ rest) (low-all class_lines class-begins cs rest low) in
       let (now, next, same, spelled) = classes-again xs cs _ _ l one.next rest low in
-      (one.now ∷ now, next, cc (one.same, same), subst (λ z. IsDecls (λ d t. R d) f [] (one.now ∷ now) (lines_toks n 0 z) (lines_toks next 0 rest)) (sym (append_assoc (class_lines c 0) (all_lines class_lines cs 0) rest)) (gr.IsDecls.class one.spelled spelled))
+      (one.now ∷ now, next, cc (one.same, same), subst (λ z. IsDecls (λ d t. R d) f (TypedParam (λ d t. R d) f) [] (one.now ∷ now) (lines_toks n 0 z) (lines_toks next 0 rest)) (sym (append_assoc (class_lines c 0) (all_lines class_lines cs 0) rest)) (gr.IsDecls.class one.spelled spelled))
 
-  messages-again : (xs : List MessageDecl) (cs : List ClassTree) (i r : List Tok) → IsDecls (λ d t. R d) f xs cs i r → (n : ℕ) (rest : List Line) → Low 0 rest
+  messages-again : (xs : List MessageDecl) (cs : List ClassTree) (i r : List Tok) → IsDecls (λ d t. R d) f (TypedParam (λ d t. R d) f) xs cs i r → (n : ℕ) (rest : List Line) → Low 0 rest
       → (now : List MessageDecl) × (next : ℕ) × (map unlined_message now ≡ map unlined_message xs)
-      × ((cs : List ClassTree) (z : List Tok) → IsDecls (λ d t. R d) f [] cs (lines_toks next 0 rest) z → IsDecls (λ d t. R d) f now cs (lines_toks n 0 (all_lines message_lines xs 0 ++ rest)) z)
+      × ((cs : List ClassTree) (z : List Tok) → IsDecls (λ d t. R d) f (TypedParam (λ d t. R d) f) [] cs (lines_toks next 0 rest) z → IsDecls (λ d t. R d) f (TypedParam (λ d t. R d) f) now cs (lines_toks n 0 (all_lines message_lines xs 0 ++ rest)) z)
   messages-again _ _ i r gr.IsDecls.no_decl n rest low = ([], n, refl, λ cs z h. h)
   messages-again _ _ i r (gr.IsDecls.message {x} {xs} {cs} h l) n rest low =
       let one = message-again R down f x _ _ h n 0 (all_lines message_lines xs 0 ++ rest) (low-all message_lines message-begins xs rest low) in
       let (now, next, same, spelled) = messages-again xs cs _ _ l one.next rest low in
-      (one.now ∷ now, next, cc (one.same, same), λ others z e. subst (λ q. IsDecls (λ d t. R d) f (one.now ∷ now) others (lines_toks n 0 q) z) (sym (append_assoc (message_lines x 0) (all_lines message_lines xs 0) rest)) (gr.IsDecls.message one.spelled (spelled others z e)))
+      (one.now ∷ now, next, cc (one.same, same), λ others z e. subst (λ q. IsDecls (λ d t. R d) f (TypedParam (λ d t. R d) f) (one.now ∷ now) others (lines_toks n 0 q) z) (sym (append_assoc (message_lines x 0) (all_lines message_lines xs 0) rest)) (gr.IsDecls.message one.spelled (spelled others z e)))
   messages-again _ _ i r (gr.IsDecls.class {c} {xs} {cs} h l) n rest low = messages-again xs cs _ _ l n rest low
 
 parts-are : (kinds messages classes main : List Line) → kinds ++ messages ++ classes ++ main ≡ kinds ++ (messages ++ (classes ++ (main ++ [])))
@@ -118,8 +118,8 @@ parts-are kinds messages classes main = simp (append_assoc, append-nil)
 
 -- ---- programs
 
-pub again : (R : ℕ → Type 0) (down : (d : ℕ) → R (suc d) → R d) (f : ℕ) (t : Tree) (i : List Tok) → IsProgram (λ d t. R d) f t i
-    → (u : Tree) × (unlined u ≡ unlined t) × IsProgram (λ d t. R d) f u (lines_toks 1 0 (tree_lines t))
+pub again : (R : ℕ → Type 0) (down : (d : ℕ) → R (suc d) → R d) (f : ℕ) (t : Tree) (i : List Tok) → IsTypedProgram (λ d t. R d) f t i
+    → (u : Tree) × (unlined u ≡ unlined t) × IsTypedProgram (λ d t. R d) f u (lines_toks 1 0 (tree_lines t))
 unfolding unlined tree_lines
 again R down f _ i (gr.IsProgram.program {k} {xs} {cs} {ls} a b c) =
     let mains = main_lines ls 0 ++ [] in
@@ -137,8 +137,8 @@ again R down f _ i (gr.IsProgram.program {k} {xs} {cs} {ls} a b c) =
     )
 
 -- where so many things may be open at once, and where there is no bound
-pub again-within : (most f : ℕ) (t : Tree) (i : List Tok) → IsProgram (λ d t. d < most) f t i → (u : Tree) × (unlined u ≡ unlined t) × IsProgram (λ d t. d < most) f u (lines_toks 1 0 (tree_lines t))
+pub again-within : (most f : ℕ) (t : Tree) (i : List Tok) → IsTypedProgram (λ d t. d < most) f t i → (u : Tree) × (unlined u ≡ unlined t) × IsTypedProgram (λ d t. d < most) f u (lines_toks 1 0 (tree_lines t))
 again-within most = again (λ d. d < most) (λ d h. omega arith)
 
-pub again-anywhere : (f : ℕ) (t : Tree) (i : List Tok) → IsProgram (λ d t. Unit {0}) f t i → (u : Tree) × (unlined u ≡ unlined t) × IsProgram (λ d t. Unit {0}) f u (lines_toks 1 0 (tree_lines t))
+pub again-anywhere : (f : ℕ) (t : Tree) (i : List Tok) → IsTypedProgram (λ d t. Unit {0}) f t i → (u : Tree) × (unlined u ≡ unlined t) × IsTypedProgram (λ d t. Unit {0}) f u (lines_toks 1 0 (tree_lines t))
 again-anywhere = again (λ d. Unit {0}) (λ d h. tt)

@@ -11,7 +11,7 @@ use Rattle.da_lang.specs.declared.tree.PatternTree.{PatternTree}
 use Rattle.da_lang.specs.declared.tree.Stmt.{Stmt}
 use Rattle.da_lang.specs.declared.ty.Ty.{Ty}
 use Rattle.da_lang.specs.Grammar as gr
-use Rattle.da_lang.specs.Grammar.{IsParam, IsParams, IsTypes, IsFrom, IsAt, IsMember, IsMessage, IsClass}
+use Rattle.da_lang.specs.Grammar.{IsParam, TypedParam, IsParams, IsTypes, IsFrom, IsAt, IsMember, IsMessage, IsClass}
 use Rattle.da_lang.specs.Spelling as g
 use Rattle.da_lang.specs.Spelling.{Spelling, Room, Named, Ended}
 use Rattle.da_lang.specs.TypeGrammar.{TypeIn}
@@ -65,9 +65,9 @@ module _ (R : ℕ → Type 0) (down : (d : ℕ) → R (suc d) → R d) (f : ℕ)
   Block_ = IsBlock (room 1) (deeper room f 2) (BodyIn room f 2)
 
   abbrev Member_ : Spelling Member
-  Member_ = IsMember (room 1) (TypeIn room f 1) (IsParams room f) (IsPattern (room 1) (deeper room f 2)) Block_
+  Member_ = IsMember (room 1) (TypeIn room f 1) (IsParams (TypedParam room f)) (IsPattern (room 1) (deeper room f 2)) Block_
 
-  params-again : (n : ℕ) (ps : List Param) (i r : List Tok) → IsParams room f ps i r → (s : List Tok) → IsParams room f ps (put n (listed (map param ps)) (tok_of n m.CloseParen (codes ")") ∷ s)) s
+  params-again : (n : ℕ) (ps : List Param) (i r : List Tok) → IsParams (TypedParam room f) ps i r → (s : List Tok) → IsParams (TypedParam room f) ps (put n (listed (map param ps)) (tok_of n m.CloseParen (codes ")") ∷ s)) s
   params-again n ps i r l s = closed-again n param (param-again n (type-again R n f 2)) m.CloseParen _ ps _ _ l s
 
   member-again : Reprints Member_ Member_ member_lines unlined_member
@@ -116,7 +116,7 @@ module _ (R : ℕ → Type 0) (down : (d : ℕ) → R (suc d) → R d) (f : ℕ)
             (gr.IsMember.receive (g.At.at refl) (patterns p _ _ a _) (from-again n patterns o _ _ e _) (at-again n ns _ _ w _) (g.At.at refl) spelled);
       }
 
-  pub class-again : Reprints (IsClass (λ d t. R d) f) (IsClass (λ d t. R d) f) class_lines unlined_class
+  pub class-again : Reprints (IsClass room f (TypedParam room f)) (IsClass room f (TypedParam room f)) class_lines unlined_class
   class-again _ i r (gr.IsClass.class {n = w} {ms} {t} h k x p c z o l) n level rest low =
       let inside = ended-again member_lines unlined_member member-again (λ x i r h. member-begins x) ms _ _ l (n + 1) level rest low in
       record {

@@ -6,7 +6,7 @@ use Rattle.da_values.specs.declared.token.Token.{Token}
 use Rattle.da_values.specs.Marks.{Tok, toks}
 use Rattle.da_values.specs.Tokens.{tokens}
 use Rattle.da_lang.specs.declared.tree.Tree.{Tree}
-use Rattle.da_lang.specs.Grammar.{IsProgram, Spells, SpellsWithin}
+use Rattle.da_lang.specs.Grammar.{IsTypedProgram, Spells, SpellsWithin}
 use Rattle.da_parse.proofs.Spelled.{toks-spelled}
 use Rattle.da_parse.proofs.WholePrograms.{SpellsWithin_spells}
 use Rattle.da_unparse.specs.Lines.{lines_toks}
@@ -30,7 +30,7 @@ spells_again t i (all, (f, is)) =
       lexed = lexed;
       other = u;
       same = same;
-      spelled = (toks-spelled (tree_text t) list lexed, (f, subst (IsProgram (λ d t. Unit {0}) f u) (sym seen) spelled));
+      spelled = (toks-spelled (tree_text t) list lexed, (f, subst (IsTypedProgram (λ d t. Unit {0}) f u) (sym seen) spelled));
     }
 
 pub spells_again_within : (most : ℕ) (t : Tree) (i : List Tok) → SpellsWithin most t i → SpellsAgainWithin most (tree_text t) t
@@ -43,7 +43,7 @@ spells_again_within most t i (all, is) =
       lexed = lexed;
       other = u;
       same = same;
-      spelled = (toks-spelled (tree_text t) list lexed, subst (IsProgram (λ d t. d < most) (suc most) u) (sym seen) spelled);
+      spelled = (toks-spelled (tree_text t) list lexed, subst (IsTypedProgram (λ d t. d < most) (suc most) u) (sym seen) spelled);
     }
 
 -- the same of the text that a call gave

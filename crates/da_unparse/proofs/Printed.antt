@@ -7,7 +7,7 @@ use Rattle.da_lang.specs.declared.tree.MessageDecl.{MessageDecl}
 use Rattle.da_lang.specs.declared.tree.Tree.{Tree}
 use Rattle.da_lang.specs.Spelling.{Room}
 use Rattle.da_lang.specs.ExprGrammar.{deeper}
-use Rattle.da_lang.specs.Grammar.{IsMline, IsKind, IsDecls, IsMain, IsProgram, Spells}
+use Rattle.da_lang.specs.Grammar.{IsMline, IsKind, IsDecls, IsMain, TypedParam, IsProgram, IsTypedProgram, Spells}
 use Rattle.da_unparse.specs.Lines.{Line}
 use Rattle.da_unparse.specs.Pieces.{Piece}
 use Rattle.da_unparse.specs.Printable.{Follow, ArePrintable}
@@ -55,7 +55,7 @@ kind_shows _ i r (IsKind.fifo_unreliable h a b e) s =
 kind_shows _ i r (IsKind.unordered_unreliable h a b e) s = (none_outermost, past e (past b (past a (past h s))))
 
 module _ (room : ℕ → Room) (f : ℕ) where
-  decls_show : (xs : List MessageDecl) (cs : List ClassTree) (i r : List Tok) → IsDecls room f xs cs i r → Spelt i
+  decls_show : (xs : List MessageDecl) (cs : List ClassTree) (i r : List Tok) → IsDecls room f (TypedParam room f) xs cs i r → Spelt i
       → EachHas (λ x. Starts 0 (message_lines x 0)) xs × EachHas (λ c. Starts 0 (class_lines c 0)) cs × Spelt r
   decls_show _ _ i r IsDecls.no_decl s = (tt, tt, s)
   decls_show _ _ i r (IsDecls.message a l) s =
@@ -73,7 +73,7 @@ module _ (room : ℕ → Room) (f : ℕ) where
       let header = join (next (as_solid (before_part makes-Def refl refl refl)) (join (part solid solid makes-Main refl refl refl refl) (parens loose refl none))) (part loose solid makes-Colon refl refl refl refl) in
       (then_go 0 (line_starts 0 header) (each_deeper main_line_lines ls each 0), t)
 
-  program_shows : (x : Tree) (i : List Tok) → IsProgram room f x i → Spelt i → Outermost (tree_lines x)
+  program_shows : (x : Tree) (i : List Tok) → IsTypedProgram room f x i → Spelt i → Outermost (tree_lines x)
   unfolding tree_lines
   program_shows _ i (IsProgram.program {k} {xs} {cs} {ls} a b c) s =
       let (kind_is, t) = kind_shows k _ _ a s in

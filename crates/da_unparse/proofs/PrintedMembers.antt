@@ -11,7 +11,7 @@ use Rattle.da_lang.specs.Spelling.{Spelling, Room, Named}
 use Rattle.da_lang.specs.TypeGrammar.{TypeIn}
 use Rattle.da_lang.specs.ExprGrammar.{Deeper, deeper, IsPattern}
 use Rattle.da_lang.specs.StmtGrammar.{IsBlock, BodyIn}
-use Rattle.da_lang.specs.Grammar.{IsParam, IsFrom, IsAt, IsMember, IsCount, IsMline, IsParams, IsMessage, IsClass}
+use Rattle.da_lang.specs.Grammar.{IsParam, IsFrom, IsAt, IsMember, IsCount, IsMline, TypedParam, IsParams, IsMessage, IsClass}
 use Rattle.da_unparse.specs.Expressions.{either, all_at_least, shown, type_pieces}
 use Rattle.da_unparse.specs.Pieces.{gap, name, colon}
 use Rattle.da_unparse.specs.Printable.{Makes}
@@ -116,15 +116,15 @@ module _ (room : ℕ → Room) (f : ℕ) where
       let parts = listed_parens loose refl (map type_pieces xs) (each_part TypePart type_pieces (λ x p. p) xs each) in
       (λ level. line_starts level (join (next (as_solid (before_part makes-Message refl refl refl)) (name_part solid named refl)) parts), past e u)
 
-  members_show : Shows (IsMember (room 1) (TypeIn room f 1) (IsParams room f) (IsPattern (room 1) (deeper room f 2)) (IsBlock (room 1) (deeper room f 2) (BodyIn room f 2))) MemberStarts
+  members_show : Shows (IsMember (room 1) (TypeIn room f 1) (IsParams (TypedParam room f)) (IsPattern (room 1) (deeper room f 2)) (IsBlock (room 1) (deeper room f 2) (BodyIn room f 2))) MemberStarts
   members_show =
-      member_shows (room 1) (TypeIn room f 1) (IsParams room f) (IsPattern (room 1) (deeper room f 2)) (IsBlock (room 1) (deeper room f 2) (BodyIn room f 2))
+      member_shows (room 1) (TypeIn room f 1) (IsParams (TypedParam room f)) (IsPattern (room 1) (deeper room f 2)) (IsBlock (room 1) (deeper room f 2) (BodyIn room f 2))
       (types_show room f 1)
-      (closed_shows (IsParam (TypeIn room f 2)) ParamPart (param_shows (TypeIn room f 2) (types_show room f 2)) m.CloseParen)
+      (closed_shows (TypedParam room f) ParamPart (param_shows (TypeIn room f 2) (types_show room f 2)) m.CloseParen)
       (pattern_shows (room 1) (deeper room f 2) (deeper_shows room f 2))
       (block_shows (room 1) (deeper room f 2) (BodyIn room f 2) (deeper_shows room f 2) (body_shows room f 2))
 
-  pub class_shows : Shows (IsClass room f) (λ c. BlockStarts (class_lines c))
+  pub class_shows : Shows (IsClass room f (TypedParam room f)) (λ c. BlockStarts (class_lines c))
   class_shows _ i r (IsClass.class {n} {ms} h a x p c e o l) s =
       let (named, t) = name_shows _ _ _ a (past h s) in
       let (each, u) = ended_show _ MemberStarts members_show ms _ _ l (past_open o (past e (past c (past p (past x t))))) in

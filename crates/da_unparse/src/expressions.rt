@@ -6,11 +6,9 @@ ghost use Rattle.std.specs.List.{flat_map};
 ghost use Rattle.std.specs.Prelude.{◌≡◌, ◌++◌, codes, OnOk};
 
 use crate::levels::{Level, asked_by, level_of};
-use crate::words::{
-    cmp_word, op_word, put_integer, put_source, put_string, quantifier, truth, tuple_end_of,
-};
+use crate::words::{cmp_word, op_word, put_source, put_string, quantifier, truth, tuple_end_of};
 use da_lang::{ChainTree, Expr, GenTree, PatternTree, PeerTree};
-use da_values::{Boxed, Buf, NoMemory};
+use da_values::{Boxed, Buf, NoMemory, write_number};
 
 /// Appends an expression, which may be a quantification.
 #[cycle(exprs)]
@@ -48,7 +46,7 @@ pub fn put_expr(x: &Expr, out: &mut Buf) -> Result<(), NoMemory>
                 put_links(asked, links.as_slice(), out)
             }
         },
-        Expr::Int(number) => put_integer(*number, out),
+        Expr::Int(number) => write_number(*number, out),
         Expr::Text(text) => put_string(text, out),
         Expr::Truth(b) => out.append(truth(*b)),
         Expr::Me => out.append(b"self"),
@@ -239,7 +237,7 @@ pub fn put_pattern(pattern: &PatternTree, out: &mut Buf) -> Result<(), NoMemory>
     match pattern {
         PatternTree::Wild => out.append(b"_"),
         PatternTree::Name(name) => out.append(name.as_slice()),
-        PatternTree::Int(number) => put_integer(*number, out),
+        PatternTree::Int(number) => write_number(*number, out),
         PatternTree::Text(text) => put_string(text, out),
         PatternTree::Truth(b) => out.append(truth(*b)),
         PatternTree::Me => out.append(b"self"),

@@ -7,8 +7,6 @@ mod lines;
 mod members;
 mod programs;
 mod statements;
-#[cfg(test)]
-mod tests;
 mod types;
 mod words;
 

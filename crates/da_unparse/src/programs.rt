@@ -15,9 +15,8 @@ use crate::expressions::put_at;
 use crate::levels::Level;
 use crate::members::put_members;
 use crate::types::put_types;
-use crate::words::put_number;
 use da_lang::{ChannelKind, ClassTree, Expr, MainLine, MessageDecl, Tree};
-use da_values::{Buf, List, NoMemory};
+use da_values::{Buf, List, NoMemory, write_number};
 use std::alloc::Global;
 
 /// The text of a tree: four spaces for each level, one statement, declaration or header on a line, and parentheses only
@@ -176,7 +175,7 @@ fn put_count(count: Option<u64>, out: &mut Buf) -> Result<(), NoMemory>
         None => Ok(()),
         Some(n) => {
             out.append(b", ")?;
-            put_number(n, out)
+            write_number(n, out)
         }
     }
 }

@@ -1,27 +1,9 @@
-//! Numbers, strings, signs and words.
+//! Strings, signs and words.
 ghost use Rattle.da_unparse.specs.Texts.{cmp_word as cmp_word_lem, op_word as op_word_lem, quantifier_text, source_text, truth_text, tuple_end};
-ghost use Rattle.std.specs.Fmt.{signed_decimal};
-ghost use Rattle.std.specs.Prelude.{◌≡◌, ◌++◌, codes, decimal, OnOk};
+ghost use Rattle.std.specs.Prelude.{◌≡◌, ◌++◌, codes, OnOk};
 
 use da_lang::{ArithOp, CmpOp, SourceTree};
 use da_values::{Buf, NoMemory, Str};
-use itoa::Buffer;
-
-/// Appends an integer, with its sign.
-pub fn put_integer(n: i128, out: &mut Buf) -> Result<(), NoMemory>
-    ensures { OnOk result (out.new ≡ out.old ++ signed_decimal n) }
-{
-    let mut digits = Buffer::new();
-    out.append(digits.format(n).as_bytes())
-}
-
-/// Appends a number.
-pub fn put_number(n: u64, out: &mut Buf) -> Result<(), NoMemory>
-    ensures { OnOk result (out.new ≡ out.old ++ decimal n) }
-{
-    let mut digits = Buffer::new();
-    out.append(digits.format(n).as_bytes())
-}
 
 /// Appends a text in its quotes.
 pub fn put_string(text: &Str, out: &mut Buf) -> Result<(), NoMemory>

@@ -24,10 +24,10 @@ pub record Scan : Type 0 where
   pub spaces : ℕ
   -- the open levels, the innermost first
   pub levels : List ℕ
-  -- how many brackets are open, and the line of the one that was opened last from none open
+  -- how deep the scan is inside brackets, and the line on which it last went into an outermost one
   pub brackets : ℕ
   pub bracket_line : ℕ
-  -- the byte after the last token, and its line, or 1 where there is none
+  -- where the last token ended, and on which line; before any token, on line 1
   pub past : ℕ
   pub last_line : ℕ
 
@@ -60,7 +60,7 @@ popped level (l ∷ ls) = if nat_lt level l then popped level ls else l ∷ ls
 abbrev pub Levelled : Type 0
 Levelled = Result (List Token × Scan) Fault
 
--- Before the first token of a line its spaces are its level.
+-- How far a line is indented counts once its first token comes.
 unfoldable pub level : Scan → Levelled
 level s =
     if nat_lt (top s.levels) s.spaces
@@ -88,7 +88,7 @@ with_token k n b (Ok (ts, s)) =
     Ok (ts ++ record { kind = k; first = s.at; length = n; line = s.line } ∷ [], bracketed b (record s { past = s.at + n; last_line = s.line }))
 with_token k n b (Err e) = Err e
 
--- a line that has a token ends, outside brackets
+-- an end of line that counts: no bracket is open, and the line has a token
 abbrev pub line_end : Scan → List Token
 line_end s = if s.is_fresh || not (s.brackets == 0) then [] else empty kind.Newline s.past s.line ∷ []
 
@@ -104,7 +104,7 @@ step s b (piece_is.Fault f) = Err (record { kind = f; line = s.line })
 abbrev pub Scanned : Type 0
 Scanned = Result (List Token) Fault
 
--- At the end of the text the last line ends, and the open levels.
+-- Where the text is used up, its last line ends, and with it each level that is open.
 unfoldable pub finish : Scan → Scanned
 finish s =
     if s.brackets == 0

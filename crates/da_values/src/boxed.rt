@@ -1,22 +1,23 @@
-//! Boxes that contracts see as what they hold.
+//! Values on the heap.
 ghost use Rattle.std.specs.Prelude.{◌≡◌, IfOk};
 
 use crate::list::NoMemory;
 use std::alloc::Global;
 use std::marker::Model;
 
-/// A value on the heap, which contracts see as the value itself, so that two equal trees are equal to a contract.
+/// The owner of one value that lies on the heap. To a contract it is that value, so a tree with owners in it is equal
+/// to another where its values are.
 #[derive(Debug, Drop)]
 pub struct Boxed<T> {
-    inner: Box<T>,
+    on_heap: Box<T>,
 }
 
 impl<T> Model for Boxed<T> {
     ghost Value = { T };
 
-    ghost coded = { T.code };
+    ghost view = { λ owner. owner.on_heap.value };
 
-    ghost view = { λ boxed. boxed.inner.value };
+    ghost coded = { T.code };
 }
 
 impl<T> Boxed<T> {
@@ -24,15 +25,15 @@ impl<T> Boxed<T> {
     pub fn get(&self) -> &T
         ensures { result.now ≡ self.now }
     {
-        &self.inner
+        &self.on_heap
     }
 
     /// Takes the value out.
     pub fn into_inner(self) -> T
         ensures { result ≡ self }
     {
-        let Boxed { inner } = self;
-        Box::into_inner(inner)
+        let Boxed { on_heap } = self;
+        Box::into_inner(on_heap)
     }
 }
 
@@ -42,7 +43,7 @@ impl<T: Drop> Boxed<T> {
         ensures { IfOk result (λ boxed. boxed ≡ value) }
     {
         match Box::new(alloc, value) {
-            Ok(inner) => Ok(Boxed { inner }),
+            Ok(on_heap) => Ok(Boxed { on_heap }),
             Err(_) => Err(NoMemory),
         }
     }

@@ -1,7 +1,7 @@
 //! Values of DistAlgo programs, with the lists, boxes and texts that they are made of.
 //!
-//! The values of a running program are integers, truth values, texts, processes, tuples and sets. Contracts see
-//! every value as a plain recursive type, `Val`, and every list as the list of its elements.
+//! A running program computes with integers, truth values, texts and processes, and with tuples and sets of values.
+//! Contracts see every value as a plain recursive type, `Val`, and every list as the list of its elements.
 #![tactic(auto)]
 
 mod boxed;
@@ -31,7 +31,7 @@ pub use length::encoded_len;
 pub use list::{Buf, List, NoMemory};
 pub use marks::{front_symbol, mark_of, word_mark};
 pub use narrow::is_narrow;
-pub use number::{NUMBER_MAX, read_number};
+pub use number::{NUMBER_MAX, read_number, write_number};
 pub use read::{ValueFault, read_value};
 pub use set::{set_has, set_insert, set_remove};
 pub use steps::Steps;

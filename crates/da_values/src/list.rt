@@ -1,7 +1,7 @@
-//! Lists that contracts see as their elements.
+//! Lists, and the one answer of all that finds no memory.
 ghost use Rattle.std.specs.Cmp.Lexicographic.{pointwise, lists_equiv, lists_per};
 ghost use Rattle.std.specs.Option.{option_copied};
-ghost use Rattle.std.specs.Prelude.{◌≡◌, [], ◌∷◌, ◌++◌, ◌<◌, ◌≤◌, length, insert, remove, slice_get, slice_set, take, MatchOption, OnOk, OnErr, OnSome};
+ghost use Rattle.std.specs.Prelude.{◌≡◌, [], ◌∷◌, ◌++◌, ◌<◌, ◌≤◌, length, insert, remove, reverse, slice_get, slice_set, take, MatchOption, OnOk, OnErr, OnSome};
 
 use std::alloc::Global;
 use std::marker::Model;
@@ -12,24 +12,25 @@ use thiserror::Error;
 #[error("no memory is left")]
 pub struct NoMemory;
 
-/// A list, which contracts see as the list of its elements.
+/// Elements in a row, which is all that a contract sees. A call that needs more room for them may be refused.
 #[derive(Debug, Drop)]
 pub struct List<T> {
-    items: Vec<T>,
+    elements: Vec<T>,
 }
 
 /// A list of bytes.
 pub type Buf = List<u8>;
 
 impl<T> Model for List<T> {
-    ghost use Rattle.std.specs.Coded.{coded_list};
     ghost use Rattle.std.specs.Prelude.{List};
 
     ghost Value = { List T };
 
-    ghost coded = { coded_list T.code };
+    ghost view = { λ list. list.elements.items };
 
-    ghost view = { λ list. list.items.items };
+    ghost use Rattle.std.specs.Coded.{coded_list};
+
+    ghost coded = { coded_list T.code };
 }
 
 impl<T> List<T> {
@@ -38,7 +39,7 @@ impl<T> List<T> {
         ensures { result ≡ [] }
     {
         List {
-            items: Vec::new(alloc),
+            elements: Vec::new(alloc),
         }
     }
 
@@ -46,7 +47,7 @@ impl<T> List<T> {
     pub fn len(&self) -> usize
         ensures { result ≡ length self.now }
     {
-        self.items.len()
+        self.elements.len()
     }
 
     /// The element at a place, counted from 0, or `None` exactly where there is none.
@@ -54,14 +55,14 @@ impl<T> List<T> {
         ensures value { option_copied result ≡ slice_get self.now at }
         ensures within { OnSome result (at < length self.now) }
     {
-        self.items.get(at)
+        self.elements.get(at)
     }
 
     /// The elements.
     pub fn as_slice(&self) -> &[T]
         ensures { result.now ≡ self.now }
     {
-        self.items.as_slice()
+        self.elements.as_slice()
     }
 
     /// Takes the element at a place out, and moves those after it up.
@@ -70,14 +71,21 @@ impl<T> List<T> {
         ensures value { slice_get self.old at ≡ Some result }
         ensures rest { self.new ≡ remove self.old at }
     {
-        self.items.remove(at)
+        self.elements.remove(at)
     }
 
-    /// Takes the last element out, or answers `None` exactly where the list is empty.
+    /// The last element, which leaves the list; `None` where the list is empty.
     pub fn pop(&mut self) -> Option<T>
         ensures { MatchOption result ((self.old ≡ []) × (self.new ≡ [])) (λ last. self.old ≡ self.new ++ last ∷ []) }
     {
-        self.items.pop()
+        self.elements.pop()
+    }
+
+    /// Turns the order of the elements round. It takes no memory.
+    pub fn reverse(&mut self)
+        ensures { self.new ≡ reverse self.old }
+    {
+        self.elements.as_mut_slice().reverse()
     }
 }
 
@@ -87,7 +95,7 @@ impl<T: Drop> List<T> {
         ensures ok { OnOk result (self.new ≡ self.old ++ item ∷ []) }
         ensures err { OnErr result (self.new ≡ self.old) }
     {
-        match self.items.push(item) {
+        match self.elements.push(item) {
             Ok(()) => Ok(()),
             Err(_) => Err(NoMemory),
         }
@@ -100,7 +108,7 @@ impl<T: Drop> List<T> {
         ensures ok { OnOk result (self.new ≡ insert self.old at item) }
         ensures err { OnErr result (self.new ≡ self.old) }
     {
-        match self.items.insert(at, item) {
+        match self.elements.insert(at, item) {
             Ok(()) => Ok(()),
             Err(_) => Err(NoMemory),
         }
@@ -111,14 +119,14 @@ impl<T: Drop> List<T> {
         requires { at < length self.old }
         ensures { self.new ≡ slice_set self.old at item }
     {
-        self.items[at] = item;
+        self.elements[at] = item;
     }
 
     /// Drops the elements from the place `len` on.
     pub fn truncate(&mut self, len: usize)
         ensures { self.new ≡ take len self.old }
     {
-        self.items.truncate(len)
+        self.elements.truncate(len)
     }
 }
 
@@ -128,7 +136,7 @@ impl List<u8> {
         ensures ok { OnOk result (self.new ≡ self.old ++ bytes.now) }
         ensures err { OnErr result (self.new ≡ self.old) }
     {
-        match self.items.extend_from_slice(bytes) {
+        match self.elements.extend_from_slice(bytes) {
             Ok(()) => Ok(()),
             Err(_) => Err(NoMemory),
         }
@@ -141,7 +149,7 @@ impl<T: PartialEq> PartialEq for List<T> {
     ghost laws = { lists_per T.laws };
 
     fn eq(&self, other: &Self) -> bool {
-        self.items.as_slice() == other.items.as_slice()
+        self.elements.as_slice() == other.elements.as_slice()
     }
 }
 

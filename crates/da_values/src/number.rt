@@ -1,6 +1,9 @@
-//! Numbers of programs.
+//! Numbers in decimal.
 ghost use Rattle.da_values.specs.Piece as spec;
-ghost use Rattle.std.specs.Prelude.{◌≡◌};
+ghost use Rattle.std.specs.Prelude.{◌≡◌, ◌++◌, OnErr, OnOk};
+
+use crate::list::{Buf, NoMemory};
+use itoa::{Buffer, Integer};
 
 /// The greatest integer that a program can write.
 pub const NUMBER_MAX: u64 = 9223372036854775807;
@@ -26,9 +29,19 @@ pub fn read_number(mut digits: &[u8]) -> Option<u64>
     Some(number)
 }
 
+/// Appends a number in decimal, with its sign. Where memory is refused `out` is as it was.
+pub fn write_number<N: Integer>(number: N, out: &mut Buf) -> Result<(), NoMemory>
+    ensures ok { OnOk result (out.new ≡ out.old ++ N.text number) }
+    ensures err { OnErr result (out.new ≡ out.old) }
+{
+    let mut digits = Buffer::new();
+    out.append(digits.format(number).as_bytes())
+}
+
 #[cfg(test)]
 mod tests {
     use super::*;
+    use crate::list::List;
 
     #[test]
     fn digits_write_numbers(rt: HostRuntime) {
@@ -36,5 +49,15 @@ mod tests {
         assert_eq!(rt; read_number(b"9223372036854775807"), Some(NUMBER_MAX));
         assert_eq!(rt; read_number(b"9223372036854775808"), None);
         assert_eq!(rt; read_number(b"1a"), None);
+    }
+
+    #[test]
+    fn numbers_are_written_behind_what_stands(rt: HostRuntime) {
+        let mut out = List::new(rt.alloc());
+        let written = write_number(NUMBER_MAX, &mut out).is_ok()
+            && out.append(b" ").is_ok()
+            && write_number(-7i128, &mut out).is_ok();
+        assert!(rt; written);
+        assert_eq!(rt; out.as_slice(), b"9223372036854775807 -7".as_slice());
     }
 }

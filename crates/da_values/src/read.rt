@@ -181,7 +181,7 @@ fn strip_closing(bytes: &[u8], parts: usize) -> Option<&[u8]>
 }
 
 // Whether each value is less than the next.
-fn ascends(values: &[Value]) -> bool
+pub(crate) fn ascends(values: &[Value]) -> bool
     ensures { MatchBool result (Ascends val_cmp (vals values.now)) (Ascends val_cmp (vals values.now) → ⊥) }
 {
     for at in 1..values.len() {

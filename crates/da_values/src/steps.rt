@@ -4,7 +4,8 @@ ghost use Rattle.std.specs.Prelude.{◌≡◌, ◌+◌, ◌<◌};
 use std::marker::Model;
 use std::sync::ledger::{Blank, Book, Ledger, Share};
 
-/// How many steps were taken, which contracts see as that number. It takes no bytes, and only `tick` raises it.
+/// How many steps were taken, which contracts see as that number. Only `tick` counts on, and at run time nothing is
+/// kept of the count.
 #[derive(Drop)]
 pub struct Steps<L: Ledger> {
     book: Book<L>,

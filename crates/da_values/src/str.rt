@@ -8,7 +8,7 @@ use std::alloc::Global;
 use std::marker::Model;
 use thiserror::Error;
 
-/// A text of bytes 32 to 126 without `'`, which contracts see as the list of its bytes.
+/// A text of printable ASCII that has no quote `'` in it. Contracts see the list of its bytes.
 #[derive(Debug, Drop)]
 pub struct Str {
     bytes: Buf,
@@ -29,7 +29,7 @@ impl Model for Str {
 /// Why no text was made of some bytes.
 #[derive(Clone, Copy, Debug, PartialEq, Eq, Error)]
 pub enum StrFault {
-    /// A byte is not 32 to 126, or it is `'`.
+    /// One of the bytes is a quote, or no printable ASCII.
     #[error("a byte that no text may hold")]
     BadText,
     /// Memory was refused.

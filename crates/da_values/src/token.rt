@@ -1,6 +1,6 @@
 //! Tokens of a program's text, and what the grammar sees of them.
 
-/// What a token is. Reserved words and symbols are told apart by their text.
+/// What a token is. Which word or symbol it is, its text says.
 #[derive(Clone, Copy, Debug, PartialEq, Eq)]
 pub enum TokenKind {
     /// An integer.
@@ -15,7 +15,7 @@ pub enum TokenKind {
     Word,
     /// A symbol.
     Symbol,
-    /// The end of a line that has a token, outside brackets.
+    /// The end of a line with tokens, where no bracket is open.
     Newline,
     /// The level of a line is greater than that of the line before.
     Indent,
@@ -39,13 +39,13 @@ pub struct Token {
 /// Why a text has no tokens.
 #[derive(Clone, Copy, Debug, PartialEq, Eq)]
 pub enum LexKind {
-    /// A byte outside a comment is not allowed.
+    /// A byte that may stand in comments alone.
     BadByte,
-    /// A level is not one of those that are open.
+    /// A line that goes back to a level which is not open.
     BadIndent,
-    /// Bytes begin no token, or an integer has a leading zero or is too large.
+    /// No token begins so, or the number that does has a 0 in front of other digits or is greater than `NUMBER_MAX`.
     BadToken,
-    /// A text literal or a bracket is not closed.
+    /// A line ends inside a text literal, or the program inside a bracket.
     Unclosed,
 }
 

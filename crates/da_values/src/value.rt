@@ -1,9 +1,10 @@
 //! Values as code keeps them.
 ghost use Rattle.da_values.specs.Value.{val_of, vals};
 ghost use Rattle.std.specs.Option.{option_copied, option_map};
-ghost use Rattle.std.specs.Prelude.{◌≡◌, [], ◌∷◌, ◌++◌, length, slice_get, OnOk, OnErr};
+ghost use Rattle.std.specs.Prelude.{◌≡◌, [], ◌∷◌, ◌++◌, length, slice_get, None, IfSome, OnOk, OnErr};
 
 use crate::list::{List, NoMemory};
+use crate::read::ascends;
 use crate::str::Str;
 use std::alloc::Global;
 use std::marker::Model;
@@ -89,7 +90,8 @@ impl Model for SetVal {
 }
 
 impl Row {
-    pub(crate) fn from_list(parts: List<Value>) -> Row
+    /// The row of these parts.
+    pub fn from_list(parts: List<Value>) -> Row
         ensures { result ≡ vals parts }
     {
         Row { parts }
@@ -143,6 +145,18 @@ impl SetVal {
         ensures { result ≡ vals elements }
     {
         SetVal { elements }
+    }
+
+    /// The set of these elements, or `None` exactly where one is not less than the next. It takes no memory.
+    pub fn from_ascending(elements: List<Value>) -> Option<SetVal>
+        ensures set { IfSome result (λ set. set ≡ vals elements) }
+        ensures none { result ≡ None → Ascends val_cmp (vals elements) → ⊥ }
+    {
+        if ascends(elements.as_slice()) {
+            Some(SetVal { elements })
+        } else {
+            None
+        }
     }
 
     /// The empty set. It takes no memory.

@@ -4,8 +4,8 @@ ghost use Rattle.da_values.specs.Value.{val_of, vals};
 ghost use Rattle.std.specs.Prelude.{◌≡◌, ◌++◌, length, map, take, OnOk, OnErr};
 
 use crate::list::{Buf, NoMemory};
+use crate::number::write_number;
 use crate::value::Value;
-use itoa::Buffer;
 
 /// Appends the text of a value. Where memory is refused `out` is as it was.
 pub fn write_value(v: &Value, out: &mut Buf) -> Result<(), NoMemory>
@@ -30,10 +30,7 @@ fn put_value(v: &Value, out: &mut Buf) -> Result<(), NoMemory>
     ensures err { OnErr result (take (length out.old) out.new ≡ out.old) }
 {
     match v {
-        Value::Int(number) => {
-            let mut digits = Buffer::new();
-            out.append(digits.format(*number).as_bytes())
-        }
+        Value::Int(number) => write_number(*number, out),
         Value::Bool(true) => out.append(b"true"),
         Value::Bool(false) => out.append(b"false"),
         Value::Text(text) => {
@@ -42,9 +39,8 @@ fn put_value(v: &Value, out: &mut Buf) -> Result<(), NoMemory>
             out.append(b"'")
         }
         Value::Proc(process) => {
-            let mut digits = Buffer::new();
             out.append(b"p")?;
-            out.append(digits.format(*process).as_bytes())
+            write_number(*process, out)
         }
         Value::Tuple(parts) => {
             out.append(b"(")?;

@@ -10,11 +10,13 @@ use Rattle.da_values.specs.Marks.{toks}
 use Rattle.da_values.specs.Tokens.{tokens}
 use Rattle.da_lang.specs.declared.program.Program.{Program}
 use Rattle.da_lang.specs.declared.tree.Tree.{Tree}
+use Rattle.da_lang.specs.Accepted.{IsWritten}
 use Rattle.da_lang.specs.Grammar.{SpellsWithin}
 use Rattle.da_lang.specs.Limits.{Resolves}
 use Rattle.da_parse.specs.declared.whole.ParseFault.{ParseFault}
 use Rattle.da_parse.specs.declared.whole.ParseFault.TheVariants as parse_fault
 use Rattle.da_parse.specs.Parse.{Answers, IsLineOf, NamesLine, parsed}
+use Rattle.da_parse.proofs.WrittenTrees.{written_tree}
 use Rattle.da_scope.specs.declared.top.ScopeFault.{ScopeFault}
 use Rattle.da_scope.specs.declared.top.ScopeFault.TheVariants as scope
 use Rattle.da_scope.specs.Resolving.{IsRefusedAs as IsNotResolved}
@@ -52,6 +54,9 @@ module _ (text seen : List ℕ) (list : List Token) (e : ParseFault) (same : see
 
   pub is_deep : (line : ℕ) → e ≡ parse_fault.Deep line → Refuses text kind_is.Deep line
   is_deep line is = too_deep line (lacks (parse_fault.Deep line) line is (λ memory. absurd (cc)) (λ told. told) (λ on. on))
+
+pub is_written : (text : List ℕ) (tree : Tree) → HasTree text tree → IsWritten tree
+is_written text tree has = written_tree text has.list tree has.lexed has.size has.spelled
 
 pub not_resolved : (text : List ℕ) (tree : Tree) (why : ScopeFault) → HasTree text tree → IsNotResolved tree why → IsRefusedAs text (after_names why)
 not_resolved text tree (scope.Refused kind line) has is = misnamed kind line (record { tree = tree; has = has; is = is })

@@ -5,7 +5,7 @@ ghost use Rattle.da_system.specs.SourceRun.{EndsByStop};
 ghost use Rattle.da_system.specs.State.{IsReady, Whichever, program_of};
 ghost use Rattle.replay_run.specs.Replay.{HasEnded, HasRun, IsTried, run_on, run_text, step_text};
 ghost use Rattle.sched_text.specs.ActionText.{action_line, action_text};
-ghost use Rattle.std.specs.Prelude.{ℕ, ◌≡◌, ◌↔◌, ◌∷◌, ◌≤◌, List, [], IfOk, OnErr, OnOk};
+ghost use Rattle.std.specs.Prelude.{ℕ, ◌≡◌, ◌↔◌, ◌∷◌, ◌<◌, ◌≤◌, List, [], IfOk, OnErr, OnOk};
 
 use crate::outcome::Outcome;
 use da_lang::{Action, Event};
@@ -38,9 +38,10 @@ pub fn replay<K: Sink>(
     // However it ended, no more was written than the front of that text.
     ensures front { Whichever system.old (λ s. AppendsFront (K.taken sink.old) (K.taken sink.new) (run_text (program_of system.old) s events.now)) }
 
-    // A fault has its cause.
+    // A fault has its cause, and the count rises for no other reason.
     ensures write { result ≡ Outcome.WriteFault → Rose (K.faults sink.old) (K.faults sink.new) }
     ensures later { K.faults sink.old ≤ K.faults sink.new }
+    ensures rises { K.faults sink.old < K.faults sink.new → result ≡ Outcome.WriteFault }
 {
     match run_events(alloc, system, events, sink) {
         Ok(outcome) => outcome,

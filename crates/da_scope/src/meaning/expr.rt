@@ -8,7 +8,7 @@ ghost use Rattle.std.specs.Prelude.{◌≡◌, [], ◌∷◌, ◌++◌, IfOk, On
 
 use crate::meaning::condition::{aggregate, guard};
 use crate::meaning::generator::generators;
-use crate::meaning::numbers::numbers_from;
+use crate::meaning::numbers::numbers_of;
 use crate::meaning::scope::{Meaning, Scope};
 use crate::meaning::tables::Tables;
 use crate::meaning::term::term;
@@ -207,9 +207,7 @@ fn named(alloc: Global, means: Option<Meaning>) -> Result<RExpr, NoMemory>
         Some(Meaning::InSlot(slot)) => Ok(RExpr::Slot(slot)),
         Some(Meaning::InRow(_)) => Ok(RExpr::Me),
         Some(Meaning::OneProcess(process)) => Ok(RExpr::Const(Value::Proc(process))),
-        Some(Meaning::Processes { first, count }) => {
-            Ok(RExpr::Procs(numbers_from(alloc, first, usize::from(count))?))
-        }
+        Some(Meaning::Processes(row)) => Ok(RExpr::Procs(numbers_of(alloc, row)?)),
         None => Ok(RExpr::Me),
     }
 }

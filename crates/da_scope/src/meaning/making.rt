@@ -1,7 +1,7 @@
 //! The processes that `main` makes.
 ghost use Rattle.da_lang.specs.Resolution.{first_call, made, made_count, made_entry, procs_of, resolved_args, setup_call};
 ghost use Rattle.da_scope.specs.MakingView.{made_by};
-ghost use Rattle.std.specs.Prelude.{◌≡◌, ◌++◌, IfOk, OnOk, flat_map, position, bytes_eq, unwrap_or};
+ghost use Rattle.std.specs.Prelude.{◌≡◌, ◌+◌, ◌<◌, ◌≤◌, ◌++◌, IfOk, IfSome, OnOk, flat_map, length, position, bytes_eq, unwrap_or};
 
 use crate::meaning::expr::outside;
 use crate::meaning::scope::Scope;
@@ -12,10 +12,11 @@ use std::alloc::Global;
 
 /// The names that lines of `main` make, of which the first counts. They are as many as the lines, so they have a map.
 pub fn names_made<'t>(alloc: Global, lines: &'t [MainLine]) -> Result<Scope<'t>, NoMemory>
+    requires { made_by lines.now ≤ 64 }
     ensures { IfOk result (λ scope. scope ≡ made 0 lines.now) }
 {
     let mut scope = Scope::new(alloc);
-    let mut before = processes_made(lines)?;
+    let mut before = processes_made(lines);
     let mut rest = lines;
     while let Some((line, earlier)) = rest.split_last() {
         before -= count_made(line);
@@ -26,34 +27,34 @@ pub fn names_made<'t>(alloc: Global, lines: &'t [MainLine]) -> Result<Scope<'t>,
 }
 
 // How many processes some lines make.
-fn processes_made(lines: &[MainLine]) -> Result<usize, NoMemory>
-    ensures { IfOk result (λ count. count ≡ made_by lines.now) }
+fn processes_made(lines: &[MainLine]) -> u16
+    requires { made_by lines.now ≤ 64 }
+    ensures { result ≡ made_by lines.now }
 {
-    let mut count: usize = 0;
+    let mut count = 0u16;
     for line in lines {
-        let Some(more) = count.checked_add(count_made(line)) else {
-            return Err(NoMemory);
-        };
-        count = more;
+        count += count_made(line);
     }
-    Ok(count)
+    count
 }
 
 // How many processes a line makes.
-fn count_made(line: &MainLine) -> usize
+fn count_made(line: &MainLine) -> u16
+    requires { made_count line.now ≤ 64 }
     ensures { result ≡ made_count line.now }
 {
     match line {
         MainLine::New { count, .. } => match count {
             None => 1,
-            Some(count) => *count as usize,
+            Some(count) => *count as u16,
         },
         MainLine::Setup { .. } => 0,
     }
 }
 
 // The name that a line makes behind so many processes comes into scope.
-fn enter_line<'t>(before: usize, line: &'t MainLine, scope: &mut Scope<'t>) -> Result<(), NoMemory>
+fn enter_line<'t>(before: u16, line: &'t MainLine, scope: &mut Scope<'t>) -> Result<(), NoMemory>
+    requires { before + made_count line.now ≤ 64 }
     ensures { OnOk result (scope.new ≡ made_entry before line.now ++ scope.old) }
 {
     match line {
@@ -64,6 +65,8 @@ fn enter_line<'t>(before: usize, line: &'t MainLine, scope: &mut Scope<'t>) -> R
 
 /// The processes that `main` makes.
 pub fn processes(alloc: Global, t: &Tree) -> Result<List<ProcDecl>, NoMemory>
+    requires made { made_by t.now.main ≤ 64 }
+    requires classes { length t.now.classes ≤ 32 }
     ensures { IfOk result (λ procs. procs ≡ flat_map (procs_of t.now) t.now.main) }
 {
     let scope = names_made(alloc, t.main.as_slice())?;
@@ -82,12 +85,14 @@ fn add_processes<'t>(
     scope: &Scope<'t>,
     procs: &mut List<ProcDecl>,
 ) -> Result<(), NoMemory>
-    requires { scope.now ≡ made 0 t.now.main }
+    requires scope { scope.now ≡ made 0 t.now.main }
+    requires made { made_count line.now ≤ 64 }
+    requires classes { length t.now.classes ≤ 32 }
     ensures { OnOk result (procs.new ≡ procs.old ++ procs_of t.now line.now) }
 {
     match line {
         MainLine::New { name, class, .. } => {
-            let class = place_of(t.classes.as_slice(), class.as_slice())?;
+            let class = place_of(t.classes.as_slice(), class.as_slice());
             for turn in 0..count_made(line) {
                 let setup = setup_of(alloc, name.as_slice(), t.main.as_slice(), scope)?;
                 procs.push(ProcDecl { class, setup })?;
@@ -99,21 +104,20 @@ fn add_processes<'t>(
 }
 
 // The place of the first class of a name, counted from 0. A name without a class is refused before.
-fn place_of(classes: &[ClassTree], name: &[u8]) -> Result<u16, NoMemory>
-    ensures { IfOk result (λ place. place ≡ unwrap_or (position (λ c. bytes_eq c.name name.now) classes.now) 0) }
+fn place_of(classes: &[ClassTree], name: &[u8]) -> u16
+    requires { length classes.now ≤ 32 }
+    ensures { result ≡ unwrap_or (position (λ c. bytes_eq c.name name.now) classes.now) 0 }
 {
-    let Some(place) = class_named(classes, name) else {
-        return Ok(0);
-    };
-    match u16::try_from(place) {
-        Ok(place) => Ok(place),
-        Err(_) => Err(NoMemory),
+    match class_named(classes, name) {
+        None => 0,
+        Some(place) => place as u16,
     }
 }
 
 // The place of the first class of a name, counted from 0, where there is one.
 fn class_named(classes: &[ClassTree], name: &[u8]) -> Option<usize>
-    ensures { result ≡ position (λ c. bytes_eq c.name name.now) classes.now }
+    ensures place { result ≡ position (λ c. bytes_eq c.name name.now) classes.now }
+    ensures within { IfSome result (λ place. place < length classes.now) }
 {
     classes
         .iter()

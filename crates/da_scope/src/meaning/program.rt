@@ -1,17 +1,18 @@
 //! Programs.
 ghost use Rattle.da_lang.specs.Resolution.{resolved, resolved_class};
-ghost use Rattle.std.specs.Prelude.{◌≡◌, IfOk, map};
+ghost use Rattle.da_lang.specs.Limits.{limit_refusals};
+ghost use Rattle.std.specs.Prelude.{◌≡◌, [], IfOk, map};
 
 use crate::meaning::class::build_class;
 use crate::meaning::making::processes;
-use crate::meaning::types::copy_types;
-use da_lang::{Class, ClassTree, MessageDecl, Program, Tree};
+use da_lang::{Class, ClassTree, MessageDecl, Program, Tree, copy_types};
 use da_values::{List, NoMemory, copy_bytes};
 use std::alloc::Global;
 
 /// The program of a tree that no rule of names and no limit refuses.
 #[tactic(auto, unfolding(da_lang::specs::Resolution::resolved))]
 pub fn build_program(alloc: Global, t: &Tree) -> Result<Program, NoMemory>
+    requires { limit_refusals t.now ≡ [] }
     ensures { IfOk result (λ program. program ≡ resolved t.now) }
 {
     let messages = copy_messages(alloc, t.messages.as_slice())?;

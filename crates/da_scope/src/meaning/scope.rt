@@ -1,14 +1,14 @@
 //! The names in scope.
 ghost use Rattle.da_lang.specs.ExprMeaning.{InSlot, width, with_row};
-ghost use Rattle.da_lang.specs.Resolution.{made_as};
+ghost use Rattle.da_lang.specs.Resolution.{made_as, many};
 ghost use Rattle.da_lang.specs.Scopes.{look};
 ghost use Rattle.da_scope.specs.MeaningView.{meaning_of};
 ghost use Rattle.da_scope.specs.ScopeIndex.{meaning_in};
 ghost use Rattle.da_scope.specs.SlotScope.{shown};
 ghost use Rattle.std.specs.Option.{option_map, option_or};
-ghost use Rattle.std.specs.Prelude.{◌≡◌, ℕ, List, None, Some, [], ◌∷◌, IfOk, OnOk, bytes_eq, if◌then◌else◌, suc};
+ghost use Rattle.std.specs.Prelude.{◌≡◌, ℕ, ◌+◌, ◌≤◌, List, None, Some, [], ◌∷◌, IfOk, OnOk, bytes_eq, if◌then◌else◌, suc};
 
-use crate::meaning::numbers::number_at;
+use crate::meaning::numbers::Row;
 use da_values::{List, NoMemory};
 use std::alloc::Global;
 use std::collections::BTreeMap;
@@ -23,8 +23,8 @@ pub enum Meaning {
     InRow(u16),
     /// A process that `main` made.
     OneProcess(u16),
-    /// So many processes that `main` made, from the first on.
-    Processes { first: u16, count: u16 },
+    /// Processes that `main` made, by their numbers.
+    Processes(Row),
 }
 
 /// A name with what it stands for.
@@ -174,25 +174,25 @@ impl<'t> Scope<'t> {
         Ok(())
     }
 
-    /// What a line of `main` makes comes into scope, behind so many processes: one, or with a count so many. More than a
-    /// number has place for are refused as memory is: the limits of programs leave none.
+    /// What a line of `main` makes comes into scope, behind so many processes: one, or with a count so many. The limit
+    /// of processes allows them.
     pub fn enter_made(
         &mut self,
         name: &'t [u8],
         count: Option<u64>,
-        before: usize,
+        before: u16,
     ) -> Result<(), NoMemory>
+        requires { before + many count ≤ 64 }
         ensures { OnOk result (self.new ≡ (name.now, made_as count before) ∷ self.old) }
     {
-        let first = number_at(1, before)?;
-        let Some(count) = count else {
-            let means = Meaning::OneProcess(first);
-            return self.names.push(Named { name, means });
+        let first = before + 1;
+        let means = match count {
+            None => Meaning::OneProcess(first),
+            Some(count) => Meaning::Processes(Row {
+                first,
+                count: count as u16,
+            }),
         };
-        let Ok(count) = u16::try_from(count) else {
-            return Err(NoMemory);
-        };
-        let means = Meaning::Processes { first, count };
         self.names.push(Named { name, means })
     }
 

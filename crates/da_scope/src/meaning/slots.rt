@@ -7,8 +7,7 @@ ghost use Rattle.std.specs.Prelude.{◌≡◌, [], ◌∷◌, IfOk, OnOk, filter
 
 use crate::meaning::scope::Scope;
 use crate::meaning::tables::Tables;
-use crate::meaning::types::copy_type;
-use da_lang::{Member, Param, Ty};
+use da_lang::{Member, Param, Ty, copy_type};
 use da_values::{List, NoMemory};
 use std::alloc::Global;
 

@@ -2,7 +2,6 @@
 ghost use Rattle.da_lang.specs.BodyMeaning.{next, with_slots};
 ghost use Rattle.std.specs.Prelude.{◌≡◌, [], ◌∷◌, ◌++◌, IfOk, OnOk, length, suc};
 
-use crate::meaning::numbers::number_at;
 use da_lang::{Query, Ty};
 use da_values::{List, NoMemory};
 use std::alloc::Global;
@@ -44,7 +43,13 @@ impl Tables {
     pub fn next_slot(&self) -> Result<u16, NoMemory>
         ensures { IfOk result (λ slot. slot ≡ next self.now) }
     {
-        number_at(1, self.slots.len())
+        let Ok(others) = u16::try_from(self.slots.len()) else {
+            return Err(NoMemory);
+        };
+        match others.checked_add(1) {
+            Some(slot) => Ok(slot),
+            None => Err(NoMemory),
+        }
     }
 
     /// A new slot, of this type where it is known.

@@ -60,7 +60,7 @@ fn named_term(means: Option<Meaning>) -> Term
         Some(Meaning::InSlot(slot)) => Term::Slot(slot),
         Some(Meaning::InRow(part)) => Term::Part(part),
         Some(Meaning::OneProcess(_)) => Term::Foreign,
-        Some(Meaning::Processes { .. }) => Term::Foreign,
+        Some(Meaning::Processes(_)) => Term::Foreign,
         None => Term::Foreign,
     }
 }

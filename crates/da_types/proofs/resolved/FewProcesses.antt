@@ -12,7 +12,7 @@ use Rattle.da_lang.specs.Resolution.{made_count, many, procs_of, resolved}
 use Rattle.da_types.proofs.resolved.CallsAllowed.{map_none}
 use Rattle.da_types.proofs.totality.Awaits.{no_left, no_right}
 
-made_length : (t : Tree) (l : MainLine) → length (procs_of t l) ≡ made_count l
+pub made_length : (t : Tree) (l : MainLine) → length (procs_of t l) ≡ made_count l
 made_length t (main_line.New name class count line) = length-replicate (many count) _
 made_length t (main_line.Setup name args line) = refl
 
@@ -39,7 +39,7 @@ main_within : (t : Tree) → limit_refusals t ≡ [] → processes_over 0 t.main
 unfolding limit_refusals
 main_within t e = map_none _ _ (no_right _ _ (no_left _ _ (no_left _ _ (no_left _ _ (no_left _ _ (no_left _ _ e))))))
 
-procs_are : (t : Tree) → (resolved t).procs ≡ flat_map (procs_of t) t.main
+pub procs_are : (t : Tree) → (resolved t).procs ≡ flat_map (procs_of t) t.main
 unfolding resolved
 procs_are t = refl
 

@@ -76,10 +76,10 @@ module _ (messages : List MessageDecl) (queries : List Query) (slots : Slots) wh
   each_keeps : (body : List Item) → all (map item body) ≡ [] → (j : Item) → Has body j → Keeps j
   each_keeps body e j h = none_of (λ part. part) (map item body) e (item j) (Has-map item body j h)
 
-  abbrev blocks : ItemKind-F ItemKind Alt Item RBranch → List ℕ
+  abbrev pub blocks : ItemKind-F ItemKind Alt Item RBranch → List ℕ
   blocks y = (kind_breaks messages queries slots (map-ItemKind ItemKind Alt Item RBranch Breaks (List ℕ) (List ℕ) (List ℕ) kind alt item branch y)).blocks
 
-  blocks_none : (i : Item) → Keeps i → blocks (kind_of i) ≡ []
+  pub blocks_none : (i : Item) → Keeps i → blocks (kind_of i) ≡ []
   blocks_none i e =
       let b = (out-Item i).kind in
       sym (ap (λ (z : Breaks). z.blocks) (kind_layer b)) ∙ no_right (unless (out-Item i).line (kind b).rule) (kind b).blocks (sym (item_layer i) ∙ e)
@@ -123,12 +123,16 @@ module _ (messages : List MessageDecl) (queries : List Query) (slots : Slots) wh
   within_keeps i items (here h) each = each i h
   within_keeps i items (deeper j body there block within) each = within_keeps i body within (block_keeps (kind_of j) (blocks_none j (each j there)) body block)
 
+  -- the condition of an alternative, and what it binds
+  pub alt_rule : (a : Alt) → alt a ≡ [] → (cond_holds (known messages queries slots) (out-Alt a).cond [] ≡ true) × (have_found messages queries slots (out-Alt a).found (out-Alt a).binds ≡ true)
+  alt_rule a none =
+      let rule = keeps_rule (out-Alt a).line _ (no_left _ (all (map item (out-Alt a).body)) (sym (alt_layer a) ∙ none)) in
+      and_parts (cond_holds (known messages queries slots) (out-Alt a).cond []) _ rule
+
   -- the condition of an alternative of a statement that keeps the rules
   alternative_holds : (y : ItemKind-F ItemKind Alt Item RBranch) (alts : List Alt) (a : Alt) → y ≡ ItemKind-F.Await alts → blocks y ≡ [] → Has alts a → cond_holds (known messages queries slots) (out-Alt a).cond [] ≡ true
   alternative_holds y alts a is e h =
-      let none : alt a ≡ [] = alt_keeps alts (ap blocks (sym is) ∙ e) a h in
-      let rule = keeps_rule (out-Alt a).line _ (no_left _ (all (map item (out-Alt a).body)) (sym (alt_layer a) ∙ none)) in
-      (and_parts (cond_holds (known messages queries slots) (out-Alt a).cond []) _ rule).0
+      (alt_rule a (alt_keeps alts (ap blocks (sym is) ∙ e) a h)).0
 
   await_holds : (i : Item) (alts : List Alt) (a : Alt) → Keeps i → kind_of i ≡ ItemKind-F.Await alts → Has alts a → cond_holds (known messages queries slots) (out-Alt a).cond [] ≡ true
   await_holds i alts a keeps is h = alternative_holds (kind_of i) alts a is (blocks_none i keeps) h

@@ -29,7 +29,7 @@ use Rattle.da_lang.specs.Matching.{Row, is_same, where_true}
 use Rattle.da_lang.specs.Queries.{total}
 use Rattle.da_lang.specs.QueryTypes.{given}
 use Rattle.da_lang.specs.World.{Data, at_number}
-use Rattle.da_types.specs.Totality.{compared, Finds, Test, StrictMeaning, Number, all_there, truth, found_term_step, found_term, found_match_step, found_match, tuple_found, found_cond_step, found_operand_step, found_agg_step, found_signed_step, found_holds, found_operand, found_agg, found_signed, found_where, integer_found, set_found, aggregate_found, other_found}
+use Rattle.da_types.specs.Totality.{compared, StrictMatch, Test, StrictMeaning, Number, all_there, truth, strict_term_step, strict_term, strict_match_step, strict_match, strict_tuple, strict_cond_step, strict_operand_step, strict_agg_step, strict_signed_step, strict_holds, strict_operand, strict_agg, strict_signed, strict_where, strict_integer, strict_set, strict_aggregate, strict_other}
 
 -- functions of a row, each at one row
 pub at_row : {A B : Type 0} (f : A → Row → B) (xs : List A) (row : Row) → map (λ (g : Row → B). g row) (map f xs) ≡ map (λ x. f x row) xs
@@ -37,94 +37,94 @@ at_row f [] row = refl
 at_row f (x ∷ xs) row = ap (λ zs. f x row ∷ zs) (at_row f xs row)
 
 module _ (d : Data) (row : Row) where
-  pub found_term-Const : (c : Value) → found_term d row (te.Const c) ≡ Some (val_of c)
-  found_term-Const c = ap (found_term d row) (sym (te.rolls-Const c)) ∙ fold-roll-Term (Option Val) (found_term_step d row) (Term-F.Const c)
+  pub strict_term-Const : (c : Value) → strict_term d row (te.Const c) ≡ Some (val_of c)
+  strict_term-Const c = ap (strict_term d row) (sym (te.rolls-Const c)) ∙ fold-roll-Term (Option Val) (strict_term_step d row) (Term-F.Const c)
 
-  pub found_term-Me : found_term d row te.Me ≡ Some (val.Proc d.me)
-  found_term-Me = ap (found_term d row) (sym te.rolls-Me) ∙ fold-roll-Term (Option Val) (found_term_step d row) Term-F.Me
+  pub strict_term-Me : strict_term d row te.Me ≡ Some (val.Proc d.me)
+  strict_term-Me = ap (strict_term d row) (sym te.rolls-Me) ∙ fold-roll-Term (Option Val) (strict_term_step d row) Term-F.Me
 
-  pub found_term-Slot : (s : ℕ) → found_term d row (te.Slot s) ≡ at_number d.slots s
-  found_term-Slot s = ap (found_term d row) (sym (te.rolls-Slot s)) ∙ fold-roll-Term (Option Val) (found_term_step d row) (Term-F.Slot s)
+  pub strict_term-Slot : (s : ℕ) → strict_term d row (te.Slot s) ≡ at_number d.slots s
+  strict_term-Slot s = ap (strict_term d row) (sym (te.rolls-Slot s)) ∙ fold-roll-Term (Option Val) (strict_term_step d row) (Term-F.Slot s)
 
-  pub found_term-Part : (k : ℕ) → found_term d row (te.Part k) ≡ at_number row k
-  found_term-Part k = ap (found_term d row) (sym (te.rolls-Part k)) ∙ fold-roll-Term (Option Val) (found_term_step d row) (Term-F.Part k)
+  pub strict_term-Part : (k : ℕ) → strict_term d row (te.Part k) ≡ at_number row k
+  strict_term-Part k = ap (strict_term d row) (sym (te.rolls-Part k)) ∙ fold-roll-Term (Option Val) (strict_term_step d row) (Term-F.Part k)
 
-  pub found_term-Tuple : (parts : List Term) → found_term d row (te.Tuple parts) ≡ given (all_there (map (found_term d row) parts)) (λ vs. Some (val.Tuple vs))
-  found_term-Tuple parts = ap (found_term d row) (sym (te.rolls-Tuple parts)) ∙ fold-roll-Term (Option Val) (found_term_step d row) (Term-F.Tuple parts)
+  pub strict_term-Tuple : (parts : List Term) → strict_term d row (te.Tuple parts) ≡ given (all_there (map (strict_term d row) parts)) (λ vs. Some (val.Tuple vs))
+  strict_term-Tuple parts = ap (strict_term d row) (sym (te.rolls-Tuple parts)) ∙ fold-roll-Term (Option Val) (strict_term_step d row) (Term-F.Tuple parts)
 
-  pub found_term-Foreign : found_term d row te.Foreign ≡ None
-  found_term-Foreign = ap (found_term d row) (sym te.rolls-Foreign) ∙ fold-roll-Term (Option Val) (found_term_step d row) Term-F.Foreign
+  pub strict_term-Foreign : strict_term d row te.Foreign ≡ None
+  strict_term-Foreign = ap (strict_term d row) (sym te.rolls-Foreign) ∙ fold-roll-Term (Option Val) (strict_term_step d row) Term-F.Foreign
 
 module _ (d : Data) (x : Val) (row : Row) where
   abbrev match_at : Pattern → Option (Option Row)
-  match_at p = found_match d p x row
+  match_at p = strict_match d p x row
 
-  pub found_match-Any : found_match d pa.Any x row ≡ Some (Some row)
-  found_match-Any = ap match_at (sym pa.rolls-Any) ∙ ap (λ (m : Finds). m x row) (fold-roll-Pattern Finds (found_match_step d) Pattern-F.Any)
+  pub strict_match-Any : strict_match d pa.Any x row ≡ Some (Some row)
+  strict_match-Any = ap match_at (sym pa.rolls-Any) ∙ ap (λ (m : StrictMatch). m x row) (fold-roll-Pattern StrictMatch (strict_match_step d) Pattern-F.Any)
 
-  pub found_match-Bind : found_match d pa.Bind x row ≡ Some (Some (row ++ x ∷ []))
-  found_match-Bind = ap match_at (sym pa.rolls-Bind) ∙ ap (λ (m : Finds). m x row) (fold-roll-Pattern Finds (found_match_step d) Pattern-F.Bind)
+  pub strict_match-Bind : strict_match d pa.Bind x row ≡ Some (Some (row ++ x ∷ []))
+  strict_match-Bind = ap match_at (sym pa.rolls-Bind) ∙ ap (λ (m : StrictMatch). m x row) (fold-roll-Pattern StrictMatch (strict_match_step d) Pattern-F.Bind)
 
-  pub found_match-Const : (c : Value) → found_match d (pa.Const c) x row ≡ Some (where_true (is_same x (val_of c)) row)
-  found_match-Const c = ap match_at (sym (pa.rolls-Const c)) ∙ ap (λ (m : Finds). m x row) (fold-roll-Pattern Finds (found_match_step d) (Pattern-F.Const c))
+  pub strict_match-Const : (c : Value) → strict_match d (pa.Const c) x row ≡ Some (where_true (is_same x (val_of c)) row)
+  strict_match-Const c = ap match_at (sym (pa.rolls-Const c)) ∙ ap (λ (m : StrictMatch). m x row) (fold-roll-Pattern StrictMatch (strict_match_step d) (Pattern-F.Const c))
 
-  pub found_match-Me : found_match d pa.Me x row ≡ Some (where_true (is_same x (val.Proc d.me)) row)
-  found_match-Me = ap match_at (sym pa.rolls-Me) ∙ ap (λ (m : Finds). m x row) (fold-roll-Pattern Finds (found_match_step d) Pattern-F.Me)
+  pub strict_match-Me : strict_match d pa.Me x row ≡ Some (where_true (is_same x (val.Proc d.me)) row)
+  strict_match-Me = ap match_at (sym pa.rolls-Me) ∙ ap (λ (m : StrictMatch). m x row) (fold-roll-Pattern StrictMatch (strict_match_step d) Pattern-F.Me)
 
-  pub found_match-Equal : (y : Term) → found_match d (pa.Equal y) x row ≡ given (found_term d row y) (λ v. Some (where_true (is_same x v) row))
-  found_match-Equal y = ap match_at (sym (pa.rolls-Equal y)) ∙ ap (λ (m : Finds). m x row) (fold-roll-Pattern Finds (found_match_step d) (Pattern-F.Equal y))
+  pub strict_match-Equal : (y : Term) → strict_match d (pa.Equal y) x row ≡ given (strict_term d row y) (λ v. Some (where_true (is_same x v) row))
+  strict_match-Equal y = ap match_at (sym (pa.rolls-Equal y)) ∙ ap (λ (m : StrictMatch). m x row) (fold-roll-Pattern StrictMatch (strict_match_step d) (Pattern-F.Equal y))
 
-  pub found_match-Tuple : (ps : List Pattern) → found_match d (pa.Tuple ps) x row ≡ tuple_found (map (found_match d) ps) (out-Val x) row
-  found_match-Tuple ps = ap match_at (sym (pa.rolls-Tuple ps)) ∙ ap (λ (m : Finds). m x row) (fold-roll-Pattern Finds (found_match_step d) (Pattern-F.Tuple ps))
+  pub strict_match-Tuple : (ps : List Pattern) → strict_match d (pa.Tuple ps) x row ≡ strict_tuple (map (strict_match d) ps) (out-Val x) row
+  strict_match-Tuple ps = ap match_at (sym (pa.rolls-Tuple ps)) ∙ ap (λ (m : StrictMatch). m x row) (fold-roll-Pattern StrictMatch (strict_match_step d) (Pattern-F.Tuple ps))
 
 module _ (d : Data) (row : Row) where
   abbrev cond_at : Cond → Option Bool
-  cond_at b = found_holds d b row
+  cond_at b = strict_holds d b row
 
   abbrev operand_at : Operand → Option Val
-  operand_at a = found_operand d a row
+  operand_at a = strict_operand d a row
 
-  cond_layer : (b : Cond-F Cond Operand Agg SignedOperand) → found_holds d (roll-Cond b) row ≡ found_cond_step d (map-Cond Cond Operand Agg SignedOperand Test StrictMeaning StrictMeaning Number (found_holds d) (found_operand d) (found_agg d) (found_signed d) b) row
-  cond_layer b = ap (λ (f : Test). f row) (fold-roll-Cond Test StrictMeaning StrictMeaning Number (found_cond_step d) (found_operand_step d) (found_agg_step d) (found_signed_step d) b)
+  cond_layer : (b : Cond-F Cond Operand Agg SignedOperand) → strict_holds d (roll-Cond b) row ≡ strict_cond_step d (map-Cond Cond Operand Agg SignedOperand Test StrictMeaning StrictMeaning Number (strict_holds d) (strict_operand d) (strict_agg d) (strict_signed d) b) row
+  cond_layer b = ap (λ (f : Test). f row) (fold-roll-Cond Test StrictMeaning StrictMeaning Number (strict_cond_step d) (strict_operand_step d) (strict_agg_step d) (strict_signed_step d) b)
 
-  operand_layer : (a : Operand-F Cond Operand Agg SignedOperand) → found_operand d (roll-Operand a) row ≡ found_operand_step d (map-Operand Cond Operand Agg SignedOperand Test StrictMeaning StrictMeaning Number (found_holds d) (found_operand d) (found_agg d) (found_signed d) a) row
-  operand_layer a = ap (λ (f : StrictMeaning). f row) (fold-roll-Operand Test StrictMeaning StrictMeaning Number (found_cond_step d) (found_operand_step d) (found_agg_step d) (found_signed_step d) a)
+  operand_layer : (a : Operand-F Cond Operand Agg SignedOperand) → strict_operand d (roll-Operand a) row ≡ strict_operand_step d (map-Operand Cond Operand Agg SignedOperand Test StrictMeaning StrictMeaning Number (strict_holds d) (strict_operand d) (strict_agg d) (strict_signed d) a) row
+  operand_layer a = ap (λ (f : StrictMeaning). f row) (fold-roll-Operand Test StrictMeaning StrictMeaning Number (strict_cond_step d) (strict_operand_step d) (strict_agg_step d) (strict_signed_step d) a)
 
-  pub found_holds-Truth : (y : Term) → found_holds d (co.Truth y) row ≡ given (found_term d row y) (λ v. truth (out-Val v))
-  found_holds-Truth y = ap cond_at (sym (co.rolls-Truth y)) ∙ cond_layer (Cond-F.Truth y)
+  pub strict_holds-Truth : (y : Term) → strict_holds d (co.Truth y) row ≡ given (strict_term d row y) (λ v. truth (out-Val v))
+  strict_holds-Truth y = ap cond_at (sym (co.rolls-Truth y)) ∙ cond_layer (Cond-F.Truth y)
 
-  pub found_holds-Cmp : (op : CmpOp) (a b : Operand) → found_holds d (co.Cmp op a b) row ≡ given (found_operand d a row) (λ v. given (found_operand d b row) (compared op v))
-  found_holds-Cmp op a b = ap cond_at (sym (co.rolls-Cmp op a b)) ∙ cond_layer (Cond-F.Cmp op a b)
+  pub strict_holds-Cmp : (op : CmpOp) (a b : Operand) → strict_holds d (co.Cmp op a b) row ≡ given (strict_operand d a row) (λ v. given (strict_operand d b row) (compared op v))
+  strict_holds-Cmp op a b = ap cond_at (sym (co.rolls-Cmp op a b)) ∙ cond_layer (Cond-F.Cmp op a b)
 
-  pub found_holds-Not : (b : Cond) → found_holds d (co.Not b) row ≡ given (found_holds d b row) (λ v. Some (not v))
-  found_holds-Not b = ap cond_at (sym (co.rolls-Not b)) ∙ cond_layer (Cond-F.Not b)
+  pub strict_holds-Not : (b : Cond) → strict_holds d (co.Not b) row ≡ given (strict_holds d b row) (λ v. Some (not v))
+  strict_holds-Not b = ap cond_at (sym (co.rolls-Not b)) ∙ cond_layer (Cond-F.Not b)
 
-  pub found_holds-And : (bs : List Cond) → found_holds d (co.And bs) row ≡ given (all_there (map (λ b. found_holds d b row) bs)) (λ vs. Some (list_all (λ v. v) vs))
-  found_holds-And bs = ap cond_at (sym (co.rolls-And bs)) ∙ cond_layer (Cond-F.And bs) ∙ ap (λ z. given (all_there z) (λ vs. Some (list_all (λ v. v) vs))) (at_row (found_holds d) bs row)
+  pub strict_holds-And : (bs : List Cond) → strict_holds d (co.And bs) row ≡ given (all_there (map (λ b. strict_holds d b row) bs)) (λ vs. Some (list_all (λ v. v) vs))
+  strict_holds-And bs = ap cond_at (sym (co.rolls-And bs)) ∙ cond_layer (Cond-F.And bs) ∙ ap (λ z. given (all_there z) (λ vs. Some (list_all (λ v. v) vs))) (at_row (strict_holds d) bs row)
 
-  pub found_holds-Or : (bs : List Cond) → found_holds d (co.Or bs) row ≡ given (all_there (map (λ b. found_holds d b row) bs)) (λ vs. Some (list_any (λ v. v) vs))
-  found_holds-Or bs = ap cond_at (sym (co.rolls-Or bs)) ∙ cond_layer (Cond-F.Or bs) ∙ ap (λ z. given (all_there z) (λ vs. Some (list_any (λ v. v) vs))) (at_row (found_holds d) bs row)
+  pub strict_holds-Or : (bs : List Cond) → strict_holds d (co.Or bs) row ≡ given (all_there (map (λ b. strict_holds d b row) bs)) (λ vs. Some (list_any (λ v. v) vs))
+  strict_holds-Or bs = ap cond_at (sym (co.rolls-Or bs)) ∙ cond_layer (Cond-F.Or bs) ∙ ap (λ z. given (all_there z) (λ vs. Some (list_any (λ v. v) vs))) (at_row (strict_holds d) bs row)
 
-  pub found_holds-Quant : (each : Bool) (gens : List RGen) (b : Option Cond) → found_holds d (co.Quant each gens b) row ≡ found_cond_step d (Cond-F.Quant each gens (found_where d b)) row
-  found_holds-Quant each gens None = ap cond_at (sym (co.rolls-Quant each gens None)) ∙ cond_layer (Cond-F.Quant each gens None)
-  found_holds-Quant each gens (Some b) = ap cond_at (sym (co.rolls-Quant each gens (Some b))) ∙ cond_layer (Cond-F.Quant each gens (Some b))
+  pub strict_holds-Quant : (each : Bool) (gens : List RGen) (b : Option Cond) → strict_holds d (co.Quant each gens b) row ≡ strict_cond_step d (Cond-F.Quant each gens (strict_where d b)) row
+  strict_holds-Quant each gens None = ap cond_at (sym (co.rolls-Quant each gens None)) ∙ cond_layer (Cond-F.Quant each gens None)
+  strict_holds-Quant each gens (Some b) = ap cond_at (sym (co.rolls-Quant each gens (Some b))) ∙ cond_layer (Cond-F.Quant each gens (Some b))
 
-  pub found_operand-Term : (y : Term) → found_operand d (od.Term y) row ≡ found_term d row y
-  found_operand-Term y = ap operand_at (sym (od.rolls-Term y)) ∙ operand_layer (Operand-F.Term y)
+  pub strict_operand-Term : (y : Term) → strict_operand d (od.Term y) row ≡ strict_term d row y
+  strict_operand-Term y = ap operand_at (sym (od.rolls-Term y)) ∙ operand_layer (Operand-F.Term y)
 
-  pub found_operand-Agg : (a : Agg) → found_operand d (od.Agg a) row ≡ found_agg d a row
-  found_operand-Agg a = ap operand_at (sym (od.rolls-Agg a)) ∙ operand_layer (Operand-F.Agg a)
+  pub strict_operand-Agg : (a : Agg) → strict_operand d (od.Agg a) row ≡ strict_agg d a row
+  strict_operand-Agg a = ap operand_at (sym (od.rolls-Agg a)) ∙ operand_layer (Operand-F.Agg a)
 
-  pub found_operand-Chain : (a : Operand) (more : List SignedOperand) → found_operand d (od.Chain a more) row ≡ given (integer_found (found_operand d a row)) (λ first. given (all_there (map (λ s. found_signed d s row) more)) (λ others. Some (val.Int (first +ℤ total others))))
-  found_operand-Chain a more =
+  pub strict_operand-Chain : (a : Operand) (more : List SignedOperand) → strict_operand d (od.Chain a more) row ≡ given (strict_integer (strict_operand d a row)) (λ first. given (all_there (map (λ s. strict_signed d s row) more)) (λ others. Some (val.Int (first +ℤ total others))))
+  strict_operand-Chain a more =
       ap operand_at (sym (od.rolls-Chain a more)) ∙ operand_layer (Operand-F.Chain a more)
-      ∙ ap (λ z. given (integer_found (found_operand d a row)) (λ first. given (all_there z) (λ others. Some (val.Int (first +ℤ total others))))) (at_row (found_signed d) more row)
+      ∙ ap (λ z. given (strict_integer (strict_operand d a row)) (λ first. given (all_there z) (λ others. Some (val.Int (first +ℤ total others))))) (at_row (strict_signed d) more row)
 
-  pub found_signed-of : (minus : Bool) (a : Operand) → found_signed d (roll-SignedOperand (record { minus = minus; operand = a })) row ≡ given (integer_found (found_operand d a row)) (λ i. Some (if minus then neg_ℤ i else i))
-  found_signed-of minus a = ap (λ (f : Number). f row) (fold-roll-SignedOperand Test StrictMeaning StrictMeaning Number (found_cond_step d) (found_operand_step d) (found_agg_step d) (found_signed_step d) (record { minus = minus; operand = a }))
+  pub strict_signed-of : (minus : Bool) (a : Operand) → strict_signed d (roll-SignedOperand (record { minus = minus; operand = a })) row ≡ given (strict_integer (strict_operand d a row)) (λ i. Some (if minus then neg_ℤ i else i))
+  strict_signed-of minus a = ap (λ (f : Number). f row) (fold-roll-SignedOperand Test StrictMeaning StrictMeaning Number (strict_cond_step d) (strict_operand_step d) (strict_agg_step d) (strict_signed_step d) (record { minus = minus; operand = a }))
 
-  pub found_agg-of : (op : AggOp) (gens : List RGen) (b : Option Cond) (y : Term) (other : Option Term) → found_agg d (roll-Agg (record { op = op; gens = gens; cond = b; term = y; other = other })) row ≡ given (set_found d gens (found_where d b) y row) (aggregate_found op (other_found d row other))
-  found_agg-of op gens None y other = ap (λ (f : StrictMeaning). f row) (fold-roll-Agg Test StrictMeaning StrictMeaning Number (found_cond_step d) (found_operand_step d) (found_agg_step d) (found_signed_step d) (record { op = op; gens = gens; cond = None; term = y; other = other }))
-  found_agg-of op gens (Some b) y other = ap (λ (f : StrictMeaning). f row) (fold-roll-Agg Test StrictMeaning StrictMeaning Number (found_cond_step d) (found_operand_step d) (found_agg_step d) (found_signed_step d) (record { op = op; gens = gens; cond = Some b; term = y; other = other }))
+  pub strict_agg-of : (op : AggOp) (gens : List RGen) (b : Option Cond) (y : Term) (other : Option Term) → strict_agg d (roll-Agg (record { op = op; gens = gens; cond = b; term = y; other = other })) row ≡ given (strict_set d gens (strict_where d b) y row) (strict_aggregate op (strict_other d row other))
+  strict_agg-of op gens None y other = ap (λ (f : StrictMeaning). f row) (fold-roll-Agg Test StrictMeaning StrictMeaning Number (strict_cond_step d) (strict_operand_step d) (strict_agg_step d) (strict_signed_step d) (record { op = op; gens = gens; cond = None; term = y; other = other }))
+  strict_agg-of op gens (Some b) y other = ap (λ (f : StrictMeaning). f row) (fold-roll-Agg Test StrictMeaning StrictMeaning Number (strict_cond_step d) (strict_operand_step d) (strict_agg_step d) (strict_signed_step d) (record { op = op; gens = gens; cond = Some b; term = y; other = other }))
 
-pub ruleset finding = (found_term-Const, found_term-Me, found_term-Slot, found_term-Part, found_term-Tuple, found_term-Foreign, found_match-Any, found_match-Bind, found_match-Const, found_match-Me, found_match-Equal, found_match-Tuple, found_holds-Truth, found_holds-Cmp, found_holds-Not, found_holds-And, found_holds-Or, found_holds-Quant, found_operand-Term, found_operand-Agg, found_operand-Chain, found_signed-of, found_agg-of)
+pub ruleset finding = (strict_term-Const, strict_term-Me, strict_term-Slot, strict_term-Part, strict_term-Tuple, strict_term-Foreign, strict_match-Any, strict_match-Bind, strict_match-Const, strict_match-Me, strict_match-Equal, strict_match-Tuple, strict_holds-Truth, strict_holds-Cmp, strict_holds-Not, strict_holds-And, strict_holds-Or, strict_holds-Quant, strict_operand-Term, strict_operand-Agg, strict_operand-Chain, strict_signed-of, strict_agg-of)

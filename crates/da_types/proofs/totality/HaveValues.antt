@@ -1,4 +1,4 @@
--- In a typed program every query and every condition of an `await` has a value, in every shaped world.
+-- Each query and each condition of an `await` of a typed program has a value, whatever is known that is shaped.
 use Rattle.std.specs.Prelude.{◌≡◌, refl, ℕ, ℤ, Bool, true, false, if◌then◌else◌, List, [], Option, Some, None, is_some, Ok, Err}
 use Rattle.std.specs.Option.{option_map}
 use Rattle.std.proofs.Common.{◌∙◌, ap, sym, subst}
@@ -32,14 +32,14 @@ use Rattle.da_lang.specs.Arithmetic.{fitted}
 use Rattle.da_lang.specs.Evaluation.{asked, asked_layer}
 use Rattle.da_lang.specs.Queries.{agg_value, holds, query_value, value_of_numbered, value_of_query, rows, term_set}
 use Rattle.da_lang.specs.QueryTypes.{Known, Side, given, flat, written_cond, rows_where, query_type, agg_side, agg_type, cond_holds, term_type}
-use Rattle.da_lang.specs.Shaped.{Shaped}
+use Rattle.da_lang.specs.Shaped.{ShapedData}
 use Rattle.da_lang.specs.Types.{is_of, is_flat, is_int}
 use Rattle.da_lang.specs.Typing.{IsTyped, has_queries}
-use Rattle.da_lang.specs.World.{Data, World, at_number}
+use Rattle.da_lang.specs.World.{Data, at_number}
 use Rattle.da_lang.proofs.RowLaws.{terms_of_rows}
 use Rattle.da_types.specs.Totality.{HasValue, AllHaveValues, NothingIsMissing, IsAnswer, QueryHas, counts, counts_by}
 use Rattle.da_types.proofs.totality.Awaits.{condition_holds}
-use Rattle.da_types.proofs.totality.FoundAt.{found_holds-Quant}
+use Rattle.da_types.proofs.totality.FoundAt.{strict_holds-Quant}
 use Rattle.da_types.proofs.totality.FoundConds.{agg_there, cond_there, each_cond_there, quant_there, set_there}
 use Rattle.da_types.proofs.totality.Keeping.{Knows}
 use Rattle.da_types.proofs.totality.KindLaws.{given_parts, when_parts, int_of_type, is_bool_value, from_layer}
@@ -57,7 +57,7 @@ module _ (known' : Known) (d : Data) (w : Knows narrow known' d) where
       let same : t.Bool ≡ ty = cc in
       let there = quant_there narrow good known' d w each gens b (each_cond_there narrow good known' d w b) [] found [] (ap (λ z. rows_where known' gens z []) (sym (written known' b)) ∙ typed) tt in
       record {
-        found = ap (λ z. given z (λ v. Some (val.Bool v))) (sym (found_holds-Quant d [] each gens b) ∙ there);
+        strict = ap (λ z. given z (λ v. Some (val.Bool v))) (sym (strict_holds-Quant d [] each gens b) ∙ there);
         typed = subst (λ z. is_of z (val.Bool (holds d (co.Quant each gens b) [])) ≡ true) same (is_bool_value (holds d (co.Quant each gens b) []));
         narrow = λ f. narrow.truth (holds d (co.Quant each gens b) []);
       }
@@ -71,7 +71,7 @@ module _ (known' : Known) (d : Data) (w : Knows narrow known' d) where
       let fit = comp_fits narrow known' d w x gens b found element row_is of_term tt in
       let there = set_there narrow good known' d w gens b (each_cond_there narrow good known' d w b) x [] found [] element row_is cond_is of_term tt in
       record {
-        found = ap (λ z. given z (λ vs. Some (val.Set vs))) there ∙ ap (λ vs. Some (val.Set vs)) (terms_of_rows d x gens b []);
+        strict = ap (λ z. given z (λ vs. Some (val.Set vs))) there ∙ ap (λ vs. Some (val.Set vs)) (terms_of_rows d x gens b []);
         typed = subst (λ z. is_of z (val.Set (term_set d x (rows d gens b []))) ≡ true) same fit.0;
         narrow = λ f. fit.1;
       }
@@ -91,7 +91,7 @@ module _ (known' : Known) (d : Data) (w : Knows narrow known' d) where
       let same : side.ty ≡ ty = cc in
       let there = agg_there narrow good known' d w a [] [] side typed tt in
       record {
-        found = there.0;
+        strict = there.0;
         typed = subst (λ z. is_of z (agg_value d a []) ≡ true) same there.1;
         narrow = λ f. query_kept narrow known' d w (qu.Agg a) ty e (trivially (qu.Agg a)) f;
       }
@@ -147,30 +147,27 @@ there_is : {A : Type 0} (x : Option A) → is_some x ≡ true → (a : A) × (x 
 there_is None e = absurd (false≢true e)
 there_is (Some a) e = (a, refl)
 
-module _ (p : Program) (w : World) (typed : IsTyped p) (s : Shaped p w) where
+module _ (p : Program) (c : Class) (d : Data) (typed : IsTyped p) (s : ShapedData p c d) where
   abbrev here : Known
-  here = known_here p w s
+  here = known_here p c d s
 
-  has_type : (q : Query) → Has s.class.queries q → (ty : Ty) × (query_type here q ≡ Some ty)
+  has_type : (q : Query) → Has c.queries q → (ty : Ty) × (query_type here q ≡ Some ty)
   has_type q h =
-      let in_class = each_from_all (has_queries p.messages) p.classes s.class typed.asked (class_has p w.data'.me s.class s.is_class) in
-      there_is (query_type here q) (each_from_all (λ q. is_some (query_type here q)) s.class.queries q in_class h)
+      let in_class = each_from_all (has_queries p.messages) p.classes c typed.asked (class_has p d.me c s.is_class) in
+      there_is (query_type here q) (each_from_all (λ q. is_some (query_type here q)) c.queries q in_class h)
 
-  numbered_query : (n : ℕ) (q : Query) → at_number s.class.queries n ≡ Some q → QueryHas p s.class w.data' q (query_value s.class.queries n w.data')
+  numbered_query : (n : ℕ) (q : Query) → at_number c.queries n ≡ Some q → QueryHas p c d q (query_value c.queries n d)
   numbered_query n q e =
-      let (ty, is) = has_type q (numbered_has s.class.queries n q e) in
-      let k = knows_here p w s in
-      subst (QueryHas p s.class w.data' q) (sym (ap (value_of_numbered w.data') e)) (ty, is, query_has here w.data' k q ty is, query_answer here w.data' k q ty is)
+      let (ty, is) = has_type q (numbered_has c.queries n q e) in
+      let k = knows_here p c d s in
+      subst (QueryHas p c d q) (sym (ap (value_of_numbered d) e)) (ty, is, query_has here d k q ty is, query_answer here d k q ty is)
 
-  all_have_values : AllHaveValues p s.class w.data'
+  all_have_values : AllHaveValues p c d
   all_have_values = record {
     queries = numbered_query;
-    conditions = λ i alts a is await h. cond_there narrow (λ x. tt) here w.data' (knows_here p w s) (out-Alt a).cond [] [] (condition_holds p s.class typed.keeps (class_has p w.data'.me s.class s.is_class) i is alts a await h) tt;
+    conditions = λ i alts a is await h. cond_there narrow (λ x. tt) here d (knows_here p c d s) (out-Alt a).cond [] [] (condition_holds p c typed.keeps (class_has p d.me c s.is_class) i is alts a await h) tt;
   }
 
 -- THE THEOREM OF TYPES
 pub nothing_is_missing : (p : Program) → IsTyped p → NothingIsMissing p
-nothing_is_missing p typed w c s is =
-    let both : ◌≡◌ {A = Option Class} (Some s.class) (Some c) = sym s.is_class ∙ is in
-    let same : s.class ≡ c = cc in
-    subst (λ z. AllHaveValues p z w.data') same (all_have_values p w typed s)
+nothing_is_missing p typed c d s = all_have_values p c d typed s

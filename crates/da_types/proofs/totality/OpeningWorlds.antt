@@ -12,7 +12,7 @@ use Rattle.da_lang.specs.declared.program.Program.{Program}
 use Rattle.da_lang.specs.declared.ty.Ty.{Ty}
 use Rattle.da_lang.specs.declared.ty.Ty.TheVariants as t
 use Rattle.da_lang.specs.QueryTypes.{given, type_at}
-use Rattle.da_lang.specs.Shaped.{Shaped, IsOf, IsProcess, has_processes}
+use Rattle.da_lang.specs.Shaped.{Shaped, ShapedData, IsOf, IsProcess, has_processes}
 use Rattle.da_lang.specs.Types.{is_of, all_of}
 use Rattle.da_lang.specs.Typing.{IsTyped}
 use Rattle.da_lang.specs.World.{opening, opening_data, opening_slots, class_of, default, first_value, or_nothing, slots_of_class, value_in}
@@ -81,19 +81,20 @@ module _ (p : Program) (me : ℕ) (c : Class) (few : length p.procs < 2 ^ 16) (i
       let fit = default_fits (length p.procs) me is.0 is.1 ty in
       record { proper = default_is_value me is.0 (omega (arith, is.1, few)) ty; narrow = fit.1; typed = fit.0; processes = fit.2 }
 
-  pub opening_shaped : Shaped p (opening p me)
-  opening_shaped = record {
+  opening_known : ShapedData p c (opening_data p me)
+  opening_known = record {
     me = is;
-    class = c;
     is_class = known;
     size = ap length slots_are ∙ as_long (first_value me) c.slots;
     slots = λ slot ty e. subst (IsOf p ty) (sym (ap (λ z. value_in z slot) slots_are ∙ first_in me c.slots slot ty e)) (default_is ty);
     sent = λ k x inside. absurd (omega (arith, inside));
     received = λ k x inside. absurd (omega (arith, inside));
     clock = omega arith;
-    todo = λ k x inside. absurd (omega (arith, inside));
   }
+
+  pub opening_shaped : Shaped p (opening p me)
+  opening_shaped = record { class = c; knows = opening_known; todo = λ k x inside. absurd (omega (arith, inside)) }
 
   -- so all have values at the beginning
   pub begins_with_values : IsTyped p → AllHaveValues p c (opening_data p me)
-  begins_with_values typed = nothing_is_missing p typed (opening p me) c opening_shaped known
+  begins_with_values typed = nothing_is_missing p typed c (opening_data p me) opening_known

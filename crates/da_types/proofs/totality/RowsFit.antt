@@ -16,24 +16,16 @@ use Rattle.da_lang.specs.declared.query.Source.{Source}
 use Rattle.da_lang.specs.declared.query.Source.TheVariants as source
 use Rattle.da_lang.specs.declared.ty.Ty.{Ty}
 use Rattle.da_lang.specs.declared.ty.Ty.TheVariants as t
-use Rattle.da_lang.specs.Matching.{Row, matched, matched_both}
-use Rattle.da_lang.specs.Queries.{candidates, entry_parts, step_rows, extensions}
+use Rattle.da_lang.specs.Matching.{Row, Candidate, Element, matched, matched_candidate, matched_entry}
+use Rattle.da_lang.specs.Queries.{candidates, entry_candidate, step_rows, extensions}
 use Rattle.da_lang.specs.QueryTypes.{Known, given, holds_of, when, declared, message_type, message_row, matched_row, is_any, pattern_row, pattern_tag, slot_type, source_row, peer_row, gen_row, gens_row}
 use Rattle.da_lang.specs.Shaped.{tag_of}
 use Rattle.da_lang.specs.Types.{is_of, is_flat, element_of}
-use Rattle.da_lang.specs.World.{Entry, Data, nothing, slot_of}
-use Rattle.da_lang.proofs.MatchingLaws.{match-Any}
+use Rattle.da_lang.specs.World.{Entry, Data, slot_of}
 use Rattle.da_types.proofs.totality.KindLaws.{given_parts, when_parts, if_parts, is_proc_value, set_type, set_of_type}
 use Rattle.da_types.proofs.totality.Keeping.{Keeping, Fits, RowFits, EntryFits, Knows}
 use Rattle.da_types.proofs.totality.TermLaws.{flat_is}
 use Rattle.da_types.proofs.totality.MatchesFit.{then_parts, match_fits, tag_matched}
-
-any_layer : (p : Pattern-F Pattern) → is_any p ≡ true → p ≡ po.Any
-any_layer po.Any e = refl
-any_layer _ e = absurd (cc)
-
-pub any_is : (p : Pattern) → is_any (out-Pattern p) ≡ true → p ≡ pa.Any
-any_is p e = sym (roll-out-Pattern p) ∙ ap roll-Pattern (any_layer (out-Pattern p) e) ∙ pa.rolls-Any
 
 -- a pattern over a type of at most 32 levels is one over the type
 pub matched_row_is : (known : Known) (p : Pattern) (ty : Ty) (types found : List Ty) → matched_row known p ty types ≡ Some found → pattern_row known p ty types ≡ Some found
@@ -54,7 +46,7 @@ module _ (k : Keeping) (known : Known) (d : Data) (w : Knows k known d) where
       let is = message_is known tag ty e.message entry.0 (tag_matched d.me d.slots message tag e.message row s tagged there) of_tag in
       match_fits k known d message ty types mid e.message row s over (is, entry.1) fits there
 
-  pub entry_fits : (e : Entry) → EntryFits k known e → (message peer : Pattern) (types found : List Ty) (row r : Row) → given (message_row known message types) (pattern_row known peer t.Proc) ≡ Some found → RowFits k types row → matched_both d message peer e.message (val.Proc e.peer) row ≡ Some r → RowFits k found r
+  pub entry_fits : (e : Entry) → EntryFits k known e → (message peer : Pattern) (types found : List Ty) (row r : Row) → given (message_row known message types) (pattern_row known peer t.Proc) ≡ Some found → RowFits k types row → matched_entry d message peer e.message e.peer row ≡ Some r → RowFits k found r
   entry_fits e entry message peer types found row r typed fits f =
       let (mid, first, second) = given_parts (message_row known message types) (pattern_row known peer t.Proc) found typed in
       let (s, there, rest) = then_parts (matched d.me d.slots message e.message row) (matched d.me d.slots peer (val.Proc e.peer)) r f in
@@ -71,37 +63,30 @@ module _ (k : Keeping) (known : Known) (d : Data) (w : Knows k known d) where
   pub element_fits : (element : Ty) (x : Val) → Fits k element x → (message : Pattern) (types mid : List Ty) (row s : Row) → matched_row known message element types ≡ Some mid → RowFits k types row → matched d.me d.slots message x row ≡ Some s → RowFits k mid s
   element_fits element x fit message types mid row s over fits there = match_fits k known d message element types mid x row s (matched_row_is known message element types mid over) fit fits there
 
-  any_keeps : (peer : Pattern) (mid found : List Ty) (s r : Row) → when (is_any (out-Pattern peer)) mid ≡ Some found → matched d.me d.slots peer nothing s ≡ Some r → RowFits k mid s → RowFits k found r
-  any_keeps peer mid found s r second rest fits =
-      let (any, same) = when_parts (is_any (out-Pattern peer)) mid found second in
-      let kept_row : ◌≡◌ {A = Option Row} (Some s) (Some r) = sym (match-Any d.me d.slots nothing s) ∙ ap (λ z. matched d.me d.slots z nothing s) (sym (any_is peer any)) ∙ rest in
-      let same_row : s ≡ r = cc in
-      subst (λ z. RowFits k z r) same (subst (RowFits k mid) same_row fits)
-
-  member_fits : (slot : ℕ) (x : Val) → Has (elements_of (slot_of d slot)) x → (message peer : Pattern) (types found : List Ty) (row r : Row) → given (source_row known (source.Slot slot) message types) (peer_row known (source.Slot slot) peer) ≡ Some found → RowFits k types row → matched_both d message peer x nothing row ≡ Some r → RowFits k found r
-  member_fits slot x there message peer types found row r typed fits f =
+  member_fits : (slot : ℕ) (x : Val) → Has (elements_of (slot_of d slot)) x → (message peer : Pattern) (types found : List Ty) (row r : Row) → given (source_row known (source.Slot slot) message types) (peer_row known (source.Slot slot) peer) ≡ Some found → RowFits k types row → matched d.me d.slots message x row ≡ Some r → RowFits k found r
+  member_fits slot x there message peer types found row r typed fits m =
       let (mid, first, second) = given_parts (source_row known (source.Slot slot) message types) (peer_row known (source.Slot slot) peer) found typed in
       let (element, of_slot, over) = given_parts (given (slot_type known slot) element_of) (λ element. matched_row known message element types) mid first in
       let (ty, known_type, is_set) = given_parts (slot_type known slot) element_of element of_slot in
-      let (s, m, rest) = then_parts (matched d.me d.slots message x row) (matched d.me d.slots peer nothing) r f in
       let (vs, is, each) = members_are slot ty element known_type is_set in
       let among : Has vs x = subst (λ z. Has z x) {y = vs} (ap elements_of is ∙ elements_of-Set vs) there in
-      any_keeps peer mid found s r second rest (element_fits element x (each x among) message types mid row s over fits m)
+      let (any, same) = when_parts (is_any (out-Pattern peer)) mid found second in
+      subst (λ z. RowFits k z r) same (element_fits element x (each x among) message types mid row r over fits m)
 
-  candidate_fits : (source' : Source) (message peer : Pattern) (types found : List Ty) (row r : Row) (c : Val × Val) → Has (candidates d source') c → given (source_row known source' message types) (peer_row known source' peer) ≡ Some found → RowFits k types row → matched_both d message peer c.0 c.1 row ≡ Some r → RowFits k found r
+  candidate_fits : (source' : Source) (message peer : Pattern) (types found : List Ty) (row r : Row) (c : Candidate) → Has (candidates d source') c → given (source_row known source' message types) (peer_row known source' peer) ≡ Some found → RowFits k types row → matched_candidate d message peer c row ≡ Some r → RowFits k found r
   candidate_fits source.Received message peer types found row r c there typed fits f =
-      let (e, among, is) = of_map entry_parts d.received c there in
-      entry_fits e (w.received e among) message peer types found row r typed fits (ap (λ z. matched_both d message peer z.0 z.1 row) (sym is) ∙ f)
+      let (e, among, is) = of_map entry_candidate d.received c there in
+      entry_fits e (w.received e among) message peer types found row r typed fits (ap (λ z. matched_candidate d message peer z row) (sym is) ∙ f)
   candidate_fits source.Sent message peer types found row r c there typed fits f =
-      let (e, among, is) = of_map entry_parts d.sent c there in
-      entry_fits e (w.sent e among) message peer types found row r typed fits (ap (λ z. matched_both d message peer z.0 z.1 row) (sym is) ∙ f)
+      let (e, among, is) = of_map entry_candidate d.sent c there in
+      entry_fits e (w.sent e among) message peer types found row r typed fits (ap (λ z. matched_candidate d message peer z row) (sym is) ∙ f)
   candidate_fits (source.Slot slot) message peer types found row r c there typed fits f =
-      let (x, among, is) = of_map (λ x. (x, nothing)) (elements_of (slot_of d slot)) c there in
-      member_fits slot x among message peer types found row r typed fits (ap (λ (z : Val × Val). matched_both d message peer z.0 z.1 row) (sym is) ∙ f)
+      let (x, among, is) = of_map Element (elements_of (slot_of d slot)) c there in
+      member_fits slot x among message peer types found row r typed fits (ap (λ z. matched_candidate d message peer z row) (sym is) ∙ f)
 
   pub step_fits : (g : RGen) (types found : List Ty) (row r : Row) → gen_row known g types ≡ Some found → RowFits k types row → Has (step_rows d g row) r → RowFits k found r
   step_fits g types found row r typed fits h =
-      let (c, there, f) = of_filter_map (λ (c : Val × Val). matched_both d g.message g.peer c.0 c.1 row) (candidates d g.source) r h in
+      let (c, there, f) = of_filter_map (λ c. matched_candidate d g.message g.peer c row) (candidates d g.source) r h in
       candidate_fits g.source g.message g.peer types found row r c there typed fits f
 
   -- each row of the generators is of the types that they give

@@ -15,6 +15,7 @@ use Rattle.da_values.specs.Value.{val_of}
 use Rattle.da_values.proofs.Members.{Has-append_left, Has-append_right, Has-flat_map}
 use Rattle.da_values.proofs.FoldsAt.{is_narrow_of}
 use Rattle.da_values.proofs.ReadLaws.{IsProper, proper_of}
+use Rattle.da_lang.specs.declared.program.Class.{Class}
 use Rattle.da_lang.specs.declared.program.Handler.{Handler}
 use Rattle.da_lang.specs.declared.program.Program.{Program}
 use Rattle.da_lang.specs.declared.query.Cond.TheViews.{out-Agg}
@@ -28,9 +29,9 @@ use Rattle.da_lang.specs.declared.ty.Ty.{Ty}
 use Rattle.da_lang.specs.Matching.{Row, matched_entry}
 use Rattle.da_lang.specs.Queries.{least_row, least_of_numbered, query_value, value_of_numbered, value_of_query}
 use Rattle.da_lang.specs.QueryTypes.{literal_type, query_row, query_type}
-use Rattle.da_lang.specs.Shaped.{Shaped, IsOf, IsEntry, IsProcess, has_processes, is_declared}
+use Rattle.da_lang.specs.Shaped.{ShapedData, IsOf, IsEntry, IsProcess, has_processes, is_declared}
 use Rattle.da_lang.specs.Typing.{handler_row}
-use Rattle.da_lang.specs.World.{World, Entry, at_number}
+use Rattle.da_lang.specs.World.{Data, Entry, at_number}
 use Rattle.da_lang.proofs.typing.ShapedAt.{has_processes-Bool, has_processes-Proc, has_processes-Tuple, has_processes-Set}
 use Rattle.da_types.specs.Totality.{IsConstant, constants, constants_step, counts, other_constants, query_constants}
 use Rattle.da_types.proofs.totality.FoundMatches.{flattened}
@@ -134,27 +135,27 @@ module _ (p : Program) where
     process_whole process (some, inside) =
         (IsValue.process process some (omega (arith, inside, few)), is_narrow_of (kept.Proc process), has_processes-Proc most process ∙ and_from (nat_lt 0 process) (nat_le process most) (lt-ltb 0 process some) (le-leb process most inside))
 
-    module _ (w : World) (s : Shaped p w) where
-      entry_whole : (e : Entry) → IsEntry p e → EntryFits whole (known_here p w s) e
+    module _ (c : Class) (d : Data) (s : ShapedData p c d) where
+      entry_whole : (e : Entry) → IsEntry p e → EntryFits whole (known_here p c d s) e
       entry_whole e is =
           let (first, processes) = and_parts (is_declared p.messages e.message && is_narrow e.message) (has_processes most e.message) is.typed in
           let (declared, small) = and_parts (is_declared p.messages e.message) (is_narrow e.message) first in
           (declared, (is.proper, small, processes), process_whole e.peer is.peer)
 
-      knows_whole : Knows whole (known_here p w s) w.data'
+      knows_whole : Knows whole (known_here p c d s) d
       knows_whole = record {
-        me = process_whole w.data'.me s.me;
+        me = process_whole d.me s.me;
         slots = λ slot ty e. (let one = s.slots slot ty e in (one.typed, (one.proper, one.narrow, one.processes)));
-        there = λ slot ty e. slot_there w.data' s.class.slots slot ty s.size e;
-        sent = λ e h. entry_whole e (of_all (IsEntry p) w.data'.sent s.sent e h);
-        received = λ e h. entry_whole e (of_all (IsEntry p) w.data'.received s.received e h);
+        there = λ slot ty e. slot_there d c.slots slot ty s.size e;
+        sent = λ e h. entry_whole e (of_all (IsEntry p) d.sent s.sent e h);
+        received = λ e h. entry_whole e (of_all (IsEntry p) d.received s.received e h);
       }
 
-      other_constant : (x : Option Term) → ((c : Value) → Has (other_constants x) c → IsConstant p c) → OtherGood whole x
+      other_constant : (x : Option Term) → ((v : Value) → Has (other_constants x) v → IsConstant p v) → OtherGood whole x
       other_constant None each = tt
       other_constant (Some x) each = each
 
-      good_constants : (q : Query) → ((c : Value) → Has (query_constants q) c → IsConstant p c) → GoodQuery whole q
+      good_constants : (q : Query) → ((v : Value) → Has (query_constants q) v → IsConstant p v) → GoodQuery whole q
       good_constants (qu.Quant each gens b) all = tt
       good_constants (qu.Comp x gens b) all = all
       good_constants (qu.Agg a) all =
@@ -162,19 +163,19 @@ module _ (p : Program) where
           let others = other_constants (out-Agg a).other in
           ((λ c h. all c (Has-append_left first others c h)), other_constant (out-Agg a).other (λ c h. all c (Has-append_right first others c h)))
 
-      whole_of : (q : Query) (ty : Ty) → query_type (known_here p w s) q ≡ Some ty → ((c : Value) → Has (query_constants q) c → IsConstant p c) → counts q ≡ false → IsOf p ty (value_of_query w.data' q)
+      whole_of : (q : Query) (ty : Ty) → query_type (known_here p c d s) q ≡ Some ty → ((v : Value) → Has (query_constants q) v → IsConstant p v) → counts q ≡ false → IsOf p ty (value_of_query d q)
       whole_of q ty e all f =
-          let one = query_kept whole (known_here p w s) w.data' knows_whole q ty e (good_constants q all) f in
-          record { proper = one.0; narrow = one.1; typed = (query_has (known_here p w s) w.data' (knows_here p w s) q ty e).typed; processes = one.2 }
+          let one = query_kept whole (known_here p c d s) d knows_whole q ty e (good_constants q all) f in
+          record { proper = one.0; narrow = one.1; typed = (query_has (known_here p c d s) d (knows_here p c d s) q ty e).typed; processes = one.2 }
 
       -- the value of a numbered query but for the integer of a `count` or a `sum` is one that a slot of its type may have
-      pub whole_query : (n : ℕ) (q : Query) (ty : Ty) → at_number s.class.queries n ≡ Some q → query_type (known_here p w s) q ≡ Some ty → ((c : Value) → Has (query_constants q) c → IsConstant p c) → counts q ≡ false → IsOf p ty (query_value s.class.queries n w.data')
-      whole_query n q ty is e all f = subst (IsOf p ty) (sym (ap (value_of_numbered w.data') is)) (whole_of q ty e all f)
+      pub whole_query : (n : ℕ) (q : Query) (ty : Ty) → at_number c.queries n ≡ Some q → query_type (known_here p c d s) q ≡ Some ty → ((v : Value) → Has (query_constants q) v → IsConstant p v) → counts q ≡ false → IsOf p ty (query_value c.queries n d)
+      whole_query n q ty is e all f = subst (IsOf p ty) (sym (ap (value_of_numbered d) is)) (whole_of q ty e all f)
 
       -- the row that a `some` finds, and the one that a handler's patterns take from a message, are of the types of what
       -- they bind, and whole
-      pub whole_least : (n : ℕ) (q : Query) (types : List Ty) (r : Row) → at_number s.class.queries n ≡ Some q → query_row (known_here p w s) q ≡ Some types → least_row s.class.queries n w.data' ≡ Some r → RowFits whole types r
-      whole_least n q types r is e found = least_fits whole (known_here p w s) w.data' knows_whole q types r e (sym (ap (least_of_numbered w.data') is) ∙ found)
+      pub whole_least : (n : ℕ) (q : Query) (types : List Ty) (r : Row) → at_number c.queries n ≡ Some q → query_row (known_here p c d s) q ≡ Some types → least_row c.queries n d ≡ Some r → RowFits whole types r
+      whole_least n q types r is e found = least_fits whole (known_here p c d s) d knows_whole q types r e (sym (ap (least_of_numbered d) is) ∙ found)
 
-      pub whole_handler : (h : Handler) (e : Entry) (types : List Ty) (r : Row) → IsEntry p e → handler_row p.messages s.class.queries h s.class.slots ≡ Some types → matched_entry w.data' h.message h.from e.message e.peer [] ≡ Some r → RowFits whole types r
-      whole_handler h e types r is typed found = entry_fits whole (known_here p w s) w.data' knows_whole e (entry_whole e is) h.message h.from [] types [] r typed tt found
+      pub whole_handler : (h : Handler) (e : Entry) (types : List Ty) (r : Row) → IsEntry p e → handler_row p.messages c.queries h c.slots ≡ Some types → matched_entry d h.message h.from e.message e.peer [] ≡ Some r → RowFits whole types r
+      whole_handler h e types r is typed found = entry_fits whole (known_here p c d s) d knows_whole e (entry_whole e is) h.message h.from [] types [] r typed tt found

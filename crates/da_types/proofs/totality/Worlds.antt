@@ -1,4 +1,4 @@
--- What a shaped world of a typed program gives: its slots and messages fit their types.
+-- What a process of a typed program knows fits its types, where it is shaped.
 use Rattle.std.specs.Prelude.{◌≡◌, refl, ℕ, zero, suc, true, ◌&&◌, List, [], ◌∷◌, length, Option, Some, None, slice_get}
 use Rattle.std.specs.List.{All, AllByRecursion, list_all}
 use Rattle.std.proofs.Common.{◌∙◌, ap, sym, subst, inl, inr, arith}
@@ -18,9 +18,9 @@ use Rattle.da_lang.specs.declared.query.Term.{Term}
 use Rattle.da_lang.specs.declared.ty.Ty.{Ty}
 use Rattle.da_lang.specs.declared.ty.Ty.TheVariants as t
 use Rattle.da_lang.specs.QueryTypes.{Known, literal_type, type_at}
-use Rattle.da_lang.specs.Shaped.{Shaped, IsEntry, is_declared, has_processes}
+use Rattle.da_lang.specs.Shaped.{ShapedData, IsEntry, is_declared, has_processes}
 use Rattle.da_lang.specs.Typing.{known}
-use Rattle.da_lang.specs.World.{World, Entry, Data, or_nothing, at_number, slot_of, class_of, class_of_decl}
+use Rattle.da_lang.specs.World.{Entry, Data, or_nothing, at_number, slot_of, class_of, class_of_decl}
 use Rattle.da_types.proofs.totality.KindLaws.{given_parts, when_parts}
 use Rattle.da_types.proofs.totality.Keeping.{Keeping, EntryFits, Knows}
 
@@ -78,10 +78,10 @@ slot_there d slots slot ty same e =
     let (v, there) = same_number slots d.slots slot found same is in
     there ∙ ap Some (sym (ap or_nothing there))
 
-module _ (p : Program) (w : World) (s : Shaped p w) where
-  -- the messages and the types of the slots of the class of its process
+module _ (p : Program) (c : Class) (d : Data) (s : ShapedData p c d) where
+  -- the messages and the types of the slots of its class
   abbrev pub known_here : Known
-  known_here = known p.messages s.class.queries s.class.slots
+  known_here = known p.messages c.queries c.slots
 
   entry_here : (e : Entry) → IsEntry p e → EntryFits narrow known_here e
   entry_here e is =
@@ -89,13 +89,13 @@ module _ (p : Program) (w : World) (s : Shaped p w) where
       let (declared, small) = and_parts (is_declared p.messages e.message) (is_narrow e.message) first in
       (declared, small, is_narrow_of (kept.Proc e.peer))
 
-  pub knows_here : Knows narrow known_here w.data'
+  pub knows_here : Knows narrow known_here d
   knows_here = record {
-    me = is_narrow_of (kept.Proc w.data'.me);
+    me = is_narrow_of (kept.Proc d.me);
     slots = λ slot ty e. ((s.slots slot ty e).typed, (s.slots slot ty e).narrow);
-    there = λ slot ty e. slot_there w.data' s.class.slots slot ty s.size e;
-    sent = λ e h. entry_here e (of_all (IsEntry p) w.data'.sent s.sent e h);
-    received = λ e h. entry_here e (of_all (IsEntry p) w.data'.received s.received e h);
+    there = λ slot ty e. slot_there d c.slots slot ty s.size e;
+    sent = λ e h. entry_here e (of_all (IsEntry p) d.sent s.sent e h);
+    received = λ e h. entry_here e (of_all (IsEntry p) d.received s.received e h);
   }
 
 -- the class of a process is one of the program

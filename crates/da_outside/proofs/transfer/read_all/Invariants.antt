@@ -7,7 +7,7 @@ invariant-pieces g l = record {
   within : length l.text ≤ l.limit + 1;
   front : IsFront (g.F.Files.told l.initial.files l.name) l.text;
   same : (x : List ℕ) → g.F.Files.told l.files x ≡ g.F.Files.told l.initial.files x;
-  later : (x : List ℕ) → g.F.Files.faults l.initial.files x ≤ g.F.Files.faults l.files x;
+  faults : (x : List ℕ) → g.F.Files.faults l.files x ≡ g.F.Files.faults l.initial.files x;
 }
 
 abbrev pub decreases-pieces : goal.decreases-pieces

@@ -6,5 +6,5 @@ pub pieces-preserved : goal.pieces-preserved
 pieces-preserved g c = record {
   within = search rules;
   taken = appends_more _ _ _ _ _ _ c.pieces.invariant.taken c.in_ok-place.ensures.took;
-  later = search rules;
+  faults = search rules;
 }

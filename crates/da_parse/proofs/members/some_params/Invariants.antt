@@ -1,8 +1,9 @@
 use Rattle.std.proofs.Common.{◌≡◌, ◌-◌, []}
 use Rattle.da_values.specs.declared.token.Mark.TheVariants as m
 use Rattle.da_parse.specs.Lists.{separated, separated_from}
-use Rattle.da_parse.specs.Members.{parts_at, param}
+use Rattle.da_parse.specs.Members.{typed_param}
+use Rattle.da_parse.specs.Types.{type_below}
 use Rattle.da_parse.proofs.members.some_params.Given as goal
 
 abbrev pub invariant-loop-turn : goal.invariant-loop-turn
-invariant-loop-turn l = separated m.Comma (param (parts_at l.depth)) [] l.fn.tokens ≡ separated_from m.Comma (param (parts_at l.depth)) (l._turn-end - l._turn) l.found l.tokens
+invariant-loop-turn l = separated m.Comma (typed_param (type_below l.depth)) [] l.fn.tokens ≡ separated_from m.Comma (typed_param (type_below l.depth)) (l._turn-end - l._turn) l.found l.tokens

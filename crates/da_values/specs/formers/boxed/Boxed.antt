@@ -1,63 +1,80 @@
--- How a `Boxed` holds its value, so that a type may reach itself through one: as that value, without the pointer.
-use mathlib.Core.Path.{refl}
-use mathlib.Core.Former.{Former, this, const, pair, via}
-use base.Fml.{ftrue}
+-- How a `Boxed` holds its value. A contract sees the value alone; the struct keeps a box of std, which owns it behind a pointer.
+use base.Fml.{Fml, Lft, ftrue}
 use base.Stored.{gnil}
-use denote.RattleType.{RattleType}
-use denote.Memory.{part_of}
-use denote.RawPtr.{Ptr}
-use denote.Sharing.{nothing}
-use denote.HoleLaws.{Alike}
-use denote.HolePlaces.{Recodes, struct_places, laid, one_value}
 use denote.Hole.Fix.{over}
+use denote.HoleLaws.{Alike}
+use denote.HolePlaces.{Recodes, laid, one_value, struct_places}
+use denote.Memory.{part_of}
 use denote.Model.Placed.{view_places}
 use denote.Param.Weighed.{Weighed}
-use Rattle.std.specs.contracts.alloc.Global as global
-use Rattle.std.specs.contracts.boxed.Box as box
+use denote.RattleType.{RattleType}
+use denote.RawPtr.{Ptr}
+use mathlib.Core.Former.{Former, const, pair, this, via}
+use mathlib.Core.List.{List}
+use mathlib.Core.Path.{refl}
+use mir.Syntax.{Ty}
+use mir.Val.{Val}
+use Prim.Native.Nat.{ℕ}
+use Rattle.da_values.specs.contracts.boxed.Boxed as seen
+use Rattle.da_values.specs.contracts.boxed.Boxed.TheInside as kept
+use Rattle.da_values.specs.declared.boxed.Boxed.TheInside.{Inside}
+use Rattle.da_values.specs.declared.boxed.Boxed.TheView.{view, invariant}
+use Rattle.std.specs.contracts.alloc.Global as heap
+use Rattle.std.specs.contracts.boxed.Box as pointer
 use Rattle.std.specs.contracts.impls.GlobalAllocator.TheImpl.{ghosts}
 use Rattle.std.specs.declared.alloc.Global.{Global}
 use Rattle.std.specs.declared.boxed.Box.{Box}
-use Rattle.da_values.specs.contracts.boxed.Boxed as contract
-use Rattle.da_values.specs.contracts.boxed.Boxed.TheInside as fields
-use Rattle.da_values.specs.declared.boxed.Boxed.TheInside.{Inside}
-use Rattle.da_values.specs.declared.boxed.Boxed.TheView.{view, invariant}
 
+-- What a contract sees: one value, as it is.
 abbrev pub the_former : Former {0} → Former {0}
-the_former former = former
+the_former each = each
 
-abbrev pub the_weighed : {former : Former {0}} → Weighed former → Weighed (the_former former)
-the_weighed weighed = weighed
+abbrev pub the_weighed : {each : Former {0}} → Weighed each → Weighed (the_former each)
+the_weighed measure = measure
 
--- the one field, a `Box`: its pointer and allocator, and its value
-abbrev inside : Former {0}
-inside = via (pair (const (Ptr × Global)) this) Inside (λ X fields_of. ((fields_of.inner.ptr, fields_of.inner.alloc), fields_of.inner.value))
-    (λ X parts. record { inner = record { ptr = parts.0.0; alloc = parts.0.1; value = parts.1 } }) (λ X fields_of. refl) (λ X parts. refl)
+-- The box: where the value lies, the allocator that gave the place, and the value.
+abbrev parts : Former {0}
+parts = pair (const Ptr) (pair (const Global) this)
 
--- the same box with another value
-abbrev with_value : {X Y : Type 0} → Box X Global → Y → Box Y Global
-with_value b value = record { ptr = b.ptr; alloc = b.alloc; value = value }
+abbrev taken_apart : (X : Type 0) → Inside X → parts.Of X
+taken_apart X inside = (inside.on_heap.ptr, (inside.on_heap.alloc, inside.on_heap.value))
 
-abbrev box_row : RattleType → RattleType
-box_row R = box.the_row R global.the_row ghosts
+abbrev put_together : (X : Type 0) → parts.Of X → Inside X
+put_together X p = record { on_heap = record { ptr = p.0; alloc = p.1.0; value = p.1.1 } }
 
-module _ (Old New : RattleType) (change : Old.Denot → New.Denot) where
-  in_box : Alike Old New change → Alike (box_row Old) (box_row New) (λ b. with_value b (change b.value))
+abbrev as_kept : Former {0}
+as_kept = via parts Inside taken_apart put_together (λ X inside. refl) (λ X p. refl)
+
+-- Two types whose values lie alike, along `h`.
+module _ (R R' : RattleType) (h : R.Denot → R'.Denot) where
+  abbrev along : Inside R.Denot → Inside R'.Denot
+  along = as_kept.map R.Denot R'.Denot h
+
+  abbrev box_along : Box R.Denot Global → Box R'.Denot Global
+  box_along b = record { ptr = b.ptr; alloc = b.alloc; value = h b.value }
+
+  -- The row of a box reads of the row of its value no more than these three.
+  abbrev box_of : List Ty → (List Val → Fml) → (ℕ → ℕ → Lft → Fml) → RattleType
+  box_of layout owned lent = pointer.the_row (one_value R layout owned lent gnil) heap.the_row ghosts
+
+  abbrev opened : Box R.Denot Global → Box (Unit {0}) Global
+  opened b = record { ptr = b.ptr; alloc = b.alloc; value = tt }
+
+  box_alike : Alike R R' h → Alike (pointer.the_row R heap.the_row ghosts) (pointer.the_row R' heap.the_row ghosts) box_along
   unfolding part_of
-  in_box alike = record {
-    mir_same = λ i. (box_row (one_value Old (alike.mir_same i) (λ _. ftrue) (λ _ _. nothing) gnil)).mir;
-    own_same = λ b i. (box_row (one_value Old (alike.mir_same i) (alike.own_same b.value i) (alike.shr_same b.value i) gnil)).own_val (with_value b tt);
-    shr_same = λ b i. (box_row (one_value Old (alike.mir_same i) (alike.own_same b.value i) (alike.shr_same b.value i) gnil)).shr_at (with_value b tt);
+  box_alike same = record {
+    mir_same = λ i. (box_of (same.mir_same i) (λ vs. ftrue) (λ b o κ. ftrue)).mir;
+    own_same = λ b i. (box_of (same.mir_same i) (same.own_same b.value i) (same.shr_same b.value i)).own_val (opened b);
+    shr_same = λ b i. (box_of (same.mir_same i) (same.own_same b.value i) (same.shr_same b.value i)).shr_at (opened b);
   }
 
-  abbrev changed : (contract.the_row Old).Denot → (contract.the_row New).Denot
-  changed = (the_former this).map Old.Denot New.Denot change
+  box_kept : Alike R R' h → Alike (kept.the_row R) (kept.the_row R') along
+  box_kept same = struct_places (kept.the_type R) (kept.the_type R') (box_along, tt) along (λ inside. refl) refl (laid _ _ _ (box_alike same), tt)
 
-  pub the_places : Alike Old New change → Alike (contract.the_row Old) (contract.the_row New) changed
-  the_places alike =
-      view_places inside this view (λ X Y kept u. refl) (λ X u. refl) Old.Denot New.Denot change
-      (contract.the_row Old).coded (contract.the_row New).coded (invariant Old.Denot) (invariant New.Denot) (λ u p q. refl) (λ u p q. refl)
-      (λ u holds. tt) (λ u holds. tt) (over (fields.the_row Old)) (over (fields.the_row New))
-      (struct_places (fields.the_type Old) (fields.the_type New) ((λ b. with_value b (change b.value)), tt) _ (λ d. refl) refl (laid _ _ _ (in_box alike), tt))
+  pub the_places : Alike R R' h → Alike (seen.the_row R) (seen.the_row R') ((the_former this).map R.Denot R'.Denot h)
+  the_places same = view_places as_kept (the_former this) view (λ X Y f inside. refl) (λ X inside. refl) R.Denot R'.Denot h (seen.the_row R).coded (seen.the_row R').coded
+      (invariant R.Denot) (invariant R'.Denot) (λ inside held again. refl) (λ inside held again. refl) (λ inside held. held) (λ inside held. held)
+      (over (kept.the_row R)) (over (kept.the_row R')) (box_kept same)
 
-  pub the_codes_placed : Recodes Old New change → Recodes (contract.the_row Old) (contract.the_row New) changed
-  the_codes_placed recodes value = recodes value
+  pub the_codes_placed : Recodes R R' h → Recodes (seen.the_row R) (seen.the_row R') ((the_former this).map R.Denot R'.Denot h)
+  the_codes_placed same = same

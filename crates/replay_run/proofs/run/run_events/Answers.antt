@@ -31,7 +31,7 @@ loop-place-preserved g c = record {
   came = λ s stands.
       let came = c.loop-place.invariant.came s stands in
       came_on _ _ _ _ _ _ _ came _ c.loop-place.invariant.program _ c.loop-place-test.true _ _ _ (c.in_ok-try_event.ensures.tried came.now came.stands) c.if-not-branch.false;
-  later = search rules;
+  faults = search rules;
 }
 
 pub returns-clause-ran : goal.returns-clause-ran

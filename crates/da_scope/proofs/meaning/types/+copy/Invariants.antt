@@ -1,5 +1,0 @@
-use Rattle.std.proofs.Common.{◌≡◌, take}
-use Rattle.da_scope.proofs.meaning.types.+copy.Given as goal
-
-abbrev pub invariant-copy_types-loop-ty : goal.invariant-copy_types-loop-ty
-invariant-copy_types-loop-ty l = l.copy ≡ take l.ty-index l.types

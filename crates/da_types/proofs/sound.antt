@@ -1,0 +1,4 @@
+pub mod AcceptedLaws
+pub mod AcceptedShaped
+pub mod AcceptedSound
+pub mod BoundRows

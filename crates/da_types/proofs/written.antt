@@ -1,0 +1,4 @@
+pub mod ExprsFine
+pub mod Says
+pub mod StmtsFine
+pub mod TreesFine
