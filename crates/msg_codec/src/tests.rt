@@ -1,4 +1,6 @@
 //! Worked cases: packets that are read and written again, and bytes that are none.
+ghost use Rattle.std.specs.Prelude.{◌≡◌, ◌++◌, IfOk};
+
 use crate::packet::CodecFault;
 use crate::reading::decode;
 use crate::writing::encode;
@@ -35,7 +37,9 @@ fn read_again(alloc: Global, bytes: &[u8]) -> Result<Option<Again>, NoMemory> {
 }
 
 // Bytes one after the other.
-fn joined(alloc: Global, head: &[u8], tail: &[u8]) -> Result<Buf, NoMemory> {
+fn joined(alloc: Global, head: &[u8], tail: &[u8]) -> Result<Buf, NoMemory>
+    ensures { IfOk result (λ bytes. bytes ≡ head.now ++ tail.now) }
+{
     let mut bytes = List::new(alloc);
     bytes.append(head)?;
     bytes.append(tail)?;
