@@ -1,7 +1,8 @@
 -- What an instruction does to the machine, and to what the process knows.
-use Rattle.std.specs.Prelude.{ℕ, ◌+◌, ◌-◌, pos, nat_lt, nat_le, not, Bool, true, false, if◌then◌else◌, List, [], ◌∷◌, ◌++◌, length, take, drop, Option, Some, None, Ok, Err}
+use Rattle.std.specs.Prelude.{ℕ, ◌+◌, ◌-◌, pos, nat_lt, nat_le, not, Bool, true, false, if◌then◌else◌, List, [], ◌∷◌, ◌++◌, length, take, drop, Option, Some, None, Result, Ok, Err}
 use Rattle.da_values.specs.declared.val.Val.{Val}
 use Rattle.da_values.specs.declared.val.Val.TheVariants as val
+use Rattle.da_values.specs.declared.value.Value.{Value}
 use Rattle.da_values.specs.Order.{val_cmp}
 use Rattle.da_values.specs.Sets.{canon, set_has}
 use Rattle.da_values.specs.Value.{val_of, value_of}
@@ -117,3 +118,8 @@ module _ (queries : List Query) where
   act (Some (op.Found n slots)) m d = Goes (next m m.stack) (bind_row slots (least_row queries n d) d) []
   act (Some (op.Yield k)) m d = Halts (stop.Yield k) m
   act (Some op.End) m d = Halts stop.Ended m
+
+-- the outcome that a kept value or a fault is
+abbrev pub outcome_of : Result Value FaultKind → Outcome
+outcome_of (Ok v) = Ok (val_of v)
+outcome_of (Err kind) = Err kind

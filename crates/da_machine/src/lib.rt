@@ -4,6 +4,9 @@
 mod code;
 mod machine;
 mod stack;
+mod store;
+mod values;
 
 pub use code::{Code, YieldPoint};
 pub use machine::{Machine, Stop};
+pub use store::Store;
