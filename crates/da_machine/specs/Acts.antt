@@ -1,5 +1,5 @@
 -- What an instruction does to the machine, and to what the process knows.
-use Rattle.std.specs.Prelude.{ℕ, ◌+◌, ◌-◌, pos, nat_lt, nat_le, not, Bool, true, false, if◌then◌else◌, List, [], ◌∷◌, ◌++◌, length, take, drop, Option, Some, None, Result, Ok, Err}
+use Rattle.std.specs.Prelude.{◌≡◌, ℕ, ◌+◌, ◌-◌, pos, nat_lt, nat_le, not, Bool, true, false, if◌then◌else◌, List, [], ◌∷◌, ◌++◌, length, take, drop, Option, Some, None, Result, Ok, Err}
 use Rattle.da_values.specs.declared.val.Val.{Val}
 use Rattle.da_values.specs.declared.val.Val.TheVariants as val
 use Rattle.da_values.specs.declared.value.Value.{Value}
@@ -123,3 +123,8 @@ module _ (queries : List Query) where
 abbrev pub outcome_of : Result Value FaultKind → Outcome
 outcome_of (Ok v) = Ok (val_of v)
 outcome_of (Err kind) = Err kind
+
+-- the next element is taken from the innermost loop, or that is over and left
+abbrev pub IsTaken : Machine → Machine → Option Val → Type 0
+IsTaken old new None = (innermost old.loops ≡ []) × (new ≡ record old { loops = below old.loops })
+IsTaken old new (Some x) = (xs : List Val) × (innermost old.loops ≡ x ∷ xs) × (new ≡ record old { loops = below old.loops ++ xs ∷ [] })

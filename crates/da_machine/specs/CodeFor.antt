@@ -86,7 +86,7 @@ module _ (code : Code) where
     -- the code of statements, one after the other
     pub data BlockAt : ℕ → List Item → ℕ → Type 0 where
       empty : {at : ℕ} → BlockAt at [] at
-      then : {at to end : ℕ} {i : Item} {is : List Item} → ItemAt at i to → BlockAt to is end → BlockAt at (i ∷ is) end
+      item : {at to end : ℕ} {i : Item} {is : List Item} → ItemAt at i to → BlockAt to is end → BlockAt at (i ∷ is) end
 
     -- The code of a statement begins with its turn. Of a label or an `await` it is a yield point, behind which the
     -- statement goes on: behind the label, or with the alternatives.

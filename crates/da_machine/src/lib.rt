@@ -1,6 +1,8 @@
 //! The code of a class, and the machine that runs it over any store.
 #![tactic(auto)]
 
+mod acts;
+mod arithmetic;
 mod code;
 mod machine;
 mod stack;
