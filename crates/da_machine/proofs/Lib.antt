@@ -3,5 +3,8 @@ pub mod ExprCode
 pub mod KnownLaws
 pub mod Leading
 pub mod ReadLaws
+pub mod RunCode
 pub mod Stacks
+pub mod StoreCode
+pub mod TurnCode
 pub mod ValueKinds
