@@ -2,8 +2,10 @@ pub mod Bindings
 pub mod ExprCode
 pub mod KnownLaws
 pub mod Leading
+pub mod Measure
 pub mod ReadLaws
 pub mod RunCode
+pub mod Running
 pub mod Stacks
 pub mod StoreCode
 pub mod TurnCode

@@ -50,3 +50,19 @@ Acted i m m1 stands stands1 old new answer =
 abbrev pub Began : Option Instr → Machine → Standing → List Action → List Action → Type 0
 Began i m stands old new =
     (p : Program) (class : Class) (d : Data) → stands p class d → IsFront old new (actions_of (act class.queries i m d))
+
+-- the code may be run for some process that the store stands for
+abbrev pub MayRun : Code → Machine → Standing → Type 0
+MayRun code m stands =
+    (p : Program) × (class : Class) × (d : Data) × stands p class d × ((due : List Action) × (s : Stop) × (m2 : Machine) × (d2 : Data) × RunsTo p class code m d due s m2 d2)
+
+-- it was run for each of them
+abbrev pub RanTo : Code → Machine → Machine → Standing → Standing → List Action → List Action → Stop → Type 0
+RanTo code m m1 stands stands1 old new stop =
+    (p : Program) (class : Class) (d : Data) (due : List Action) (s : Stop) (m2 : Machine) (d2 : Data) → stands p class d → RunsTo p class code m d due s m2 d2
+    → (stop ≡ s) × (m1 ≡ m2) × stands1 p class d2 × (new ≡ old ++ due)
+
+-- memory was refused on the way
+abbrev pub RanPart : Code → Machine → Standing → List Action → List Action → Type 0
+RanPart code m stands old new =
+    (p : Program) (class : Class) (d : Data) (due : List Action) (s : Stop) (m2 : Machine) (d2 : Data) → stands p class d → RunsTo p class code m d due s m2 d2 → IsFront old new due

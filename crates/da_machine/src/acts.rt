@@ -188,27 +188,31 @@ fn find<S: Store>(
     ensures began { OnErr result (Began (Some (op.Found query slots.now)) m.old (S.stands s.old) (S.actions s.old) (S.actions s.new)) }
 {
     if let Some(row) = s.found(query)? {
-        bind(alloc, s, slots.as_slice(), row.as_slice())?;
+        bind(alloc, s, slots, &row)?;
     }
     m.place += 1;
     Ok(None)
 }
 
-/// Puts values into slots one by one, as many as there are of both.
-#[tactic(auto, using(crate::proofs::Bindings::binding_on, crate::proofs::Bindings::bound_slots, crate::proofs::Bindings::bound_values))]
+/// Puts the parts of a row into slots one by one, as many as there are of both.
+#[tactic(auto, using(crate::proofs::Bindings::bound_slots, crate::proofs::Bindings::bound_end))]
 fn bind<S: Store>(
     alloc: Global,
     s: &mut S,
-    slots: &[u16],
-    values: &[Value],
+    slots: &List<u16>,
+    row: &Row,
 ) -> Result<(), NoMemory>
-    requires { SomeProcess (S.stands s.old) (λ p class d. TakesAll p class slots.now (vals values.now)) }
-    ensures stands { OnOk result (EachProcess (S.stands s.old) (λ p class d. S.stands s.new p class (bind_all slots.now (vals values.now) d))) }
+    requires { SomeProcess (S.stands s.old) (λ p class d. TakesAll p class slots.now row.now) }
+    ensures stands { OnOk result (EachProcess (S.stands s.old) (λ p class d. S.stands s.new p class (bind_all slots.now row.now d))) }
     ensures actions { S.actions s.new ≡ S.actions s.old }
 {
+    let count = slots.len();
     let mut place = 0;
-    'slots: while let Some(slot) = slots.get(place) {
-        match values.get(place) {
+    'slots: while place < count {
+        let Some(slot) = slots.get(place) else {
+            return Ok(());
+        };
+        match row.get(place) {
             None => return Ok(()),
             Some(value) => {
                 s.set_slot(*slot, copy_value(alloc, value)?)?;

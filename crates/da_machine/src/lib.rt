@@ -5,10 +5,12 @@ mod acts;
 mod arithmetic;
 mod code;
 mod machine;
+mod run;
 mod stack;
 mod store;
 mod values;
 
 pub use code::{Code, YieldPoint};
 pub use machine::{Machine, Stop};
+pub use run::run_code;
 pub use store::Store;
