@@ -1,5 +1,7 @@
 pub mod Bindings
+pub mod EntryLaws
 pub mod ExprCode
+pub mod ForwardLaws
 pub mod KnownLaws
 pub mod Leading
 pub mod Measure

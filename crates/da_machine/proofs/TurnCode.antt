@@ -43,6 +43,12 @@ use Rattle.da_machine.proofs.Leading.{Fails, Gives, GivesAll, Leads, joined, one
 use Rattle.da_machine.proofs.Stacks.{below_last, innermost_last, top_last}
 use Rattle.da_machine.proofs.StoreCode.{back_is, stores_lead}
 
+module _ (class : Class) (code : Code) where
+  -- the code of statements in front of what is to do
+  pub block_for : (at : ℕ) (is : List Item) (end : ℕ) → BlockAt code at is end → (loops : List (List Val)) (todo : List Task) → CodeFor code class end loops todo → CodeFor code class at loops (do_all is todo)
+  block_for _ _ _ (BlockAt.empty {at}) loops todo code_for = code_for
+  block_for _ _ _ (BlockAt.item {at} {to} {end} {i} {is} x xs) loops todo code_for = CodeFor.does x (block_for to is end xs loops todo code_for)
+
 module _ (p : Program) (class : Class) (code : Code) where
   -- the code stands for what is to do, and so many turns were taken
   pub record Stands (m : Machine) (todo : List Task) (turns : ℕ) : Type 0 where
@@ -78,11 +84,6 @@ module _ (p : Program) (class : Class) (code : Code) where
 
   comes : (m m1 : Machine) (d d1 : Data) (actions : List Action) (todo : List Task) → m1.turns ≡ m.turns → Leads p class code m d m1 d1 actions → CodeFor code class m1.place m1.loops todo → Does m d d1 todo actions None
   comes m m1 d d1 actions todo same leads code_for = (m1, leads, record { code_for = code_for; same_turns = same })
-
-  -- the code of statements in front of what is to do
-  pub block_for : (at : ℕ) (is : List Item) (end : ℕ) → BlockAt code at is end → (loops : List (List Val)) (todo : List Task) → CodeFor code class end loops todo → CodeFor code class at loops (do_all is todo)
-  block_for _ _ _ (BlockAt.empty {at}) loops todo code_for = code_for
-  block_for _ _ _ (BlockAt.item {at} {to} {end} {i} {is} x xs) loops todo code_for = CodeFor.does x (block_for to is end xs loops todo code_for)
 
   module _ (m : Machine) (d : Data) (known : IsKnown p class d) (line : ℕ) (on_line : m.line ≡ line) (todo : List Task) where
     faulty : (m0 : Machine) (kind : FaultKind) → m0.turns ≡ m.turns → Fails p class code m0 d m kind → Faulty m0 d d [] kind line
@@ -141,11 +142,11 @@ module _ (p : Program) (class : Class) (code : Code) where
 
     chooses : (exit at : ℕ) (bs : List RBranch) (other : List Item) → BranchesAt code exit at bs other → AllRead class (map (λ b. (out-RBranch b).cond) bs) → AllByRecursion (BindsRow p class) bs
         → (st : List Val) → CodeFor code class exit m.loops todo → DoesTurn (moved m at st) d (choose class line d todo bs other)
-    chooses _ _ _ _ (BranchesAt.otherwise {exit} {at} {other} x) read promised st code_for = here (moved m at st) d _ (block_for at other exit x m.loops todo code_for)
+    chooses _ _ _ _ (BranchesAt.otherwise {exit} {at} {other} x) read promised st code_for = here (moved m at st) d _ (block_for class code at other exit x m.loops todo code_for)
     chooses _ _ _ _ (BranchesAt.branch {exit} {at} {test} {to} {end} {b} {bs} {other} x jump found body leave others) read promised st code_for =
         with_given at test st st (eval class.queries (out-RBranch b).cond d) _ (expr_gives p class code d known m at _ test x read.0 st)
         (λ v is. decides v (truth_of v) test (end + 1) st (quiet (bind_found class.queries (out-RBranch b).found (out-RBranch b).binds d) (do_all (out-RBranch b).body todo)) (choose class line d todo bs other) refl jump
-         (comes _ (moved m to st) d _ [] _ refl (binds (test + 1) (out-RBranch b).found (out-RBranch b).binds to found promised.0 st) (block_for to (out-RBranch b).body end body m.loops todo (CodeFor.jumps leave code_for)))
+         (comes _ (moved m to st) d _ [] _ refl (binds (test + 1) (out-RBranch b).found (out-RBranch b).binds to found promised.0 st) (block_for class code to (out-RBranch b).body end body m.loops todo (CodeFor.jumps leave code_for)))
          (chooses exit (end + 1) bs other others read.1 promised.1 st code_for))
 
     pub enters : (at : ℕ) (args : List RExpr) (params : List ℕ) (body : List Item) (end : ℕ) → EnterAt code at args params body end → AllRead class args → IsEntered p class args params
@@ -155,7 +156,7 @@ module _ (p : Program) (class : Class) (code : Code) where
         (λ vs is. comes _ (moved m into st) d (bind_all params vs d) [] (do_all body todo) refl
          (subst (λ e. Leads p class code (moved m to (st ++ vs)) d (moved m into st) e []) (back_is params vs d promised.distinct)
           (stores_lead p class code m d known to params into stores vs st (all_long class.queries d args vs is ∙ promised.one_each) (promised.takes d vs known.shaped is)))
-         (block_for into body end block m.loops todo code_for))
+         (block_for class code into body end block m.loops todo code_for))
 
     pub works : (at : ℕ) (k : ItemKind-F ItemKind Alt Item RBranch) (end : ℕ) → WorkAt code at line k end → (i : Item) → ItemAt code at i end → AllRead class (exprs_in k) → Promised p class k
         → (st : List Val) → CodeFor code class end m.loops todo → DoesTurn (moved m (at + 1) st) d (kind_turn class line d todo (Do i) k)
@@ -183,7 +184,7 @@ module _ (p : Program) (class : Class) (code : Code) where
     works _ _ _ (WorkAt.while {at} {line} {to} {end} {e} {body} x jump block back) i self read promised st code_for =
         with_given (at + 1) to st st (eval class.queries e d) _ (expr_gives p class code d known m (at + 1) e to x read.0 st)
         (λ v is. goes_round v (truth_of v) to (end + 1) st (do_all body (Do i ∷ todo)) refl jump
-         (block_for (to + 1) body end block m.loops (Do i ∷ todo) (CodeFor.jumps back (CodeFor.does self code_for))) code_for)
+         (block_for class code (to + 1) body end block m.loops (Do i ∷ todo) (CodeFor.jumps back (CodeFor.does self code_for))) code_for)
     works _ _ _ (WorkAt.for {at} {line} {to} {end} {s} {e} {body} x has rest) i self read promised st code_for =
         with_given (at + 1) to st st (eval class.queries e d) _ (expr_gives p class code d known m (at + 1) e to x read.0 st)
         (λ v is. comes _ (record m { place = to + 1; stack = st; loops = m.loops ++ elements_of v ∷ [] }) d d [] (Loop s (elements_of v) body line ∷ todo) refl
@@ -201,7 +202,7 @@ module _ (p : Program) (class : Class) (code : Code) where
       (one p class code d known _ _ _ [] _ has (rw (is, innermost_last outer []) tt) (rw (is, innermost_last outer [], below_last outer []) refl)) code_for
   loops_on m d known _ _ _ _ _ outer (x ∷ xs) (LoopAt.loop {at} {end} {s} {line} {body} turn has block back) is takes st todo code_for =
       let place : at + 2 ≡ at + 1 + 1 = omega arith in
-      let again = block_for (at + 2) body end block (outer ++ xs ∷ []) (Loop s xs body line ∷ todo) (CodeFor.jumps back (CodeFor.loops (LoopAt.loop turn has block back) code_for)) in
+      let again = block_for class code (at + 2) body end block (outer ++ xs ∷ []) (Loop s xs body line ∷ todo) (CodeFor.jumps back (CodeFor.loops (LoopAt.loop turn has block back) code_for)) in
       comes _ (record m { place = at + 1 + 1; stack = st; loops = outer ++ xs ∷ [] }) d (put_slot d s x) [] (do_all body (Loop s xs body line ∷ todo)) refl
       (one p class code d known _ _ _ [] _ has (rw (is, innermost_last outer (x ∷ xs)) (takes x xs refl)) (rw (is, innermost_last outer (x ∷ xs), below_last outer (x ∷ xs)) refl))
       (subst (λ to. CodeFor code class to (outer ++ xs ∷ []) (do_all body (Loop s xs body line ∷ todo))) place again)

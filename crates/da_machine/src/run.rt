@@ -16,6 +16,7 @@ use da_values::NoMemory;
 use std::alloc::Global;
 
 /// Runs the code instruction by instruction, up to a halt.
+#[tactic(auto, using(crate::proofs::Running::running_begins))]
 fn run_machine<S: Store>(
     alloc: Global,
     code: &Code,
