@@ -5,6 +5,7 @@ pub mod ForwardLaws
 pub mod KnownLaws
 pub mod Leading
 pub mod Measure
+pub mod Numbers
 pub mod ReadLaws
 pub mod RunCode
 pub mod Running

@@ -6,7 +6,8 @@ use mathlib.Core.List.{append-nil, reverse-append}
 use Rattle.da_values.specs.Order.{val_cmp}
 use Rattle.da_values.specs.Sets.{canon, set_insert}
 use Rattle.da_values.specs.declared.val.Val.{Val}
-use Rattle.da_machine.specs.Acts.{top, below, innermost, upper, lower}
+use Rattle.da_machine.specs.Acts.{top, below, innermost, upper, lower, IsTaken}
+use Rattle.da_machine.specs.declared.machine.Machine.{Machine}
 
 pub top_last : (vs : List Val) (v : Val) → top (vs ++ v ∷ []) ≡ v
 top_last [] v = refl
@@ -104,3 +105,8 @@ pub unturning_on : (old now later row : List Val) (v : Val) → Unturning old no
 unturning_on old now later row v came is = record {
   rest = append_assoc row (v ∷ []) (reverse later) ∙ ap (λ l. row ++ l) (sym (ap reverse is ∙ reverse-append later (v ∷ []))) ∙ came.rest;
 }
+
+-- the next element is taken from the innermost loop
+pub taken_some : (old : Machine) (outer : List (List Val)) (left rest : List Val) (v : Val) → old.loops ≡ outer ++ left ∷ [] → left ≡ v ∷ rest → IsTaken old (record old { loops = outer ++ rest ∷ [] }) (Some v)
+taken_some old outer left rest v is next =
+    (rest, ap innermost is ∙ innermost_last outer left ∙ next, ap (λ l. record old { loops = l ++ rest ∷ [] }) (sym (ap below is ∙ below_last outer left)))

@@ -128,3 +128,8 @@ outcome_of (Err kind) = Err kind
 abbrev pub IsTaken : Machine → Machine → Option Val → Type 0
 IsTaken old new None = (innermost old.loops ≡ []) × (new ≡ record old { loops = below old.loops })
 IsTaken old new (Some x) = (xs : List Val) × (innermost old.loops ≡ x ∷ xs) × (new ≡ record old { loops = below old.loops ++ xs ∷ [] })
+
+-- whether a truth value is the given one
+abbrev pub same : Bool → Bool → Bool
+same true b = b
+same false b = not b
