@@ -33,7 +33,7 @@ use Rattle.da_machine.specs.CodeFor.{Has, CodeFor, EnterAt, ItemAt, LoopAt, Work
 use Rattle.da_machine.specs.Conditions.{IsKnown, Takes}
 use Rattle.da_machine.specs.Promises.{Promises}
 use Rattle.da_machine.specs.RunsTo.{RunsTo}
-use Rattle.da_machine.specs.Stops.{IsReady, IsStop}
+use Rattle.da_machine.specs.Stops.{IsReady, IsRun, IsStop}
 use Rattle.da_machine.proofs.Leading.{Leads, joined, one, stops}
 use Rattle.da_machine.proofs.TurnCode.{Does, DoesTurn, Stands, enters, loops_on, works}
 
@@ -201,3 +201,13 @@ pub ready_runs : (p : Program) (class : Class) (code : Code) (m : Machine) (d : 
 ready_runs p class code m d todo early ready =
     runs_as p class code ready.promises (max_turns - m.turns) m.turns (omega (arith, early)) m.place m.loops todo ready.code_for m d
     (record { known = record { accepted = ready.accepted; shaped = ready.knows }; tasks = ready.tasks }) (record { place = refl; inside = refl; taken = refl })
+
+-- What a call leaves where its run is that one.
+pub is_run : (class : Class) (code : Code) (p : Program) (m m1 : Machine) (d : Data) (s : Stop) (stands : Data → Type 0) (old new : List Action) (ran : Ran) → (as_it : RunsAs p class code m d ran)
+    → (s ≡ as_it.stop) × (m1 ≡ as_it.last) × stands ran.data' × (new ≡ old ++ ran.actions) → IsRun class code s m1 stands old new ran
+is_run class code p m m1 d s stands old new ran as_it left = record {
+  stops = subst (λ x. IsStop code class x m1 ran.todo ran.halt) (sym left.0) (subst (λ x. IsStop code class as_it.stop x ran.todo ran.halt) (sym left.1) as_it.stops);
+  turns = ap (λ (x : Machine). x.turns) left.1 ∙ as_it.turns;
+  known = left.2;
+  actions = left.3;
+}

@@ -28,8 +28,8 @@ struct Dividend {
 pub fn range(alloc: Global, a: Value, b: Value) -> Result<Result<Value, FaultKind>, NoMemory>
     ensures { IfOk result (λ found. outcome_of found ≡ range (int_of (val_of a)) (int_of (val_of b))) }
 {
-    let first = number(&a);
-    match gap(first, number(&b)) {
+    let first = number(a);
+    match gap(first, number(b)) {
         None => Ok(Err(FaultKind::Range)),
         Some(count) => Ok(Ok(Value::Set(numbers(alloc, first, count)?))),
     }
@@ -77,9 +77,9 @@ pub fn arithmetic(
     match a {
         Value::Set(xs) => match b {
             Value::Set(ys) => Ok(Ok(Value::Set(combined(alloc, op, xs, ys)?))),
-            _ => Ok(computed(op, 0, number(&b))),
+            other => Ok(computed(op, 0, number(other))),
         },
-        _ => Ok(computed(op, number(&a), number(&b))),
+        other => Ok(computed(op, number(other), number(b))),
     }
 }
 
@@ -158,7 +158,7 @@ fn fit_some(number: Option<i128>) -> Result<Value, FaultKind>
 }
 
 // The first number with the sign that the second one makes positive.
-fn dividend(a: i128, b: i128) -> Dividend
+fn aligned(a: i128, b: i128) -> Dividend
     ensures { complement_if result.below result.size ≡ (if int_lt b (pos 0) then neg_ℤ a else a) }
 {
     if b < 0 {
@@ -192,7 +192,7 @@ fn quotient(a: i128, b: i128) -> Result<Value, FaultKind>
     requires { b ≢ pos 0 }
     ensures { outcome_of result ≡ fitted (quotient a b) }
 {
-    let Dividend { below, size } = dividend(a, b);
+    let Dividend { below, size } = aligned(a, b);
     let whole = size / b.unsigned_abs();
     if whole >= 9_223_372_036_854_775_808 {
         return Err(FaultKind::Overflow);
@@ -206,7 +206,7 @@ fn remainder(a: i128, b: i128) -> i128
     requires { b ≢ pos 0 }
     ensures { result ≡ remainder a b }
 {
-    let Dividend { below, size } = dividend(a, b);
+    let Dividend { below, size } = aligned(a, b);
     let divisor = b.unsigned_abs();
     let rest = size % divisor;
     let left = if below { divisor - 1 - rest } else { rest };

@@ -38,11 +38,11 @@ pub fn truth(v: Value) -> bool
 
 /// The number of an integer; what is none counts as 0.
 #[tactic(auto, using(crate::proofs::ValueKinds::viewing))]
-pub fn number(v: &Value) -> i128
-    ensures { result ≡ int_of (val_of v.now) }
+pub fn number(v: Value) -> i128
+    ensures { result ≡ int_of (val_of v) }
 {
     match v {
-        Value::Int(number) => *number,
+        Value::Int(number) => number,
         Value::Bool(_) => 0,
         Value::Text(_) => 0,
         Value::Proc(_) => 0,
