@@ -2,7 +2,7 @@
 ghost use Rattle.da_outside.specs.Outside.{Rose};
 ghost use Rattle.dalgo.specs.Replies.{CheckReply, IsReply};
 ghost use Rattle.dalgo.specs.Told.{Begins, Gains, OfTold};
-ghost use Rattle.std.specs.Prelude.{ℕ, ◌≡◌, ◌+◌, ◌≤◌, List, take, IfErr, IfOk, IsErrOf};
+ghost use Rattle.std.specs.Prelude.{ℕ, ◌≡◌, ◌+◌, ◌<◌, ◌≤◌, List, take, IfErr, IfOk, IsErrOf};
 
 use crate::endings::{Ending, refuse, say};
 use crate::lines::accepted_line;
@@ -27,7 +27,9 @@ pub fn check<F: Files, K: Sink>(
     ensures unread { IsErrOf result Ending.Read → K.taken out.new ≡ K.taken out.old }
     ensures told { (x : List ℕ) → F.told files.new x ≡ F.told files.old x }
     ensures later { (x : List ℕ) → F.faults files.old x ≤ F.faults files.new x }
+    ensures rises { (x : List ℕ) → F.faults files.old x < F.faults files.new x → IsErrOf result Ending.Read }
     ensures writes { K.faults out.old ≤ K.faults out.new }
+    ensures failed { K.faults out.old < K.faults out.new → IsErrOf result Ending.Write }
 {
     match read_all(alloc, files, program, PROGRAM_LIMIT) {
         Ok(text) => answer_check(alloc, text.as_slice(), out),
@@ -45,6 +47,7 @@ fn answer_check<K: Sink>(alloc: Global, text: &[u8], out: &mut K) -> Result<Stat
     ensures write { IsErrOf result Ending.Write → Rose (K.faults out.old) (K.faults out.new) }
     ensures read { IsErrOf result Ending.Read → ⊥ }
     ensures writes { K.faults out.old ≤ K.faults out.new }
+    ensures failed { K.faults out.old < K.faults out.new → IsErrOf result Ending.Write }
 {
     if text.len() > PROGRAM_LIMIT {
         return refuse(alloc, out, RefusedKind::Size, 0);

@@ -2,7 +2,7 @@
 ghost use Rattle.dalgo.specs.Lines.{badline_text, refused_text};
 ghost use Rattle.da_outside.specs.Outside.{Appends, AppendsFront, Rose};
 ghost use Rattle.dalgo.specs.Top.{status_after as status_after_lem};
-ghost use Rattle.std.specs.Prelude.{◌≡◌, ◌≤◌, IfErr, IfOk, IsErrOf};
+ghost use Rattle.std.specs.Prelude.{◌≡◌, ◌<◌, ◌≤◌, IfErr, IfOk, IsErrOf};
 
 use crate::lines::{bad_line, refused_line};
 use crate::status::{RefusedKind, Status};
@@ -58,6 +58,7 @@ pub fn refuse<K: Sink>(
     ensures write { IsErrOf result Ending.Write → Rose (K.faults out.old) (K.faults out.new) }
     ensures read { IsErrOf result Ending.Read → ⊥ }
     ensures writes { K.faults out.old ≤ K.faults out.new }
+    ensures failed { K.faults out.old < K.faults out.new → IsErrOf result Ending.Write }
 {
     let text = refused_line(alloc, kind, line)?;
     say(out, text.as_slice(), Status::Refused { kind, line })
@@ -71,6 +72,7 @@ pub fn refuse_schedule<K: Sink>(alloc: Global, out: &mut K, line: u64) -> Result
     ensures write { IsErrOf result Ending.Write → Rose (K.faults out.old) (K.faults out.new) }
     ensures read { IsErrOf result Ending.Read → ⊥ }
     ensures writes { K.faults out.old ≤ K.faults out.new }
+    ensures failed { K.faults out.old < K.faults out.new → IsErrOf result Ending.Write }
 {
     let text = bad_line(alloc, line)?;
     say(out, text.as_slice(), Status::BadSchedule { line })
@@ -83,6 +85,7 @@ pub fn say<K: Sink>(out: &mut K, bytes: &[u8], status: Status) -> Result<Status,
     ensures write { IsErrOf result Ending.Write → Rose (K.faults out.old) (K.faults out.new) }
     ensures read { IsErrOf result Ending.Read → ⊥ }
     ensures writes { K.faults out.old ≤ K.faults out.new }
+    ensures failed { K.faults out.old < K.faults out.new → IsErrOf result Ending.Write }
 {
     match write_all(out, bytes) {
         Ok(()) => Ok(status),

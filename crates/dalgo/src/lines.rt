@@ -1,19 +1,10 @@
 //! The lines by which a program is accepted or refused, and a schedule is refused.
 ghost use Rattle.dalgo.specs.Lines.{accepted_text, badline_text, refused_text, refused_word as refused_word_lem};
-ghost use Rattle.std.specs.Prelude.{◌≡◌, ◌++◌, decimal, IfOk, OnOk};
+ghost use Rattle.std.specs.Prelude.{◌≡◌, IfOk};
 
 use crate::status::RefusedKind;
-use da_values::{Buf, List, NoMemory};
-use itoa::Buffer;
+use da_values::{Buf, List, NoMemory, write_number};
 use std::alloc::Global;
-
-// Appends a number.
-fn write_number(n: u64, out: &mut Buf) -> Result<(), NoMemory>
-    ensures { OnOk result (out.new ≡ out.old ++ decimal n) }
-{
-    let mut digits = Buffer::new();
-    out.append(digits.format(n).as_bytes())
-}
 
 // The word for a kind of refusal.
 fn refused_word(kind: RefusedKind) -> &'static [u8]

@@ -5,7 +5,7 @@ ghost use Rattle.da_system.specs.State.{IsNumbered};
 ghost use Rattle.da_outside.specs.Outside.{Appends, AppendsFront, Rose};
 ghost use Rattle.dalgo.specs.Replies.{IsRefused, IsReply, ReadCause, ReplayReply, RunReply, run_status, run_text};
 ghost use Rattle.dalgo.specs.Told.{Begins, Gains, OfTold};
-ghost use Rattle.std.specs.Prelude.{ℕ, ◌≡◌, ◌+◌, ◌≤◌, List, take, IfErr, IfOk, IsErrOf};
+ghost use Rattle.std.specs.Prelude.{ℕ, ◌≡◌, ◌+◌, ◌<◌, ◌≤◌, List, take, IfErr, IfOk, IsErrOf};
 
 use crate::endings::{Ending, refuse, refuse_schedule};
 use crate::first_form::runs_today;
@@ -37,7 +37,9 @@ pub fn replay<F: Files, K: Sink>(
     ensures unread { IsErrOf result Ending.Read → K.taken out.new ≡ K.taken out.old }
     ensures told { (x : List ℕ) → F.told files.new x ≡ F.told files.old x }
     ensures later { (x : List ℕ) → F.faults files.old x ≤ F.faults files.new x }
+    ensures rises { (x : List ℕ) → F.faults files.old x < F.faults files.new x → IsErrOf result Ending.Read }
     ensures writes { K.faults out.old ≤ K.faults out.new }
+    ensures failed { K.faults out.old < K.faults out.new → IsErrOf result Ending.Write }
 {
     match read_all(alloc, files, program, PROGRAM_LIMIT) {
         Ok(text) => answer_program(alloc, text.as_slice(), schedule, files, out),
@@ -66,7 +68,9 @@ fn answer_program<F: Files, K: Sink>(
     ensures unread { IsErrOf result Ending.Read → K.taken out.new ≡ K.taken out.old }
     ensures told { (x : List ℕ) → F.told files.new x ≡ F.told files.old x }
     ensures later { (x : List ℕ) → F.faults files.old x ≤ F.faults files.new x }
+    ensures rises { (x : List ℕ) → F.faults files.old x < F.faults files.new x → IsErrOf result Ending.Read }
     ensures writes { K.faults out.old ≤ K.faults out.new }
+    ensures failed { K.faults out.old < K.faults out.new → IsErrOf result Ending.Write }
 {
     if text.len() > PROGRAM_LIMIT {
         return refuse(alloc, out, RefusedKind::Size, 0);
@@ -103,6 +107,7 @@ fn answer_schedule<K: Sink>(
     ensures write { IsErrOf result Ending.Write → Rose (K.faults out.old) (K.faults out.new) }
     ensures read { IsErrOf result Ending.Read → ⊥ }
     ensures writes { K.faults out.old ≤ K.faults out.new }
+    ensures failed { K.faults out.old < K.faults out.new → IsErrOf result Ending.Write }
 {
     match read_schedule(alloc, text) {
         Ok(events) => answer_events(alloc, program, events.as_slice(), out),
@@ -127,6 +132,7 @@ fn answer_events<K: Sink>(
     ensures write { IsErrOf result Ending.Write → Rose (K.faults out.old) (K.faults out.new) }
     ensures read { IsErrOf result Ending.Read → ⊥ }
     ensures writes { K.faults out.old ≤ K.faults out.new }
+    ensures failed { K.faults out.old < K.faults out.new → IsErrOf result Ending.Write }
 {
     let mut system = System::new(alloc, program)?;
     match replay_run::replay(alloc, &mut system, events, out) {

@@ -7,7 +7,7 @@ pub enum RefusedKind {
     Size,
     /// A byte outside a comment is not allowed.
     Byte,
-    /// A level is not one of those that are open.
+    /// A line is set in by a width at which no open block stands.
     Indent,
     /// Bytes begin no token, or an integer has a leading zero or is too large.
     Token,

@@ -6,7 +6,7 @@ ghost use Rattle.dalgo.specs.Replies.{CheckReply, HasReadCause, IsAccepted, IsAn
 ghost use Rattle.dalgo.specs.Told.{Begins, Gains, OfTold};
 ghost use Rattle.dalgo.specs.Verdict.{Accepts};
 ghost use Rattle.sched_text.specs.ScheduleText.{SpellsSchedule};
-ghost use Rattle.std.specs.Prelude.{ℕ, ◌≡◌, ◌⊎◌, ◌≤◌, List, Some, codes, map};
+ghost use Rattle.std.specs.Prelude.{ℕ, ◌≡◌, ◌<◌, ◌≤◌, List, Some, codes, map};
 ghost use Rattle.std.specs.String.{string_bytes};
 
 use crate::checking::check;
@@ -53,10 +53,13 @@ pub fn dalgo<F: Files, K: Sink>(
         → OfTold (F.told files.old p) (λ t. Begins (CheckReply t) (K.taken out.old) (K.taken out.new)) }
     ensures begun_words { IsOther (map string_bytes words.now) → (IsAnswer result → ⊥) → AppendsFront (K.taken out.old) (K.taken out.new) (codes "words\n") }
 
-    // Each fault has its cause. What files tell stays as it was, and no count falls.
+    // Each fault has its cause, and where a count rose the status says so. What files tell stays as it was, and no count
+    // falls.
     ensures read { result ≡ Status.ReadFault → HasReadCause (map string_bytes words.now) (F.told files.old) (F.faults files.old) (F.faults files.new) }
     ensures unread { result ≡ Status.ReadFault → K.taken out.new ≡ K.taken out.old }
     ensures write { result ≡ Status.WriteFault → Rose (K.faults out.old) (K.faults out.new) }
+    ensures read_failed { (x : List ℕ) → F.faults files.old x < F.faults files.new x → result ≡ Status.ReadFault }
+    ensures write_failed { K.faults out.old < K.faults out.new → result ≡ Status.WriteFault }
     ensures told { (x : List ℕ) → F.told files.new x ≡ F.told files.old x }
     ensures counts { (x : List ℕ) → F.faults files.old x ≤ F.faults files.new x }
     ensures writes { K.faults out.old ≤ K.faults out.new }

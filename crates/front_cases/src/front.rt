@@ -3,7 +3,7 @@ ghost use Rattle.da_lang.specs.Accepted.{IsWritten};
 ghost use Rattle.std.specs.Prelude.{IfOk};
 
 use crate::words::{cut_word, limit_word, name_word};
-use da_lang::{Program, Tree};
+use da_lang::Tree;
 use da_lex::{LexFault, lex};
 use da_parse::{ParseFault, parse};
 use da_scope::{ScopeFault, resolve};

@@ -14,8 +14,8 @@ use front::{Refusal, print_text, typed_of};
 use std::{fs, rt, str};
 
 /// The files of cases, in the order of the answers.
-const FILES: [&str; 8] = [
-    "scopes", "deeds", "limits", "accepted", "long", "copies", "grammar", "printing",
+const FILES: [&str; 9] = [
+    "scopes", "deeds", "limits", "accepted", "long", "copies", "grammar", "printing", "checks",
 ];
 
 fn main(rt: HostRuntime) -> anyhow::Result<()> {

@@ -3,7 +3,7 @@ use Rattle.dalgo.proofs.ReplyLemmas.{is_read}
 use Rattle.dalgo.proofs.program.read_program.Goals as goal
 
 pub resolve-requires : goal.resolve-requires
-resolve-requires c = is_written _ _ c.in_ok-tree.ensures.ok
+resolve-requires c = record { written = is_written _ _ c.in_ok-tree.ensures.ok }
 
 pub returns-clause-read : goal.returns-clause-read
 returns-clause-read c = is_read _ _ _ _ _ c.in_ok-tree.ensures.ok c.in_ok-program.ensures.program c.in_ok-typed.ensures.typed c.has_only_run.ensures

@@ -40,27 +40,27 @@ pub returns-then-not-runs_today-clause-replies : goal.returns-then-not-runs_toda
 returns-then-not-runs_today-clause-replies g c = λ t is.
     let kind : RefusedKind = NotYet in
     let line : ℕ = 0 in
-    gains_any _ (λ s. ReplayReply t s) (Refused kind line) (refused_text kind line) _ _ _ (λ s. refused kind line (runs_not t c.program-program.result.now _ _ (read_within _ t _ _ is c.if-text-gt-PROGRAM_LIMIT.false (rw c.program-program.ensures c.in-Ok.ensures.read)) c.runs_today.ensures.says c.if-not-runs_today.true)) c.refuse-then-not-runs_today.ensures.said
+    gains_any _ (λ s. ReplayReply t s) (Refused kind line) (refused_text kind line) _ _ _ (λ s. refused kind line (runs_not t c.program-program.result.now _ _ (read_within _ t _ _ is c.if-text-gt-PROGRAM_LIMIT.false (rw c.program-program.ensures.same c.in-Ok.ensures.read)) c.runs_today.ensures.says c.if-not-runs_today.true)) c.refuse-then-not-runs_today.ensures.said
 
 pub returns-then-not-runs_today-clause-begun : goal.returns-then-not-runs_today-clause-begun
 returns-then-not-runs_today-clause-begun g c = λ t is.
     let kind : RefusedKind = NotYet in
     let line : ℕ = 0 in
-    begins_any _ (λ s. ReplayReply t s) (Refused kind line) (refused_text kind line) c.refuse-then-not-runs_today.result _ _ (λ s. refused kind line (runs_not t c.program-program.result.now _ _ (read_within _ t _ _ is c.if-text-gt-PROGRAM_LIMIT.false (rw c.program-program.ensures c.in-Ok.ensures.read)) c.runs_today.ensures.says c.if-not-runs_today.true)) c.refuse-then-not-runs_today.ensures.front
+    begins_any _ (λ s. ReplayReply t s) (Refused kind line) (refused_text kind line) c.refuse-then-not-runs_today.result _ _ (λ s. refused kind line (runs_not t c.program-program.result.now _ _ (read_within _ t _ _ is c.if-text-gt-PROGRAM_LIMIT.false (rw c.program-program.ensures.same c.in-Ok.ensures.read)) c.runs_today.ensures.says c.if-not-runs_today.true)) c.refuse-then-not-runs_today.ensures.front
 
 pub returns-in-Ok-read_all-clause-replies : goal.returns-in-Ok-read_all-clause-replies
 returns-in-Ok-read_all-clause-replies g c = λ t is.
-    let runs = (runs_read t c.program-program.result.now _ _ (read_within _ t _ _ is c.if-text-gt-PROGRAM_LIMIT.false (rw c.program-program.ensures c.in-Ok.ensures.read)) c.runs_today.ensures.says c.if-not-runs_today.false) in
+    let runs = (runs_read t c.program-program.result.now _ _ (read_within _ t _ _ is c.if-text-gt-PROGRAM_LIMIT.false (rw c.program-program.ensures.same c.in-Ok.ensures.read)) c.runs_today.ensures.says c.if-not-runs_today.false) in
     ok_of_read (g.F.Files.told c.args.files.now c.args.name.now) (λ s status. Gains (ReplayReply t s) status (g.K.Sink.taken c.args.out.now) (g.K.Sink.taken c.answer_schedule.new.out)) schedule_limit c.in-Ok-read_all.schedule c.answer_schedule.result c.in-Ok-read_all.ensures.whole
     (λ s read.
     gains_as (RunReply c.program-program.result.now s) (ReplayReply t s) c.answer_schedule.result _ _ (answered c.program-program.result.now runs) (c.answer_schedule.ensures.answers s (c.as_slice.ensures ∙ read)))
 
 pub returns-in-Ok-read_all-clause-begun : goal.returns-in-Ok-read_all-clause-begun
 returns-in-Ok-read_all-clause-begun g c = λ t is.
-    let runs = (runs_read t c.program-program.result.now _ _ (read_within _ t _ _ is c.if-text-gt-PROGRAM_LIMIT.false (rw c.program-program.ensures c.in-Ok.ensures.read)) c.runs_today.ensures.says c.if-not-runs_today.false) in
+    let runs = (runs_read t c.program-program.result.now _ _ (read_within _ t _ _ is c.if-text-gt-PROGRAM_LIMIT.false (rw c.program-program.ensures.same c.in-Ok.ensures.read)) c.runs_today.ensures.says c.if-not-runs_today.false) in
     err_of_read (g.F.Files.told c.args.files.now c.args.name.now) (λ s. Begins (ReplayReply t s) (g.K.Sink.taken c.args.out.now) (g.K.Sink.taken c.answer_schedule.new.out)) schedule_limit c.in-Ok-read_all.schedule c.answer_schedule.result c.in-Ok-read_all.ensures.whole
     (λ s read.
     begins_as (RunReply c.program-program.result.now s) (ReplayReply t s) c.answer_schedule.result _ _ (answered c.program-program.result.now runs) (c.answer_schedule.ensures.begun s (c.as_slice.ensures ∙ read)))
 
 pub returns-in-Err-Failed-clause-refused : goal.returns-in-Err-Failed-clause-refused
-returns-in-Err-Failed-clause-refused g c = λ t is failed. not_refused t c.program-program.result.now (runs_read t c.program-program.result.now _ _ (read_within _ t _ _ is c.if-text-gt-PROGRAM_LIMIT.false (rw c.program-program.ensures c.in-Ok.ensures.read)) c.runs_today.ensures.says c.if-not-runs_today.false)
+returns-in-Err-Failed-clause-refused g c = λ t is failed. not_refused t c.program-program.result.now (runs_read t c.program-program.result.now _ _ (read_within _ t _ _ is c.if-text-gt-PROGRAM_LIMIT.false (rw c.program-program.ensures.same c.in-Ok.ensures.read)) c.runs_today.ensures.says c.if-not-runs_today.false)

@@ -1,0 +1,398 @@
+//! Worked cases: what the program answers to words, and to texts in memory. What the front of the compiler says of
+//! programs is shown by the cases of `front_cases`.
+use crate::status::{RefusedKind, Status};
+use crate::top::dalgo;
+use da_outside::{Files, MemFiles, MemSink, Sink};
+use da_values::{Buf, List, NoMemory, copy_bytes};
+use std::alloc::Global;
+use std::test::Fail;
+
+const HEADING: &[u8] = b"class P extends process:\n    def run():\n";
+
+const ENDING: &[u8] = b"def main():\n    a = new(P)\n";
+
+const ONE: &[u8] =
+    b"class P extends process:\n    def run():\n        output(7)\ndef main():\n    a = new(P)\n";
+
+const THREE: &[u8] =
+    b"class P extends process:\n    def run():\n        output(7)\n        output(7)\n        output(7)\ndef main():\n    a = new(P)\n";
+
+const RAN: &[u8] = b"took 1 0\nout 1 7\nend 1\n";
+
+const NOT_YET: Status = Status::Refused {
+    kind: RefusedKind::NotYet,
+    line: 0,
+};
+
+const ITEMS: Status = Status::Refused {
+    kind: RefusedKind::Items,
+    line: 1,
+};
+
+const NO_SYNTAX: Status = Status::Refused {
+    kind: RefusedKind::Syntax,
+    line: 1,
+};
+
+const SIZE: Status = Status::Refused {
+    kind: RefusedKind::Size,
+    line: 0,
+};
+
+// Some copies of the bytes.
+fn repeated(alloc: Global, bytes: &[u8], count: u32) -> Result<Buf, NoMemory> {
+    let mut text = List::new(alloc);
+    for _ in 0..count {
+        text.append(bytes)?;
+    }
+    Ok(text)
+}
+
+// A program with so many lines that print 0.
+fn long_program(alloc: Global, count: u32) -> Result<Buf, NoMemory> {
+    let mut text = List::new(alloc);
+    text.append(HEADING)?;
+    text.append(repeated(alloc, b"        output(0)\n", count)?.as_slice())?;
+    text.append(ENDING)?;
+    Ok(text)
+}
+
+// The words of a call.
+fn words_of(alloc: Global, words: &[&str]) -> Result<Vec<String>, Fail> {
+    let mut list = Vec::new(alloc);
+    for word in words {
+        list.push(String::from_str(alloc, word)?)?;
+    }
+    Ok(list)
+}
+
+// Files `p` and `s` of these bytes.
+fn files_of(
+    alloc: Global,
+    program: &[u8],
+    schedule: &[u8],
+    script: List<u64>,
+) -> Result<MemFiles, NoMemory> {
+    let mut files = MemFiles::new(alloc, script);
+    files.add(copy_bytes(alloc, b"p")?, copy_bytes(alloc, program)?)?;
+    files.add(copy_bytes(alloc, b"s")?, copy_bytes(alloc, schedule)?)?;
+    Ok(files)
+}
+
+// A list of one call, or of none.
+fn script_of(alloc: Global, call: Option<u64>) -> Result<List<u64>, NoMemory> {
+    let mut script = List::new(alloc);
+    if let Some(call) = call {
+        script.push(call)?;
+    }
+    Ok(script)
+}
+
+// Whether `replay` of these texts ends so and writes this.
+fn replays(
+    alloc: Global,
+    program: &[u8],
+    schedule: &[u8],
+    status: Status,
+    text: &[u8],
+) -> Result<bool, Fail> {
+    let words = words_of(alloc, &["replay", "p", "s"])?;
+    let mut files = files_of(alloc, program, schedule, List::new(alloc))?;
+    let mut out = MemSink::new(alloc, 16, List::new(alloc));
+    let ended = dalgo(alloc, words.as_slice(), &mut files, &mut out);
+    Ok(ended == status && out.bytes() == text)
+}
+
+// Programs, schedules, and what comes of them.
+const REPLAYS: [(&[u8], &[u8], Status, &[u8]); 24] = [
+    (ONE, b"move 1\n", Status::Done, RAN),
+    (ONE, b"move 1", Status::Done, RAN),
+    (ONE, b"", Status::Done, b""),
+    (
+        ONE,
+        b"move 1\nmove 1\n",
+        Status::Forbidden { event: 2 },
+        b"took 1 0\nout 1 7\nend 1\nstop 2\n",
+    ),
+    (
+        THREE,
+        b"move 1\n",
+        Status::Done,
+        b"took 1 0\nout 1 7\nout 1 7\nout 1 7\nend 1\n",
+    ),
+    (
+        ONE,
+        b"move 1\nmove 01\n",
+        Status::BadSchedule { line: 2 },
+        b"badline 2\n",
+    ),
+    (
+        ONE,
+        b"move 1\nmove 1\nmove 1 ",
+        Status::BadSchedule { line: 3 },
+        b"badline 3\n",
+    ),
+    (ONE, b"\n", Status::Done, b""),
+    (
+        ONE,
+        b"# twice\r\n\nmove 1\r\n\nmove 1",
+        Status::Forbidden { event: 2 },
+        b"took 1 0\nout 1 7\nend 1\nstop 2\n",
+    ),
+    (
+        ONE,
+        b"move 2\n",
+        Status::Forbidden { event: 1 },
+        b"stop 1\n",
+    ),
+    (
+        ONE,
+        b"stat 1\nshow 1\nmove 1 1\n",
+        Status::Forbidden { event: 3 },
+        b"kept 1 0\nstop 3\n",
+    ),
+    (
+        ONE,
+        b"deliver 1 1 1\n",
+        Status::Forbidden { event: 1 },
+        b"stop 1\n",
+    ),
+    (
+        ONE,
+        b"move 1\nmove 1 0\n",
+        Status::BadSchedule { line: 2 },
+        b"badline 2\n",
+    ),
+    (
+        b"class P extends process:\n    def run():\n        output(9223372036854775807)\n        output(0)\ndef main():\n    a = new(P)\n",
+        b"move 1\n",
+        Status::Done,
+        b"took 1 0\nout 1 9223372036854775807\nout 1 0\nend 1\n",
+    ),
+    (
+        b"class P extends process:\r\n    def run():\r\n        output(7)\r\ndef main():\r\n    a = new(P)\r\n",
+        b"move 1\n",
+        Status::Done,
+        RAN,
+    ),
+    (
+        b"channel fifo reliable # a comment\n\nclass Q extends process:\n  def run():\n    output((7)) # another\ndef main():\n  a = new(Q)",
+        b"move 1\n",
+        Status::Done,
+        RAN,
+    ),
+    (
+        b"class P extends process:\n    def run():\n        output(-7)\ndef main():\n    a = new(P)\n",
+        b"move 1\n",
+        Status::Done,
+        b"took 1 0\nout 1 -7\nend 1\n",
+    ),
+    (
+        b"class P extends process:\n    def run():\n        output(1 + 2)\ndef main():\n    a = new(P)\n",
+        b"move 1\n",
+        NOT_YET,
+        b"refused notyet 0\n",
+    ),
+    (
+        b"message m(int)\nclass Q extends process:\n    def run():\n        output(8)\nclass P extends process:\n    def run():\n        output(7)\ndef main():\n    a = new(P, 1)\n",
+        b"move 1\n",
+        Status::Done,
+        RAN,
+    ),
+    (
+        b"class P extends process:\n    var x: int\n    def run():\n        output(7)\ndef main():\n    a = new(P)\n",
+        b"move 1\n",
+        NOT_YET,
+        b"refused notyet 0\n",
+    ),
+    (
+        b"class P extends process:\n    def run():\n        output(7)\ndef main():\n    a = new(P)\n    ps = new(P, 0)\n    setup(ps)\n",
+        b"move 1\n",
+        NOT_YET,
+        b"refused notyet 0\n",
+    ),
+    (
+        b"class P extends process:\n    def run():\n        output(7)\n    def f():\n        pass\ndef main():\n    a = new(P)\n",
+        b"move 1\n",
+        NOT_YET,
+        b"refused notyet 0\n",
+    ),
+    (
+        b"class P extends process:\n    def run():\n        output(7)\ndef main():\n    a = new(P, 2)\n",
+        b"move 1\n",
+        NOT_YET,
+        b"refused notyet 0\n",
+    ),
+    (
+        b"class P extends process:\n    def run():\n        output(y)\ndef main():\n    a = new(P, 2)\n",
+        b"move 1\n",
+        Status::Refused {
+            kind: RefusedKind::Unknown,
+            line: 3,
+        },
+        b"refused unknown 3\n",
+    ),
+];
+
+#[test]
+fn schedules_are_replayed(rt: HostRuntime) -> Result<(), Fail> {
+    for (program, schedule, status, text) in REPLAYS {
+        assert!(rt;
+            replays(rt.alloc(), program, schedule, status, text)?,
+            "{program:?}"
+        );
+    }
+    Ok(())
+}
+
+// Words that the program does not know, and names that are not there.
+const WORDS: [(&[&str], &[u8], Status, &[u8]); 13] = [
+    (&["replay", "x"], ONE, Status::Words, b"words\n"),
+    (&[], ONE, Status::Words, b"words\n"),
+    (&["Replay", "p", "s"], ONE, Status::Words, b"words\n"),
+    (&["replay", "p", "s", "s"], ONE, Status::Words, b"words\n"),
+    (&["replay", "x", "s"], ONE, Status::ReadFault, b""),
+    (&["replay", "p", "x"], ONE, Status::ReadFault, b""),
+    (&["replay", "p", "x"], b"", NO_SYNTAX, b"refused syntax 1\n"),
+    (&["check"], ONE, Status::Words, b"words\n"),
+    (&["check", "p", "s"], ONE, Status::Words, b"words\n"),
+    (&["checks", "p"], ONE, Status::Words, b"words\n"),
+    (&["check", "x"], ONE, Status::ReadFault, b""),
+    (&["check", "p"], ONE, Status::Done, b"ok 1 1\n"),
+    (&["check", "p"], b"", NO_SYNTAX, b"refused syntax 1\n"),
+];
+
+#[test]
+fn words_are_known(rt: HostRuntime) -> Result<(), Fail> {
+    for (list, program, status, text) in WORDS {
+        let words = words_of(rt.alloc(), list)?;
+        let mut files = files_of(rt.alloc(), program, b"move 1\n", List::new(rt.alloc()))?;
+        let mut out = MemSink::new(rt.alloc(), 16, List::new(rt.alloc()));
+        assert_eq!(rt;
+            dalgo(rt.alloc(), words.as_slice(), &mut files, &mut out),
+            status
+        );
+        assert!(rt; out.bytes() == text);
+    }
+    Ok(())
+}
+
+// The schedule of a refused program is not read: the call that fails is the next one.
+#[test]
+fn no_schedule_is_read(rt: HostRuntime) -> Result<(), Fail> {
+    let words = words_of(rt.alloc(), &["replay", "p", "s"])?;
+    let script = script_of(rt.alloc(), Some(3))?;
+    let mut files = files_of(rt.alloc(), b"x", b"move 1\n", script)?;
+    let mut out = MemSink::new(rt.alloc(), 16, List::new(rt.alloc()));
+    let status = dalgo(rt.alloc(), words.as_slice(), &mut files, &mut out);
+    assert_eq!(rt; status, NO_SYNTAX);
+    assert!(rt; files.read("s", 0, &mut [0u8; 1]).is_err());
+    Ok(())
+}
+
+// Both limits on size, at the limit and one past it; and the greatest number of lines that print.
+#[test]
+fn long_texts(rt: HostRuntime) -> Result<(), Fail> {
+    let words = words_of(rt.alloc(), &["replay", "p", "s"])?;
+    let bad = Status::BadSchedule { line: 0 };
+    let at_limit = repeated(rt.alloc(), b"x", 1_048_576)?;
+    let past_limit = repeated(rt.alloc(), b"x", 1_048_577)?;
+    let most = long_program(rt.alloc(), 16_384)?;
+    let too_many = long_program(rt.alloc(), 16_385)?;
+    // So many moves are one byte less than the limit.
+    let mut schedule = repeated(rt.alloc(), b"move 1\n", 2_396_745)?;
+    schedule.append(b"x")?;
+    let mut long_schedule = repeated(rt.alloc(), b"move 1\n", 2_396_745)?;
+    long_schedule.append(b"xx")?;
+    let rows: [(&[u8], &[u8], Status, usize); 6] = [
+        (at_limit.as_slice(), b"", NO_SYNTAX, 17),
+        (past_limit.as_slice(), b"", SIZE, 15),
+        (
+            most.as_slice(),
+            b"move 1\n",
+            Status::Done,
+            9 + 16_384 * 8 + 6,
+        ),
+        (too_many.as_slice(), b"move 1\n", ITEMS, 16),
+        (
+            ONE,
+            schedule.as_slice(),
+            Status::BadSchedule { line: 2_396_746 },
+            16,
+        ),
+        (ONE, long_schedule.as_slice(), bad, 10),
+    ];
+    for (program, schedule, status, length) in rows {
+        let mut files = files_of(rt.alloc(), program, schedule, List::new(rt.alloc()))?;
+        let mut out = MemSink::new(rt.alloc(), 4096, List::new(rt.alloc()));
+        assert_eq!(rt;
+            dalgo(rt.alloc(), words.as_slice(), &mut files, &mut out),
+            status
+        );
+        assert_eq!(rt; out.bytes().len(), length);
+    }
+    Ok(())
+}
+
+// How a call of these words ends where a read and a write fail, and what was written.
+fn fails(
+    alloc: Global,
+    words: &[&str],
+    read: Option<u64>,
+    write: Option<u64>,
+    status: Status,
+    text: &[u8],
+) -> Result<bool, Fail> {
+    let words = words_of(alloc, words)?;
+    let mut files = files_of(alloc, ONE, b"move 1\n", script_of(alloc, read)?)?;
+    let mut out = MemSink::new(alloc, 4, script_of(alloc, write)?);
+    let ended = dalgo(alloc, words.as_slice(), &mut files, &mut out);
+    Ok(ended == status && out.bytes() == text)
+}
+
+const REPLAY_FAULTS: [(Option<u64>, Option<u64>, Status, &[u8]); 8] = [
+    (None, None, Status::Done, RAN),
+    (None, Some(1), Status::WriteFault, b""),
+    (None, Some(3), Status::WriteFault, b"took 1 0"),
+    (None, Some(7), Status::Done, RAN),
+    (Some(1), None, Status::ReadFault, b""),
+    (Some(2), None, Status::ReadFault, b""),
+    (Some(3), None, Status::ReadFault, b""),
+    (Some(5), None, Status::Done, RAN),
+];
+
+const CHECK_FAULTS: [(Option<u64>, Option<u64>, Status, &[u8]); 5] = [
+    (None, None, Status::Done, b"ok 1 1\n"),
+    (None, Some(1), Status::WriteFault, b""),
+    (None, Some(2), Status::WriteFault, b"ok 1"),
+    (Some(1), None, Status::ReadFault, b""),
+    (Some(2), None, Status::ReadFault, b""),
+];
+
+// Sources and sinks that fail at one call.
+#[test]
+fn faults_are_told(rt: HostRuntime) -> Result<(), Fail> {
+    for (read, write, status, text) in REPLAY_FAULTS {
+        assert!(rt; fails(rt.alloc(), &["replay", "p", "s"], read, write, status, text)?);
+    }
+    for (read, write, status, text) in CHECK_FAULTS {
+        assert!(rt; fails(rt.alloc(), &["check", "p"], read, write, status, text)?);
+    }
+    let mut closed = MemSink::new(rt.alloc(), 0, List::new(rt.alloc()));
+    assert!(rt; closed.write(b"x").is_err());
+    Ok(())
+}
+
+// A sink that takes one byte a call.
+#[test]
+fn slow_sink(rt: HostRuntime) -> Result<(), Fail> {
+    let words = words_of(rt.alloc(), &["replay", "p", "s"])?;
+    let mut files = files_of(rt.alloc(), ONE, b"move 1\n", List::new(rt.alloc()))?;
+    let mut out = MemSink::new(rt.alloc(), 1, List::new(rt.alloc()));
+    assert_eq!(rt;
+        dalgo(rt.alloc(), words.as_slice(), &mut files, &mut out),
+        Status::Done
+    );
+    assert!(rt; out.bytes() == RAN);
+    Ok(())
+}
