@@ -4,6 +4,8 @@
 mod cases;
 mod front;
 #[cfg(test)]
+mod graphs;
+#[cfg(test)]
 mod parsing;
 mod words;
 
