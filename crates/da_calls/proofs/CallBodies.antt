@@ -198,7 +198,7 @@ pub yields-If : (branches : List Branch) (other : Option (List Stmt)) (line : �
 yields-If branches other line =
     ap some_yield (if_deeds branches other line) ∙ yields_behind (deed line Other []) (flat_map deeds_of_branch branches ++ else_deeds other) refl ∙ some_yield-append (flat_map deeds_of_branch branches) (else_deeds other)
 
--- one more element, as at a step of a loop
+-- what the first parts of a list call and whether they yield, when the part behind them is counted too
 pub calls_more : {A : Type 0} (number : List ℕ → Option ℕ) (f : A → List Deed) (xs : List A) (i : ℕ) (x : A) → i < length xs → x ≡ get_or xs i x → calls_by number (flat_map f (take (i + 1) xs)) ≡ calls_by number (flat_map f (take i xs)) ++ calls_by number (f x)
 calls_more number f xs i x within is =
     ap (λ ys. calls_by number (flat_map f ys)) (take_more xs i x within)

@@ -61,7 +61,7 @@ fn extend<'v>(
     }
 }
 
-// The same of parts of a tuple, from left to right, each with the row so far.
+// The parts of a tuple, one behind the other: what one of them binds, those behind it can name.
 #[cycle(patterns)]
 fn extend_parts<'v>(
     parts: &[Pattern],

@@ -15,9 +15,9 @@ use da_values::List;
 use sched_text::write_action;
 use std::alloc::Global;
 
-/// Carries out the events, from the first to the last or to the first that is not allowed, and writes the lines of each
-/// once it is carried out. The system may stand in any state of its program. After `WriteFault` or `Memory` nothing is
-/// known of it but its program, and that it can be dropped.
+/// Steps the system through the events, and writes the lines of each behind its step, until they are used up or one is not
+/// allowed. The system may have made steps before. Where the replay ends in `WriteFault` or `Memory`, the system is good
+/// for nothing more: only its program is still known.
 pub fn replay<K: Sink>(
     alloc: Global,
     system: &mut System,

@@ -2,8 +2,8 @@
 ghost use Rattle.std.specs.List.{flat_map};
 ghost use Rattle.std.specs.Prelude.{◌≡◌, ◌++◌, codes, length, take, OnErr, OnOk};
 
-use da_values::{Buf, NoMemory};
-use itoa::{Buffer, Integer};
+use da_values::{Buf, NoMemory, write_number};
+use itoa::Integer;
 
 /// Takes back what was appended behind this length, where memory was refused.
 pub(crate) fn settle(
@@ -42,9 +42,8 @@ fn put_number<N: Integer>(number: N, out: &mut Buf) -> Result<(), NoMemory>
     ensures ok { OnOk result (out.new ≡ out.old ++ codes " " ++ N.text number) }
     ensures err { OnErr result (take (length out.old) out.new ≡ out.old) }
 {
-    let mut digits = Buffer::new();
     out.append(b" ")?;
-    out.append(digits.format(number).as_bytes())
+    write_number(number, out)
 }
 
 /// Appends a line of a word and numbers, or a part of it where memory is refused.
