@@ -17,6 +17,7 @@ use Rattle.msg_codec.specs.declared.packet.CodecFault.TheVariants.{Memory, NotAP
 use Rattle.msg_codec.specs.declared.packet.Packet.{Packet}
 use Rattle.msg_codec.specs.Packets.{IsPacket, joined, mark, truth_byte, value_bytes}
 use Rattle.msg_codec.specs.Pieces.{AreInside, Begins, BeginsEach, Behind, IsHead}
+use Rattle.msg_codec.proofs.CarriedLaws.{asked, packet_carries}
 use Rattle.msg_codec.proofs.Numbers.{same_short, same_long}
 use Rattle.msg_codec.proofs.PieceLaws.{begins_behind, every_val, first_of, no_bytes, rest_of}
 use Rattle.msg_codec.proofs.ReadLaws.{begins_first, integer_only, most_values, set_only, text_only, tuple_only}
@@ -28,6 +29,10 @@ same_head s c s' c' bytes r r' fits few is head =
     let senders = same_short s s' (to_be_bytes w64 c ++ r) (to_be_bytes w64 c' ++ r') few head.sender_fits (ap (drop 3) (sym is ∙ head.is)) in
     let clocks = same_long c c' r r' fits (omega (arith, head.clock_fits)) senders.1 in
     (senders.0, clocks.0, clocks.1)
+
+-- a time stands behind the sender
+pub time_behind : (s s' c' : ℕ) (bytes front back rest : List ℕ) → bytes ≡ mark ++ front → front ≡ to_be_bytes w16 s ++ back → IsHead s' c' bytes rest → back ≡ to_be_bytes w64 c' ++ rest
+time_behind s s' c' bytes front back rest marked read head = ap (drop 5) (sym (marked ∙ ap (λ t. mark ++ t) read) ∙ head.is)
 
 -- a time that is too great has no head
 pub no_head : (s c : ℕ) (bytes r : List ℕ) → c < 2 ^ 64 → s < 2 ^ 16 → 2 ^ 63 ≤ c → bytes ≡ mark ++ to_be_bytes w16 s ++ to_be_bytes w64 c ++ r → (s' c' : ℕ) (r' : List ℕ) → IsHead s' c' bytes r' → ⊥
@@ -44,13 +49,16 @@ module _ (s c : ℕ) (bytes rest : List ℕ) (head : IsHead s c bytes rest) wher
   pub value_behind : (s' c' : ℕ) (v : Val) → IsPacket s' c' v bytes → (s ≡ s') × (c ≡ c') × Begins 32 v rest []
   value_behind s' c' v packet =
       let same = same_head s c s' c' bytes rest (value_bytes v) (omega (arith, head.clock_fits)) head.sender_fits head.is (head_of s' c' v bytes packet) in
-      (same.0, same.1, record { carries = packet.carries; is = same.2 ∙ sym (append-nil (value_bytes v)) })
+      (same.0, same.1, record { carries = packet_carries s' c' v bytes packet; is = same.2 ∙ sym (append-nil (value_bytes v)) })
 
   pub packet_there : (x : Val) (left : List ℕ) → length bytes ≤ 60000 → Begins 32 x rest left → left ≡ [] → IsPacket s c x bytes
-  packet_there x left small begins end = record {
+  packet_there x left small begins end = let value = asked x 32 begins.carries in record {
     sender_fits = head.sender_fits;
     clock_fits = head.clock_fits;
-    carries = begins.carries;
+    proper = value.proper;
+    narrow = value.narrow;
+    few_parts = value.few_parts;
+    nested = value.nested;
     small = small;
     is = head.is ∙ ap (λ t. mark ++ to_be_bytes w16 s ++ to_be_bytes w64 c ++ t) (begins.is ∙ ap (λ t. value_bytes x ++ t) end ∙ append-nil (value_bytes x));
   }
@@ -63,6 +71,10 @@ module _ (s c : ℕ) (bytes rest : List ℕ) (head : IsHead s c bytes rest) wher
       let behind = value_behind s' c' v packet in
       let found = only v [] behind.2 in
       (behind.0, behind.1, found.0, found.1)
+
+pub none_left : (bytes : List ℕ) → length bytes ≤ 0 → bytes ≡ []
+none_left [] few = refl
+none_left (b ∷ bs) few = absurd (omega (arith, few))
 
 -- what is refused is no packet
 pub none_of : (bytes : List ℕ) (result : Result Packet CodecFault)
@@ -161,9 +173,9 @@ nothing_more s c s' c' x v bytes more one two =
     let there : bytes ++ more ≡ mark ++ to_be_bytes w16 s ++ to_be_bytes w64 c ++ (value_bytes x ++ more) = ap (λ t. t ++ more) one.is in
     let head : IsHead s c (bytes ++ more) (value_bytes x ++ more) = record { sender_fits = one.sender_fits; clock_fits = one.clock_fits; is = there } in
     let behind = value_behind s c (bytes ++ more) (value_bytes x ++ more) head s' c' v two in
-    (same_value 32 x v (value_bytes x ++ more) more [] (small_rest s c (bytes ++ more) (value_bytes x ++ more) head two.small) (record { carries = one.carries; is = refl }) behind.2).1
+    (same_value 32 x v (value_bytes x ++ more) more [] (small_rest s c (bytes ++ more) (value_bytes x ++ more) head two.small) (record { carries = packet_carries s c x bytes one; is = refl }) behind.2).1
 
 pub whole_of : (bytes : List ℕ) (result : Result Packet CodecFault) → IfOk result (λ packet. IsPacket packet.sender packet.clock (val_of packet.value) bytes)
     → IfOk result (λ packet. (s c : ℕ) (v : Val) (more : List ℕ) → IsPacket s c v (bytes ++ more) → more ≡ [])
-whole_of bytes (Ok packet) one s c v more two = nothing_more packet.sender packet.clock s c (val_of packet.value) v bytes more one two
+whole_of bytes (Ok packet) one = λ s c v more two. nothing_more packet.sender packet.clock s c (val_of packet.value) v bytes more one two
 whole_of bytes (Err fault) one = tt

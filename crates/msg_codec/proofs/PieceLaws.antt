@@ -10,8 +10,8 @@ use Rattle.da_values.specs.declared.value.Value.TheVariants as kept
 use Rattle.da_values.specs.Layer.{layer, out-val_of}
 use Rattle.da_values.specs.Value.{val_of}
 use Rattle.da_values.proofs.Induction.{val_induction}
-use Rattle.msg_codec.specs.Packets.{Carries, CarriesLayer, value_bytes}
-use Rattle.msg_codec.specs.Pieces.{AreInside, Begins, Behind}
+use Rattle.msg_codec.specs.Packets.{value_bytes}
+use Rattle.msg_codec.specs.Pieces.{AreInside, Begins, Behind, Carries, CarriesLayer}
 use Rattle.msg_codec.specs.declared.packet.CodecFault.{CodecFault}
 use Rattle.msg_codec.specs.declared.packet.CodecFault.TheVariants.{Memory}
 use Rattle.msg_codec.proofs.BytesAt.{bytes_at, value_bytes_of}

@@ -14,8 +14,8 @@ use Rattle.da_values.specs.declared.value.Value.TheVariants as kept
 use Rattle.da_values.specs.Order.{val_cmp}
 use Rattle.da_values.specs.Sets.{Ascends}
 use Rattle.da_values.specs.Str.{IsTextByte}
-use Rattle.msg_codec.specs.Packets.{Carries, joined, value_bytes}
-use Rattle.msg_codec.specs.Pieces.{AreInside, Begins, BeginsEach, Behind}
+use Rattle.msg_codec.specs.Packets.{joined, value_bytes}
+use Rattle.msg_codec.specs.Pieces.{AreInside, Begins, BeginsEach, Behind, Carries}
 use Rattle.msg_codec.proofs.Numbers.{same_short, same_word, same_long}
 use Rattle.msg_codec.proofs.PieceLaws.{first_of, rest_of, some_bytes}
 

@@ -1,23 +1,24 @@
 -- Bytes that are appended one after the other, and what of a value its parts bring with them.
-use Rattle.std.specs.Prelude.{◌≡◌, ℕ, zero, suc, ℤ, Bool, true, false, ◌-◌, ◌+◌, ◌<◌, ◌≤◌, List, [], ◌∷◌, ◌++◌, length, map, take, slice_index_or, Result, Ok, Err, IfOk, IfErr, refl}
+use Rattle.std.specs.Prelude.{◌≡◌, ℕ, zero, suc, ℤ, Bool, true, false, ◌-◌, ◌+◌, ◌<◌, ◌≤◌, List, [], ◌∷◌, ◌++◌, length, map, take, nat_le, slice_index_or, Result, Ok, Err, IfOk, IfErr, refl}
 use Rattle.std.specs.Int.{w32, w64, w128, cast_signed, cast_unsigned, from_bool}
 use Rattle.std.specs.Int.RustNames.{FitsSigned}
-use Rattle.std.specs.List.{AllByRecursion}
+use Rattle.std.specs.List.{list_all}
 use Rattle.std.proofs.Common.{◌∙◌, ap, sym, subst, arith, append_assoc, length-append, Fits}
 use Rattle.std.proofs.Math.Seq.{take-length}
+use Rattle.std.proofs.lemmas.Bool.{and_parts, leb-true}
 use Rattle.std.proofs.lemmas.Int.{to_z-of_z}
 use Rattle.std.proofs.lemmas.List.{take-append-le, take-take}
 use Rattle.da_values.specs.declared.val.Val.{Val}
 use Rattle.da_values.specs.declared.val.Val.TheVariants as val
 use Rattle.da_values.specs.declared.value.Value.{Value}
 use Rattle.da_values.specs.declared.value.Value.TheVariants as kept
-use Rattle.da_values.specs.Order.{val_cmp}
-use Rattle.da_values.specs.Sets.{Ascends}
+use Rattle.da_values.specs.Narrow.{is_narrow}
 use Rattle.da_values.specs.Value.{val_of, vals}
-use Rattle.msg_codec.specs.Packets.{Carries, joined, truth_byte, value_bytes}
-use Rattle.msg_codec.specs.Pieces.{AreCarried, AreInside, IsCarried}
+use Rattle.da_values.proofs.FoldsAt.{is_narrow_of}
+use Rattle.msg_codec.specs.Packets.{has_few_parts, joined, truth_byte, value_bytes}
+use Rattle.msg_codec.specs.Pieces.{HasRoom, HaveRoom}
 use Rattle.msg_codec.proofs.BytesAt.{bytes_of_tuple, bytes_of_set}
-use Rattle.msg_codec.proofs.PieceLaws.{carried_layer}
+use Rattle.msg_codec.proofs.CarriedLaws.{fits_of_i64, has_few_of}
 use Rattle.msg_codec.proofs.ReadLaws.{most_values}
 
 -- APPENDED
@@ -58,39 +59,31 @@ truth_cast true = refl
 
 -- PARTS
 
-pub integer_fits : (v : Value) (number : ℤ) → v ≡ kept.Int number → IsCarried (val_of v) → FitsSigned w64 number
-integer_fits v number is (depth, carries) = carried_layer depth (kept.Int number) (subst (λ w. Carries depth (val_of w)) is carries)
+pub integer_fits : (v : Value) (number : ℤ) → v ≡ kept.Int number → HasRoom (val_of v) → FitsSigned w64 number
+integer_fits v number is room = fits_of_i64 number (sym (ap (λ w. is_narrow (val_of w)) is ∙ is_narrow_of (kept.Int number)) ∙ room.0)
 
-pub few_parts : (parts : List Val) → IsCarried (val.Tuple parts) → length parts ≤ 255
-few_parts parts (depth, carries) = go (carried_layer depth (kept.Tuple parts) carries)
-  where
-    go : (length parts ≤ 255) × AreInside depth parts → length parts ≤ 255
-    go (few, inside) = few
+-- few parts, and each of them has few
+tuple_parts : (parts : List Val) → HasRoom (val.Tuple parts) → (nat_le (length parts) 255 ≡ true) × (list_all has_few_parts parts ≡ true)
+tuple_parts parts room = and_parts (nat_le (length parts) 255) (list_all has_few_parts parts) (sym (has_few_of (kept.Tuple parts)) ∙ room.1)
 
--- each part is carried, and they take no more bytes
-pub inside_tuple : (parts : List Val) → IsCarried (val.Tuple parts) → length (value_bytes (val.Tuple parts)) ≤ 60000 → AreCarried parts × (length (joined (map value_bytes parts)) ≤ 60000)
-inside_tuple parts (depth, carries) small = (go (carried_layer depth (kept.Tuple parts) carries), omega (arith, ap length (bytes_of_tuple parts), small))
-  where
-    go : (length parts ≤ 255) × AreInside depth parts → AreCarried parts
-    go (few, (some, each)) = (depth - 1, each)
+pub few_parts : (parts : List Val) → HasRoom (val.Tuple parts) → length parts ≤ 255
+few_parts parts room = leb-true (length parts) 255 (tuple_parts parts room).0
 
-pub inside_set : (elements : List Val) → IsCarried (val.Set elements) → length (value_bytes (val.Set elements)) ≤ 60000 → AreCarried elements × (length (joined (map value_bytes elements)) ≤ 60000)
-inside_set elements (depth, carries) small = (go (carried_layer depth (kept.Set elements) carries), omega (arith, ap length (bytes_of_set elements), small))
-  where
-    go : Ascends val_cmp elements × AreInside depth elements → AreCarried elements
-    go (ascends, (some, each)) = (depth - 1, each)
+-- each part has room, and they take no more bytes
+pub inside_tuple : (parts : List Val) → HasRoom (val.Tuple parts) → length (value_bytes (val.Tuple parts)) ≤ 60000 → HaveRoom parts × (length (joined (map value_bytes parts)) ≤ 60000)
+inside_tuple parts room small = ((sym (is_narrow_of (kept.Tuple parts)) ∙ room.0, (tuple_parts parts room).1), omega (arith, ap length (bytes_of_tuple parts), small))
+
+pub inside_set : (elements : List Val) → HasRoom (val.Set elements) → length (value_bytes (val.Set elements)) ≤ 60000 → HaveRoom elements × (length (joined (map value_bytes elements)) ≤ 60000)
+inside_set elements room small = ((sym (is_narrow_of (kept.Set elements)) ∙ room.0, sym (has_few_of (kept.Set elements)) ∙ room.1), omega (arith, ap length (bytes_of_set elements), small))
 
 pub count_fits : (elements : List Val) (n : ℕ) → n ≡ length elements → length (value_bytes (val.Set elements)) ≤ 60000 → Fits w32 n
 count_fits elements n is small = record { fits = omega (arith, is, ap length (bytes_of_set elements), most_values elements, small) }
 
 -- a member at a place
-pub carried_part : (values : List Value) (k : ℕ) (d : Value) → k < length values → AreCarried (vals values) → IsCarried (val_of (slice_index_or values k d))
-carried_part values k d inside (depth, each) = (depth, go values k inside each)
-  where
-    go : (vs : List Value) (i : ℕ) → i < length vs → AllByRecursion (Carries depth) (vals vs) → Carries depth (val_of (slice_index_or vs i d))
-    go [] i inside each = absurd (omega (arith, inside))
-    go (v ∷ vs) zero inside each = each.0
-    go (v ∷ vs) (suc i) inside each = go vs i (omega (arith, inside)) each.1
+pub room_of_part : (values : List Value) (k : ℕ) (d : Value) → k < length values → HaveRoom (vals values) → HasRoom (val_of (slice_index_or values k d))
+room_of_part [] k d inside room = absurd (omega (arith, inside))
+room_of_part (v ∷ vs) zero d inside room = ((and_parts _ _ room.0).0, (and_parts _ _ room.1).0)
+room_of_part (v ∷ vs) (suc k) d inside room = room_of_part vs k d (omega (arith, inside)) ((and_parts _ _ room.0).1, (and_parts _ _ room.1).1)
 
 pub small_part : (values : List Value) (k : ℕ) (d : Value) → k < length values → length (value_bytes (val_of (slice_index_or values k d))) ≤ length (joined (map value_bytes (vals values)))
 small_part [] k d inside = absurd (omega (arith, inside))

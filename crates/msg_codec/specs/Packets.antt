@@ -1,13 +1,13 @@
 -- The bytes of a packet: a message with its sender and its time, as one process hands it to another.
-use Rattle.std.specs.Prelude.{◌≡◌, ℕ, zero, suc, ◌^◌, ◌<◌, ◌≤◌, Bool, true, false, FitsSigned, List, [], ◌∷◌, ◌++◌, codes, length}
+use Rattle.std.specs.Prelude.{◌≡◌, ℕ, ◌^◌, ◌<◌, ◌≤◌, ◌&&◌, nat_le, Bool, true, false, IsTrue, List, [], ◌∷◌, ◌++◌, codes, length}
 use Rattle.std.specs.Int.{w16, w32, w64, cast_unsigned, to_be_bytes}
-use Rattle.std.specs.List.{All, AllByRecursion, flat_map}
-use Rattle.da_values.specs.declared.val.Val.{Val, out-Val}
+use Rattle.std.specs.List.{flat_map, list_all}
+use Rattle.da_values.specs.declared.val.Val.{Val}
 use Rattle.da_values.specs.declared.val.Val.TheOpen.{Val-F, Int, Bool as Truth, Text, Proc, Tuple, Set}
 use Rattle.da_values.specs.declared.val.Val.TheFolds.{fold-Val}
-use Rattle.da_values.specs.Order.{val_cmp}
-use Rattle.da_values.specs.Sets.{Ascends}
-use Rattle.da_values.specs.Str.{IsTextByte}
+use Rattle.da_values.specs.Narrow.{is_narrow}
+use Rattle.da_values.specs.Nesting.{nesting}
+use Rattle.da_values.specs.Proper.{IsValue}
 
 -- BYTES
 
@@ -38,27 +38,26 @@ mark = 68 ∷ 65 ∷ 1 ∷ []
 abbrev pub packet_bytes : ℕ → ℕ → Val → List ℕ
 packet_bytes sender clock v = mark ++ to_be_bytes w16 sender ++ to_be_bytes w64 clock ++ value_bytes v
 
--- WHAT A PACKET CARRIES
+-- WHICH MESSAGES HAVE A PACKET
 
--- a value, where Inside says what may stand in a tuple or a set
-abbrev pub CarriesLayer : (List Val → Type 0) → Val-F Val → Type 0
-CarriesLayer Inside (Int number) = FitsSigned w64 number
-CarriesLayer Inside (Truth truth) = Unit {0}
-CarriesLayer Inside (Text text) = All IsTextByte text
-CarriesLayer Inside (Proc process) = (0 < process) × (process < 2 ^ 16)
-CarriesLayer Inside (Tuple parts) = (length parts ≤ 255) × Inside parts
-CarriesLayer Inside (Set elements) = Ascends val_cmp elements × Inside elements
+abbrev pub few_step : Val-F Bool → Bool
+few_step (Tuple parts) = nat_le (length parts) 255 && list_all (λ part. part) parts
+few_step (Set elements) = list_all (λ element. element) elements
+few_step _ = true
 
--- A value whose tuples and sets are nested at most so deep: integers of 64 bits, texts of allowed bytes, processes that
--- have a number, tuples of at most 255 parts, and sets whose elements strictly ascend.
-unfoldable pub Carries : ℕ → Val → Type 0
-Carries zero v = CarriesLayer (λ inside. ⊥) (out-Val v)
-Carries (suc depth) v = CarriesLayer (AllByRecursion (Carries depth)) (out-Val v)
+-- whether each tuple in a value has at most 255 parts
+abbrev pub has_few_parts : Val → Bool
+has_few_parts = fold-Val Bool few_step
 
--- of a value that is nested at most 32 deep, in at most 60,000 bytes, with a time below 2^63
+-- These bytes are the packet of a message: of a value whose texts are texts, whose sets ascend and whose processes have
+-- a number, whose integers lie in 64 bits, whose tuples have at most 255 parts, and in which at most 32 tuples and sets
+-- stand in one another.
 pub record IsPacket (sender clock : ℕ) (v : Val) (bytes : List ℕ) : Type 0 where
   pub sender_fits : sender < 2 ^ 16
   pub clock_fits : clock < 2 ^ 63
-  pub carries : Carries 32 v
+  pub proper : IsValue v
+  pub narrow : IsTrue (is_narrow v)
+  pub few_parts : IsTrue (has_few_parts v)
+  pub nested : nesting v ≤ 32
   pub small : length bytes ≤ 60000
   pub is : bytes ≡ packet_bytes sender clock v

@@ -1,21 +1,42 @@
 -- What stands at the front of some bytes of a packet.
-use Rattle.std.specs.Prelude.{◌≡◌, ℕ, ◌-◌, ◌^◌, ◌<◌, ◌≤◌, FitsSigned, List, [], ◌∷◌, ◌++◌, length, map}
+use Rattle.std.specs.Prelude.{◌≡◌, ℕ, zero, suc, ◌-◌, ◌^◌, ◌<◌, ◌≤◌, IsTrue, FitsSigned, List, [], ◌∷◌, ◌++◌, length, map}
 use Rattle.std.specs.Int.{w16, w32, w64, cast_unsigned, to_be_bytes}
-use Rattle.std.specs.List.{All, AllByRecursion}
-use Rattle.da_values.specs.declared.val.Val.{Val}
+use Rattle.std.specs.List.{All, AllByRecursion, list_all}
+use Rattle.da_values.specs.declared.val.Val.{Val, out-Val}
+use Rattle.da_values.specs.declared.val.Val.TheOpen as layers
+use Rattle.da_values.specs.declared.val.Val.TheOpen.{Val-F}
 use Rattle.da_values.specs.declared.value.Value.{Value}
 use Rattle.da_values.specs.declared.value.Value.TheVariants.{Int, Bool as Truth, Text, Proc, Tuple, Set}
+use Rattle.da_values.specs.Narrow.{is_narrow}
 use Rattle.da_values.specs.Order.{val_cmp}
 use Rattle.da_values.specs.Sets.{Ascends}
 use Rattle.da_values.specs.Str.{IsTextByte}
-use Rattle.msg_codec.specs.Packets.{Carries, joined, mark, truth_byte, value_bytes}
+use Rattle.msg_codec.specs.Packets.{has_few_parts, joined, mark, truth_byte, value_bytes}
 
--- a value that a packet carries, however deep it is nested
-abbrev pub IsCarried : Val → Type 0
-IsCarried x = (depth : ℕ) × Carries depth x
+-- WHAT A PACKET CARRIES
 
-abbrev pub AreCarried : List Val → Type 0
-AreCarried xs = (depth : ℕ) × AllByRecursion (Carries depth) xs
+-- a value, where Inside says what may stand in a tuple or a set
+abbrev pub CarriesLayer : (List Val → Type 0) → Val-F Val → Type 0
+CarriesLayer Inside (layers.Int number) = FitsSigned w64 number
+CarriesLayer Inside (layers.Bool truth) = Unit {0}
+CarriesLayer Inside (layers.Text text) = All IsTextByte text
+CarriesLayer Inside (layers.Proc process) = (0 < process) × (process < 2 ^ 16)
+CarriesLayer Inside (layers.Tuple parts) = (length parts ≤ 255) × Inside parts
+CarriesLayer Inside (layers.Set elements) = Ascends val_cmp elements × Inside elements
+
+-- a value that is nested at most so deep, by what stands in it
+unfoldable pub Carries : ℕ → Val → Type 0
+Carries zero v = CarriesLayer (λ inside. ⊥) (out-Val v)
+Carries (suc depth) v = CarriesLayer (AllByRecursion (Carries depth)) (out-Val v)
+
+-- a value whose integers and tuples are small enough to be written
+abbrev pub HasRoom : Val → Type 0
+HasRoom x = IsTrue (is_narrow x) × IsTrue (has_few_parts x)
+
+abbrev pub HaveRoom : List Val → Type 0
+HaveRoom xs = IsTrue (list_all is_narrow xs) × IsTrue (list_all has_few_parts xs)
+
+-- AT THE FRONT
 
 -- the bytes of a packet up to its value, and the rest
 pub record IsHead (sender clock : ℕ) (bytes rest : List ℕ) : Type 0 where

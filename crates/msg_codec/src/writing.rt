@@ -1,20 +1,24 @@
 //! From a message to its packet.
 ghost use Rattle.da_values.specs.Lengths.{encoded_len};
+ghost use Rattle.da_values.specs.Narrow.{is_narrow};
+ghost use Rattle.da_values.specs.Nesting.{nesting};
 ghost use Rattle.da_values.specs.Value.{val_of, vals};
 ghost use Rattle.da_values.specs.declared.val.Val.TheVariants as val;
-ghost use Rattle.msg_codec.specs.Packets.{Carries, joined, packet_bytes, value_bytes};
-ghost use Rattle.msg_codec.specs.Pieces.{AreCarried, IsCarried};
+ghost use Rattle.msg_codec.specs.Packets.{has_few_parts, joined, packet_bytes, value_bytes};
+ghost use Rattle.msg_codec.specs.Pieces.{HasRoom, HaveRoom};
 ghost use Rattle.std.specs.Int.RustNames.{FitsSigned};
 ghost use Rattle.std.specs.Int.{w64};
-ghost use Rattle.std.specs.Prelude.{◌≡◌, ◌+◌, ◌^◌, ◌<◌, ◌≤◌, ◌++◌, length, map, take, OnErr, OnOk};
+ghost use Rattle.std.specs.Prelude.{◌≡◌, ◌+◌, ◌^◌, ◌<◌, ◌≤◌, ◌++◌, length, map, take, IsTrue, OnErr, OnOk};
 
 use da_values::{Buf, NoMemory, Row, SetVal, Str, Value};
 
-/// Appends the packet of a message: 13 bytes, and then those of the value. The value is one that a packet carries: its
-/// integers lie in 64 bits, its tuples have at most 255 parts, no process in it has the number 0, and its tuples and
-/// sets are nested at most 32 deep. The packet has at most 60,000 bytes. Where memory is refused `out` is as it was.
+/// Appends the packet of a message: 13 bytes, and then those of the value. Its integers lie in 64 bits, its tuples have
+/// at most 255 parts, and at most 32 tuples and sets stand in one another. The time is at most 2^63 - 1, and the packet
+/// has at most 60,000 bytes. Where memory is refused `out` is as it was.
 pub fn encode(sender: u16, clock: u64, v: &Value, out: &mut Buf) -> Result<(), NoMemory>
-    requires carries { Carries 32 (val_of v.now) }
+    requires narrow { IsTrue (is_narrow (val_of v.now)) }
+    requires few_parts { IsTrue (has_few_parts (val_of v.now)) }
+    requires nested { nesting (val_of v.now) ≤ 32 }
     requires clock { clock < 2 ^ 63 }
     requires small { length (packet_bytes sender clock (val_of v.now)) ≤ 60000 }
     ensures ok { OnOk result (out.new ≡ out.old ++ packet_bytes sender clock (val_of v.now)) }
@@ -33,7 +37,7 @@ pub fn encode(sender: u16, clock: u64, v: &Value, out: &mut Buf) -> Result<(), N
 
 // Appends the packet, or a part of it where memory is refused.
 fn put_packet(sender: u16, clock: u64, v: &Value, out: &mut Buf) -> Result<(), NoMemory>
-    requires carries { IsCarried (val_of v.now) }
+    requires room { HasRoom (val_of v.now) }
     requires small { length (value_bytes (val_of v.now)) ≤ 60000 }
     ensures ok { OnOk result (out.new ≡ out.old ++ packet_bytes sender clock (val_of v.now)) }
     ensures err { OnErr result (take (length out.old) out.new ≡ out.old) }
@@ -48,7 +52,7 @@ fn put_packet(sender: u16, clock: u64, v: &Value, out: &mut Buf) -> Result<(), N
 #[cycle(put)]
 #[tactic(auto, using(da_values::specs::Layer::weight_of))]
 fn put_value(v: &Value, out: &mut Buf) -> Result<(), NoMemory>
-    requires carries { IsCarried (val_of v.now) }
+    requires room { HasRoom (val_of v.now) }
     requires small { length (value_bytes (val_of v.now)) ≤ 60000 }
     ensures ok { OnOk result (out.new ≡ out.old ++ value_bytes (val_of v.now)) }
     ensures err { OnErr result (take (length out.old) out.new ≡ out.old) }
@@ -105,7 +109,7 @@ fn put_process(process: u16, out: &mut Buf) -> Result<(), NoMemory>
 
 #[cycle(put)]
 fn put_tuple(parts: &Row, out: &mut Buf) -> Result<(), NoMemory>
-    requires carries { IsCarried (val.Tuple parts.now) }
+    requires room { HasRoom (val.Tuple parts.now) }
     requires small { length (value_bytes (val.Tuple parts.now)) ≤ 60000 }
     ensures ok { OnOk result (out.new ≡ out.old ++ value_bytes (val.Tuple parts.now)) }
     ensures err { OnErr result (take (length out.old) out.new ≡ out.old) }
@@ -117,7 +121,7 @@ fn put_tuple(parts: &Row, out: &mut Buf) -> Result<(), NoMemory>
 
 #[cycle(put)]
 fn put_set(elements: &SetVal, out: &mut Buf) -> Result<(), NoMemory>
-    requires carries { IsCarried (val.Set elements.now) }
+    requires room { HasRoom (val.Set elements.now) }
     requires small { length (value_bytes (val.Set elements.now)) ≤ 60000 }
     ensures ok { OnOk result (out.new ≡ out.old ++ value_bytes (val.Set elements.now)) }
     ensures err { OnErr result (take (length out.old) out.new ≡ out.old) }
@@ -131,7 +135,7 @@ fn put_set(elements: &SetVal, out: &mut Buf) -> Result<(), NoMemory>
 #[cycle(put)]
 #[tactic(auto, using(da_values::specs::Layer::weight_part))]
 fn put_values(values: &[Value], out: &mut Buf) -> Result<(), NoMemory>
-    requires carries { AreCarried (vals values.now) }
+    requires room { HaveRoom (vals values.now) }
     requires small { length (joined (map value_bytes (vals values.now))) ≤ 60000 }
     ensures ok { OnOk result (out.new ≡ out.old ++ joined (map value_bytes (vals values.now))) }
     ensures err { OnErr result (take (length out.old) out.new ≡ out.old) }
