@@ -67,22 +67,22 @@ carries_of =
     (λ bytes depth proper narrow few nested. layer_carried depth (kept.Text bytes) (proper_at (kept.Text bytes) proper))
     (λ p depth proper narrow few nested. layer_carried depth (kept.Proc p) (proper_at (kept.Proc p) proper))
     (λ parts each depth proper narrow few nested.
-        let counts = and_parts (nat_le (length parts) 255) (list_all has_few_parts parts) (sym (has_few_of (kept.Tuple parts)) ∙ few) in
-        let deep = nesting_of (kept.Tuple parts) in
-        let narrows = sym (is_narrow_of (kept.Tuple parts)) ∙ narrow in
-        layer_carried depth (kept.Tuple parts) (
-          leb-true (length parts) 255 counts.0,
-          (omega (arith, nested, deep), each_carried (depth - 1) parts each (proper_at (kept.Tuple parts) proper) narrows counts.1 (omega (arith, nested, deep))),
-        ))
+    let counts = and_parts (nat_le (length parts) 255) (list_all has_few_parts parts) (sym (has_few_of (kept.Tuple parts)) ∙ few) in
+    let deep = nesting_of (kept.Tuple parts) in
+    let narrows = sym (is_narrow_of (kept.Tuple parts)) ∙ narrow in
+    layer_carried depth (kept.Tuple parts) (
+      leb-true (length parts) 255 counts.0,
+      (omega (arith, nested, deep), each_carried (depth - 1) parts each (proper_at (kept.Tuple parts) proper) narrows counts.1 (omega (arith, nested, deep))),
+    ))
     (λ elements each depth proper narrow few nested.
-        let fews = sym (has_few_of (kept.Set elements)) ∙ few in
-        let deep = nesting_of (kept.Set elements) in
-        let narrows = sym (is_narrow_of (kept.Set elements)) ∙ narrow in
-        let sorted = proper_at (kept.Set elements) proper in
-        layer_carried depth (kept.Set elements) (
-          sorted.1,
-          (omega (arith, nested, deep), each_carried (depth - 1) elements each sorted.0 narrows fews (omega (arith, nested, deep))),
-        ))
+    let fews = sym (has_few_of (kept.Set elements)) ∙ few in
+    let deep = nesting_of (kept.Set elements) in
+    let narrows = sym (is_narrow_of (kept.Set elements)) ∙ narrow in
+    let sorted = proper_at (kept.Set elements) proper in
+    layer_carried depth (kept.Set elements) (
+      sorted.1,
+      (omega (arith, nested, deep), each_carried (depth - 1) elements each sorted.0 narrows fews (omega (arith, nested, deep))),
+    ))
 
 pub packet_carries : (s c : ℕ) (v : Val) (bytes : List ℕ) → IsPacket s c v bytes → Carries 32 v
 packet_carries s c v bytes packet = carries_of v 32 packet.proper packet.narrow packet.few_parts packet.nested
@@ -117,13 +117,13 @@ pub asked : (x : Val) (depth : ℕ) → Carries depth x → IsAsked depth x
 asked =
     val_induction (λ x. (d : ℕ) → Carries d x → IsAsked d x)
     (λ number d carries.
-        let fits = carried_layer d (kept.Int number) carries in
-        record {
-          proper = integer number (record { sfits = omega (arith, fits.sfits) });
-          narrow = is_narrow_of (kept.Int number) ∙ i64_of_fits number fits;
-          few_parts = has_few_of (kept.Int number);
-          nested = omega (arith, nesting_of (kept.Int number));
-        })
+    let fits = carried_layer d (kept.Int number) carries in
+    record {
+      proper = integer number (record { sfits = omega (arith, fits.sfits) });
+      narrow = is_narrow_of (kept.Int number) ∙ i64_of_fits number fits;
+      few_parts = has_few_of (kept.Int number);
+      nested = omega (arith, nesting_of (kept.Int number));
+    })
     (λ b d carries. record {
       proper = truth b;
       narrow = is_narrow_of (kept.Bool b);
@@ -137,28 +137,28 @@ asked =
       nested = omega (arith, nesting_of (kept.Text bytes));
     })
     (λ p d carries.
-        let there = carried_layer d (kept.Proc p) carries in
-        record {
-          proper = process p there.0 there.1;
-          narrow = is_narrow_of (kept.Proc p);
-          few_parts = has_few_of (kept.Proc p);
-          nested = omega (arith, nesting_of (kept.Proc p));
-        })
+    let there = carried_layer d (kept.Proc p) carries in
+    record {
+      proper = process p there.0 there.1;
+      narrow = is_narrow_of (kept.Proc p);
+      few_parts = has_few_of (kept.Proc p);
+      nested = omega (arith, nesting_of (kept.Proc p));
+    })
     (λ parts each d carries.
-        let there = carried_layer d (kept.Tuple parts) carries in
-        let inside = each_asked (d - 1) parts each there.1.1 in
-        record {
-          proper = tuple parts inside.proper;
-          narrow = is_narrow_of (kept.Tuple parts) ∙ inside.narrow;
-          few_parts = has_few_of (kept.Tuple parts) ∙ and_from (nat_le (length parts) 255) (list_all has_few_parts parts) (le-leb (length parts) 255 there.0) inside.few_parts;
-          nested = omega (arith, nesting_of (kept.Tuple parts), inside.nested, there.1.0);
-        })
+    let there = carried_layer d (kept.Tuple parts) carries in
+    let inside = each_asked (d - 1) parts each there.1.1 in
+    record {
+      proper = tuple parts inside.proper;
+      narrow = is_narrow_of (kept.Tuple parts) ∙ inside.narrow;
+      few_parts = has_few_of (kept.Tuple parts) ∙ and_from (nat_le (length parts) 255) (list_all has_few_parts parts) (le-leb (length parts) 255 there.0) inside.few_parts;
+      nested = omega (arith, nesting_of (kept.Tuple parts), inside.nested, there.1.0);
+    })
     (λ elements each d carries.
-        let there = carried_layer d (kept.Set elements) carries in
-        let inside = each_asked (d - 1) elements each there.1.1 in
-        record {
-          proper = set elements inside.proper there.0;
-          narrow = is_narrow_of (kept.Set elements) ∙ inside.narrow;
-          few_parts = has_few_of (kept.Set elements) ∙ inside.few_parts;
-          nested = omega (arith, nesting_of (kept.Set elements), inside.nested, there.1.0);
-        })
+    let there = carried_layer d (kept.Set elements) carries in
+    let inside = each_asked (d - 1) elements each there.1.1 in
+    record {
+      proper = set elements inside.proper there.0;
+      narrow = is_narrow_of (kept.Set elements) ∙ inside.narrow;
+      few_parts = has_few_of (kept.Set elements) ∙ inside.few_parts;
+      nested = omega (arith, nesting_of (kept.Set elements), inside.nested, there.1.0);
+    })
