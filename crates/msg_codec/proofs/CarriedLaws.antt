@@ -1,8 +1,8 @@
 -- What a packet carries, by what stands in it, is what is asked of its value as a whole.
-use Rattle.std.specs.Prelude.{◌≡◌, ℕ, ℤ, pos, negsuc, ◌-◌, ◌^◌, ◌<◌, ◌≤◌, ◌&&◌, nat_le, Bool, true, IsTrue, FitsSigned, List, [], ◌∷◌, length, map, refl}
-use Rattle.std.specs.Int.{w64, w128}
+use Rattle.std.specs.Prelude.{◌≡◌, ℕ, ℤ, pos, negsuc, ◌-◌, ◌^◌, ◌≤◌, ◌&&◌, nat_le, Bool, true, IsTrue, FitsSigned, List, [], ◌∷◌, length, map, refl}
+use Rattle.std.specs.Int.{w64}
 use Rattle.std.specs.List.{AllByRecursion, list_all}
-use Rattle.std.proofs.Common.{◌∙◌, ap, sym, arith}
+use Rattle.std.proofs.Common.{◌∙◌, sym, arith}
 use Rattle.std.proofs.lemmas.Bool.{and_from, and_parts, le-leb, leb-true, lt-ltb, ltb-true}
 use Rattle.std.proofs.lemmas.List.{length-map}
 use Rattle.std.proofs.lemmas.List.Folds.{list_all-map}
@@ -12,15 +12,13 @@ use Rattle.da_values.specs.declared.value.Value.TheVariants as kept
 use Rattle.da_values.specs.Layer.{fold-val_of}
 use Rattle.da_values.specs.Narrow.{is_i64, is_narrow}
 use Rattle.da_values.specs.Nesting.{deepest, nesting}
-use Rattle.da_values.specs.Order.{val_cmp}
 use Rattle.da_values.specs.Proper.{IsValue, AreValues, integer, truth, text, process, tuple, set, none, more}
-use Rattle.da_values.specs.Sets.{Ascends}
 use Rattle.da_values.specs.Value.{val_of}
 use Rattle.da_values.proofs.FoldsAt.{is_narrow_of, nesting_of}
 use Rattle.da_values.proofs.Induction.{val_induction}
 use Rattle.da_values.proofs.ReadLaws.{proper_at}
 use Rattle.msg_codec.specs.Packets.{IsPacket, few_step, has_few_parts}
-use Rattle.msg_codec.specs.Pieces.{AreInside, Carries}
+use Rattle.msg_codec.specs.Pieces.{Carries}
 use Rattle.msg_codec.proofs.PieceLaws.{carried_layer, layer_carried}
 
 -- INTEGERS AND TUPLES

@@ -1,14 +1,12 @@
 -- What a packet brings with it, and that no other packet begins as it does.
-use Rattle.std.specs.Prelude.{◌≡◌, ℕ, zero, suc, Bool, true, false, ◌-◌, ◌+◌, ◌^◌, ◌<◌, ◌≤◌, List, [], ◌∷◌, ◌++◌, drop, take, length, map, Result, Ok, Err, IfOk, IsErrOf, MatchResult, refl}
+use Rattle.std.specs.Prelude.{◌≡◌, ℕ, zero, suc, Bool, true, false, ◌-◌, ◌+◌, ◌^◌, ◌<◌, ◌≤◌, List, [], ◌∷◌, ◌++◌, drop, length, map, Result, Ok, Err, IfOk, IsErrOf, MatchResult, refl}
 use Rattle.std.specs.Int.{w16, w64, cast_unsigned, to_be_bytes}
-use Rattle.std.specs.List.{AllByRecursion}
-use Rattle.std.proofs.Common.{◌∙◌, ap, sym, subst, arith, append_assoc, append-nil, length-append}
+use Rattle.std.proofs.Common.{◌∙◌, ap, sym, subst, arith, append-nil, length-append}
 use Rattle.std.proofs.Math.Seq.{take-length}
 use Rattle.std.proofs.lemmas.Int.{to_z-of_z}
 use Rattle.std.proofs.lemmas.List.{drop-append-le, drop_all, take-append-le}
 use mir.ValLaws as laws
 use Rattle.da_values.specs.declared.val.Val.{Val}
-use Rattle.da_values.specs.declared.val.Val.TheVariants as val
 use Rattle.da_values.specs.declared.value.Value.{Value}
 use Rattle.da_values.specs.declared.value.Value.TheVariants as kept
 use Rattle.da_values.specs.Value.{val_of}
@@ -16,7 +14,7 @@ use Rattle.msg_codec.specs.declared.packet.CodecFault.{CodecFault}
 use Rattle.msg_codec.specs.declared.packet.CodecFault.TheVariants.{Memory, NotAPacket}
 use Rattle.msg_codec.specs.declared.packet.Packet.{Packet}
 use Rattle.msg_codec.specs.Packets.{IsPacket, joined, mark, truth_byte, value_bytes}
-use Rattle.msg_codec.specs.Pieces.{AreInside, Begins, BeginsEach, Behind, IsHead}
+use Rattle.msg_codec.specs.Pieces.{Begins, BeginsEach, Behind, IsHead}
 use Rattle.msg_codec.proofs.CarriedLaws.{asked, packet_carries}
 use Rattle.msg_codec.proofs.Numbers.{same_short, same_long}
 use Rattle.msg_codec.proofs.PieceLaws.{begins_behind, every_val, first_of, no_bytes, rest_of}

@@ -1,5 +1,5 @@
 -- What a reader finds behind a letter, and that nothing else stands there.
-use Rattle.std.specs.Prelude.{◌≡◌, ℕ, ℤ, zero, suc, ◌-◌, ◌+◌, ◌^◌, ◌<◌, ◌≤◌, List, [], ◌∷◌, ◌++◌, drop, take, length, map, refl}
+use Rattle.std.specs.Prelude.{◌≡◌, ℕ, ℤ, ◌-◌, ◌+◌, ◌^◌, ◌<◌, ◌≤◌, List, [], ◌∷◌, ◌++◌, drop, take, length, map, refl}
 use Rattle.std.specs.Int.{w16, w32, w64, w128, cast_signed, cast_unsigned, to_be_bytes}
 use Rattle.std.specs.Int.RustNames.{FitsSigned}
 use Rattle.std.specs.List.{All, AllByRecursion}
@@ -15,7 +15,7 @@ use Rattle.da_values.specs.Order.{val_cmp}
 use Rattle.da_values.specs.Sets.{Ascends}
 use Rattle.da_values.specs.Str.{IsTextByte}
 use Rattle.msg_codec.specs.Packets.{joined, value_bytes}
-use Rattle.msg_codec.specs.Pieces.{AreInside, Begins, BeginsEach, Behind, Carries}
+use Rattle.msg_codec.specs.Pieces.{Begins, BeginsEach, Behind, Carries}
 use Rattle.msg_codec.proofs.Numbers.{same_short, same_word, same_long}
 use Rattle.msg_codec.proofs.PieceLaws.{first_of, rest_of, some_bytes}
 

@@ -1,9 +1,9 @@
 -- Bytes that are appended one after the other, and what of a value its parts bring with them.
-use Rattle.std.specs.Prelude.{◌≡◌, ℕ, zero, suc, ℤ, Bool, true, false, ◌-◌, ◌+◌, ◌<◌, ◌≤◌, List, [], ◌∷◌, ◌++◌, length, map, take, nat_le, slice_index_or, Result, Ok, Err, IfOk, IfErr, refl}
+use Rattle.std.specs.Prelude.{◌≡◌, ℕ, zero, suc, ℤ, Bool, true, false, ◌<◌, ◌≤◌, List, [], ◌∷◌, ◌++◌, length, map, take, nat_le, slice_index_or, Result, Ok, Err, IfOk, IfErr, refl}
 use Rattle.std.specs.Int.{w32, w64, w128, cast_signed, cast_unsigned, from_bool}
 use Rattle.std.specs.Int.RustNames.{FitsSigned}
 use Rattle.std.specs.List.{list_all}
-use Rattle.std.proofs.Common.{◌∙◌, ap, sym, subst, arith, append_assoc, length-append, Fits}
+use Rattle.std.proofs.Common.{◌∙◌, ap, sym, arith, append_assoc, length-append, Fits}
 use Rattle.std.proofs.Math.Seq.{take-length}
 use Rattle.std.proofs.lemmas.Bool.{and_parts, leb-true}
 use Rattle.std.proofs.lemmas.Int.{to_z-of_z}

@@ -1,5 +1,5 @@
 -- What stands at the front of some bytes of a packet.
-use Rattle.std.specs.Prelude.{◌≡◌, ℕ, zero, suc, ◌-◌, ◌^◌, ◌<◌, ◌≤◌, IsTrue, FitsSigned, List, [], ◌∷◌, ◌++◌, length, map}
+use Rattle.std.specs.Prelude.{◌≡◌, ℕ, zero, suc, ◌-◌, ◌^◌, ◌<◌, ◌≤◌, IsTrue, FitsSigned, List, ◌∷◌, ◌++◌, length, map}
 use Rattle.std.specs.Int.{w16, w32, w64, cast_unsigned, to_be_bytes}
 use Rattle.std.specs.List.{All, AllByRecursion, list_all}
 use Rattle.da_values.specs.declared.val.Val.{Val, out-Val}

@@ -1,7 +1,7 @@
-use Rattle.std.specs.Prelude.{◌≤◌, [], ◌∷◌, ◌++◌, length, map, OnErr}
+use Rattle.std.specs.Prelude.{◌≤◌, [], ◌∷◌, ◌++◌, length, map}
 use Rattle.std.specs.Int.{w32, w64, to_be_bytes}
 use Rattle.std.specs.Int.RustNames.{FitsSigned}
-use Rattle.std.proofs.Common.{◌∙◌, ap, arith, refl, rules, subst, sym, take}
+use Rattle.std.proofs.Common.{◌∙◌, ap, arith, refl, rules, subst, sym}
 use Rattle.da_values.specs.declared.val.Val.TheVariants as val
 use Rattle.da_values.specs.Layer.{weight_part}
 use Rattle.da_values.specs.Value.{val_of, vals}
