@@ -189,6 +189,27 @@ fn nesting(rt: HostRuntime) -> Result<(), Fail> {
     Ok(())
 }
 
+// A packet of a text of so many letters.
+fn letters(alloc: Global, count: u16) -> Result<Buf, NoMemory> {
+    let mut bytes = joined(alloc, HEAD, b"s")?;
+    bytes.append(&count.to_be_bytes())?;
+    for _letter in 0..count {
+        bytes.push(b'a')?;
+    }
+    Ok(bytes)
+}
+
+#[test]
+fn sizes(rt: HostRuntime) -> Result<(), Fail> {
+    let alloc = rt.alloc();
+    let largest = letters(alloc, 59_984)?;
+    assert_eq!(rt; largest.len(), 60_000);
+    assert!(rt; written_again(alloc, largest.as_slice())?.as_slice() == largest.as_slice());
+    let larger = letters(alloc, 59_985)?;
+    assert!(rt; is_no_packet(alloc, larger.as_slice())?);
+    Ok(())
+}
+
 // The bytes, with another one at a place.
 fn with_byte(alloc: Global, bytes: &[u8], place: usize, byte: u8) -> Result<Buf, NoMemory>
     requires { place < length bytes.now }
@@ -206,8 +227,9 @@ fn is_exact_at(alloc: Global, bytes: &[u8], place: usize) -> Result<bool, CodecF
         let changed = with_byte(alloc, bytes, place, byte)?;
         match written_again(alloc, changed.as_slice()) {
             Ok(again) if again.as_slice() == changed.as_slice() => {}
+            Ok(_) => return Ok(false),
             Err(CodecFault::NotAPacket) => {}
-            _ => return Ok(false),
+            Err(CodecFault::Memory) => return Err(CodecFault::Memory),
         }
     }
     Ok(true)
