@@ -128,13 +128,17 @@ module _ (c : Cut) (Q : Type 0) {p q : Reader Expr} {G : Rule Expr} (one : Whole
   no_number_stops : Q → (i : List Tok) → sees m.Number i ≡ false → (wide : Bool) (k : ℕ) → Completed c.most wide G i k → Completed c.most wide NoNumber i k
   no_number_stops so i other wide k (r, w, is, go) = elim (bool_cases (nat_lt k (length i))) [
     | inl some ↦ (
-        let passed : k < length i = grind (arith, nat_tests, some) in
-        (r, w, is, λ n s few.
-        let (x, j, a, h) = go n s few in
-        elim (split a) [
-          | inl both ↦ (let long : length i ≡ length r = ap length both.0 in absurd (omega (arith, long, is, passed)))
-          | inr parts ↦ (let (t, i1, j1, is_i, is_j, b) = parts in (x, j, a, (not_ahead m.Number t i1 j1 is_i is_j other, h)))
-        ]))
+        let passed : k < length i = grind (arith, nat_tests, some) in (
+          r,
+          w,
+          is,
+          λ n s few.
+              let (x, j, a, h) = go n s few in
+              elim (split a) [
+                | inl both ↦ (let long : length i ≡ length r = ap length both.0 in absurd (omega (arith, long, is, passed)))
+                | inr parts ↦ (let (t, i1, j1, is_i, is_j, b) = parts in (x, j, a, (not_ahead m.Number t i1 j1 is_i is_j other, h)))
+              ],
+        ))
     | inr none ↦ (
         let (x, j, a, h) = go (length (onto w [])) [] (omega arith) in
         let long : length i ≤ k = grind (arith, nat_tests, none) in
@@ -145,11 +149,11 @@ module _ (c : Cut) (Q : Type 0) {p q : Reader Expr} {G : Rule Expr} (one : Whole
   no_number = record {
     viable = λ so. record {
       moves = λ i other y e wide n s.
-        let (j, a, h) = (one.good.viable so).moves i tt y e wide n s in
-        elim (split a) [
-          | inl both ↦ (let long : length i ≡ length y.1 = ap length both.0 in absurd (omega (arith, long, strict i y e)))
-          | inr parts ↦ (let (t, i1, j1, is_i, is_j, b) = parts in (j, a, (not_ahead m.Number t i1 j1 is_i is_j other, h)))
-        ];
+          let (j, a, h) = (one.good.viable so).moves i tt y e wide n s in
+          elim (split a) [
+            | inl both ↦ (let long : length i ≡ length y.1 = ap length both.0 in absurd (omega (arith, long, strict i y e)))
+            | inr parts ↦ (let (t, i1, j1, is_i, is_j, b) = parts in (j, a, (not_ahead m.Number t i1 j1 is_i is_j other, h)))
+          ];
       stops = λ i other stop wide k there e. no_number_stops so i other wide k ((one.good.viable so).stops i tt stop wide k there e);
     };
     local = λ so i other j a. one.good.local so i tt j a;

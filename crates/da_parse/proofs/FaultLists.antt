@@ -183,9 +183,9 @@ module _ (c : Cut) (Q : Type 0) {A : Type 0} (k : Mark) {p q : Reader A} {Item :
           stops = λ i ok. ((begun_from-good (length i) found).viable so).stops i tt;
         };
         local = λ so i ok j a.
-          let n : ℕ = length i + length j in
-          subst (λ o. Follows c o (begun_from k q (length j) found j)) (sym (begun_enough k p strict (length i) n found i (omega arith) (omega arith)))
-          (subst (λ o. Follows c (begun_from k p n found i) o) (sym (begun_enough k q strict_too (length j) n found j (omega arith) (omega arith))) ((begun_from-good n found).local so i tt j a));
+            let n : ℕ = length i + length j in
+            subst (λ o. Follows c o (begun_from k q (length j) found j)) (sym (begun_enough k p strict (length i) n found i (omega arith) (omega arith)))
+            (subst (λ o. Follows c (begun_from k p n found i) o) (sym (begun_enough k q strict_too (length j) n found j (omega arith) (omega arith))) ((begun_from-good n found).local so i tt j a));
       };
       makes = record { of = λ wide n s few. (found, ([], sym (append-nil found), g.Many.none)) };
     }
@@ -233,9 +233,9 @@ module _ (c : Cut) (Q : Type 0) {A : Type 0} {w : List Mark} {p q : Reader A} {I
           stops = λ i ok. ((ended_from-good (length i) []).viable so).stops i tt;
         };
         local = λ so i ok j a.
-          let n : ℕ = length i + length j in
-          subst (λ o. Follows c o (ended_from q (length j) [] j)) (sym (ended_enough p strict nothing (length i) n [] i (omega arith) (omega arith)))
-          (subst (λ o. Follows c (ended_from p n [] i) o) (sym (ended_enough q strict_too nothing_too (length j) n [] j (omega arith) (omega arith))) ((ended_from-good n []).local so i tt j a));
+            let n : ℕ = length i + length j in
+            subst (λ o. Follows c o (ended_from q (length j) [] j)) (sym (ended_enough p strict nothing (length i) n [] i (omega arith) (omega arith)))
+            (subst (λ o. Follows c (ended_from p n [] i) o) (sym (ended_enough q strict_too nothing_too (length j) n [] j (omega arith) (omega arith))) ((ended_from-good n []).local so i tt j a));
       });
       makes = record { of = λ wide n s few. let (ys, finds) = (ended_makes []).of wide n s few in (ys, subst (λ xs. InBlock (room_of c.most wide n) xs (onto (w ++ m.Dedent ∷ []) s) s) (sym finds.1) finds.2) };
     }
@@ -296,9 +296,9 @@ module _ (c : Cut) (Q : Type 0) (sign : Option Mark → Option ArithOp) (unsigne
           stops = λ i ok. ((others_from-good (length i) []).viable so).stops i tt;
         };
         local = λ so i ok j a.
-          let n : ℕ = length i + length j in
-          subst (λ o. Follows c o (others_from sign q (length j) [] j)) (sym (others_enough sign unsigned p strict (length i) n [] i (omega arith) (omega arith)))
-          (subst (λ o. Follows c (others_from sign p n [] i) o) (sym (others_enough sign unsigned q strict_too (length j) n [] j (omega arith) (omega arith))) ((others_from-good n []).local so i tt j a));
+            let n : ℕ = length i + length j in
+            subst (λ o. Follows c o (others_from sign q (length j) [] j)) (sym (others_enough sign unsigned p strict (length i) n [] i (omega arith) (omega arith)))
+            (subst (λ o. Follows c (others_from sign p n [] i) o) (sym (others_enough sign unsigned q strict_too (length j) n [] j (omega arith) (omega arith))) ((others_from-good n []).local so i tt j a));
       });
       makes = record { of = λ wide n s few. ([], no_other) };
     }

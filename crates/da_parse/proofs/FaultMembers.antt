@@ -109,9 +109,11 @@ module _ (c : Cut) (d : ℕ) (e e1 : Level → Reader Expr) (r r1 : Reader Patte
         let (u, colon, body_is) = blk in subst (λ n. MemberHere room (member_tree.Method name ps does n) i5 i) lined (g.method def there opened l colon body_is)))))).good
 
     run_makes : (at_it : ℕ) → Makes c.most (m.Run ∷ m.OpenParen ∷ m.CloseParen ∷ wb ++ []) (WordHere m.Def at_it)
-    run_makes at_it = record { of = λ wide n s few.
-        let (z, h) = (run-whole at_it).makes.of wide n s (omega (arith, few)) in
-        (z, h (onto (m.Run ∷ m.OpenParen ∷ m.CloseParen ∷ wb ++ []) s) (at refl)) }
+    run_makes at_it = record {
+      of = λ wide n s few.
+          let (z, h) = (run-whole at_it).makes.of wide n s (omega (arith, few)) in
+          (z, h (onto (m.Run ∷ m.OpenParen ∷ m.CloseParen ∷ wb ++ []) s) (at refl));
+    }
 
     definition_by-good : (at_it : ℕ) (k : Option Mark) → Good c Q (λ i. mark i ≡ k) (definition_by S at_it k) (definition_by S1 at_it k) (WordHere m.Def at_it)
     definition_by-good at_it (Some m.Setup) = past_mark c Q m.Setup (λ i ok. ok) (setup-good at_it)

@@ -75,7 +75,7 @@ module _ (limit : Limit) (f : ℕ) (some : 1 ≤ f) where
   class-keeps at_it i y e =
       let t : Tok = record { mark = m.Class; text = []; line = at_it } in
       let shorter : length y.1 < length (t ∷ i) =
-          IsClass-shrinks Any f (TypedParam Any f) (IsParam-shrinks (TypeIn Any f 2) (TypeIn-shrinks Any f 2)) _ _ _ (class-sound O Any f (TypedParam Any f) outer_is (t ∷ i) i y (at refl) e) in
+      IsClass-shrinks Any f (TypedParam Any f) (IsParam-shrinks (TypeIn Any f 2) (TypeIn-shrinks Any f 2)) _ _ _ (class-sound O Any f (TypedParam Any f) outer_is (t ∷ i) i y (at refl) e) in
       omega (arith, shorter)
 
   pub main_line-strict : Strict (main_line O)

@@ -122,24 +122,32 @@ module _ (c : Cut) {A B : Type 0} where
         → ((x : A) → Makes c.most w (λ room y r s. (i : List Tok) → G room x i r → H room y i s)) → Viable c.most P (p >>= g) H
     bind_viable part later makes = record {
       moves = λ i ok y e wide n s. reads (p i) g y e (λ x r read next.
-        let (j1, a1, h1) = (later x).moves r tt y next wide n s in
-        let (j, a, b) = part.moves i ok (x, r) read wide n j1 in
-        (j, onwards a a1, h1 j b));
+          let (j1, a1, h1) = (later x).moves r tt y next wide n s in
+          let (j, a, b) = part.moves i ok (x, r) read wide n j1 in
+          (j, onwards a a1, h1 j b));
       stops = λ i ok stop wide k there e. stopped (p i) g stop e
-        (λ at_first.
-        let (r, v, is, go) = part.stops i ok stop wide k there at_first in
-        (r, v ++ w, is, λ n s few.
-        let joins = onto_append v w s in
-        let fits : length (onto v (onto w s)) ≤ n = subst (λ z. length z ≤ n) joins few in
-        let (x, j, a, b) = go n (onto w s) fits in
-        let (y, made) = (makes x).of wide n s (omega (arith, fits, onto_longer v (onto w s))) in
-        (y, j, subst (λ z. Shifted i r j z) (sym joins) a, made j b)))
-        (λ x i1 read next.
-        let (r, v, is, go) = (later x).stops i1 tt stop wide k there next in
-        (r, v, is, λ n s few.
-        let (y, j1, a1, h1) = go n s few in
-        let (j, a, b) = part.moves i ok (x, i1) read wide n j1 in
-        (y, j, onwards a a1, h1 j b)));
+          (λ at_first.
+          let (r, v, is, go) = part.stops i ok stop wide k there at_first in (
+            r,
+            v ++ w,
+            is,
+            λ n s few.
+                let joins = onto_append v w s in
+                let fits : length (onto v (onto w s)) ≤ n = subst (λ z. length z ≤ n) joins few in
+                let (x, j, a, b) = go n (onto w s) fits in
+                let (y, made) = (makes x).of wide n s (omega (arith, fits, onto_longer v (onto w s))) in
+                (y, j, subst (λ z. Shifted i r j z) (sym joins) a, made j b),
+          ))
+          (λ x i1 read next.
+          let (r, v, is, go) = (later x).stops i1 tt stop wide k there next in (
+            r,
+            v,
+            is,
+            λ n s few.
+                let (y, j1, a1, h1) = go n s few in
+                let (j, a, b) = part.moves i ok (x, i1) read wide n j1 in
+                (y, j, onwards a a1, h1 j b),
+          ));
     }
 
   module _ {P : List Tok → Type 0} {p : Reader A} (q : Reader A) {G : Rule A} {g : A → Reader B} (h : A → Reader B) {H : Rule B} where
@@ -157,12 +165,14 @@ module _ (c : Cut) (Q : Type 0) {A B : Type 0} where
   }
 
   pub bind_makes : {G : Rule A} {v w : List Mark} {H : Rule B} → Makes c.most v G → ((x : A) → Makes c.most w (λ room y r s. (i : List Tok) → G room x i r → H room y i s)) → Makes c.most (v ++ w) H
-  bind_makes {G} {v} {w} {H} part later = record { of = λ wide n s few.
-      let joins = onto_append v w s in
-      let fits : length (onto v (onto w s)) ≤ n = subst (λ z. length z ≤ n) joins few in
-      let (x, b) = part.of wide n (onto w s) fits in
-      let (y, made) = (later x).of wide n s (omega (arith, fits, onto_longer v (onto w s))) in
-      (y, subst (λ z. H (room_of c.most wide n) y z s) (sym joins) (made (onto v (onto w s)) b)) }
+  bind_makes {G} {v} {w} {H} part later = record {
+    of = λ wide n s few.
+        let joins = onto_append v w s in
+        let fits : length (onto v (onto w s)) ≤ n = subst (λ z. length z ≤ n) joins few in
+        let (x, b) = part.of wide n (onto w s) fits in
+        let (y, made) = (later x).of wide n s (omega (arith, fits, onto_longer v (onto w s))) in
+        (y, subst (λ z. H (room_of c.most wide n) y z s) (sym joins) (made (onto v (onto w s)) b));
+  }
 
 module _ (c : Cut) (Q : Type 0) {A B : Type 0} {p q : Reader A} {G : Rule A} {v w : List Mark} {g h : A → Reader B} {H : Rule B} where
   pub bind : Whole c Q v p q G → ((x : A) → Whole c Q w (g x) (h x) (λ room y r s. (i : List Tok) → G room x i r → H room y i s)) → Whole c Q (v ++ w) (p >>= g) (q >>= h) H
@@ -185,7 +195,6 @@ module _ (c : Cut) {A : Type 0} {H : Rule A} where
   refuse_stops {w} makes i (Syntax left) true k there e = absurd there
   refuse_stops {w} makes i (Deep left) wide k there e = absurd (cc)
   refuse_stops {w} makes i Memory wide k there e = absurd (cc)
-
 
 module _ (c : Cut) (Q : Type 0) {A : Type 0} {P : List Tok → Type 0} {H : Rule A} where
   pub pure_good : (a : A) → ((room : ℕ → Room) (i : List Tok) → H room a i i) → Good c Q P (pure a) (pure a) H
@@ -283,8 +292,8 @@ module _ (c : Cut) (Q : Type 0) {A : Type 0} {P : List Tok → Type 0} {H : Rule
     viable = λ so. record {
       moves = λ i ok y e wide n s. let (j, a, h) = (good.viable so).moves i ok y e wide n s in (j, a, to (room_of c.most wide n) y.0 j s h);
       stops = λ i ok stop wide k there e.
-        let (r, w, is, go) = (good.viable so).stops i ok stop wide k there e in
-        (r, w, is, λ n s few. let (x, j, a, h) = go n s few in (x, j, a, to (room_of c.most wide n) x j _ h));
+          let (r, w, is, go) = (good.viable so).stops i ok stop wide k there e in
+          (r, w, is, λ n s few. let (x, j, a, h) = go n s few in (x, j, a, to (room_of c.most wide n) x j _ h));
     };
     local = good.local;
   }
@@ -414,16 +423,24 @@ module _ (c : Cut) (Q : Type 0) (d : ℕ) (k : Mark) {A : Type 0} {w : List Mark
 
   deep_stops : (t : Tok) (r : List Tok) → t.mark ≡ k → (stop : Stop) (wide : Bool) (n : ℕ) → Placed wide stop n → ◌≡◌ {A = Reading A} (Err (Deep (length (t ∷ r)))) (Err stop) → Completed c.most wide H (t ∷ r) n
   deep_stops t r is (Deep left) false n there e =
-      let at_it : length (t ∷ r) ≡ left = cc in
-      (t ∷ r, k ∷ w, sym (at_it ∙ there), λ most s few.
-        let (x, h) = inside.makes.of false most s (omega (arith, few)) in
-        (x, sample k ∷ onto w s, f.here, h (sample k ∷ onto w s) (opens (room_late c.most false most d (sample k ∷ onto w s) few) (at refl))))
+      let at_it : length (t ∷ r) ≡ left = cc in (
+        t ∷ r,
+        k ∷ w,
+        sym (at_it ∙ there),
+        λ most s few.
+            let (x, h) = inside.makes.of false most s (omega (arith, few)) in
+            (x, sample k ∷ onto w s, f.here, h (sample k ∷ onto w s) (opens (room_late c.most false most d (sample k ∷ onto w s) few) (at refl))),
+      )
   deep_stops t r is (Deep left) true n there e =
       let at_it : length (t ∷ r) ≡ left = cc in
-      let left_is : n ≡ length r = elim there [ | inl some ↦ omega (arith, at_it, some) | inr none ↦ absurd (omega (arith, at_it, none)) ] in
-      (r, w, left_is, λ most s few.
-        let (x, h) = inside.makes.of true most s few in
-        (x, t ∷ onto w s, f.behind f.here, h (t ∷ onto w s) (opens tt (at is))))
+      let left_is : n ≡ length r = elim there [ inl some ↦ omega (arith, at_it, some) | inr none ↦ absurd (omega (arith, at_it, none)) ] in (
+        r,
+        w,
+        left_is,
+        λ most s few.
+            let (x, h) = inside.makes.of true most s few in
+            (x, t ∷ onto w s, f.behind f.here, h (t ∷ onto w s) (opens tt (at is))),
+      )
   deep_stops t r is (Syntax left) wide n there e = absurd (cc)
   deep_stops t r is Memory wide n there e = absurd (cc)
 
@@ -477,9 +494,11 @@ module _ (c : Cut) (Q : Type 0) (d : ℕ) (k : Mark) {A : Type 0} {w : List Mark
 
   -- what it is made of
   pub opened_makes : Makes c.most (k ∷ w) H
-  opened_makes = record { of = λ wide n s few.
-      let (x, h) = inside.makes.of wide n s (omega (arith, few)) in
-      (x, h (sample k ∷ onto w s) (opens (room_late c.most wide n d (sample k ∷ onto w s) few) (at refl))) }
+  opened_makes = record {
+    of = λ wide n s few.
+        let (x, h) = inside.makes.of wide n s (omega (arith, few)) in
+        (x, h (sample k ∷ onto w s) (opens (room_late c.most wide n d (sample k ∷ onto w s) few) (at refl)));
+  }
 
   pub opening_whole : Whole c Q (k ∷ w) (place.opening opened k >> p) (place.opening (c.wider d) k >> q) H
   opening_whole = record {
@@ -505,8 +524,8 @@ module _ (c : Cut) (Q : Type 0) where
     pub expect_whole : Whole c Q (k ∷ []) (expect k) (expect k) (λ room _ i r. At k i r)
     expect_whole = record {
       good = good_same c Q expect_if expect_if (if_good c Q k
-        (past_good c Q (λ t. t.mark ≡ k) (λ i ok. first_sees i ok.1) (pure_good c Q tt (λ room i t is. at is)))
-        (refuse_good c Q {w = k ∷ []} expect_makes));
+          (past_good c Q (λ t. t.mark ≡ k) (λ i ok. first_sees i ok.1) (pure_good c Q tt (λ room i t is. at is)))
+          (refuse_good c Q {w = k ∷ []} expect_makes));
       makes = expect_makes;
     }
 
@@ -524,8 +543,8 @@ module _ (c : Cut) (Q : Type 0) where
   pub word_whole : Whole c Q (m.Name ∷ []) (word m.Name) (word m.Name) (λ room b i r. Named b i r)
   word_whole = record {
     good = good_same c Q word_if word_if (if_good c Q m.Name
-      (taking_good c Q (λ t. t.mark ≡ m.Name) (λ i ok. first_sees i ok.1) (λ b. pure_good c Q b (λ room i t is same_name. named_at b t i is same_name)))
-      (refuse_good c Q {w = m.Name ∷ []} word_makes));
+        (taking_good c Q (λ t. t.mark ≡ m.Name) (λ i ok. first_sees i ok.1) (λ b. pure_good c Q b (λ room i t is same_name. named_at b t i is same_name)))
+        (refuse_good c Q {w = m.Name ∷ []} word_makes));
     makes = word_makes;
   }
 

@@ -72,9 +72,9 @@ module _ (c : Cut) (Q : Type 0) (N : ℕ) (o o1 : Outer) (Parameter : Rule Param
           stops = λ i ok. ((decls_from-whole (length i) [] []).good.viable so).stops i tt;
         };
         local = λ so i ok j a.
-          let n : ℕ = length i + length j in
-          subst (λ v. Follows c v (decls_from o1 k (length j) [] [] j)) (sym (decls_enough o k message_keeps class_keeps (length i) n [] [] i (omega arith) (omega arith)))
-          (subst (λ v. Follows c (decls_from o k n [] [] i) v) (sym (decls_enough o1 k message_keeps1 class_keeps1 (length j) n [] [] j (omega arith) (omega arith))) ((decls_from-whole n [] []).good.local so i tt j a));
+            let n : ℕ = length i + length j in
+            subst (λ v. Follows c v (decls_from o1 k (length j) [] [] j)) (sym (decls_enough o k message_keeps class_keeps (length i) n [] [] i (omega arith) (omega arith)))
+            (subst (λ v. Follows c (decls_from o k n [] [] i) v) (sym (decls_enough o1 k message_keeps1 class_keeps1 (length j) n [] [] j (omega arith) (omega arith))) ((decls_from-whole n [] []).good.local so i tt j a));
       };
       makes = (program_end-whole [] []).makes;
     }
