@@ -193,7 +193,7 @@ module _ (c : Cut) (h n : ℕ) (some : 1 ≤ c.most) (le : c.most ≤ h) (less :
 
   by_records : Whole c (Unit {0}) main_marks (program First) (program Second) (λ room z i s. s ≡ [] → IsTypedProgram room (suc n) z i)
   by_records = program-whole c (Unit {0}) (suc n) First Second Parameter
-      (main-whole c (Unit {0}) (suc n) _ _ _ _ _ _ _ _ _ _ _ _ _ _ _ _ _ (lines_by D0) line1 line2)
+      (main-whole c (Unit {0}) (suc n) _ _ _ _ _ _ _ _ _ _ _ _ _ _ _ _ Parameter (lines_by D0) line1 line2)
       (message-good c (Unit {0}) (suc n) _ _ _ _ _ _ _ _ _ _ _ _ _ _ _ _ _ types_out (types-strict L c.most 1) (types-strict c.wider h 1) disj_in (disj-strict L (c.most - 1) 1) (disj-strict c.wider (h - 1) 1) members_in)
       (class-good c (Unit {0}) (suc n) _ _ _ _ _ _ _ _ _ _ _ _ _ _ _ _ _ types_out (types-strict L c.most 1) (types-strict c.wider h 1) disj_in (disj-strict L (c.most - 1) 1) (disj-strict c.wider (h - 1) 1) members_in)
       (subst Keeps1 (sym first_is) (message-keeps L c.most some)) (subst Keeps2 (sym first_is) (class-keeps L c.most some))

@@ -1,5 +1,5 @@
 -- Where the reader stops is the first token at fault.
-use Rattle.std.proofs.Common.{◌≡◌, ℕ, zero, suc, ◌+◌, ◌≤◌, ◌<◌, Bool, true, false, List, [], ◌∷◌, ◌++◌, length, Option, Some, None, Ok, Err, refl, sym, ap, ◌∙◌, subst, arith, inl, inr, append_assoc, length-append, append-nil}
+use Rattle.std.proofs.Common.{◌≡◌, ℕ, zero, suc, ◌+◌, ◌≤◌, ◌<◌, Bool, true, false, List, [], ◌∷◌, ◌++◌, length, Option, Some, None, Ok, Err, refl, sym, ap, ◌∙◌, subst, arith, inl, inr, append_assoc, length-append, append-nil, lt-ltb}
 use Rattle.std.proofs.lemmas.Bool.Decides.{nat_tests}
 use Rattle.std.proofs.lemmas.List.Elements.{All-nil, All-cons, All-head, All-tail, All-append}
 use Rattle.std.specs.List.{All}
@@ -55,9 +55,12 @@ All-front (t ∷ a) b all = All-cons IsSpelled t a (All-head IsSpelled t (a ++ b
 
 -- ---- what stands before the place
 
+not_so : false ≡ true → ⊥
+not_so e = cc
+
 -- the reader of the code, beside itself
 abbrev plain : Cut
-plain = record { most = 32; wider = below 32; from = []; to = []; same = refl; both = false; more = λ d i few. grind (arith, nat_tests, few); no = λ e d many. absurd (cc) }
+plain = record { most = 32; wider = below 32; from = []; to = []; same = refl; both = false; more = λ d i few. lt-ltb d 32 few; no = λ e d many. absurd (not_so e) }
 
 -- what stands before the place is completed, by tokens that are spelled
 module _ (i : List Tok) (all : All IsSpelled i) (stop : Stop) (e : program outermost i ≡ Err stop) where
@@ -95,7 +98,7 @@ no_deep i e =
 
 -- where the other reader may open whatever there is
 abbrev any_cut : (r s : List Tok) → ahead r ≡ ahead s → Cut
-any_cut r s same = record { most = 32; wider = always; from = r; to = s; same = same; both = false; more = λ d i few. refl; no = λ e d many. absurd (cc) }
+any_cut r s same = record { most = 32; wider = always; from = r; to = s; same = same; both = false; more = λ d i few. refl; no = λ e d many. absurd (not_so e) }
 
 -- where it may open up to 32 things before the last so many tokens
 unfoldable pub late : ℕ → Limit
