@@ -1,0 +1,15 @@
+pub mod Bindings
+pub mod EntryLaws
+pub mod ExprCode
+pub mod ForwardLaws
+pub mod KnownLaws
+pub mod Leading
+pub mod Measure
+pub mod Numbers
+pub mod ReadLaws
+pub mod RunCode
+pub mod Running
+pub mod Stacks
+pub mod StoreCode
+pub mod TurnCode
+pub mod ValueKinds
