@@ -6,6 +6,7 @@ pub mod KnownLaws
 pub mod Leading
 pub mod Measure
 pub mod Numbers
+pub mod Permuted
 pub mod ReadLaws
 pub mod RunCode
 pub mod Running

@@ -16,7 +16,7 @@ use Rattle.da_values.specs.declared.val.Val.TheVariants as val
 use Rattle.da_values.specs.declared.value.Value.{Value}
 use Rattle.da_values.specs.Narrow.{is_i64}
 use Rattle.da_values.specs.Order.{val_cmp}
-use Rattle.da_values.specs.Sets.{Ascends, Has, IsAlike, canon, placed, set_has, set_insert, set_union}
+use Rattle.da_values.specs.Sets.{Ascends, Has, IsAlike, canon, placed, set_has, set_insert}
 use Rattle.da_values.specs.Value.{val_of, vals}
 use Rattle.da_values.proofs.Members.{of_append, Has-append_left, Has-append_right}
 use Rattle.da_values.proofs.OrderAt.{val_cmp-Int}
@@ -102,16 +102,6 @@ take_one (y ∷ xs) (suc i) x inside is = let next : suc i + 1 ≡ suc (i + 1) =
 vals-end : (xs : List Value) (x : Value) → vals (xs ++ x ∷ []) ≡ vals xs ++ val_of x ∷ []
 vals-end [] x = refl
 vals-end (y ∷ xs) x = ap (λ l. val_of y ∷ l) (vals-end xs x)
-
--- a set with the first so many elements of another, and one more
-pub union_begins : (xs : List Val) → Ascends val_cmp xs → xs ≡ canon val_cmp (xs ++ [])
-union_begins xs up = sym (ap (canon val_cmp) (append-nil xs) ∙ canon_itself val_cmp val_order same_from_val_cmp xs up)
-
-pub union_on : (xs set : List Val) (values : List Value) (i : ℕ) (x : Value) → set ≡ canon val_cmp (xs ++ vals (take i values)) → i < length values → x ≡ slice_index_or values i x
-    → set_insert val_cmp set (val_of x) ≡ canon val_cmp (xs ++ vals (take (i + 1) values))
-union_on xs set values i x is inside at =
-    ap (λ l. set_insert val_cmp l (val_of x)) is ∙ sym (canon_end (xs ++ vals (take i values)) (val_of x))
-    ∙ ap (canon val_cmp) (append_assoc xs (vals (take i values)) (val_of x ∷ [])) ∙ ap (λ l. canon val_cmp (xs ++ l)) (sym (vals-end (take i values) x) ∙ ap vals (sym (take_one values i x inside at)))
 
 -- of a list the chosen ones
 filter-end : (p : Val → Bool) (xs : List Val) (x : Val) → filter p (xs ++ x ∷ []) ≡ filter p xs ++ (if p x then x ∷ [] else [])

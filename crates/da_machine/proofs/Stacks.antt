@@ -3,8 +3,6 @@ use Rattle.std.proofs.Common.{◌≡◌, ℕ, zero, suc, ◌+◌, ◌-◌, ◌<�
 use Rattle.std.specs.Prelude.{slice_get, reverse}
 use Rattle.std.proofs.Common.{length-append}
 use mathlib.Core.List.{append-nil, reverse-append}
-use Rattle.da_values.specs.Order.{val_cmp}
-use Rattle.da_values.specs.Sets.{canon, set_insert}
 use Rattle.da_values.specs.declared.val.Val.{Val}
 use Rattle.da_machine.specs.Acts.{top, below, innermost, upper, lower, IsTaken}
 use Rattle.da_machine.specs.declared.machine.Machine.{Machine}
@@ -50,36 +48,18 @@ dropped_none [] (suc k) le = refl
 dropped_none (x ∷ xs) zero le = absurd (omega (arith, le))
 dropped_none (x ∷ xs) (suc k) le = dropped_none xs k (omega (arith, le))
 
--- a loop that takes values off down to some that it keeps, and makes a set of those that it took
-pub record TakingSet (old now set : List Val) (keep : ℕ) : Type 0 where
-  pub popped : List Val
-  pub whole : now ++ popped ≡ old
-  pub enough : keep ≤ length now
-  pub made : set ≡ canon val_cmp popped
-
--- or puts them upon another stack
+-- a loop that takes values off down to some that it keeps, and puts them upon another stack
 pub record Turning (old now turned : List Val) (keep : ℕ) : Type 0 where
   pub popped : List Val
   pub whole : now ++ popped ≡ old
   pub enough : keep ≤ length now
   pub made : reverse turned ≡ popped
 
-pub set_begins : (old : List Val) (n : ℕ) → TakingSet old old [] (length old - n)
-set_begins old n = record { popped = []; whole = append-nil old; enough = omega arith; made = refl }
-
 pub turning_begins : (old : List Val) (n : ℕ) → Turning old old [] (length old - n)
 turning_begins old n = record { popped = []; whole = append-nil old; enough = omega arith; made = refl }
 
 one_fewer : (keep : ℕ) (now later : List Val) (v : Val) → now ≡ later ++ v ∷ [] → keep < length now → keep ≤ length later
 one_fewer keep now later v is more = let long : length now ≡ length later + 1 = ap length is ∙ length-append later (v ∷ []) in omega (arith, long, more)
-
-pub set_on : (old now later set : List Val) (keep : ℕ) (v : Val) → TakingSet old now set keep → keep < length now → now ≡ later ++ v ∷ [] → TakingSet old later (set_insert val_cmp set v) keep
-set_on old now later set keep v came more is = record {
-  popped = v ∷ came.popped;
-  whole = sym (append_assoc later (v ∷ []) came.popped) ∙ ap (λ l. l ++ came.popped) (sym is) ∙ came.whole;
-  enough = one_fewer keep now later v is more;
-  made = ap (λ l. set_insert val_cmp l v) came.made;
-}
 
 pub turning_on : (old now later turned : List Val) (keep : ℕ) (v : Val) → Turning old now turned keep → keep < length now → now ≡ later ++ v ∷ [] → Turning old later (turned ++ v ∷ []) keep
 turning_on old now later turned keep v came more is = record {
@@ -88,10 +68,6 @@ turning_on old now later turned keep v came more is = record {
   enough = one_fewer keep now later v is more;
   made = reverse-append turned (v ∷ []) ∙ ap (λ l. v ∷ l) came.made;
 }
-
-pub set_done : (old now set : List Val) (n : ℕ) → TakingSet old now set (length old - n) → length now ≤ length old - n → (set ≡ canon val_cmp (upper n old)) × (now ≡ lower n old)
-set_done old now set n came few =
-    let cut = cut_at now came.popped old (length old - n) came.whole (omega (arith, came.enough, few)) in (came.made ∙ ap (canon val_cmp) cut.1, cut.0)
 
 pub turning_done : (old now turned : List Val) (n : ℕ) → Turning old now turned (length old - n) → length now ≤ length old - n → (reverse turned ≡ upper n old) × (now ≡ lower n old)
 turning_done old now turned n came few =

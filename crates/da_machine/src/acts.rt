@@ -92,7 +92,7 @@ impl Machine {
 
 /// Begins a turn, if the event may take one more.
 #[tactic(auto, unfolding(da_lang::specs::Runs::max_turns))]
-fn turn<S: Store>(m: &mut Machine, s: &mut S, line: u32) -> Result<Option<Stop>, NoMemory>
+pub fn turn<S: Store>(m: &mut Machine, s: &mut S, line: u32) -> Result<Option<Stop>, NoMemory>
     requires { m.old.place + 1 < 2 ^ 64 }
     ensures acted { IfOk result (Acted (Some (op.Turn line)) m.old m.new (S.stands s.old) (S.stands s.new) (S.actions s.old) (S.actions s.new)) }
     ensures began { OnErr result (Began (Some (op.Turn line)) m.old (S.stands s.old) (S.actions s.old) (S.actions s.new)) }

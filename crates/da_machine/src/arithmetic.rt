@@ -8,8 +8,9 @@ ghost use Rattle.da_values.specs.Value.{val_of, vals};
 ghost use Rattle.da_values.specs.Views.{int_of};
 ghost use Rattle.std.specs.Int.{complement_if, int_gap, w128};
 ghost use Rattle.std.specs.List.{filter};
-ghost use Rattle.std.specs.Prelude.{◌≡◌, ◌≢◌, ◌<◌, ◌⊎◌, IfSome, ◌^◌, ◌+ℤ◌, ◌≤ℤ◌, pos, neg_ℤ, int_lt, nat_le, not, ℤ, FitsSigned, IfOk, MatchOption, SomeIff, if◌then◌else◌, unsigned_abs};
+ghost use Rattle.std.specs.Prelude.{◌≡◌, ◌≢◌, ◌<◌, ◌⊎◌, false, true, IfSome, ◌^◌, ◌+ℤ◌, ◌≤ℤ◌, pos, neg_ℤ, int_lt, nat_le, not, ℤ, FitsSigned, IfOk, MatchOption, SomeIff, if◌then◌else◌, unsigned_abs};
 
+use crate::sets::{add_copies, set_of_all};
 use crate::values::{fit, number};
 use da_lang::{ArithOp, FaultKind};
 use da_values::{NoMemory, SetVal, Value, copy_value, set_has, set_insert};
@@ -88,7 +89,7 @@ fn combined(alloc: Global, op: ArithOp, xs: SetVal, ys: SetVal) -> Result<SetVal
     ensures { IfOk result (λ set. set ≡ of_sets op xs ys) }
 {
     match op {
-        ArithOp::Plus => union(alloc, xs, &ys),
+        ArithOp::Plus => union(alloc, &xs, &ys),
         ArithOp::Minus => chosen(alloc, &xs, &ys, false),
         ArithOp::Times => chosen(alloc, &xs, &ys, true),
         ArithOp::Div => Ok(SetVal::new(alloc)),
@@ -97,16 +98,13 @@ fn combined(alloc: Global, op: ArithOp, xs: SetVal, ys: SetVal) -> Result<SetVal
 }
 
 // The elements of both sets.
-#[tactic(auto, using(crate::proofs::Numbers::union_begins, crate::proofs::Numbers::union_ends))]
-fn union(alloc: Global, xs: SetVal, ys: &SetVal) -> Result<SetVal, NoMemory>
-    ensures { IfOk result (λ set. set ≡ set_union val_cmp xs ys.now) }
+fn union(alloc: Global, xs: &SetVal, ys: &SetVal) -> Result<SetVal, NoMemory>
+    ensures { IfOk result (λ set. set ≡ set_union val_cmp xs.now ys.now) }
 {
-    let values = ys.as_slice();
-    let mut set = xs;
-    'values: for value in values {
-        let _ = set_insert(&mut set, copy_value(alloc, value)?)?;
-    }
-    Ok(set)
+    let mut values = Vec::new(alloc);
+    add_copies(alloc, &mut values, xs.as_slice())?;
+    add_copies(alloc, &mut values, ys.as_slice())?;
+    set_of_all(alloc, values)
 }
 
 // The elements of the first set that are in the second, or those that are not.

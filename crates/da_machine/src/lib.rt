@@ -6,8 +6,11 @@ mod arithmetic;
 mod code;
 mod machine;
 mod run;
+mod sets;
 mod stack;
 mod store;
+#[cfg(test)]
+mod tests;
 mod values;
 
 pub use code::{Code, YieldPoint};

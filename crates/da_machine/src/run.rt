@@ -33,10 +33,13 @@ fn run_machine<S: Store>(
     'instrs: while m.place < len {
         match code.instrs.get(m.place as usize) {
             None => return Ok(Stop::Ended),
-            Some(instr) => match act(alloc, instr, m, s)? {
-                Some(stop) => return Ok(stop),
-                None => {}
-            },
+            Some(instr) => {
+                let stop = act(alloc, instr, m, s)?;
+                match stop {
+                    Some(stop) => return Ok(stop),
+                    None => {}
+                }
+            }
         }
     }
     Ok(Stop::Ended)

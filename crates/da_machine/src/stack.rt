@@ -6,8 +6,9 @@ ghost use Rattle.da_values.specs.Value.{val_of, vals};
 ghost use Rattle.da_values.specs.Views.{elements_of};
 ghost use Rattle.std.specs.Prelude.{◌≡◌, [], ◌∷◌, ◌++◌, length, reverse, IfOk, MatchOption, OnOk};
 
+use crate::sets::{add_value, set_of_all};
 use crate::values::set_of;
-use da_values::{List, NoMemory, Row, SetVal, Value, copy_value, set_insert};
+use da_values::{List, NoMemory, Row, SetVal, Value, copy_value};
 use std::alloc::Global;
 use std::marker::Model;
 
@@ -91,18 +92,11 @@ impl Stack {
     }
 
     /// Takes the last `n` values as a set.
-    #[tactic(auto, using(crate::proofs::Stacks::cut_at))]
     pub fn take_set(&mut self, alloc: Global, n: usize) -> Result<SetVal, NoMemory>
         ensures { IfOk result (λ set. (set ≡ canon val_cmp (upper n self.old)) × (self.new ≡ lower n self.old)) }
     {
-        let keep = self.len().saturating_sub(n);
-        let mut set = SetVal::new(alloc);
-        'values: while self.len() > keep {
-            if let Some(value) = self.pop() {
-                let _ = set_insert(&mut set, value)?;
-            }
-        }
-        Ok(set)
+        let turned = self.take_turned(alloc, n)?;
+        turned.collected(alloc)
     }
 
     // The last `n` values, the first of them on top.
@@ -129,6 +123,18 @@ impl Stack {
             row.push(value)?;
         }
         Ok(row)
+    }
+
+    // The set of the values.
+    fn collected(self, alloc: Global) -> Result<SetVal, NoMemory>
+        ensures { IfOk result (λ set. set ≡ canon val_cmp (reverse self)) }
+    {
+        let mut left = self;
+        let mut values = Vec::new(alloc);
+        'values: while let Some(value) = left.pop() {
+            add_value(&mut values, value)?;
+        }
+        set_of_all(alloc, values)
     }
 }
 
