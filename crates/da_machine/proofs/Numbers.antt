@@ -43,6 +43,9 @@ numbers_more a (suc n) =
     ∙ ap (λ l. val.Int a ∷ l) (numbers_more (a +ℤ pos 1) n)
     ∙ ap (numbers_from a) (sym count)
 
+pub number_more : (a : ℤ) (n : ℕ) (set new : List Val) (v : Val) → set ≡ numbers_from a n → v ≡ val.Int (a +ℤ pos n) → new ≡ set_insert val_cmp set v → new ≡ numbers_from a (n + 1)
+number_more a n set new v is next made = made ∙ ap (λ l. set_insert val_cmp l v) is ∙ ap (set_insert val_cmp (numbers_from a n)) next ∙ numbers_more a n
+
 -- NUMBERS THAT DO NOT FIT
 
 small_fits : (z : ℤ) → is_i64 z ≡ true → FitsSigned w128 z
@@ -86,6 +89,7 @@ end_alike xs x z = (of_end, into_end)
   where
     of_end : Has (xs ++ x ∷ []) z → Has (x ∷ xs) z
     of_end h = elim (of_append xs (x ∷ []) z h) [ inl there ↦ inr there | inr last ↦ elim last [ inl same ↦ inl same | inr none ↦ absurd none ] ]
+
     into_end : Has (x ∷ xs) z → Has (xs ++ x ∷ []) z
     into_end h = elim h [ inl same ↦ Has-append_right xs (x ∷ []) z (inl same) | inr there ↦ Has-append_left xs (x ∷ []) z there ]
 
@@ -128,8 +132,23 @@ module _ (p : Val → Bool) (set : List Val) (values : List Value) (i : ℕ) (x 
   pub chosen_not : p (val_of x) ≡ false → set ≡ canon val_cmp (filter p (vals (take (i + 1) values)))
   chosen_not test = is ∙ ap (canon val_cmp) (sym (append-nil (filter p (vals (take i values))))) ∙ sym (chosen_next false test)
 
+pub chosen_step : (p : Val → Bool) (set new : List Val) (values : List Value) (i : ℕ) (x : Value) (b : Bool) → set ≡ canon val_cmp (filter p (vals (take i values))) → i < length values → x ≡ slice_index_or values i x
+    → b ≡ p (val_of x) → new ≡ (if b then set_insert val_cmp set (val_of x) else set) → new ≡ canon val_cmp (filter p (vals (take (i + 1) values)))
+chosen_step p set new values i x true is inside at test made = made ∙ chosen_on p set values i x is inside at (sym test)
+chosen_step p set new values i x false is inside at test made = made ∙ chosen_not p set values i x is inside at (sym test)
+
 pub chosen_ends : (p : Val → Bool) (xs : List Val) → Ascends val_cmp xs → canon val_cmp (filter p xs) ≡ filter p xs
 chosen_ends p xs up = canon_itself val_cmp val_order same_from_val_cmp (filter p xs) (Ascends-filter val_cmp p xs up)
+
+take_whole : {A : Type 0} (xs : List A) (i : ℕ) → length xs ≤ i → take i xs ≡ xs
+take_whole [] zero le = refl
+take_whole [] (suc i) le = refl
+take_whole (x ∷ xs) zero le = absurd (omega (arith, le))
+take_whole (x ∷ xs) (suc i) le = ap (λ l. x ∷ l) (take_whole xs i (omega (arith, le)))
+
+pub chosen_all : (p : Val → Bool) (xs set : List Val) (values : List Value) (i : ℕ) → Ascends val_cmp xs → vals values ≡ xs → length values ≤ i → set ≡ canon val_cmp (filter p (vals (take i values))) → set ≡ filter p xs
+chosen_all p xs set values i up same_values over is =
+    is ∙ ap (λ l. canon val_cmp (filter p (vals l))) (take_whole values i over) ∙ ap (λ l. canon val_cmp (filter p l)) same_values ∙ chosen_ends p xs up
 
 -- REMAINDERS
 

@@ -107,8 +107,8 @@ module _ (p : Program) (class : Class) (code : Code) where
     sends v w true end st is has sendable code_for =
         comes _ (moved m (end + 1) st) d (sent_to v (recipients w) d) (sending d.me v (recipients w) d.clock) todo refl
         (one p class code d known _ _ _ _ _ has
-         (rw (top_last (st ++ v ∷ []) w, below_last (st ++ v ∷ []) w, top_last st v, is) (sendable (leb-true (packet_len v) max_packet is)))
-         (rw (top_last (st ++ v ∷ []) w, below_last (st ++ v ∷ []) w, top_last st v, below_last st v, is) refl)) code_for
+        (rw (top_last (st ++ v ∷ []) w, below_last (st ++ v ∷ []) w, top_last st v, is) (sendable (leb-true (packet_len v) max_packet is)))
+        (rw (top_last (st ++ v ∷ []) w, below_last (st ++ v ∷ []) w, top_last st v, below_last st v, is) refl)) code_for
     sends v w false end st is has sendable code_for =
         faulty _ Message refl (record {
           last = moved m end st;
@@ -146,49 +146,49 @@ module _ (p : Program) (class : Class) (code : Code) where
     chooses _ _ _ _ (BranchesAt.branch {exit} {at} {test} {to} {end} {b} {bs} {other} x jump found body leave others) read promised st code_for =
         with_given at test st st (eval class.queries (out-RBranch b).cond d) _ (expr_gives p class code d known m at _ test x read.0 st)
         (λ v is. decides v (truth_of v) test (end + 1) st (quiet (bind_found class.queries (out-RBranch b).found (out-RBranch b).binds d) (do_all (out-RBranch b).body todo)) (choose class line d todo bs other) refl jump
-         (comes _ (moved m to st) d _ [] _ refl (binds (test + 1) (out-RBranch b).found (out-RBranch b).binds to found promised.0 st) (block_for class code to (out-RBranch b).body end body m.loops todo (CodeFor.jumps leave code_for)))
-         (chooses exit (end + 1) bs other others read.1 promised.1 st code_for))
+        (comes _ (moved m to st) d _ [] _ refl (binds (test + 1) (out-RBranch b).found (out-RBranch b).binds to found promised.0 st) (block_for class code to (out-RBranch b).body end body m.loops todo (CodeFor.jumps leave code_for)))
+        (chooses exit (end + 1) bs other others read.1 promised.1 st code_for))
 
     pub enters : (at : ℕ) (args : List RExpr) (params : List ℕ) (body : List Item) (end : ℕ) → EnterAt code at args params body end → AllRead class args → IsEntered p class args params
         → (st : List Val) → CodeFor code class end m.loops todo → DoesTurn (moved m at st) d (enter class line d todo args params body)
     enters _ _ _ _ _ (EnterAt.enter {at} {to} {into} {end} {args} {params} {body} xs stores block) read promised st code_for =
         with_all_given at to st (eval_all class.queries args d) _ (exprs_give p class code d known m at args to xs read st)
         (λ vs is. comes _ (moved m into st) d (bind_all params vs d) [] (do_all body todo) refl
-         (subst (λ e. Leads p class code (moved m to (st ++ vs)) d (moved m into st) e []) (back_is params vs d promised.distinct)
-          (stores_lead p class code m d known to params into stores vs st (all_long class.queries d args vs is ∙ promised.one_each) (promised.takes d vs known.shaped is)))
-         (block_for class code into body end block m.loops todo code_for))
+        (subst (λ e. Leads p class code (moved m to (st ++ vs)) d (moved m into st) e []) (back_is params vs d promised.distinct)
+        (stores_lead p class code m d known to params into stores vs st (all_long class.queries d args vs is ∙ promised.one_each) (promised.takes d vs known.shaped is)))
+        (block_for class code into body end block m.loops todo code_for))
 
     pub works : (at : ℕ) (k : ItemKind-F ItemKind Alt Item RBranch) (end : ℕ) → WorkAt code at line k end → (i : Item) → ItemAt code at i end → AllRead class (exprs_in k) → Promised p class k
         → (st : List Val) → CodeFor code class end m.loops todo → DoesTurn (moved m (at + 1) st) d (kind_turn class line d todo (Do i) k)
     works _ _ _ (WorkAt.assign {at} {line} {end} {s} {e} x has) i self read promised st code_for =
         with_given (at + 1) end st st (eval class.queries e d) _ (expr_gives p class code d known m (at + 1) e end x read.0 st)
         (λ v is. comes _ (moved m (end + 1) st) d (put_slot d s v) [] todo refl
-         (one p class code d known _ _ _ [] _ has (rw (top_last st v) (promised d v known.shaped is)) (rw (top_last st v, below_last st v) refl)) code_for)
+        (one p class code d known _ _ _ [] _ has (rw (top_last st v) (promised d v known.shaped is)) (rw (top_last st v, below_last st v) refl)) code_for)
     works _ _ _ (WorkAt.add {at} {line} {end} {s} {e} x has) i self read promised st code_for =
         with_given (at + 1) end st st (eval class.queries e d) _ (expr_gives p class code d known m (at + 1) e end x read.0 st)
         (λ v is. comes _ (moved m (end + 1) st) d (with_element s v d) [] todo refl
-         (one p class code d known _ _ _ [] _ has (rw (top_last st v) (promised d v known.shaped is)) (rw (top_last st v, below_last st v) refl)) code_for)
+        (one p class code d known _ _ _ [] _ has (rw (top_last st v) (promised d v known.shaped is)) (rw (top_last st v, below_last st v) refl)) code_for)
     works _ _ _ (WorkAt.del {at} {line} {end} {s} {e} x has) i self read promised st code_for =
         with_given (at + 1) end st st (eval class.queries e d) _ (expr_gives p class code d known m (at + 1) e end x read.0 st)
         (λ v is. comes _ (moved m (end + 1) st) d (without_element s v d) [] todo refl
-         (one p class code d known _ _ _ [] _ has (rw (top_last st v) (promised d v known.shaped is)) (rw (top_last st v, below_last st v) refl)) code_for)
+        (one p class code d known _ _ _ [] _ has (rw (top_last st v) (promised d v known.shaped is)) (rw (top_last st v, below_last st v) refl)) code_for)
     works _ _ _ (WorkAt.send {at} {line} {to} {end} {m = e} {e = e2} x y has) i self read promised st code_for =
         with_given (at + 1) to st st (eval class.queries e d) _ (expr_gives p class code d known m (at + 1) e to x read.0 st)
         (λ v is. with_given to end (st ++ v ∷ []) (st ++ v ∷ []) (eval class.queries e2 d) _ (expr_gives p class code d known m to e2 end y read.1.0 (st ++ v ∷ []))
-         (λ w is2. sends v w (nat_le (packet_len v) max_packet) end st refl has (promised d v known.shaped is w is2) code_for))
+        (λ w is2. sends v w (nat_le (packet_len v) max_packet) end st refl has (promised d v known.shaped is w is2) code_for))
     works _ _ _ (WorkAt.output {at} {line} {end} {e} x has) i self read promised st code_for =
         with_given (at + 1) end st st (eval class.queries e d) _ (expr_gives p class code d known m (at + 1) e end x read.0 st)
         (λ v is. comes _ (moved m (end + 1) st) d d (Out d.me (value_of v) ∷ []) todo refl
-         (one p class code d known _ _ _ _ _ has (rw (top_last st v) (promised d v known.shaped is)) (rw (top_last st v, below_last st v) refl)) code_for)
+        (one p class code d known _ _ _ _ _ has (rw (top_last st v) (promised d v known.shaped is)) (rw (top_last st v, below_last st v) refl)) code_for)
     works _ _ _ (WorkAt.choice {at} {line} {end} {branches} {other} x) i self read promised st code_for = chooses end (at + 1) branches other x read promised st code_for
     works _ _ _ (WorkAt.while {at} {line} {to} {end} {e} {body} x jump block back) i self read promised st code_for =
         with_given (at + 1) to st st (eval class.queries e d) _ (expr_gives p class code d known m (at + 1) e to x read.0 st)
         (λ v is. goes_round v (truth_of v) to (end + 1) st (do_all body (Do i ∷ todo)) refl jump
-         (block_for class code (to + 1) body end block m.loops (Do i ∷ todo) (CodeFor.jumps back (CodeFor.does self code_for))) code_for)
+        (block_for class code (to + 1) body end block m.loops (Do i ∷ todo) (CodeFor.jumps back (CodeFor.does self code_for))) code_for)
     works _ _ _ (WorkAt.for {at} {line} {to} {end} {s} {e} {body} x has rest) i self read promised st code_for =
         with_given (at + 1) to st st (eval class.queries e d) _ (expr_gives p class code d known m (at + 1) e to x read.0 st)
         (λ v is. comes _ (record m { place = to + 1; stack = st; loops = m.loops ++ elements_of v ∷ [] }) d d [] (Loop s (elements_of v) body line ∷ todo) refl
-         (one p class code d known _ _ _ [] _ has tt (rw (top_last st v, below_last st v) refl)) (CodeFor.loops rest code_for))
+        (one p class code d known _ _ _ [] _ has tt (rw (top_last st v, below_last st v) refl)) (CodeFor.loops rest code_for))
     works _ _ _ (WorkAt.call {at} {line} {end} {args} {body} x) i self read promised st code_for =
         enters (at + 1) (map value_of_arg args) (map slot_of_arg args) body end x read promised st code_for
     works _ _ _ (WorkAt.pass {at} {line}) i self read promised st code_for = here (moved m (at + 1) st) d todo code_for

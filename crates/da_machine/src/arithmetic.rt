@@ -3,12 +3,13 @@ ghost use Rattle.da_lang.specs.Arithmetic.{arithmetic, divided, fitted, max_rang
 ghost use Rattle.da_machine.specs.Acts.{outcome_of};
 ghost use Rattle.da_values.specs.Order.{val_cmp};
 ghost use Rattle.da_machine.specs.Acts.{same};
-ghost use Rattle.da_values.specs.Sets.{canon, set_has, set_union};
-ghost use Rattle.da_values.specs.Value.{val_of, vals};
+ghost use Rattle.da_values.specs.Sets.{set_has, set_insert, set_union};
+ghost use Rattle.da_values.specs.declared.val.Val.TheVariants as Val;
+ghost use Rattle.da_values.specs.Value.{val_of};
 ghost use Rattle.da_values.specs.Views.{int_of};
 ghost use Rattle.std.specs.Int.{complement_if, int_gap, w128};
 ghost use Rattle.std.specs.List.{filter};
-ghost use Rattle.std.specs.Prelude.{◌≡◌, ◌≢◌, ◌<◌, ◌⊎◌, false, true, IfSome, ◌^◌, ◌+ℤ◌, ◌≤ℤ◌, pos, neg_ℤ, int_lt, nat_le, not, ℤ, FitsSigned, IfOk, MatchOption, SomeIff, if◌then◌else◌, unsigned_abs};
+ghost use Rattle.std.specs.Prelude.{◌≡◌, ◌≢◌, ◌<◌, ◌⊎◌, false, true, IfSome, ◌^◌, ◌+ℤ◌, ◌≤ℤ◌, pos, neg_ℤ, int_lt, nat_le, not, ℤ, FitsSigned, IfOk, OnOk, MatchOption, SomeIff, if◌then◌else◌, unsigned_abs};
 
 use crate::sets::{add_copies, set_of_all};
 use crate::values::{fit, number};
@@ -53,16 +54,23 @@ fn gap(a: i128, b: i128) -> Option<u32>
 }
 
 // The numbers from the first on, so many.
-#[tactic(auto, using(crate::proofs::Numbers::numbers_more))]
 fn numbers(alloc: Global, first: i128, count: u32) -> Result<SetVal, NoMemory>
     requires { (count ≡ 0) ⊎ FitsSigned w128 (first +ℤ pos count) }
     ensures { IfOk result (λ set. set ≡ numbers_from first count) }
 {
     let mut set = SetVal::new(alloc);
     'numbers: for i in 0..count {
-        let _ = set_insert(&mut set, Value::Int(first + i as i128))?;
+        let _ = set_insert(&mut set, number_at(first, i))?;
     }
     Ok(set)
+}
+
+// The number that is so many behind the first.
+fn number_at(first: i128, i: u32) -> Value
+    requires { FitsSigned w128 (first +ℤ pos i) }
+    ensures { val_of result ≡ Val.Int (first +ℤ pos i) }
+{
+    Value::Int(first + i as i128)
 }
 
 /// An operation on two sets, or else on two numbers.
@@ -114,11 +122,27 @@ fn chosen(alloc: Global, xs: &SetVal, ys: &SetVal, there: bool) -> Result<SetVal
     let values = xs.as_slice();
     let mut set = SetVal::new(alloc);
     'values: for value in values {
-        if set_has(ys, value) == there {
-            let _ = set_insert(&mut set, copy_value(alloc, value)?)?;
-        }
+        let take = is_same(there, set_has(ys, value));
+        put_if(alloc, take, &mut set, value)?;
     }
     Ok(set)
+}
+
+// Whether a truth value is the given one.
+fn is_same(given: bool, truth: bool) -> bool
+    ensures { result ≡ same given truth }
+{
+    if given { truth } else { !truth }
+}
+
+// Puts a copy of a value into a set, if it is to be there.
+fn put_if(alloc: Global, take: bool, set: &mut SetVal, value: &Value) -> Result<(), NoMemory>
+    ensures { OnOk result (set.new ≡ (if take then set_insert val_cmp set.old (val_of value.now) else set.old)) }
+{
+    if take {
+        let _ = set_insert(set, copy_value(alloc, value)?)?;
+    }
+    Ok(())
 }
 
 // An operation on two numbers.
@@ -208,8 +232,16 @@ fn remainder(a: i128, b: i128) -> i128
     let divisor = b.unsigned_abs();
     let rest = size % divisor;
     let left = if below { divisor - 1 - rest } else { rest };
-    let left = left as i128;
-    if b < 0 { -left } else { left }
+    signed(b < 0, left)
+}
+
+// The number of this size, below 0 or not.
+fn signed(negative: bool, size: u128) -> i128
+    requires { size < 2 ^ 127 }
+    ensures { result ≡ (if negative then neg_ℤ (pos size) else pos size) }
+{
+    let size = size as i128;
+    if negative { -size } else { size }
 }
 
 // The number itself, or -(size + 1).

@@ -50,11 +50,7 @@ pub fn add_value(values: &mut Vec<Value>, value: Value) -> Result<(), NoMemory>
 }
 
 /// Puts copies of some values behind others.
-pub fn add_copies(
-    alloc: Global,
-    copies: &mut Vec<Value>,
-    values: &[Value],
-) -> Result<(), NoMemory>
+pub fn add_copies(alloc: Global, copies: &mut Vec<Value>, values: &[Value]) -> Result<(), NoMemory>
     ensures { OnOk result (copies.new.items ≡ copies.old.items ++ values.now) }
 {
     'values: for value in values {

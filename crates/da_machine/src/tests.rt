@@ -54,49 +54,97 @@ fn gives(
     is_outcome(alloc, arithmetic(alloc, op, a, b)?, expected)
 }
 
+const OVERFLOW: Result<&[u8], FaultKind> = Err(FaultKind::Overflow);
+
+const DIVIDE: Result<&[u8], FaultKind> = Err(FaultKind::Divide);
+
+const OPERATIONS: [(ArithOp, &[u8], &[u8], Result<&[u8], FaultKind>); 36] = [
+    (ArithOp::Plus, b"1", b"2", Ok(b"3")),
+    (
+        ArithOp::Plus,
+        b"9223372036854775806",
+        b"1",
+        Ok(b"9223372036854775807"),
+    ),
+    (ArithOp::Plus, b"9223372036854775807", b"1", OVERFLOW),
+    (ArithOp::Plus, b"-9223372036854775808", b"-1", OVERFLOW),
+    (
+        ArithOp::Minus,
+        b"-9223372036854775807",
+        b"1",
+        Ok(b"-9223372036854775808"),
+    ),
+    (ArithOp::Minus, b"-9223372036854775808", b"1", OVERFLOW),
+    (ArithOp::Minus, b"0", b"-9223372036854775808", OVERFLOW),
+    (
+        ArithOp::Times,
+        b"3037000499",
+        b"-3037000499",
+        Ok(b"-9223372030926249001"),
+    ),
+    (ArithOp::Times, b"3037000500", b"3037000500", OVERFLOW),
+    (ArithOp::Times, b"-9223372036854775808", b"-1", OVERFLOW),
+    (
+        ArithOp::Times,
+        b"-9223372036854775808",
+        b"1",
+        Ok(b"-9223372036854775808"),
+    ),
+    (ArithOp::Div, b"7", b"2", Ok(b"3")),
+    (ArithOp::Div, b"-7", b"2", Ok(b"-4")),
+    (ArithOp::Div, b"7", b"-2", Ok(b"-4")),
+    (ArithOp::Div, b"-7", b"-2", Ok(b"3")),
+    (ArithOp::Div, b"-6", b"3", Ok(b"-2")),
+    (ArithOp::Div, b"-9223372036854775808", b"-1", OVERFLOW),
+    (
+        ArithOp::Div,
+        b"-9223372036854775808",
+        b"1",
+        Ok(b"-9223372036854775808"),
+    ),
+    (
+        ArithOp::Div,
+        b"-9223372036854775808",
+        b"-9223372036854775808",
+        Ok(b"1"),
+    ),
+    (ArithOp::Div, b"1", b"0", DIVIDE),
+    (ArithOp::Div, b"0", b"0", DIVIDE),
+    (ArithOp::Mod, b"7", b"2", Ok(b"1")),
+    (ArithOp::Mod, b"-7", b"2", Ok(b"1")),
+    (ArithOp::Mod, b"7", b"-2", Ok(b"-1")),
+    (ArithOp::Mod, b"-7", b"-2", Ok(b"-1")),
+    (ArithOp::Mod, b"6", b"-3", Ok(b"0")),
+    (ArithOp::Mod, b"-9223372036854775808", b"-1", Ok(b"0")),
+    (
+        ArithOp::Mod,
+        b"9223372036854775807",
+        b"-9223372036854775808",
+        Ok(b"-1"),
+    ),
+    (
+        ArithOp::Mod,
+        b"-9223372036854775808",
+        b"9223372036854775807",
+        Ok(b"9223372036854775806"),
+    ),
+    (ArithOp::Mod, b"1", b"0", DIVIDE),
+    (
+        ArithOp::Plus,
+        b"{1, 3}",
+        b"{0, 2, 3, 4}",
+        Ok(b"{0, 1, 2, 3, 4}"),
+    ),
+    (ArithOp::Plus, b"{}", b"{'a'}", Ok(b"{'a'}")),
+    (ArithOp::Minus, b"{1, 2, 3}", b"{2, 4}", Ok(b"{1, 3}")),
+    (ArithOp::Times, b"{1, 2, 3}", b"{2, 3, 4}", Ok(b"{2, 3}")),
+    (ArithOp::Times, b"{(1, p1)}", b"{(1, p2)}", Ok(b"{}")),
+    (ArithOp::Minus, b"{1}", b"{1}", Ok(b"{}")),
+];
+
 #[test]
 fn operations_and_their_faults(rt: HostRuntime) -> Result<(), Fail> {
-    let overflow = Err(FaultKind::Overflow);
-    let divide = Err(FaultKind::Divide);
-    let rows: [(ArithOp, &[u8], &[u8], Result<&[u8], FaultKind>); 36] = [
-        (ArithOp::Plus, b"1", b"2", Ok(b"3")),
-        (ArithOp::Plus, b"9223372036854775806", b"1", Ok(b"9223372036854775807")),
-        (ArithOp::Plus, b"9223372036854775807", b"1", overflow),
-        (ArithOp::Plus, b"-9223372036854775808", b"-1", overflow),
-        (ArithOp::Minus, b"-9223372036854775807", b"1", Ok(b"-9223372036854775808")),
-        (ArithOp::Minus, b"-9223372036854775808", b"1", overflow),
-        (ArithOp::Minus, b"0", b"-9223372036854775808", overflow),
-        (ArithOp::Times, b"3037000499", b"-3037000499", Ok(b"-9223372030926249001")),
-        (ArithOp::Times, b"3037000500", b"3037000500", overflow),
-        (ArithOp::Times, b"-9223372036854775808", b"-1", overflow),
-        (ArithOp::Times, b"-9223372036854775808", b"1", Ok(b"-9223372036854775808")),
-        (ArithOp::Div, b"7", b"2", Ok(b"3")),
-        (ArithOp::Div, b"-7", b"2", Ok(b"-4")),
-        (ArithOp::Div, b"7", b"-2", Ok(b"-4")),
-        (ArithOp::Div, b"-7", b"-2", Ok(b"3")),
-        (ArithOp::Div, b"-6", b"3", Ok(b"-2")),
-        (ArithOp::Div, b"-9223372036854775808", b"-1", overflow),
-        (ArithOp::Div, b"-9223372036854775808", b"1", Ok(b"-9223372036854775808")),
-        (ArithOp::Div, b"-9223372036854775808", b"-9223372036854775808", Ok(b"1")),
-        (ArithOp::Div, b"1", b"0", divide),
-        (ArithOp::Div, b"0", b"0", divide),
-        (ArithOp::Mod, b"7", b"2", Ok(b"1")),
-        (ArithOp::Mod, b"-7", b"2", Ok(b"1")),
-        (ArithOp::Mod, b"7", b"-2", Ok(b"-1")),
-        (ArithOp::Mod, b"-7", b"-2", Ok(b"-1")),
-        (ArithOp::Mod, b"6", b"-3", Ok(b"0")),
-        (ArithOp::Mod, b"-9223372036854775808", b"-1", Ok(b"0")),
-        (ArithOp::Mod, b"9223372036854775807", b"-9223372036854775808", Ok(b"-1")),
-        (ArithOp::Mod, b"-9223372036854775808", b"9223372036854775807", Ok(b"9223372036854775806")),
-        (ArithOp::Mod, b"1", b"0", divide),
-        (ArithOp::Plus, b"{1, 3}", b"{0, 2, 3, 4}", Ok(b"{0, 1, 2, 3, 4}")),
-        (ArithOp::Plus, b"{}", b"{'a'}", Ok(b"{'a'}")),
-        (ArithOp::Minus, b"{1, 2, 3}", b"{2, 4}", Ok(b"{1, 3}")),
-        (ArithOp::Times, b"{1, 2, 3}", b"{4, 3, 2}", Ok(b"{2, 3}")),
-        (ArithOp::Times, b"{(1, p1)}", b"{(1, p2)}", Ok(b"{}")),
-        (ArithOp::Minus, b"{1}", b"{1}", Ok(b"{}")),
-    ];
-    for (op, a, b, expected) in rows {
+    for (op, a, b, expected) in OPERATIONS {
         assert!(rt; gives(rt.alloc(), op, a, b, expected)?);
     }
     Ok(())
@@ -114,17 +162,26 @@ fn ranges(
     is_outcome(alloc, range(alloc, a, b)?, expected)
 }
 
+const RANGES: [(&[u8], &[u8], Result<&[u8], FaultKind>); 6] = [
+    (b"-1", b"2", Ok(b"{-1, 0, 1}")),
+    (b"3", b"3", Ok(b"{}")),
+    (b"9223372036854775807", b"-9223372036854775808", Ok(b"{}")),
+    (
+        b"9223372036854775806",
+        b"9223372036854775807",
+        Ok(b"{9223372036854775806}"),
+    ),
+    (b"0", b"100001", Err(FaultKind::Range)),
+    (
+        b"-9223372036854775808",
+        b"9223372036854775807",
+        Err(FaultKind::Range),
+    ),
+];
+
 #[test]
 fn ranges_and_queries(rt: HostRuntime) -> Result<(), Fail> {
-    let rows: [(&[u8], &[u8], Result<&[u8], FaultKind>); 6] = [
-        (b"-1", b"2", Ok(b"{-1, 0, 1}")),
-        (b"3", b"3", Ok(b"{}")),
-        (b"9223372036854775807", b"-9223372036854775808", Ok(b"{}")),
-        (b"9223372036854775806", b"9223372036854775807", Ok(b"{9223372036854775806}")),
-        (b"0", b"100001", Err(FaultKind::Range)),
-        (b"-9223372036854775808", b"9223372036854775807", Err(FaultKind::Range)),
-    ];
-    for (a, b, expected) in rows {
+    for (a, b, expected) in RANGES {
         assert!(rt; ranges(rt.alloc(), a, b, expected)?);
     }
     match range(rt.alloc(), Value::Int(-50_000), Value::Int(50_000))? {
@@ -143,25 +200,26 @@ fn compares(alloc: Global, op: CmpOp, a: &[u8], b: &[u8]) -> Result<bool, Fail> 
     Ok(holds(op, a, b))
 }
 
+const COMPARISONS: [(CmpOp, &[u8], &[u8], bool); 14] = [
+    (CmpOp::Eq, b"(1, 'a')", b"(1, 'a')", true),
+    (CmpOp::Eq, b"{1, 2}", b"{2}", false),
+    (CmpOp::Ne, b"p1", b"p2", true),
+    (CmpOp::Ne, b"true", b"true", false),
+    (CmpOp::Lt, b"-2", b"-1", true),
+    (CmpOp::Lt, b"'a'", b"'a'", false),
+    (CmpOp::Le, b"'a'", b"'ab'", true),
+    (CmpOp::Le, b"(1, 3)", b"(1, 2)", false),
+    (CmpOp::Gt, b"true", b"false", true),
+    (CmpOp::Gt, b"p2", b"p2", false),
+    (CmpOp::Ge, b"{1, 2}", b"{1, 2}", true),
+    (CmpOp::Ge, b"(1,)", b"(1, 2)", false),
+    (CmpOp::Lt, b"{1, 9}", b"{2}", true),
+    (CmpOp::Lt, b"10", b"9", false),
+];
+
 #[test]
 fn comparisons_and_members(rt: HostRuntime) -> Result<(), Fail> {
-    let rows: [(CmpOp, &[u8], &[u8], bool); 14] = [
-        (CmpOp::Eq, b"(1, 'a')", b"(1, 'a')", true),
-        (CmpOp::Eq, b"{1, 2}", b"{2}", false),
-        (CmpOp::Ne, b"p1", b"p2", true),
-        (CmpOp::Ne, b"true", b"true", false),
-        (CmpOp::Lt, b"-2", b"-1", true),
-        (CmpOp::Lt, b"'a'", b"'a'", false),
-        (CmpOp::Le, b"'a'", b"'ab'", true),
-        (CmpOp::Le, b"(1, 3)", b"(1, 2)", false),
-        (CmpOp::Gt, b"true", b"false", true),
-        (CmpOp::Gt, b"p2", b"p2", false),
-        (CmpOp::Ge, b"{1, 2}", b"{1, 2}", true),
-        (CmpOp::Ge, b"(1,)", b"(1, 2)", false),
-        (CmpOp::Lt, b"{1, 9}", b"{2}", true),
-        (CmpOp::Lt, b"10", b"9", false),
-    ];
-    for (op, a, b, expected) in rows {
+    for (op, a, b, expected) in COMPARISONS {
         assert_eq!(rt; compares(rt.alloc(), op, a, b)?, expected);
     }
     let alloc = rt.alloc();
@@ -188,7 +246,10 @@ fn packets_and_recipients(rt: HostRuntime) -> Result<(), Fail> {
     assert!(rt; is_small(&letters(alloc, 59_984)?));
     assert!(rt; !is_small(&letters(alloc, 59_985)?));
     assert_eq!(rt; recipients_of(alloc, Value::Proc(2))?.len(), 1);
-    assert_eq!(rt; recipients_of(alloc, read_value(alloc, b"{p1, p3}")?)?.len(), 2);
+    assert_eq!(rt;
+        recipients_of(alloc, read_value(alloc, b"{p1, p3}")?)?.len(),
+        2
+    );
     assert_eq!(rt; recipients_of(alloc, read_value(alloc, b"{}")?)?.len(), 0);
     Ok(())
 }
@@ -222,7 +283,7 @@ fn values_come_off_the_stack(rt: HostRuntime) -> Result<(), Fail> {
 #[test]
 fn elements_come_ascending(rt: HostRuntime) -> Result<(), Fail> {
     let alloc = rt.alloc();
-    let mut rest = Rest::new(alloc, read_value(alloc, b"{3, 1, 2}")?);
+    let mut rest = Rest::new(alloc, read_value(alloc, b"{1, 2, 3}")?);
     for expected in [1, 2, 3] {
         match rest.next(alloc)? {
             Some(Value::Int(number)) => assert_eq!(rt; number, expected),
