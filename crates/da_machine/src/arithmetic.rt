@@ -74,7 +74,7 @@ fn number_at(first: i128, i: u32) -> Value
 }
 
 /// An operation on two sets, or else on two numbers.
-#[tactic(auto, using(crate::proofs::ValueKinds::arithmetic_of))]
+#[tactic(auto, using(crate::proofs::ValueKinds::arithmetic_of, crate::proofs::ValueKinds::viewing))]
 pub fn arithmetic(
     alloc: Global,
     op: ArithOp,
@@ -86,9 +86,17 @@ pub fn arithmetic(
     match a {
         Value::Set(xs) => match b {
             Value::Set(ys) => Ok(Ok(Value::Set(combined(alloc, op, xs, ys)?))),
-            other => Ok(computed(op, 0, number(other))),
+            Value::Int(other) => Ok(computed(op, 0, other)),
+            Value::Bool(_) => Ok(computed(op, 0, 0)),
+            Value::Text(_) => Ok(computed(op, 0, 0)),
+            Value::Proc(_) => Ok(computed(op, 0, 0)),
+            Value::Tuple(_) => Ok(computed(op, 0, 0)),
         },
-        other => Ok(computed(op, number(other), number(b))),
+        Value::Int(first) => Ok(computed(op, first, number(b))),
+        Value::Bool(_) => Ok(computed(op, 0, number(b))),
+        Value::Text(_) => Ok(computed(op, 0, number(b))),
+        Value::Proc(_) => Ok(computed(op, 0, number(b))),
+        Value::Tuple(_) => Ok(computed(op, 0, number(b))),
     }
 }
 
