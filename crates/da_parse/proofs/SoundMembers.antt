@@ -129,7 +129,7 @@ module _ (s : Parts) (room : Room) (fits : (t : List Tok) → s.place.may_open (
   member_by-sound (Some m.Receive) i y is e = handler-sound i (rest i) y (At-mark m.Receive i is) e
   member_by-sound _ i y is e = cc
 
-  member-sound : IsSound (member s) (IsMember room Type_ (IsParams Parameter) Pattern Block)
+  pub member-sound : IsSound (member s) (IsMember room Type_ (IsParams Parameter) Pattern Block)
   unfolding member
   member-sound i y e = member_by-sound (mark i) i y refl (subst (λ at. member_by s at (mark i) i ≡ Ok y) (same_line i) e)
 

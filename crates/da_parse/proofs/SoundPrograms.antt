@@ -104,7 +104,7 @@ module _ (o : Outer) (room : ℕ → Room) (f : ℕ) (Parameter : Spelling Param
       passes m.Newline after_u _ y e1 (λ after_v over e2.
       (after_u, after_v, colon, over, opening_ok o.place.may_open (room 0) sounds.fits m.Indent after_v y e2)))
 
-  message-sound : (t i : List Tok) (y : MessageDecl × List Tok) → At m.Message t i → message o (sp.line t) i ≡ Ok y → IsMessage room f y.0 t y.1
+  pub message-sound : (t i : List Tok) (y : MessageDecl × List Tok) → At m.Message t i → message o (sp.line t) i ≡ Ok y → IsMessage room f y.0 t y.1
   unfolding message
   message-sound t i y there e =
       names i _ y e (λ u after_u name e1.
@@ -114,7 +114,7 @@ module _ (o : Outer) (room : ℕ → Room) (f : ℕ) (Parameter : Spelling Param
       made (IsMessage room f) t y last
       (g.IsMessage.message there name opened (all_closed m.CloseParen o.inner_ty (TypeIn room f 1) sounds.types after_v (w, after_w) read) over)))))
 
-  class-sound : (t i : List Tok) (y : ClassTree × List Tok) → At m.Class t i → class o (sp.line t) i ≡ Ok y → IsClass room f Parameter y.0 t y.1
+  pub class-sound : (t i : List Tok) (y : ClassTree × List Tok) → At m.Class t i → class o (sp.line t) i ≡ Ok y → IsClass room f Parameter y.0 t y.1
   unfolding class
   class-sound t i y there e =
       names i _ y e (λ u after_u name e1.
@@ -156,7 +156,7 @@ module _ (o : Outer) (room : ℕ → Room) (f : ℕ) (Parameter : Spelling Param
   line_by-sound (Some m.Setup) i y is e = setup_line-sound i (rest i) y (At-mark m.Setup i is) e
   line_by-sound _ i y is e = cc
 
-  main_line-sound : IsSound (main_line o) (IsMline (room 1) (deeper room f 2))
+  pub main_line-sound : IsSound (main_line o) (IsMline (room 1) (deeper room f 2))
   unfolding main_line
   main_line-sound i y e = line_by-sound (mark i) i y refl (subst (λ at. line_by o at (mark i) i ≡ Ok y) (same_line i) e)
 
@@ -217,7 +217,7 @@ program-sound o room f Parameter sounds i y e =
 
 -- by a rule of how many things may be open, which allows no more than that of the grammar
 module _ (limit : Limit) (room : ℕ → Room) (fits : (d : ℕ) (t : List Tok) → limit d (length t) ≡ true → room d t) where
-  outer_sound : (param : Reader Param) (Parameter : Spelling Param) → IsSound param Parameter → (f n : ℕ) → 1 ≤ f → f ≤ n → OuterSounds (outer_in limit param f) room n Parameter
+  pub outer_sound : (param : Reader Param) (Parameter : Spelling Param) → IsSound param Parameter → (f n : ℕ) → 1 ≤ f → f ≤ n → OuterSounds (outer_in limit param f) room n Parameter
   outer_sound param Parameter param_sound f n some few = record {
     fits = (places-sound limit room fits f n 0 few).fits;
     types = types-sound limit room fits f n 1 few;

@@ -149,7 +149,7 @@ module _ (p : Place) (room : Room) (deep : Deeper) (sounds : Sounds p room deep)
       passes m.Colon i _ y e (λ after_u colon e1.
       (after_u, colon, block-sound after_u y e1))
 
-  branch-sound : (k : Mark) → IsSoundAt k (branch p body) (IsBranch room deep Body k)
+  pub branch-sound : (k : Mark) → IsSoundAt k (branch p body) (IsBranch room deep Body k)
   unfolding branch
   branch-sound k i y there e =
       reads (expression p (rest i)) _ y e (λ u after_u read e1.
@@ -233,7 +233,7 @@ module _ (p : Place) (room : Room) (deep : Deeper) (sounds : Sounds p room deep)
   stmt_by-sound (Some m.Await) i y is e = awaiting-sound i (rest i) y (At-mark m.Await i is) e
   stmt_by-sound k i y is e = simple_by-sound p room deep sounds expression_sound Body k i y is e
 
-  stmt-sound : IsSound (stmt p body) (IsStmt room deep Body)
+  pub stmt-sound : IsSound (stmt p body) (IsStmt room deep Body)
   unfolding stmt
   stmt-sound i y e = stmt_by-sound (mark i) i y refl (subst (λ at. stmt_by p body at (mark i) i ≡ Ok y) (same_line i) e)
 

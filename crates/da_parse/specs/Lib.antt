@@ -1,4 +1,5 @@
 pub mod Exprs
+pub mod FirstFault
 pub mod Holds
 pub mod Lists
 pub mod Members

@@ -1,11 +1,12 @@
 //! The whole text.
-ghost use Rattle.std.specs.Prelude.{◌≡◌, ℕ, List, Ok, IfErr, IfOk, MatchResult};
+ghost use Rattle.std.specs.Prelude.{◌≡◌, ◌≢◌, ℕ, List, Ok, IfErr, IfOk, MatchResult};
 ghost use Rattle.std.specs.List.{All};
 ghost use Rattle.da_values.specs.Marks.{toks};
 ghost use Rattle.da_values.specs.TokenFacts.{IsOnLine};
 ghost use Rattle.da_values.specs.Tokens.{tokens as tokens_of};
 ghost use Rattle.da_lang.specs.Grammar.{Spells, SpellsWithin};
 ghost use Rattle.da_lang.specs.declared.tree.Tree.{Tree};
+ghost use Rattle.da_parse.specs.FirstFault.{Fault, IsFirst};
 ghost use Rattle.da_parse.specs.Parse as spec;
 ghost use Rattle.da_parse.specs.Parse.{Answers, IsLineOf, NamesLine};
 
@@ -65,8 +66,9 @@ fn read_tree(alloc: Global, tokens: &Tokens<'_>) -> Result<Tree, ParseFault>
 
 /// Reads a whole text by the grammar. The tree of an answer is spelled by the tokens with at most 32 things open at a time,
 /// and a tree that is spelled so is the answer, or memory ran out; the same tokens spell no second one. A refusal names the
-/// line at which reading ended, that of a token, or of the last token where the text ends too early. The clauses say that
-/// such a text has no tree within this nesting and that the line is one of the text, but not that it is the first at fault.
+/// first token at fault, by its line: `Syntax` where the tokens before it begin a program and with it they do not, `Deep`
+/// where the tokens up to it begin a program in which it opens one thing more than 32. Behind the last token stands the end
+/// of the text, with the line of that token, or 1.
 pub fn parse(alloc: Global, tokens: &Tokens<'_>) -> Result<Tree, ParseFault>
     // What is read is spelled so, where the tokens are those of their text.
     ensures spelled { tokens_of tokens.now.text.now ≡ Ok tokens.now.list → IfOk result (λ tree. SpellsWithin 32 tree (toks tokens.now.text.now tokens.now.list)) }
@@ -77,6 +79,14 @@ pub fn parse(alloc: Global, tokens: &Tokens<'_>) -> Result<Tree, ParseFault>
 
     // No tokens spell two trees, however many things are open.
     ensures one { (tree other : Tree) → Spells tree (toks tokens.now.text.now tokens.now.list) → Spells other (toks tokens.now.text.now tokens.now.list) → tree ≡ other }
+
+    // What is told, but want of memory, is the first fault in the tokens of a text.
+    ensures first { tokens_of tokens.now.text.now ≡ Ok tokens.now.list
+        → IfErr result (λ fault. fault ≢ ParseFault.Memory → IsFirst (toks tokens.now.text.now tokens.now.list) fault) }
+
+    // The first fault is told, or memory was refused.
+    ensures told { tokens_of tokens.now.text.now ≡ Ok tokens.now.list → (why : Fault) → IsFirst (toks tokens.now.text.now tokens.now.list) why
+        → MatchResult result (λ tree. ⊥) (λ fault. fault ≢ ParseFault.Memory → fault ≡ why) }
 
     // The answer is that of the reader, and a fault is on a line of the text.
     ensures answer { Answers result (spec.parsed (toks tokens.now.text.now tokens.now.list)) }

@@ -1,2 +1,4 @@
 pub mod PatternsAt
+pub mod RowsAt
+pub mod TakenAt
 pub mod TermsAt

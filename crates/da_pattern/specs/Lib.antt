@@ -1,1 +1,2 @@
 pub mod RowView
+pub mod Taken

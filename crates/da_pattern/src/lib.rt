@@ -4,8 +4,9 @@
 mod matching;
 mod process;
 mod row;
+mod taken;
 mod term;
 #[cfg(test)]
 mod tests;
 
-pub use matching::match_pattern;
+pub use matching::{match_pattern, matches_pattern};

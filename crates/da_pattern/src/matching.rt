@@ -1,20 +1,31 @@
 //! Whether a value matches a pattern.
 ghost use Rattle.da_lang.specs.Matching.{match_parts, matched, where_true};
 ghost use Rattle.da_pattern.specs.RowView.{row_of};
+ghost use Rattle.da_pattern.specs.Taken.{taken, taken_parts};
 ghost use Rattle.da_values.specs.Value.{val_of, vals};
-ghost use Rattle.std.specs.Prelude.{◌≡◌, IfOk, map};
+ghost use Rattle.std.specs.Prelude.{◌≡◌, ◌++◌, IfOk, is_some, map};
 
 use crate::process::Process;
 use crate::row::RowSoFar;
+use crate::taken::copy_taken;
 use crate::term::{is_process, is_same_value, is_term};
 use da_lang::Pattern;
-use da_values::{List, NoMemory, Row, Value};
+use da_values::{NoMemory, Row, Value, copy_value};
 use std::alloc::Global;
 
+/// Whether a value matches a pattern in process `me` with these slots and the row so far. A part or a slot that the pattern
+/// names and that is not there counts as process 0, which is no process. It takes no memory, and calls itself no deeper than
+/// the pattern is nested.
+#[tactic(auto, using(crate::proofs::PatternsAt::some_where))]
+pub fn matches_pattern(p: &Pattern, v: &Value, row: &Row, slots: &Row, me: u16) -> bool
+    ensures { result ≡ is_some (matched me slots.now p.now (val_of v.now) row.now) }
+{
+    does_match(p, v, row, slots, me)
+}
+
 /// Matches a value against a pattern in process `me` with these slots. The answer is the row with the variables of the
-/// pattern at its end, or `None` exactly where the value does not match. A part or a slot that the pattern names and that
-/// is not there counts as process 0, which is no process. The value and the row are lent, and copied only where the value
-/// matches: of the value, the parts that variables take.
+/// pattern at its end, or `None` exactly where the value does not match (`matches_pattern`). The value and the row are lent,
+/// and copied only where the value matches: of the value, the parts that variables take.
 pub fn match_pattern(
     alloc: Global,
     p: &Pattern,
@@ -25,63 +36,77 @@ pub fn match_pattern(
 ) -> Result<Option<Row>, NoMemory>
     ensures { IfOk result (λ longer. longer ≡ matched me slots.now p.now (val_of v.now) row.now) }
 {
-    let process = Process { me, slots };
-    let mut so_far = RowSoFar::new(alloc, row);
-    if extend(p, v, &process, &mut so_far)? {
-        Ok(Some(so_far.copy(alloc)?))
-    } else {
-        Ok(None)
+    if !does_match(p, v, row, slots, me) {
+        return Ok(None);
     }
+    let mut longer = copy_row(alloc, row)?;
+    copy_taken(alloc, p, v, &mut longer)?;
+    Ok(Some(longer))
 }
 
-// Whether the value matches. Where it does, the row is longer by the variables of the pattern.
+// Whether the value matches. Where it does, the match is the row with what the variables take.
+#[tactic(auto, using(crate::proofs::RowsAt::rows_at))]
+fn does_match<'x>(p: &'x Pattern, v: &'x Value, row: &'x Row, slots: &Row, me: u16) -> bool
+    ensures { matched me slots.now p.now (val_of v.now) row.now ≡ where_true result (row.now ++ taken p.now (val_of v.now)) }
+{
+    let process = Process { me, slots };
+    fits(p, v, &process, &RowSoFar::Lent(row))
+}
+
+// The same with what was bound before.
 #[cycle(patterns)]
-#[tactic(auto, using(crate::proofs::PatternsAt::patterns_at))]
-fn extend<'v>(
-    p: &Pattern,
-    v: &'v Value,
-    process: &Process<'_>,
-    row: &mut RowSoFar<'v>,
-) -> Result<bool, NoMemory>
-    ensures { IfOk result (λ matches. matched process.now.me process.now.slots.now p.now (val_of v.now) (row_of row.old) ≡ where_true matches (row_of row.new)) }
+#[tactic(auto, using(crate::proofs::PatternsAt::patterns_at, crate::proofs::TakenAt::taken_at))]
+fn fits<'x>(p: &'x Pattern, v: &'x Value, process: &Process<'_>, row: &'x RowSoFar<'x>) -> bool
+    ensures { matched process.now.me process.now.slots.now p.now (val_of v.now) (row_of row.now) ≡ where_true result (row_of row.now ++ taken p.now (val_of v.now)) }
 {
     match p {
-        Pattern::Any => Ok(true),
-        Pattern::Bind => {
-            row.bind(v)?;
-            Ok(true)
-        }
-        Pattern::Const(c) => Ok(is_same_value(v, c)),
-        Pattern::Me => Ok(is_process(v, process.me)),
-        Pattern::Equal(t) => Ok(is_term(t, v, process, row)),
+        Pattern::Any => true,
+        Pattern::Bind => true,
+        Pattern::Const(c) => is_same_value(v, c),
+        Pattern::Me => is_process(v, process.me),
+        Pattern::Equal(t) => is_term(t, v, process, row),
         Pattern::Tuple(parts) => match v {
-            Value::Tuple(values) => extend_parts(parts.as_slice(), values.as_slice(), process, row),
-            _ => Ok(false),
+            Value::Tuple(values) => parts_fit(parts.as_slice(), values.as_slice(), process, row),
+            _ => false,
         },
     }
 }
 
 // The parts of a tuple, one behind the other: what one of them binds, those behind it can name.
 #[cycle(patterns)]
-fn extend_parts<'v>(
-    parts: &[Pattern],
-    values: &'v [Value],
+fn parts_fit<'x>(
+    parts: &'x [Pattern],
+    values: &'x [Value],
     process: &Process<'_>,
-    row: &mut RowSoFar<'v>,
-) -> Result<bool, NoMemory>
-    ensures { IfOk result (λ matches. match_parts (map (matched process.now.me process.now.slots.now) parts.now) (vals values.now) (row_of row.old) ≡ where_true matches (row_of row.new)) }
+    row: &'x RowSoFar<'x>,
+) -> bool
+    ensures { match_parts (map (matched process.now.me process.now.slots.now) parts.now) (vals values.now) (row_of row.now)
+        ≡ where_true result (row_of row.now ++ taken_parts (map taken parts.now) (vals values.now)) }
 {
-    let mut left = values;
-    for p in parts {
-        match left {
-            [v, rest @ ..] => {
-                if !extend(p, v, process, row)? {
-                    return Ok(false);
-                }
-                left = rest;
-            }
-            [] => return Ok(false),
+    if parts.len() != values.len() {
+        return false;
+    }
+    for place in 0..parts.len() {
+        let so_far = RowSoFar::Behind {
+            before: row,
+            parts: &parts[..place],
+            values: &values[..place],
+        };
+        if !fits(&parts[place], &values[place], process, &so_far) {
+            return false;
         }
     }
-    Ok(left.is_empty())
+    true
+}
+
+// A copy of a row.
+fn copy_row(alloc: Global, row: &Row) -> Result<Row, NoMemory>
+    ensures { IfOk result (λ copy. copy ≡ row.now) }
+{
+    let mut copy = Row::new(alloc);
+    let parts = row.as_slice();
+    for part in parts {
+        copy.push(copy_value(alloc, part)?)?;
+    }
+    Ok(copy)
 }

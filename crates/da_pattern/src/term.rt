@@ -10,7 +10,7 @@ ghost use Rattle.std.specs.Ordering.{eq_by_cmp};
 ghost use Rattle.std.specs.Prelude.{◌≡◌, map};
 
 use crate::process::{Process, numbered};
-use crate::row::RowSoFar;
+use crate::row::{RowSoFar, part_of};
 use da_lang::Term;
 use da_values::{Value, cmp_values};
 
@@ -48,7 +48,7 @@ pub fn is_term(t: &Term, v: &Value, process: &Process<'_>, row: &RowSoFar<'_>) -
         Term::Const(c) => is_same_value(v, c),
         Term::Me => is_process(v, process.me),
         Term::Slot(s) => is_found(v, numbered(process.slots, *s)),
-        Term::Part(k) => is_found(v, row.part(*k)),
+        Term::Part(k) => is_found(v, part_of(row, *k)),
         Term::Tuple(terms) => match v {
             Value::Tuple(values) => are_terms(terms.as_slice(), values.as_slice(), process, row),
             _ => false,

@@ -1,5 +1,5 @@
 //! Worked cases: each form of pattern, with values and rows by their texts.
-use crate::matching::match_pattern;
+use crate::matching::{match_pattern, matches_pattern};
 use da_lang::{Pattern, Term};
 use da_values::{List, Row, Str, Value, cmp_rows, read_value};
 use std::alloc::Global;
@@ -25,6 +25,9 @@ fn gives(
     let before = row_of(alloc, row)?;
     let slots = row_of(alloc, b"(7, (1, p1))")?;
     let found = match_pattern(alloc, p, &v, &before, &slots, 3)?;
+    if matches_pattern(p, &v, &before, &slots, 3) != found.is_some() {
+        return Ok(false);
+    }
     let Some(text) = longer else {
         return Ok(found.is_none());
     };

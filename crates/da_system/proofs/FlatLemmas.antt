@@ -1,10 +1,10 @@
 -- The channels as one list.
-use Rattle.std.proofs.Common.{◌≡◌, refl, sym, ◌∙◌, ap, subst, ℕ, zero, suc, ◌+◌, ◌*◌, ◌-◌, ◌<◌, ◌≤◌, List, [], ◌∷◌, ◌++◌, length, set, arith, append_assoc}
-use Rattle.std.specs.Prelude.{Option, Some, None, slice_get, slice_set}
+use Rattle.std.proofs.Common.{◌≡◌, refl, sym, ◌∙◌, ap, ℕ, zero, suc, ◌+◌, ◌*◌, ◌-◌, ◌<◌, ◌≤◌, List, [], ◌∷◌, ◌++◌, length, arith}
+use Rattle.std.specs.Prelude.{slice_get, slice_set}
 use Rattle.std.specs.List.{AllByRecursion}
-use Rattle.da_lang.specs.World.{at_number}
-use Rattle.da_system.specs.Channels.{Channels, Letter, channel, or_empty, put_numbered, with_channel}
-use Rattle.da_system.specs.FlatChannels.{flat, place_of}
+use Rattle.da_lang.specs.declared.program.Program.{Program}
+use Rattle.da_system.specs.Channels.{Channels, Letter, channel, or_empty, with_channel}
+use Rattle.da_system.specs.FlatChannels.{StandFlat, flat, place_of}
 use Rattle.da_system.specs.SoundState.{IsSquare}
 
 module _ {A : Type 0} where
@@ -68,3 +68,10 @@ module _ (count : ℕ) where
     flat-with_channel (suc p) (suc q) letters some most any few =
         set_flat channels p q letters square.recipients (omega (arith, square.senders, most)) (omega (arith, few))
         ∙ ap (λ n. slice_set (flat channels) n letters) (sym (let same : place_of count (suc p) (suc q) ≡ p * count + q = ap (λ n. n * count + (suc q - 1)) (let one : suc p - 1 ≡ p = omega arith in one) ∙ ap (λ n. p * count + n) (let one : suc q - 1 ≡ q = omega arith in one) in same))
+
+-- so they stand as one list in a system
+pub stand_flat : (program : Program) (channels : Channels) → IsSquare (length program.procs) channels → StandFlat program channels
+stand_flat program channels square = record {
+  at_place = λ p q is also. channel-flat (length program.procs) channels square p q is.0 is.1 also.0 also.1;
+  changed = λ p q letters is also. flat-with_channel (length program.procs) channels square p q letters is.0 is.1 also.0 also.1;
+}

@@ -1,3 +1,4 @@
+pub mod AcceptedStates
 pub mod FlatLemmas
 pub mod RunLemmas
 pub mod SoundLaws

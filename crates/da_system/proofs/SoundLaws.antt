@@ -1,6 +1,6 @@
 -- The state of a system stays sound, where the worlds of processes stay shaped.
-use Rattle.std.proofs.Common.{◌≡◌, refl, sym, ◌∙◌, ap, subst, ℕ, zero, suc, ◌+◌, ◌<◌, ◌≤◌, Bool, true, false, cond, List, [], ◌∷◌, ◌++◌, length, map, replicate, take, drop, arith}
-use Rattle.std.specs.Prelude.{Option, Some, None, IfSome, is_some, remove}
+use Rattle.std.proofs.Common.{◌≡◌, inl, inr, refl, sym, ◌∙◌, ap, subst, ℕ, zero, suc, ◌+◌, ◌<◌, ◌≤◌, Bool, true, false, cond, List, [], ◌∷◌, ◌++◌, length, map, replicate, take, drop, arith}
+use Rattle.std.specs.Prelude.{Option, Some, None, IfSome, is_some, slice_get, slice_set, ◌⊎◌}
 use Rattle.std.specs.List.{AllByRecursion, range_with_len}
 use Rattle.std.proofs.lemmas.Bool.{false≢true}
 use Rattle.std.proofs.lemmas.Option.{slice_get_within}
@@ -9,12 +9,14 @@ use Rattle.da_lang.specs.declared.event.Action.TheVariants.{Sent}
 use Rattle.da_lang.specs.declared.event.Event.{Event}
 use Rattle.da_lang.specs.declared.event.Event.TheVariants as event
 use Rattle.da_lang.specs.declared.program.Program.{Program}
-use Rattle.da_lang.specs.Shaped.{IsProcess, Shaped}
+use Rattle.da_values.specs.Value.{val_of}
+use Rattle.da_lang.specs.Shaped.{IsEntry, IsProcess, Shaped}
 use Rattle.da_lang.specs.Steps.{Go, Take, Deliver, Step, Stepped, proc_step}
 use Rattle.da_lang.specs.World.{Data, World, at_number, opening}
 use Rattle.da_system.specs.Channels.{Channels, Letter, after_action, after_actions, channel, may_arrive, may_lose, may_repeat, no_letters, or_empty, put_numbered, with_channel, without_letter, without_numbered}
-use Rattle.da_system.specs.SoundState.{AllLetters, IsLetter, IsSoundState, IsSquare, MayArrive, SendsLetter, StaysShaped}
+use Rattle.da_system.specs.SoundState.{AllLetters, IsLetter, IsSoundState, IsSquare}
 use Rattle.da_system.specs.SystemStep.{AfterEvent, SystemState, arrive, copy_letter, drop_letter, process_step, start, step_of, stepped, sys_step, told}
+use Rattle.da_system.proofs.FlatLemmas.{stand_flat}
 use Rattle.da_system.proofs.SystemLaws.{all_put, all_replicate, length-opened, length-put, letter_there, square_opens, square_with, squares_after}
 use Rattle.da_system.proofs.WorldLemmas.{all_numbered}
 
@@ -44,6 +46,62 @@ all_or_empty P (Some xs) all = all
 
 -- THE OPENING
 
+-- THE LAW ON A PROCESS, from which it follows
+
+-- what an action sends is such a letter
+abbrev pub SendsLetter : Program → Action → Type 0
+SendsLetter program (Sent p q time m) = IsLetter program (record { message = val_of m; time = time })
+SendsLetter program _ = Unit {0}
+
+-- a message that arrives is one that may be in a history
+abbrev pub MayArrive : Program → Step → Type 0
+MayArrive program (Deliver m p time) = IsEntry program (record { message = m; peer = p; time = time })
+MayArrive program _ = Unit {0}
+
+-- a step leaves a shaped world of the same process, and sends such letters
+pub record StepsOn (program : Program) (w : World) (after : Stepped) : Type 0 where
+  pub same : after.world.data'.me ≡ w.data'.me
+  pub shaped : Shaped program after.world
+  pub sends : AllByRecursion (SendsLetter program) after.actions
+
+-- the opening of each process is shaped, and so is what a step leads to from a shaped world
+pub record StaysShaped (program : Program) : Type 0 where
+  pub opens : (me : ℕ) → IsProcess program me → Shaped program (opening program me)
+  pub steps : (w : World) (step : Step) (after : Stepped) → Shaped program w → MayArrive program step → proc_step program w step ≡ Some after → StepsOn program w after
+
+-- the worlds at the opening are those of the processes
+opened_number : (program : Program) (first n k : ℕ) (world : World) → slice_get (map (opening program) (range_with_len first n)) k ≡ Some world → world.data'.me ≡ first + k
+opened_number program first zero k world is = absurd (false≢true (ap is_some is))
+opened_number program first (suc n) zero world is = let same : opening program first ≡ world = cc in sym (ap (λ (w : World). w.data'.me) same) ∙ (let same : first ≡ first + 0 = omega arith in same)
+opened_number program first (suc n) (suc k) world is = opened_number program (first + 1) n k world is ∙ (let same : first + 1 + k ≡ first + suc k = omega arith in same)
+
+start_numbers : (program : Program) (n p : ℕ) (world : World) → at_number (map (opening program) (range_with_len 1 n)) p ≡ Some world → world.data'.me ≡ p
+start_numbers program n zero world is = absurd (false≢true (ap is_some is))
+start_numbers program n (suc place) world is = opened_number program 1 n place world is ∙ (let same : 1 + place ≡ suc place = omega arith in same)
+
+-- a world of the same process in the place of one
+abbrev Numbered : List World → Type 0
+Numbered worlds = (p : ℕ) (world : World) → at_number worlds p ≡ Some world → world.data'.me ≡ p
+
+put_found : (worlds : List World) (k j : ℕ) (new world : World) → slice_get (slice_set worlds k new) j ≡ Some world
+    → ((j ≡ k) × (world ≡ new) × ((old : World) × (slice_get worlds k ≡ Some old))) ⊎ (slice_get worlds j ≡ Some world)
+put_found [] k j new world is = inr is
+put_found (w ∷ worlds) zero zero new world is = let same : world ≡ new = cc in inl (refl, same, (w, refl))
+put_found (w ∷ worlds) zero (suc j) new world is = inr is
+put_found (w ∷ worlds) (suc k) zero new world is = inr is
+put_found (w ∷ worlds) (suc k) (suc j) new world is = elim (put_found worlds k j new world is) [
+  | inl here ↦ inl (ap suc here.0, here.1, here.2)
+  | inr there ↦ inr there
+]
+
+put_numbers : (worlds : List World) (p : ℕ) (new : World) → Numbered worlds → ((old : World) → at_number worlds p ≡ Some old → new.data'.me ≡ old.data'.me) → Numbered (put_numbered worlds p new)
+put_numbers worlds zero new numbers like q world is = numbers q world is
+put_numbers worlds (suc k) new numbers like zero world is = numbers zero world is
+put_numbers worlds (suc k) new numbers like (suc j) world is = elim (put_found worlds k j new world is) [
+  | inl here ↦ (ap (λ (w : World). w.data'.me) here.1 ∙ like here.2.0 here.2.1 ∙ numbers (suc k) here.2.0 here.2.1 ∙ sym (ap suc here.0))
+  | inr there ↦ numbers (suc j) world there
+]
+
 module _ (program : Program) (law : StaysShaped program) where
   abbrev Letters : List Letter → Type 0
   Letters letters = AllByRecursion (IsLetter program) letters
@@ -59,9 +117,12 @@ module _ (program : Program) (law : StaysShaped program) where
   start_sound =
       let count : ℕ = length program.procs in
       record {
+        kind = refl;
         each = length-opened program 1 count;
         worlds = opened_from 1 count (omega arith) (omega arith);
+        numbers = start_numbers program count;
         square = square_opens count;
+        flat = stand_flat program (no_letters count) (square_opens count);
         letters = all_replicate Row count (replicate count []) (all_replicate Letters count [] tt);
       }
 
@@ -87,35 +148,44 @@ module _ (program : Program) (law : StaysShaped program) where
 
   -- a state with other letters in one channel
   sound_with : (s : SystemState) (p q : ℕ) (letters : List Letter) → IsSoundState program s → Letters letters → IsSoundState program (record s { channels = with_channel s.channels p q letters })
-  sound_with s p q letters sound here = record {
-    each = sound.each;
-    worlds = sound.worlds;
-    square = square_with (length program.procs) s.channels p q letters sound.square;
-    letters = letters_with s.channels p q letters sound.letters here;
-  }
+  sound_with s p q letters sound here =
+      let square = square_with (length program.procs) s.channels p q letters sound.square in
+      record {
+        kind = sound.kind;
+        each = sound.each;
+        worlds = sound.worlds;
+        numbers = sound.numbers;
+        square = square;
+        flat = stand_flat program (with_channel s.channels p q letters) square;
+        letters = letters_with s.channels p q letters sound.letters here;
+      }
 
   -- STEPS OF PROCESSES
 
   abbrev Keeps : Option AfterEvent → Type 0
   Keeps step = IfSome step (λ (after : AfterEvent). IsSoundState program after.state)
 
-  stepped_sound : (s : SystemState) (p : ℕ) (step : Step) (world : World) (found : Option Stepped) → IsSoundState program s → Shaped program world → MayArrive program step → proc_step program world step ≡ found → Keeps (stepped s p found)
-  stepped_sound s p step world None sound shaped may is = tt
-  stepped_sound s p step world (Some after) sound shaped may is =
-      let (next, sends) = law.steps world step after shaped may is in
+  stepped_sound : (s : SystemState) (p : ℕ) (step : Step) (world : World) (found : Option Stepped) → IsSoundState program s → at_number s.worlds p ≡ Some world → Shaped program world → MayArrive program step → proc_step program world step ≡ found → Keeps (stepped s p found)
+  stepped_sound s p step world None sound there shaped may is = tt
+  stepped_sound s p step world (Some after) sound there shaped may is =
+      let next = law.steps world step after shaped may is in
+      let square = squares_after (length program.procs) s.channels after.actions sound.square in
       record {
+        kind = sound.kind;
         each = length-put s.worlds p after.world ∙ sound.each;
-        worlds = all_put (Shaped program) s.worlds p after.world sound.worlds (λ old there kept. next);
-        square = squares_after (length program.procs) s.channels after.actions sound.square;
-        letters = all_after s.channels after.actions sound.letters sends;
+        worlds = all_put (Shaped program) s.worlds p after.world sound.worlds (λ old found kept. next.shaped);
+        numbers = put_numbers s.worlds p after.world sound.numbers (λ old found. (let same : world ≡ old = cc in next.same ∙ ap (λ (w : World). w.data'.me) same));
+        square = square;
+        flat = stand_flat program (after_actions s.channels after.actions) square;
+        letters = all_after s.channels after.actions sound.letters next.sends;
       }
 
-  of_sound : (s : SystemState) (p : ℕ) (step : Step) (world : Option World) → IsSoundState program s → IfSome world (Shaped program) → MayArrive program step → Keeps (step_of program s p world step)
-  of_sound s p step None sound shaped may = tt
-  of_sound s p step (Some world) sound shaped may = stepped_sound s p step world (proc_step program world step) sound shaped may refl
+  of_sound : (s : SystemState) (p : ℕ) (step : Step) (world : Option World) → at_number s.worlds p ≡ world → IsSoundState program s → IfSome world (Shaped program) → MayArrive program step → Keeps (step_of program s p world step)
+  of_sound s p step None there sound shaped may = tt
+  of_sound s p step (Some world) there sound shaped may = stepped_sound s p step world (proc_step program world step) sound there shaped may refl
 
   process_sound : (s : SystemState) (p : ℕ) (step : Step) → IsSoundState program s → MayArrive program step → Keeps (process_step program s p step)
-  process_sound s p step sound may = of_sound s p step (at_number s.worlds p) sound (all_numbered (Shaped program) s.worlds p sound.worlds) may
+  process_sound s p step sound may = of_sound s p step (at_number s.worlds p) refl sound (all_numbered (Shaped program) s.worlds p sound.worlds) may
 
   -- LETTERS
 

@@ -11,6 +11,9 @@ use Rattle.da_system.specs.SystemStep.{SystemState, Steps, Tells, sys_step}
 pub stands_itself : (system : System) (s : SystemState) → state_of system ≡ s → Stands system s
 stands_itself system s is = record { is = sym is }
 
+pub some_stands : (system : System) → (s : SystemState) × Stands system s
+some_stands system = (state_of system, record { is = refl })
+
 module _ (program : Program) (system : System) (e : Event) where
   pub forbidden_whichever : sys_step program (state_of system) e ≡ None → Whichever system (λ s. sys_step program s e ≡ None)
   forbidden_whichever none = λ s stands. ap (λ (t : SystemState). sys_step program t e) stands.is ∙ none

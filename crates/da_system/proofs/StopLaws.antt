@@ -23,7 +23,7 @@ use Rattle.da_lang.specs.Arithmetic.{Outcome}
 use Rattle.da_lang.specs.Evaluation.{Outcomes, eval, eval_all}
 use Rattle.da_lang.specs.Matching.{Row, matched_entry}
 use Rattle.da_lang.specs.Queries.{holds, shown_set}
-use Rattle.da_lang.specs.Runs.{Halt, AtYield, UsedUp, Faults, Ran, behind, go_after, max_turns, run, run_to_yield, stopped, yields}
+use Rattle.da_lang.specs.Runs.{Halt, AtYield, UsedUp, Faults, Ran, go_after, max_turns, run, run_to_yield, stopped, yields}
 use Rattle.da_lang.specs.Steps.{Deliver, Go, Step, Stepped, Take, after_halt, class_step, closing, first_tasks, go_waiting, handle, past_await, past_label, proc_step, received_at, step_in, take_alternative, take_waiting, try_handler}
 use Rattle.da_lang.specs.Turns.{AfterTurn as Turned, bind_all, bind_found, choose, do_all, enter, kind_of, kind_turn, later, line_of, loop_turn, max_packet, packet_len, quiet, recipients, send_if, sending, turn, with_outcome, with_outcomes, with_value}
 use Rattle.da_lang.specs.World.{Data, Do, Loop, New, Phase, Prepare, Task, Waiting, World, class_of, at_number}

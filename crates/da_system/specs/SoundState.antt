@@ -1,16 +1,17 @@
--- What holds of the state of a system in every run of an accepted program.
-use Rattle.std.specs.Prelude.{◌≡◌, ℕ, ◌^◌, ◌<◌, true, List, length, Some}
+-- What holds of the state of a system in every run of a program whose worlds stay shaped.
+use Rattle.std.specs.Prelude.{◌≡◌, ℕ, ◌^◌, ◌<◌, true, List, ◌∷◌, length, Some, IfSome}
 use Rattle.std.specs.List.{AllByRecursion}
 use Rattle.da_values.specs.Proper.{IsValue}
-use Rattle.da_values.specs.Value.{val_of}
 use Rattle.da_lang.specs.declared.event.Action.{Action}
-use Rattle.da_lang.specs.declared.event.Action.TheVariants.{Sent}
+use Rattle.da_lang.specs.declared.event.Action.TheVariants.{Took}
+use Rattle.da_lang.specs.declared.event.Event.{Event}
+use Rattle.da_lang.specs.declared.event.Event.TheVariants.{Move, Take}
 use Rattle.da_lang.specs.declared.program.Program.{Program}
-use Rattle.da_lang.specs.Shaped.{IsEntry, IsProcess, Shaped, well_typed}
-use Rattle.da_lang.specs.Steps.{Step, Go, Take, Deliver, Stepped, proc_step}
-use Rattle.da_lang.specs.World.{World, opening}
+use Rattle.da_lang.specs.Shaped.{Shaped, well_typed}
+use Rattle.da_lang.specs.World.{World, at_number}
 use Rattle.da_system.specs.Channels.{Channels, Letter}
-use Rattle.da_system.specs.SystemStep.{SystemState}
+use Rattle.da_system.specs.FlatChannels.{StandFlat}
+use Rattle.da_system.specs.SystemStep.{AfterEvent, SystemState, sys_step}
 
 -- a declared message of its types, whose processes are there, sent at a time of 63 bits
 pub record IsLetter (program : Program) (letter : Letter) : Type 0 where
@@ -26,27 +27,27 @@ pub record IsSquare (count : ℕ) (channels : Channels) : Type 0 where
 abbrev pub AllLetters : Program → Channels → Type 0
 AllLetters program channels = AllByRecursion (AllByRecursion (AllByRecursion (IsLetter program))) channels
 
--- a shaped world for each process, a channel for each pair of them, and in the channels such letters
+-- the program's kind of channels, a shaped world for each process, that of process p at number p, a channel for each pair of
+-- them, also in one list, and in the channels such letters
 pub record IsSoundState (program : Program) (s : SystemState) : Type 0 where
+  pub kind : s.kind ≡ program.kind
   pub each : length s.worlds ≡ length program.procs
   pub worlds : AllByRecursion (Shaped program) s.worlds
+  pub numbers : (p : ℕ) (world : World) → at_number s.worlds p ≡ Some world → world.data'.me ≡ p
   pub square : IsSquare (length program.procs) s.channels
+  pub flat : StandFlat program s.channels
   pub letters : AllLetters program s.channels
 
--- THE LAW ON A PROCESS, from which it follows
+-- a move tells of itself first
+abbrev pub TellsMove : Event → List Action → Type 0
+TellsMove (Move p) actions = (rest : List Action) × (actions ≡ Took p 0 ∷ rest)
+TellsMove (Take p k) actions = (rest : List Action) × (actions ≡ Took p k ∷ rest)
+TellsMove _ actions = Unit {0}
 
--- what an action sends is such a letter
-abbrev pub SendsLetter : Program → Action → Type 0
-SendsLetter program (Sent p q time m) = IsLetter program (record { message = val_of m; time = time })
-SendsLetter program _ = Unit {0}
+-- where the event is allowed it leads from this state to a sound one
+pub record LeadsOn (program : Program) (e : Event) (after : AfterEvent) : Type 0 where
+  pub sound : IsSoundState program after.state
+  pub tells : TellsMove e after.actions
 
--- a message that arrives is one that may be in a history
-abbrev pub MayArrive : Program → Step → Type 0
-MayArrive program (Deliver m p time) = IsEntry program (record { message = m; peer = p; time = time })
-MayArrive program _ = Unit {0}
-
--- the opening of each process is shaped, and a step leads from a shaped world to a shaped one, and sends such letters
-pub record StaysShaped (program : Program) : Type 0 where
-  pub opens : (me : ℕ) → IsProcess program me → Shaped program (opening program me)
-  pub steps : (w : World) (step : Step) (after : Stepped) → Shaped program w → MayArrive program step → proc_step program w step ≡ Some after
-      → Shaped program after.world × AllByRecursion (SendsLetter program) after.actions
+abbrev pub StaysSound : Program → SystemState → Event → Type 0
+StaysSound program s e = IsSoundState program s → IfSome (sys_step program s e) (LeadsOn program e)

@@ -62,8 +62,9 @@ pub record HasStepped (program : Program) (s : SystemState) (e : Event) (system 
 abbrev pub IsNumbered : Program → Type 0
 IsNumbered program = length program.procs < 2 ^ 16
 
--- the system can make steps
+-- the system stands for some state, and can make steps
 pub record IsReady (system : System) : Type 0 where
+  pub stands : (s : SystemState) × Stands system s
   pub few : IsNumbered (program_of system)
   pub prints : PrintsOnly (program_of system)
   pub each : length system.processes ≡ length (program_of system).procs

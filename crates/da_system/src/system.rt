@@ -1,6 +1,8 @@
 //! The processes of a program, and their steps.
+ghost use Rattle.da_lang.specs.Accepted.{IsAccepted};
 ghost use Rattle.da_lang.specs.World.{class_of as class_of_lem, at_number as numbered_lem};
 ghost use Rattle.da_system.specs.Printing.{PrintsOnly};
+ghost use Rattle.da_system.specs.SoundState.{IsSoundState, StaysSound};
 ghost use Rattle.da_system.specs.State.{CanStart, HasStepped, IsNumbered, IsReady, StandAlike, Stands, Whichever, program_of, state_of};
 ghost use Rattle.da_system.specs.SystemStep.{SystemState, start, sys_step, Steps, Tells};
 ghost use Rattle.std.specs.Prelude.{◌≡◌, ◌↔◌, [], None, IfOk, IsErrOf, IsSome, IsTrue, MatchOption, OnOk, is_some, option_copied};
@@ -53,6 +55,9 @@ impl<'p> System<'p> {
         ensures ready { IfOk result IsReady }
         ensures program { IfOk result (λ system. program_of system ≡ program.now) }
         ensures start { IfOk result (λ system. Stands system (start program.now)) }
+
+        // Of an accepted program that state is sound.
+        ensures sound { IsAccepted program.now → IsSoundState program.now (start program.now) }
     {
         let mut processes = List::new(alloc);
         for _place in 0..program.procs.len() {
@@ -84,7 +89,7 @@ impl<'p> System<'p> {
 
     /// Makes the step of the event, and adds its actions to `out`. No earlier step on this system has answered
     /// `Memory`.
-    #[tactic(auto, using(crate::proofs::StandLemmas::forbidden_whichever, crate::proofs::StandLemmas::none_kept, crate::proofs::StandLemmas::steps_whichever, crate::proofs::StandLemmas::alike))]
+    #[tactic(auto, using(crate::proofs::StandLemmas::forbidden_whichever, crate::proofs::StandLemmas::none_kept, crate::proofs::StandLemmas::steps_whichever, crate::proofs::StandLemmas::alike, crate::proofs::AcceptedStates::stays_sound))]
     pub fn step(&mut self, e: &Event, out: &mut List<Action>) -> Result<(), StepFault>
         requires { IsReady self.old }
         ensures ready { OnOk result (IsReady self.new) }
@@ -94,6 +99,9 @@ impl<'p> System<'p> {
         ensures forbidden { IsErrOf result StepFault.Forbidden → Whichever self.old (λ s. sys_step (program_of self.old) s e.now ≡ None) }
         ensures allowed { (s : SystemState) → Stands self.old s → sys_step (program_of self.old) s e.now ≡ None → IsErrOf result StepFault.Forbidden }
         ensures same { IsErrOf result StepFault.Forbidden → StandAlike self.old self.new × (out.new ≡ out.old) }
+
+        // Of an accepted program each state stays sound: where the event is allowed, it leads to a sound one.
+        ensures sound { IsAccepted (program_of self.old) → Whichever self.old (λ s. StaysSound (program_of self.old) s e.now) }
     {
         match e {
             Event::Move { p } => self.make_move(*p, out),
@@ -127,6 +135,7 @@ impl System<'_> {
     }
 
     // The move of process `p`.
+    #[tactic(auto, using(crate::proofs::StandLemmas::some_stands))]
     fn make_move(&mut self, p: u32, out: &mut List<Action>) -> Result<(), StepFault>
         requires { IsReady self.old }
         ensures ready { OnOk result (IsReady self.new) }

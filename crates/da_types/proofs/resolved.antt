@@ -1,6 +1,5 @@
 pub mod BlocksFill
 pub mod CallsAllowed
-pub mod ChainsAt
 pub mod ClassConstants
 pub mod ClassesFill
 pub mod ConstantsAt
@@ -15,6 +14,8 @@ pub mod FoundSome
 pub mod ItemConstants
 pub mod MeantFills
 pub mod NotesAt
+pub mod NotesKept
+pub mod QueryNotesAt
 pub mod ResolvedConstants
 pub mod ResolvedTyped
 pub mod SetupArity

@@ -1,5 +1,5 @@
 -- What is written in a tree, and the constants of the expressions of a resolved program.
-use Rattle.std.specs.Prelude.{◌≡◌, ℕ, suc, ◌^◌, ◌<◌, length, List, [], ◌∷◌, ◌++◌, map, Some, flat_map, option_to_list}
+use Rattle.std.specs.Prelude.{◌≡◌, ℕ, suc, ◌^◌, ◌<◌, ◌+◌, true, length, List, [], ◌∷◌, ◌++◌, map, Some, flat_map, option_to_list}
 use Rattle.da_values.specs.declared.value.Value.{Value}
 use Rattle.da_values.specs.declared.value.Value.TheVariants as kept
 use Rattle.da_values.specs.Proper.{IsValue}
@@ -33,14 +33,14 @@ use Rattle.da_lang.specs.declared.tree.PeerTree.{PeerTree}
 use Rattle.da_lang.specs.declared.tree.Tree.{Tree}
 use Rattle.da_lang.specs.ClassParts.{Body, Place, InHandler, bodies}
 use Rattle.da_lang.specs.Deeds.{Deed, deeds}
-use Rattle.da_lang.specs.Shaped.{IsItemOf}
+use Rattle.da_lang.specs.Shaped.{IsItemOf, has_processes}
 use Rattle.da_lang.specs.Turns.{kind_of}
 use Rattle.da_types.specs.Totality.{IsConstant, query_constants}
 
--- what is noted of a tree: a value that is written, or how many operands a chain has
+-- what is noted of a tree or of a query: a value that is written, or how many signs stand between the operands of a chain
 pub data Note : Type 0 where
   Literal : Value → Note
-  Operands : ℕ → Note
+  Signs : ℕ → Note
 
 abbrev pub Notes : Type 0
 Notes = List Note
@@ -56,7 +56,7 @@ notes_step (Expr-F.And xs) = all xs
 notes_step (Expr-F.Not x) = x
 notes_step (Expr-F.Cmp o x y) = x ++ y
 notes_step (Expr-F.Member x y) = x ++ y
-notes_step (Expr-F.Chain x more) = Operands (suc (length more)) ∷ x ++ all more
+notes_step (Expr-F.Chain x more) = Signs (length more) ∷ x ++ all more
 notes_step (Expr-F.«Expr::Int» number) = Literal (kept.Int number) ∷ []
 notes_step (Expr-F.«Expr::Text» bytes) = Literal (kept.Text bytes) ∷ []
 notes_step (Expr-F.«Expr::Truth» truth) = Literal (kept.Bool truth) ∷ []
@@ -129,13 +129,25 @@ line_notes (main_line.Setup name args line) = flat_map notes args
 abbrev pub tree_notes : Tree → Notes
 tree_notes t = flat_map class_notes t.classes ++ flat_map line_notes t.main
 
--- a value that there is: an integer of an i128, a text of bytes that a text may have; operands whose sum fits in an i128
-abbrev pub IsFine : Note → Type 0
-IsFine (Literal value) = IsValue (val_of value)
-IsFine (Operands count) = count < 2 ^ 32
+-- the signs of all chains together
+abbrev pub signs : Notes → ℕ
+signs [] = 0
+signs (Literal value ∷ notes) = signs notes
+signs (Signs count ∷ notes) = count + signs notes
 
-abbrev pub AreFine : Notes → Type 0
-AreFine notes = (x : Note) → Has notes x → IsFine x
+-- a value that there is, and that names no process: an integer of an i128, a text of bytes that a text may have
+pub record IsLiteral (value : Value) : Type 0 where
+  pub proper : IsValue (val_of value)
+  pub free : (most : ℕ) → has_processes most (val_of value) ≡ true
+
+abbrev pub IsFine : Note → Type 0
+IsFine (Literal value) = IsLiteral value
+IsFine (Signs count) = Unit {0}
+
+-- each note is fine, and fewer than 2^32 operands have these signs between them
+pub record AreFine (notes : Notes) : Type 0 where
+  pub each : (x : Note) → Has notes x → IsFine x
+  pub few : suc (signs notes) < 2 ^ 32
 
 -- the constants of expressions
 abbrev pub Written : Type 0

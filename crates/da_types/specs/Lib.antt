@@ -3,7 +3,7 @@ pub mod Chains
 pub mod Constants
 pub mod KeepsShaped
 pub mod KnownView
-pub mod QueryChains
+pub mod QueryNotes
 pub mod Refusing
 pub mod Rows
 pub mod SideView

@@ -1,5 +1,5 @@
 -- What is shown of each accepted program beside its types, and what later crates rely on.
-use Rattle.std.specs.Prelude.{◌≡◌, ℕ, false, true, List, [], ◌∷◌, map, length, Option, Some, slice_get}
+use Rattle.std.specs.Prelude.{◌≡◌, ℕ, ◌^◌, ◌<◌, false, true, List, [], ◌∷◌, ◌++◌, map, length, Option, Some, slice_get}
 use Rattle.da_values.specs.Sets.{Has, Distinct}
 use Rattle.da_lang.specs.declared.program.Alt.{Alt}
 use Rattle.da_lang.specs.declared.program.Class.{Class}
@@ -18,12 +18,12 @@ use Rattle.da_lang.specs.declared.query.Query.TheVariants as query
 use Rattle.da_lang.specs.declared.query.RGen.{RGen}
 use Rattle.da_lang.specs.declared.ty.Ty.{Ty}
 use Rattle.da_lang.specs.QueryTypes.{query_row}
-use Rattle.da_lang.specs.Shaped.{IsItemOf}
+use Rattle.da_lang.specs.Shaped.{IsItemOf, IsProcess}
 use Rattle.da_lang.specs.Turns.{kind_of, slot_of_arg}
-use Rattle.da_lang.specs.Typing.{Slots, handler_row, have_types, known}
-use Rattle.da_lang.specs.World.{at_number}
+use Rattle.da_lang.specs.Typing.{handler_row, have_types, known}
+use Rattle.da_lang.specs.World.{at_number, class_of}
 use Rattle.da_types.specs.Constants.{ConstantsAreThere}
-use Rattle.da_types.specs.QueryChains.{AreFew, cond_chains, query_chains}
+use Rattle.da_types.specs.QueryNotes.{AreThere, cond_notes, match_notes, query_notes}
 
 -- the numbers of the queries whose rows a statement binds, with the slots that take their parts
 abbrev pub Bound : Type 0
@@ -68,25 +68,29 @@ pub record BindsSome (p : Program) (c : Class) (n : ℕ) (binds : List ℕ) : Ty
 pub record IsSoundItem (p : Program) (c : Class) (i : Item) : Type 0 where
   pub finds : (n : ℕ) (binds : List ℕ) → Has (bound_by (kind_of i)) (Some n, binds) → BindsSome p c n binds
   pub distinct : (slots : List ℕ) → Has (slots_bound_by (kind_of i)) slots → Distinct slots
-  pub few : (b : Cond) → Has (awaited (kind_of i)) b → AreFew (cond_chains b)
+  pub waits : (b : Cond) → Has (awaited (kind_of i)) b → AreThere p (cond_notes b)
 
 -- a handler of a class
 pub record IsSoundHandler (p : Program) (c : Class) (h : Handler) : Type 0 where
   pub takes : TakeRow p c h.binds (handler_row p.messages c.queries h c.slots)
   pub distinct : Distinct h.binds
+  pub patterns : AreThere p (match_notes h.message ++ match_notes h.from)
 
 -- a class
 pub record IsSoundClass (p : Program) (c : Class) : Type 0 where
   pub items : (i : Item) → IsItemOf c i → IsSoundItem p c i
   pub handlers : (h : Handler) → Has c.handlers h → IsSoundHandler p c h
-  pub queries : (q : Query) → Has c.queries q → AreFew (query_chains q)
+  pub queries : (q : Query) → Has c.queries q → AreThere p (query_notes q)
   pub params : Distinct c.params
 
 -- a line of `setup` has as many arguments as its class has parameters
 abbrev pub IsSoundSetup : Program → ProcDecl → Type 0
 IsSoundSetup p d = (c : Class) (call : SetupCall) → slice_get p.classes d.class ≡ Some c → d.setup ≡ Some call → length call.args ≡ length c.params
 
+-- the program: among the rest, its processes have numbers of 16 bits, and each of them is of a class that is there
 pub record IsSound (p : Program) : Type 0 where
   pub constants : ConstantsAreThere p
   pub classes : (c : Class) → Has p.classes c → IsSoundClass p c
   pub setups : (d : ProcDecl) → Has p.procs d → IsSoundSetup p d
+  pub few : length p.procs < 2 ^ 16
+  pub placed : (me : ℕ) → IsProcess p me → (c : Class) × (class_of p me ≡ Some c)

@@ -16,6 +16,8 @@ use Rattle.da_lang.specs.Limits.{Resolves}
 use Rattle.da_parse.specs.declared.whole.ParseFault.{ParseFault}
 use Rattle.da_parse.specs.declared.whole.ParseFault.TheVariants as parse_fault
 use Rattle.da_parse.specs.Parse.{Answers, IsLineOf, NamesLine, parsed}
+use Rattle.da_parse.proofs.ParseFirst.{parsed_first}
+use Rattle.da_parse.proofs.Spelled.{toks-spelled}
 use Rattle.da_parse.proofs.WrittenTrees.{written_tree}
 use Rattle.da_scope.specs.declared.top.ScopeFault.{ScopeFault}
 use Rattle.da_scope.specs.declared.top.ScopeFault.TheVariants as scope
@@ -45,7 +47,7 @@ module _ (text seen : List ℕ) (list : List Token) (e : ParseFault) (same : see
     list = list;
     lexed = lexed;
     none = λ tree spelled. other (sym is ∙ only tree (subst (λ x. SpellsWithin 32 tree (toks x list)) (sym same) spelled));
-    told = told (subst (λ (x : List ℕ). Answers (Err why) (parsed (toks x list))) same (subst (λ x. Answers (Err x) (parsed (toks seen list))) is answer));
+    told = parsed_first (toks text list) (toks-spelled text list lexed) why other (told (subst (λ (x : List ℕ). Answers (Err why) (parsed (toks x list))) same (subst (λ x. Answers (Err x) (parsed (toks seen list))) is answer)));
     on = on (subst (λ x. NamesLine x why) same (subst (NamesLine seen) is inside));
   }
 

@@ -17,7 +17,8 @@ use Rattle.da_lang.specs.NameRules.{name_fault, name_refusals}
 use Rattle.da_lang.specs.Typing.{Typed, type_fault}
 use Rattle.da_parse.specs.declared.whole.ParseFault.{ParseFault}
 use Rattle.da_parse.specs.declared.whole.ParseFault.TheVariants as parse
-use Rattle.da_parse.specs.Parse.{IsLineOf, parsed}
+use Rattle.da_parse.specs.FirstFault.{IsFirst}
+use Rattle.da_parse.specs.Parse.{IsLineOf}
 use Rattle.dalgo.specs.declared.program.ProgramFault.{ProgramFault}
 use Rattle.dalgo.specs.declared.program.ProgramFault.TheVariants as fault
 use Rattle.dalgo.specs.declared.status.RefusedKind.{RefusedKind}
@@ -34,13 +35,13 @@ pub record HasTree (text : List ℕ) (tree : Tree) : Type 0 where
   pub lexed : tokens text ≡ Ok list
   pub spelled : SpellsWithin 32 tree (toks text list)
 
--- the text has tokens, and they spell no such tree: this is what the reader of the grammar tells of them
+-- the text has tokens, and they spell no such tree: this is the first fault in them
 pub record HasNoTree (text : List ℕ) (why : ParseFault) (line : ℕ) : Type 0 where
   pub size : length text ≤ program_limit
   pub list : List Token
   pub lexed : tokens text ≡ Ok list
   pub none : (tree : Tree) → SpellsWithin 32 tree (toks text list) → ⊥
-  pub told : parsed (toks text list) ≡ Err why
+  pub told : IsFirst (toks text list) why
   pub on : IsLineOf text line
 
 -- the text gives this program: it has a tree, the tree has a program, and that program keeps the rules of types

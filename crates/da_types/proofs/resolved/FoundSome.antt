@@ -15,7 +15,6 @@ use Rattle.da_lang.specs.declared.tree.PeerTree.{PeerTree}
 use Rattle.da_lang.specs.BodyMeaning.{found_number, finds_in}
 use Rattle.da_lang.specs.ExprMeaning.{Meaning, Meant, Tables, cond_behind, gens_in, generator, meant, quantified}
 use Rattle.da_lang.specs.Scopes.{Scope}
-use Rattle.da_lang.specs.World.{at_number}
 use Rattle.da_lang.proofs.MeantAt.{meant-Quant}
 use Rattle.da_types.specs.Sound.{IsSome}
 use Rattle.da_types.proofs.resolved.ConstantsFill.{Grows}

@@ -26,7 +26,7 @@ use Rattle.da_lang.specs.Shaped.{Within, here, deeper, blocks_in}
 use Rattle.da_lang.specs.Turns.{kind_of, slot_of_arg}
 use Rattle.da_lang.proofs.CondInduction.{Where}
 use Rattle.da_types.specs.Constants.{exprs_in}
-use Rattle.da_types.specs.QueryChains.{AreFew, cond_chains}
+use Rattle.da_types.specs.QueryNotes.{AreThere, cond_notes}
 use Rattle.da_types.specs.Sound.{Bound, IsSome, awaited, bound_by, slots_bound_by}
 use Rattle.da_types.proofs.resolved.ConstantsFill.{GoodExpr, GoodTables, GoodScope, MeansGood, GoodMeant, Grows, Onward, grown_on, onward, stays}
 use Rattle.da_types.proofs.resolved.FoundSome.{finds_some, range_distinct}
@@ -50,7 +50,7 @@ module _ (p : Program) (qs : List Query) where
     pub exprs : (x : RExpr) → Has (exprs_in y) x → GoodExpr p x
     pub finds : (n : ℕ) (binds : List ℕ) → Has (bound_by y) (Some n, binds) → IsSome qs n
     pub distinct : (slots : List ℕ) → Has (slots_bound_by y) slots → Distinct slots
-    pub few : (b : Cond) → Has (awaited y) b → AreFew (cond_chains b)
+    pub waits : (b : Cond) → Has (awaited y) b → AreThere p (cond_notes b)
 
   abbrev pub GoodItems : List Item → Type 0
   GoodItems items = (i : Item) → Within i items → GoodRule (kind_of i)
@@ -123,7 +123,7 @@ module _ (p : Program) (qs : List Query) where
     exprs = good;
     finds = λ n binds h. absurd (subst (λ (z : List Bound). Has z (Some n, binds)) no_rows h);
     distinct = λ slots h. absurd (subst (λ z. Has z slots) no_slots h);
-    few = λ b h. absurd (subst (λ z. Has z b) no_conds h);
+    waits = λ b h. absurd (subst (λ z. Has z b) no_conds h);
   }
 
   pub assign_good : (slot : ℕ) (x : RExpr) → GoodExpr p x → GoodKind (it.Assign slot x)
@@ -168,7 +168,7 @@ module _ (p : Program) (qs : List Query) where
     pub body : GoodBlock (out-RBranch b).body
 
   pub record GoodAlt (a : Alt) : Type 0 where
-    pub few : AreFew (cond_chains (out-Alt a).cond)
+    pub waits : AreThere p (cond_notes (out-Alt a).cond)
     pub finds : FindsSome (out-Alt a).found
     pub distinct : Distinct (out-Alt a).binds
     pub body : GoodBlock (out-Alt a).body
@@ -186,7 +186,7 @@ module _ (p : Program) (qs : List Query) where
       exprs = of_parts GoodBranch (GoodExpr p) (λ b. (out-RBranch b).cond) bs each (λ b good. good.cond);
       finds = λ n binds h. of_parts GoodBranch FindsBound (λ b. ((out-RBranch b).found, (out-RBranch b).binds)) bs each (λ b good. good.finds) (Some n, binds) h n refl;
       distinct = of_parts GoodBranch Distinct (λ b. (out-RBranch b).binds) bs each (λ b good. good.distinct);
-      few = λ b h. absurd h;
+      waits = λ b h. absurd h;
     };
     blocks = λ body h. ⊎_elim (of_parts GoodBranch GoodItems (λ b. (out-RBranch b).body) bs each (λ b good. block_items (out-RBranch b).body good.body) body) (one_block other last body) (of_append (map (λ b. (out-RBranch b).body) bs) (other ∷ []) body h);
   })
@@ -197,7 +197,7 @@ module _ (p : Program) (qs : List Query) where
       exprs = λ x h. absurd h;
       finds = λ n binds h. of_parts GoodAlt FindsBound (λ a. ((out-Alt a).found, (out-Alt a).binds)) alts each (λ a good. good.finds) (Some n, binds) h n refl;
       distinct = of_parts GoodAlt Distinct (λ a. (out-Alt a).binds) alts each (λ a good. good.distinct);
-      few = of_parts GoodAlt (λ b. AreFew (cond_chains b)) (λ a. (out-Alt a).cond) alts each (λ a good. good.few);
+      waits = of_parts GoodAlt (λ b. AreThere p (cond_notes b)) (λ a. (out-Alt a).cond) alts each (λ a good. good.waits);
     };
     blocks = of_parts GoodAlt GoodItems (λ a. (out-Alt a).body) alts each (λ a good. block_items (out-Alt a).body good.body);
   })
@@ -208,7 +208,7 @@ module _ (p : Program) (qs : List Query) where
       exprs = of_parts (λ (a : BindArg). GoodExpr p a.value) (GoodExpr p) (λ (a : BindArg). a.value) args fine (λ a good. good);
       finds = λ n binds h. absurd h;
       distinct = λ slots h. ⊎_elim (λ is. subst Distinct (sym is) differ) (λ no. absurd no) h;
-      few = λ b h. absurd h;
+      waits = λ b h. absurd h;
     };
     blocks = one_block body each;
   })
@@ -284,7 +284,7 @@ module _ (p : Program) (qs : List Query) where
         (λ e.
             let out = out-roll-Alt made in
             record {
-              few = subst (λ (z : Alt-F ItemKind Alt Item RBranch). AreFew (cond_chains z.cond)) (sym out) (good.of_condition scope);
+              waits = subst (λ (z : Alt-F ItemKind Alt Item RBranch). AreThere p (cond_notes z.cond)) (sym out) (good.of_condition scope);
               finds = subst (λ (z : Alt-F ItemKind Alt Item RBranch). FindsSome z.found) (sym out) (found_some x scope tables (ends asked.1 items.1 found.1 e));
               distinct = subst (λ (z : Alt-F ItemKind Alt Item RBranch). Distinct z.binds) (sym out) (range_distinct (next asked.1) (length (found_names x)));
               body = subst (λ (z : Alt-F ItemKind Alt Item RBranch). GoodBlock z.body) (sym out) (found.0 e);

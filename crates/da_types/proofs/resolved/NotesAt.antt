@@ -1,5 +1,5 @@
 -- The notes of expressions, one layer at a time.
-use Rattle.std.specs.Prelude.{ℕ, ℤ, suc, Bool, List, [], ◌∷◌, ◌++◌, map, length, Option, Some, None}
+use Rattle.std.specs.Prelude.{ℕ, ℤ, Bool, List, ◌∷◌, ◌++◌, map, length, Option, Some, None}
 use Rattle.std.specs.Option.{option_map}
 use Rattle.std.proofs.Common.{◌≡◌, ◌∙◌, ap, sym}
 use Rattle.std.proofs.lemmas.List.{length-map}
@@ -16,7 +16,7 @@ use Rattle.da_lang.specs.declared.tree.PatternTree.TheVariants as pattern
 use Rattle.da_lang.specs.declared.tree.PeerTree.{PeerTree, roll-PeerTree}
 use Rattle.da_lang.specs.declared.tree.PeerTree.TheVariants as peer
 use Rattle.da_lang.specs.declared.tree.SourceTree.{SourceTree}
-use Rattle.da_types.specs.Constants.{Operands, Notes, all, notes, pattern_notes, peer_notes, link_notes, gen_notes, notes_step, pattern_notes_step, peer_notes_step, link_notes_step, gen_notes_step}
+use Rattle.da_types.specs.Constants.{Signs, Notes, all, notes, pattern_notes, peer_notes, link_notes, gen_notes, notes_step, pattern_notes_step, peer_notes_step, link_notes_step, gen_notes_step}
 
 notes_layer : (x : Expr-F Expr PatternTree PeerTree ChainTree GenTree) → notes (roll-Expr x) ≡ notes_step (map-Expr Expr PatternTree PeerTree ChainTree GenTree Notes Notes Notes Notes Notes notes pattern_notes peer_notes link_notes gen_notes x)
 unfolding notes pattern_notes peer_notes link_notes gen_notes
@@ -41,10 +41,10 @@ notes-Cmp o x y = ap (notes) (sym (ex.rolls-Cmp o x y)) ∙ notes_layer (Expr-F.
 pub notes-Member : (x : Expr) (y : Expr) → notes (ex.Member x y) ≡ notes_step (Expr-F.Member (notes x) (notes y))
 notes-Member x y = ap (notes) (sym (ex.rolls-Member x y)) ∙ notes_layer (Expr-F.Member x y)
 
-pub notes-Chain : (x : Expr) (more : List ChainTree) → notes (ex.Chain x more) ≡ Operands (suc (length more)) ∷ notes x ++ all (map link_notes more)
+pub notes-Chain : (x : Expr) (more : List ChainTree) → notes (ex.Chain x more) ≡ Signs (length more) ∷ notes x ++ all (map link_notes more)
 notes-Chain x more =
     ap notes (sym (ex.rolls-Chain x more)) ∙ notes_layer (Expr-F.Chain x more)
-    ∙ ap (λ n. Operands (suc n) ∷ notes x ++ all (map link_notes more)) (length-map more link_notes)
+    ∙ ap (λ n. Signs n ∷ notes x ++ all (map link_notes more)) (length-map more link_notes)
 
 pub notes-Int : (number : ℤ) → notes (ex.Int number) ≡ notes_step (Expr-F.«Expr::Int» number)
 notes-Int number = ap (notes) (sym (ex.rolls-Int number)) ∙ notes_layer (Expr-F.«Expr::Int» number)

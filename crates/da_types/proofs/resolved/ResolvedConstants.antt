@@ -1,19 +1,24 @@
 -- The resolved program of a tree in which what is written is fine: its constants are values and processes that are there,
 -- and its classes are good.
-use Rattle.std.specs.Prelude.{◌≡◌, refl, ℕ, zero, suc, ◌+◌, ◌<◌, ◌≤◌, ◌^◌, nat_lt, nat_le, Bool, true, false, List, [], ◌∷◌, map, length, replicate, Option, Some, None, flat_map, bytes_eq}
+use Rattle.std.specs.Prelude.{◌≡◌, refl, ℕ, zero, suc, ◌+◌, ◌<◌, ◌≤◌, ◌^◌, nat_lt, nat_le, Bool, true, false, List, [], ◌∷◌, ◌++◌, map, length, replicate, Option, Some, None, flat_map, bytes_eq}
 use Rattle.std.specs.List.{range_with_len}
-use Rattle.std.proofs.Common.{◌∙◌, ap, sym, subst, inl, inr, arith, cond, length-append}
+use Rattle.std.proofs.Common.{◌∙◌, ap, sym, subst, inl, inr, ⊎_elim, arith, cond, length-append}
 use Rattle.std.proofs.lemmas.Bool.{and_from, lt-ltb, le-leb}
 use Rattle.da_values.specs.declared.value.Value.{Value}
 use Rattle.da_values.specs.declared.value.Value.TheVariants as kept
 use Rattle.da_values.specs.Proper.{IsValue}
 use Rattle.da_values.specs.Sets.{Has}
-use Rattle.da_values.proofs.Members.{Has-append_left, Has-append_right, Has-flat_map, of_flat_map, of_map}
+use Rattle.da_values.proofs.Members.{Has-append_left, Has-append_right, Has-map, of_append, of_flat_map, of_map}
 use Rattle.da_lang.specs.declared.program.Class.{Class}
 use Rattle.da_lang.specs.declared.program.ProcDecl.{ProcDecl}
 use Rattle.da_lang.specs.declared.program.Program.{Program}
 use Rattle.da_lang.specs.declared.program.RExpr.{RExpr}
 use Rattle.da_lang.specs.declared.program.SetupCall.{SetupCall}
+use Rattle.da_lang.specs.declared.query.Agg.{Agg}
+use Rattle.da_lang.specs.declared.query.Cond.TheViews.{out-Agg, roll-out-Agg}
+use Rattle.da_lang.specs.declared.query.Query.{Query}
+use Rattle.da_lang.specs.declared.query.Query.TheVariants as qu
+use Rattle.da_lang.specs.declared.query.Term.{Term}
 use Rattle.da_lang.specs.declared.tree.ClassTree.{ClassTree}
 use Rattle.da_lang.specs.declared.tree.Expr.{Expr}
 use Rattle.da_lang.specs.declared.tree.MainLine.{MainLine}
@@ -23,12 +28,14 @@ use Rattle.da_lang.specs.ExprMeaning.{Meaning, meant}
 use Rattle.da_lang.specs.Resolution.{made, made_as, many, first_call, procs_of, resolved, resolved_args, resolved_class, setup_call}
 use Rattle.da_lang.specs.Scopes.{Scope, look}
 use Rattle.da_lang.proofs.typing.ShapedAt.{has_processes-Proc}
-use Rattle.da_types.specs.Constants.{ConstantsAreThere, AreFine, class_notes, line_notes, notes, tree_notes}
-use Rattle.da_types.specs.Totality.{IsConstant}
-use Rattle.da_types.proofs.resolved.ClassConstants.{GoodClass, bodies_good, class_good}
+use Rattle.da_types.specs.Constants.{ConstantsAreThere, AreFine, Literal, class_notes, line_notes, notes, tree_notes}
+use Rattle.da_types.specs.QueryNotes.{agg_notes, other_notes, query_notes, ranges_notes, term_notes, where_notes}
+use Rattle.da_types.specs.Totality.{IsConstant, constants, other_constants, query_constants}
+use Rattle.da_types.proofs.resolved.ClassConstants.{GoodClass, bodies_good, class_good, places_good}
 use Rattle.da_types.proofs.resolved.ConstantsFill.{AreGood, GoodExpr, GoodScope, MeansGood}
-use Rattle.da_types.proofs.resolved.ExprConstants.{expr_good}
+use Rattle.da_types.proofs.resolved.ExprConstants.{back_fine, expr_good, front_fine, part_fine}
 use Rattle.da_types.proofs.resolved.FewProcesses.{made_length, procs_are}
+use Rattle.da_types.proofs.resolved.QueryNotesAt.{agg_notes-of}
 
 range_in : (a k n : ℕ) → Has (range_with_len a k) n → (a ≤ n) × (n < a + k)
 range_in a zero n h = absurd h
@@ -47,6 +54,29 @@ first_has (x ∷ calls) call is = inl (cc)
 pub classes_are : (t : Tree) → (resolved t).classes ≡ map resolved_class t.classes
 unfolding resolved
 classes_are t = refl
+
+-- the constants of which a query makes its value are among those that are noted of it
+term_noted : (x : Term) (v : Value) → Has (constants x) v → Has (term_notes x) (Literal v)
+term_noted x v h = Has-map Literal (constants x) v h
+
+other_noted : (other : Option Term) (v : Value) → Has (other_constants other) v → Has (other_notes other) (Literal v)
+other_noted None v h = absurd h
+other_noted (Some x) v h = term_noted x v h
+
+agg_noted : (a : Agg) → agg_notes a ≡ ranges_notes (out-Agg a).gens ++ where_notes (out-Agg a).cond ++ term_notes (out-Agg a).term ++ other_notes (out-Agg a).other
+agg_noted a = ap agg_notes (sym (roll-out-Agg a)) ∙ agg_notes-of (out-Agg a).op (out-Agg a).gens (out-Agg a).cond (out-Agg a).term (out-Agg a).other
+
+asked_noted : (q : Query) (v : Value) → Has (query_constants q) v → Has (query_notes q) (Literal v)
+asked_noted (qu.Quant each gens b) v h = absurd h
+asked_noted (qu.Comp x gens b) v h = Has-append_right (ranges_notes gens ++ where_notes b) (term_notes x) (Literal v) (term_noted x v h)
+asked_noted (qu.Agg a) v h =
+    let rows = ranges_notes (out-Agg a).gens ++ where_notes (out-Agg a).cond in
+    let x = (out-Agg a).term in
+    let other = (out-Agg a).other in
+    subst (λ z. Has z (Literal v)) (sym (agg_noted a)) (⊎_elim
+    (λ k. Has-append_left (rows ++ term_notes x) (other_notes other) (Literal v) (Has-append_right rows (term_notes x) (Literal v) (term_noted x v k)))
+    (λ k. Has-append_right (rows ++ term_notes x) (other_notes other) (Literal v) (other_noted other v k))
+    (of_append (constants x) (other_constants other) v h))
 
 module _ (t : Tree) (p : Program) (few : length p.procs < 2 ^ 16) where
   process_good : (n : ℕ) → 0 < n → n ≤ length p.procs → IsConstant p (kept.Proc n)
@@ -82,7 +112,7 @@ module _ (t : Tree) (p : Program) (few : length p.procs < 2 ^ 16) where
   args_good : (scope : Scope Meaning) (args : List Expr) → GoodScope p scope → AreFine (flat_map notes args) → (x : RExpr) → Has (resolved_args scope args) x → GoodExpr p x
   args_good scope args names fine x h =
       let (a, has, is) = of_map (λ (a : Expr). ((meant a).outside scope (record { slots = []; queries = [] })).0) args x h in
-      subst (GoodExpr p) (sym is) ((expr_good p a (λ v k. fine v (Has-flat_map notes args a v has k))).of_outside scope (record { slots = []; queries = [] }) names (λ q k. absurd k)).0
+      subst (GoodExpr p) (sym is) ((expr_good p a (part_fine notes args a has fine)).of_outside scope (record { slots = []; queries = [] }) names (λ q k. absurd k)).0
 
   line_good : (scope : Scope Meaning) (name : List ℕ) (l : MainLine) (call : SetupCall) → GoodScope p scope → AreFine (line_notes l) → Has (setup_call scope name l) call → (x : RExpr) → Has call.args x → GoodExpr p x
   line_good scope name (main_line.New other class count line) call names fine h x k = absurd h
@@ -100,23 +130,23 @@ module _ (t : Tree) (p : Program) (few : length p.procs < 2 ^ 16) where
       let calls = flat_map (setup_call scope name) t.main in
       let has = first_has calls call (sym (ap (λ (z : ProcDecl). z.setup) same) ∙ is) in
       let (m, stands, own) = of_flat_map (setup_call scope name) t.main call has in
-      line_good scope name m call names (λ v j. fine v (Has-flat_map line_notes t.main m v stands j)) own x k
+      line_good scope name m call names (part_fine line_notes t.main m stands fine) own x k
   proc_good (main_line.Setup name args line) d call names fine h is x k = absurd h
 
   in_classes : (writes : AreFine (tree_notes t)) (c : ClassTree) → Has t.classes c → AreFine (class_notes c)
-  in_classes writes c has v h = writes v (Has-append_left (flat_map class_notes t.classes) (flat_map line_notes t.main) v (Has-flat_map class_notes t.classes c v has h))
+  in_classes writes c has = part_fine class_notes t.classes c has (front_fine (flat_map class_notes t.classes) (flat_map line_notes t.main) writes)
 
   -- each class
   pub good_class : p ≡ resolved t → AreFine (tree_notes t) → (d : Class) → Has p.classes d → (c : ClassTree) × (d ≡ resolved_class c) × GoodClass p d.queries d
   good_class becomes writes d has =
       let (c, stands, is) = of_map resolved_class t.classes d (subst (λ z. Has z d) (ap (λ (z : Program). z.classes) becomes ∙ classes_are t) has) in
-      (c, is, subst (λ (z : Class). GoodClass p z.queries z) (sym is) (class_good p c (bodies_good p c (in_classes writes c stands))))
+      (c, is, subst (λ (z : Class). GoodClass p z.queries z) (sym is) (class_good p c (bodies_good p c (in_classes writes c stands)) (places_good p c (in_classes writes c stands))))
 
   pub constants_by : p ≡ resolved t → AreFine (tree_notes t) → ConstantsAreThere p
   constants_by becomes writes =
       let procs : p.procs ≡ flat_map (procs_of t) t.main = ap (λ (z : Program). z.procs) becomes ∙ procs_are t in
       record {
-        of_queries = λ d q v has own h. (let (c, is, good) = good_class becomes writes d has in (good.queries q own).0 v h);
+        of_queries = λ d q v has own h. (let (c, is, good) = good_class becomes writes d has in (good.queries q own).constants v (asked_noted q v h));
         of_statements = λ d i x v has own k h. (
             let (c, is, good) = good_class becomes writes d has in
             let (items, among, within) = own in
@@ -124,5 +154,5 @@ module _ (t : Tree) (p : Program) (few : length p.procs < 2 ^ 16) where
         of_setups = λ d call x v has is k h. (
             let (l, stands, own) = of_flat_map (procs_of t) t.main d (subst (λ z. Has z d) procs has) in
             let names = names_good 0 t.main (omega (arith, ap length procs)) in
-            proc_good l d call names (λ v j. writes v (Has-append_right (flat_map class_notes t.classes) (flat_map line_notes t.main) v j)) own is x k v h);
+            proc_good l d call names (back_fine (flat_map class_notes t.classes) (flat_map line_notes t.main) writes) own is x k v h);
       }

@@ -1,8 +1,8 @@
 -- A line of `setup` that names do not refuse has as many arguments as the class of its process has parameters.
-use Rattle.std.specs.Prelude.{◌≡◌, refl, ℕ, zero, suc, ◌<◌, nat_lt, ◌==◌, ◌||◌, Bool, true, false, not, if◌then◌else◌, List, [], ◌∷◌, ◌++◌, map, length, replicate, Option, Some, None, option_and_then, option_map, option_to_list, unwrap_or, position, flat_map, filter_map, find, is_none, slice_get, bytes_eq}
+use Rattle.std.specs.Prelude.{◌≡◌, refl, ℕ, zero, suc, ◌<◌, ◌==◌, ◌||◌, Bool, true, false, not, if◌then◌else◌, List, [], ◌∷◌, ◌++◌, map, length, replicate, Option, Some, None, option_and_then, option_map, option_to_list, unwrap_or, position, flat_map, filter_map, find, is_none, slice_get, bytes_eq}
 use Rattle.std.specs.List.{cons_option, list_any, position_or_len}
 use Rattle.std.proofs.Common.{◌∙◌, ap, sym, subst, inl, inr, ⊎_elim, arith, cond}
-use Rattle.std.proofs.lemmas.Bool.{eqb-true, false≢true, lt-ltb, true≢false}
+use Rattle.std.proofs.lemmas.Bool.{eqb-true, lt-ltb, true≢false}
 use Rattle.std.proofs.lemmas.List.{append_assoc, length-map}
 use Rattle.std.proofs.lemmas.List.Folds.{find_at}
 use Rattle.std.proofs.lemmas.List.FromFn.{length-range_with_len}
@@ -12,8 +12,6 @@ use Rattle.da_values.specs.Sets.{Has}
 use Rattle.da_values.proofs.Members.{Has-append_left, Has-filter_map, any_from_has, of_flat_map}
 use Rattle.da_lang.specs.declared.program.Class.{Class}
 use Rattle.da_lang.specs.declared.program.ProcDecl.{ProcDecl}
-use Rattle.da_lang.specs.declared.program.Program.{Program}
-use Rattle.da_lang.specs.declared.program.RExpr.{RExpr}
 use Rattle.da_lang.specs.declared.program.SetupCall.{SetupCall}
 use Rattle.da_lang.specs.declared.tree.ClassTree.{ClassTree}
 use Rattle.da_lang.specs.declared.tree.Expr.{Expr}
@@ -21,13 +19,12 @@ use Rattle.da_lang.specs.declared.tree.Expr.TheVariants as ex
 use Rattle.da_lang.specs.declared.tree.MainLine.{MainLine}
 use Rattle.da_lang.specs.declared.tree.MainLine.TheVariants as main_line
 use Rattle.da_lang.specs.declared.tree.Tree.{Tree}
-use Rattle.da_lang.specs.BodyMeaning.{fresh}
 use Rattle.da_lang.specs.ClassParts.{Declared, class_of, params_if, setup_of}
 use Rattle.da_lang.specs.ExprMeaning.{Meaning}
-use Rattle.da_lang.specs.ExprNames.{Part, Role, Local, Made, refused_in, used}
+use Rattle.da_lang.specs.ExprNames.{Part, Local, Made, refused_in, used}
 use Rattle.da_lang.specs.NameRules.{again, again_after, class_made, first_class, made_at, made_class, made_name, main_refusals, main_refusals_at, made_scope, name_refusals, setup_kinds, setup_misfits, twice_of}
-use Rattle.da_lang.specs.Resolution.{class_tables, first_call, made, many, place_of_class, procs_of, resolved, resolved_args, resolved_class, setup_call}
-use Rattle.da_lang.specs.Scopes.{Scope, at_line, entered, look}
+use Rattle.da_lang.specs.Resolution.{first_call, made, many, procs_of, resolved_args, resolved_class, setup_call}
+use Rattle.da_lang.specs.Scopes.{Scope, entered, look}
 use Rattle.da_lang.proofs.NamesAt.{names_of-Name}
 use Rattle.da_types.proofs.resolved.CallsAllowed.{map_none}
 use Rattle.da_types.proofs.totality.Awaits.{no_left, no_right}
@@ -234,6 +231,14 @@ resolved_arity t named (main_line.New name class count line) own d h call is c a
     let class_is : ◌≡◌ {A = Option Class} (Some (resolved_class tree)) (Some c) = sym (slice_get-map resolved_class t.classes d.class ∙ ap (option_map resolved_class) got) ∙ at_place in
     let equal : resolved_class tree ≡ c = cc in
     size ∙ fits ∙ sym (params_are tree) ∙ ap (λ (z : Class). length z.params) equal
+
+-- the class of what a line makes is there
+pub class_is_there : (t : Tree) → name_refusals t ≡ [] → (l : MainLine) → Has t.main l → (d : ProcDecl) → Has (procs_of t l) d → (c : ClassTree) × (slice_get t.classes d.class ≡ Some c)
+class_is_there t named (main_line.Setup name args line) own d h = absurd h
+class_is_there t named (main_line.New name class count line) own d h =
+    let (tree, known) = class_of_new t named name class count line own in
+    let same = in_replicate (many count) _ d h in
+    (tree, ap (λ (z : ProcDecl). slice_get t.classes z.class) same ∙ class_at_place (λ (c : ClassTree). bytes_eq c.name class) t.classes tree known)
 
 -- what a mapped list has at a place
 pub class_back : {A B : Type 0} (f : A → B) (xs : List A) (k : ℕ) (y : B) → slice_get (map f xs) k ≡ Some y → (x : A) × (slice_get xs k ≡ Some x) × (f x ≡ y)

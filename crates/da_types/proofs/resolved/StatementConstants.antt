@@ -27,7 +27,7 @@ use Rattle.da_lang.proofs.DeedsAt.{deeds_of-Assign, deeds_of-Add, deeds_of-Del, 
 use Rattle.da_lang.proofs.StatingAt.{stating-Assign, stating-Add, stating-Del, stating-Send, stating-Output, stating-Pass, stating-Label, stating-Call, stating-If, stating-While, stating-For, stating-AwaitOne, stating-Await, guarding-of}
 use Rattle.da_lang.proofs.StmtInduction.{StmtCases, stmt_induction}
 use Rattle.da_types.proofs.resolved.ClassesFill.{find_has}
-use Rattle.da_types.proofs.resolved.ConstantsFill.{GoodExpr, GoodTables, GoodScope, GoodMeant, Onward, all_outside_good, onward, stays}
+use Rattle.da_types.proofs.resolved.ConstantsFill.{GoodExpr, GoodTables, GoodScope, GoodMeant, Onward, OutsideIs, all_outside_good, onward, stays}
 use Rattle.da_types.proofs.resolved.FoundSome.{range_distinct}
 use Rattle.da_types.proofs.resolved.ItemConstants.{Ends, ends, PartGood, StateGood, CopyGood, GoodKind, GoodBlock, GoodBranch, GoodAlt, all_front, all_back, kind_states, kind_item, named_good, assign_good, add_good, del_good, output_good, send_good, pass_good, label_good, while_good, for_good, if_good, await_good, call_good, expr_part, exprs_part, block_good, block_if_good, each_good, bound_good, branch_good, alt_good}
 use Rattle.da_types.proofs.resolved.StatementsFill.{deeds-all}
@@ -50,6 +50,10 @@ module _ (p : Program) (qs : List Query) where
   mapped : {A B : Type 0} (P : B → Type 0) (f : A → B) (xs : List A) → AllByRecursion (λ x. P (f x)) xs → AllByRecursion P (map f xs)
   mapped P f [] each = tt
   mapped P f (x ∷ xs) each = (each.0, mapped P f xs each.1)
+
+  each_outside : (xs : List Expr) → AllByRecursion (SaysGood p) xs → AllByRecursion (OutsideIs p) (map meant xs)
+  each_outside [] each = tt
+  each_outside (x ∷ xs) each = (each.0.of_outside, each_outside xs each.1)
 
   module _ (copy : Copy) (copied : CopyGood p qs copy) where
     abbrev StmtGood : Stmt → Type 0
@@ -88,7 +92,7 @@ module _ (p : Program) (qs : List Query) where
     call_part : (name : List ℕ) (xs : List Expr) → AllByRecursion (SaysGood p) xs → PartGood p qs (GoodKind p qs) (calling copy name xs)
     call_part name xs good scope tables names d =
         let args = all_outside (map meant xs) scope tables in
-        let found = all_outside_good p (map meant xs) (mapped (GoodMeant p) meant xs good) scope tables names d in
+        let found = all_outside_good p (map meant xs) (each_outside xs good) scope tables names d in
         let body = copied name args.0 args.1 found.0 found.1.good in
         (body.0, onward p tables args.1 (copy name args.0 args.1).1 found.1 body.1)
 

@@ -1,23 +1,21 @@
 -- An accepted program is sound.
-use Rattle.std.specs.Prelude.{◌≡◌, refl, ℕ, ◌^◌, ◌<◌, List, map, length, Option, Some, slice_get}
-use Rattle.std.proofs.Common.{◌∙◌, ap, sym, subst, arith}
+use Rattle.std.specs.Prelude.{◌≡◌, refl, map}
+use Rattle.std.proofs.Common.{◌∙◌, ap, sym, subst}
 use Rattle.da_values.specs.Sets.{Has}
 use Rattle.da_values.specs.declared.value.Value.{Value}
 use Rattle.da_values.proofs.Members.{of_map}
 use Rattle.da_lang.specs.declared.program.Class.{Class}
 use Rattle.da_lang.specs.declared.program.Program.{Program}
 use Rattle.da_lang.specs.declared.tree.Tree.{Tree}
-use Rattle.da_lang.specs.Accepted.{IsAccepted, IsResolved, IsWritten}
 use Rattle.da_lang.specs.Limits.{Resolves}
-use Rattle.da_lang.specs.Resolution.{resolved}
 use Rattle.da_lang.specs.Shaped.{IsItemOf}
 use Rattle.da_lang.specs.Typing.{IsTyped, Typed, filled, filled_class}
-use Rattle.da_types.specs.Constants.{AreFine, ConstantsAreThere, tree_notes}
-use Rattle.da_types.specs.Sound.{BindsSome, IsSound, IsSoundClass, IsSoundItem}
+use Rattle.da_types.specs.Constants.{AreFine, ConstantsAreThere, Notes, tree_notes}
+use Rattle.da_types.specs.QueryNotes.{AreThere}
+use Rattle.da_types.specs.Sound.{IsSoundClass}
 use Rattle.da_types.specs.Totality.{IsConstant}
 use Rattle.da_types.proofs.resolved.ClassConstants.{GoodClass}
 use Rattle.da_types.proofs.resolved.FewProcesses.{process_numbers}
-use Rattle.da_types.proofs.resolved.ItemConstants.{GoodRule}
 use Rattle.da_types.proofs.resolved.ResolvedConstants.{constants_by, good_class}
 use Rattle.da_types.proofs.resolved.ResolvedTyped.{resolved_is_typed}
 use Rattle.da_types.proofs.sound.BoundRows.{takes_message, takes_row}
@@ -34,6 +32,9 @@ filled_procs p = refl
 filled_constant : (p : Program) (v : Value) → IsConstant p v → IsConstant (filled p) v
 unfolding filled
 filled_constant p v good = record { proper = good.proper; processes = good.processes }
+
+filled_there : (p : Program) (ns : Notes) → AreThere p ns → AreThere (filled p) ns
+filled_there p ns there = record { constants = λ v h. filled_constant p v (there.constants v h); few = there.few }
 
 filled_constants : (p : Program) → ConstantsAreThere p → ConstantsAreThere (filled p)
 filled_constants p there = record {
@@ -60,6 +61,9 @@ module _ (t : Tree) (p q : Program) (r : Resolves t p) (typed : Typed p q) (fine
       let (tree, same, good) = good_class t p (process_numbers t p r) r.becomes fine c stands in
       subst (λ (z : Class). GoodClass p z.queries z) (sym is) (filled_good p c good)
 
+  stays_there : {ns : Notes} → AreThere p ns → AreThere q ns
+  stays_there {ns} there = subst (λ z. AreThere z ns) (sym typed.becomes) (filled_there p ns there)
+
   pub class_is_sound : (d : Class) → Has q.classes d → IsSoundClass q d
   class_is_sound d has =
       let good = class_is_good d has in
@@ -70,10 +74,10 @@ module _ (t : Tree) (p q : Program) (r : Resolves t p) (typed : Typed p q) (fine
             record {
               finds = λ n binds h. (let asks = rule.finds n binds h in record { asks = asks; takes = takes_row q d is_typed.keeps has i own n binds h asks });
               distinct = rule.distinct;
-              few = rule.few;
+              waits = λ b h. stays_there (rule.waits b h);
             });
-        handlers = λ h own. record { takes = takes_message q d is_typed.keeps has h own; distinct = good.handlers h own };
-        queries = λ x own. (good.queries x own).1;
+        handlers = λ h own. record { takes = takes_message q d is_typed.keeps has h own; distinct = (good.handlers h own).distinct; patterns = stays_there (good.handlers h own).patterns };
+        queries = λ x own. stays_there (good.queries x own);
         params = good.params;
       }
 

@@ -1,5 +1,5 @@
 -- In a program that keeps the rules of types, what a header or a handler binds has the types of a row.
-use Rattle.std.specs.Prelude.{◌≡◌, refl, ℕ, suc, Bool, true, false, ◌&&◌, List, [], ◌∷◌, ◌++◌, map, length, flat_map, Option, Some, None}
+use Rattle.std.specs.Prelude.{◌≡◌, refl, ℕ, suc, true, false, List, [], ◌∷◌, ◌++◌, map, length, flat_map, Some}
 use Rattle.std.proofs.Common.{◌∙◌, ap, sym, subst}
 use Rattle.std.proofs.lemmas.Bool.{and_parts, false≢true}
 use Rattle.da_values.specs.Sets.{Has}
@@ -22,7 +22,7 @@ use Rattle.da_lang.specs.QueryTypes.{given, query_row}
 use Rattle.da_lang.specs.ExprTypes.{truth}
 use Rattle.da_lang.specs.Shaped.{IsItemOf}
 use Rattle.da_lang.specs.Turns.{kind_of}
-use Rattle.da_lang.specs.Typing.{Slots, Breaks, all, breaks_in, class_breaks, typed, handler_breaks, handler_row, has_type, have_found, have_types, item_breaks, kind_breaks, alt_breaks, item_breaks_step, branch_breaks, branch_broken, alt_broken, kind_broken, known, unless}
+use Rattle.da_lang.specs.Typing.{Slots, Breaks, all, breaks_in, class_breaks, typed, handler_breaks, handler_row, has_type, have_found, have_types, item_breaks, kind_breaks, alt_breaks, item_breaks_step, branch_breaks, branch_broken, alt_broken, kind_broken, known}
 use Rattle.da_lang.specs.World.{at_number}
 use Rattle.da_types.specs.Sound.{Bound, IsSome, TakeRow, bound_by}
 use Rattle.da_types.proofs.totality.Awaits.{alt_rule, blocks, blocks_none, item_keeps, keeps_rule, no_left, no_right, none_of}

@@ -1,5 +1,5 @@
 -- The rows of typed generators have the types that the generators give.
-use Rattle.std.specs.Prelude.{◌≡◌, refl, ℕ, true, List, [], ◌∷◌, Option, Some}
+use Rattle.std.specs.Prelude.{◌≡◌, ℕ, true, List, [], ◌∷◌, Some}
 use Rattle.std.proofs.Common.{◌∙◌, ap, sym, subst, inl, inr}
 use Rattle.da_values.specs.declared.val.Val.{Val, out-Val}
 use Rattle.da_values.specs.declared.val.Val.TheVariants as val
@@ -7,10 +7,7 @@ use Rattle.da_values.specs.Sets.{Has}
 use Rattle.da_values.specs.Views.{elements_of}
 use Rattle.da_values.proofs.Members.{of_filter_map, of_flat_map, of_map, each_from_all}
 use Rattle.da_values.proofs.ViewLaws.{elements_of-Set}
-use Rattle.da_lang.specs.declared.query.Pattern.{Pattern, out-Pattern, roll-Pattern, roll-out-Pattern}
-use Rattle.da_lang.specs.declared.query.Pattern.TheVariants as pa
-use Rattle.da_lang.specs.declared.query.Pattern.TheOpen as po
-use Rattle.da_lang.specs.declared.query.Pattern.TheOpen.{Pattern-F}
+use Rattle.da_lang.specs.declared.query.Pattern.{Pattern, out-Pattern}
 use Rattle.da_lang.specs.declared.query.RGen.{RGen}
 use Rattle.da_lang.specs.declared.query.Source.{Source}
 use Rattle.da_lang.specs.declared.query.Source.TheVariants as source
@@ -18,7 +15,7 @@ use Rattle.da_lang.specs.declared.ty.Ty.{Ty}
 use Rattle.da_lang.specs.declared.ty.Ty.TheVariants as t
 use Rattle.da_lang.specs.Matching.{Row, Candidate, Element, matched, matched_candidate, matched_entry}
 use Rattle.da_lang.specs.Queries.{candidates, entry_candidate, step_rows, extensions}
-use Rattle.da_lang.specs.QueryTypes.{Known, given, holds_of, when, declared, message_type, message_row, matched_row, is_any, pattern_row, pattern_tag, slot_type, source_row, peer_row, gen_row, gens_row}
+use Rattle.da_lang.specs.QueryTypes.{Known, given, holds_of, declared, message_type, message_row, matched_row, is_any, pattern_row, pattern_tag, slot_type, source_row, peer_row, gen_row, gens_row}
 use Rattle.da_lang.specs.Shaped.{tag_of}
 use Rattle.da_lang.specs.Types.{is_of, is_flat, element_of}
 use Rattle.da_lang.specs.World.{Entry, Data, slot_of}

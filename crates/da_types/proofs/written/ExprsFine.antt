@@ -1,12 +1,11 @@
 -- What is noted of expressions and patterns that tokens spell is fine.
-use Rattle.std.specs.Prelude.{◌≡◌, refl, ℕ, zero, suc, pos, ◌+◌, ◌<◌, ◌≤◌, ◌^◌, true, false, List, [], ◌∷◌, ◌++◌, map, length, Option, Some, None, option_map, option_to_list}
+use Rattle.std.specs.Prelude.{◌≡◌, ℕ, zero, suc, pos, true, false, List, [], ◌∷◌, ◌++◌, map, length, Option, option_map, option_to_list}
 use Rattle.std.proofs.Common.{◌∙◌, ap, sym, subst, inl, inr, ⊎_elim, arith}
 use Rattle.std.proofs.lemmas.List.{append-nil}
 use Rattle.da_values.specs.declared.token.Mark.{Mark}
 use Rattle.da_values.specs.declared.token.Mark.TheVariants as m
 use Rattle.da_values.specs.declared.value.Value.TheVariants as kept
 use Rattle.da_values.specs.Marks.{Tok}
-use Rattle.da_values.specs.Sets.{Has}
 use Rattle.da_values.proofs.Members.{of_append}
 use Rattle.da_lang.specs.declared.tree.ArithOp.{ArithOp}
 use Rattle.da_lang.specs.declared.tree.ArithOp.TheVariants as arith_op
@@ -20,9 +19,10 @@ use Rattle.da_lang.specs.declared.tree.PeerTree.{PeerTree}
 use Rattle.da_lang.specs.declared.tree.SourceTree.{SourceTree}
 use Rattle.da_lang.specs.ExprGrammar.{Deeper, deeper, IsSource, IsPeer, IsGen, IsGens, IsCond, IsAtom, IsUnary, IsTimes, IsPlus, IsOthers, IsChain, IsProd, IsSum, IsCmp, IsComp, IsNeg, IsJoined, IsConj, IsDisj, IsQuant, IsExpr, IsPattern, negated}
 use Rattle.da_lang.specs.Spelling.{Spelling, Room}
-use Rattle.da_types.specs.Constants.{Literal, Operands, Notes, AreFine, all, gen_notes, link_notes, notes, pattern_notes, peer_notes}
+use Rattle.da_types.specs.Constants.{Literal, Signs, IsFine, all, gen_notes, link_notes, notes, pattern_notes, peer_notes, signs}
 use Rattle.da_types.proofs.resolved.NotesAt.{notes-Quant, notes-Or, notes-And, notes-Not, notes-Cmp, notes-Member, notes-Chain, notes-Int, notes-Text, notes-Truth, notes-Me, notes-Name, notes-Clock, notes-Range, notes-Tuple, notes-SetOf, notes-Comp, notes-Count, notes-Sum, notes-Min, notes-Max, pattern_notes-Wild, pattern_notes-Name, pattern_notes-Int, pattern_notes-Text, pattern_notes-Truth, pattern_notes-Me, pattern_notes-Equal, pattern_notes-Tuple, peer_notes-From, peer_notes-To, link_notes-of, gen_notes-of}
-use Rattle.da_types.proofs.written.Says.{Says, nothing, token, opener, name_says, both, after, until, less, noted, fine_one, number_says, number_value, negative_says, text_says, truth_says, separated_says, closed_says}
+use Rattle.da_types.proofs.resolved.NotesKept.{signs-append}
+use Rattle.da_types.proofs.written.Says.{Says, EachFine, nothing, token, opener, name_says, both, after, until, less, noted, fine_one, number_says, number_value, negative_says, text_says, truth_says, separated_says, closed_says}
 
 -- a rule whose every spelling says what is noted of it
 abbrev pub ExprSays : Spelling Expr → Type 0
@@ -79,24 +79,23 @@ cond_says Condition says (IsCond.bar h x) = less (omega arith) (after (token h) 
 cond_says Condition says (IsCond.has h x) = less (omega arith) (after (token h) (noted (append-nil _) (says _ _ _ x)))
 
 -- chains: there is a sign for each further operand
-module _ (Sign : Spelling ArithOp) (Operand : Spelling Expr) (signs : (o : ArithOp) (t r : List Tok) → Sign o t r → Says 1 [] t r) (says : ExprSays Operand) where
+module _ (Sign : Spelling ArithOp) (Operand : Spelling Expr) (plain : (o : ArithOp) (t r : List Tok) → Sign o t r → Says 1 [] t r) (says : ExprSays Operand) where
   others_say : {ps : List ChainTree} {t r : List Tok} → IsOthers Sign Operand ps t r → Says (length ps) (all (map link_notes ps)) t r
   others_say IsOthers.no_other = nothing
-  others_say (IsOthers.other sign x more) =
-      let first = says _ _ _ x in
+  others_say (IsOthers.other {o} {x} {ps} sign e more) =
+      let first = noted (link_notes-of o x) (says x _ _ e) in
       let rest = others_say more in
-      let one = both (noted (link_notes-of _ _) first) rest in
-      record { size = omega (arith, (signs _ _ _ sign).size, first.size, rest.size); fine = (after (signs _ _ _ sign) one).fine }
+      let both_signs = signs-append (link_notes (roll-ChainTree (record { op = o; operand = x }))) (all (map link_notes ps)) in
+      record { size = omega (arith, (plain _ _ _ sign).size, first.size, rest.size, both_signs); fine = (both first rest).fine }
 
   chain_says : ExprSays (IsChain Sign Operand)
   chain_says _ _ _ (IsChain.lone x) = says _ _ _ x
   chain_says _ t r (IsChain.chain {x} {p} {ps} a more) =
       let first = says _ _ _ a in
       let rest = others_say more in
-      let whole = both first rest in
       noted (notes-Chain x (p ∷ ps)) (record {
-        size = whole.size;
-        fine = λ few n h. ⊎_elim (λ is. fine_one (Operands (suc (length (p ∷ ps)))) (omega (arith, few, first.size, rest.size)) n (inl is)) (whole.fine few n) h;
+        size = omega (arith, first.size, rest.size, signs-append (notes x) (all (map link_notes (p ∷ ps))));
+        fine = λ n h. ⊎_elim (λ is. subst IsFine (sym is) tt) ((both first rest).fine n) h;
       })
 
 module _ (room : Room) (deep : Deeper) (d : DeeperSays deep) where
@@ -125,20 +124,20 @@ module _ (room : Room) (deep : Deeper) (d : DeeperSays deep) where
   atom_says _ _ _ (IsAtom.max h o x comma y c) = noted (notes-Max _ _) (after (token h) (after (opener o) (until (both (until (d.disj _ _ _ x) (token comma)) (d.disj _ _ _ y)) (token c))))
 
   -- an expression that is taken from 0
-  zero_and : (x : Expr) → AreFine (notes x) → AreFine (Operands 2 ∷ (Literal (kept.Int (pos 0)) ∷ []) ++ (notes x ++ []))
-  zero_and x fine n (inl is) = fine_one (Operands 2) (omega arith) n (inl is)
+  zero_and : (x : Expr) → EachFine (notes x) → EachFine (Signs 1 ∷ (Literal (kept.Int (pos 0)) ∷ []) ++ (notes x ++ []))
+  zero_and x fine n (inl is) = subst IsFine (sym is) tt
   zero_and x fine n (inr (inl is)) = fine_one (Literal (kept.Int (pos 0))) (number_value 0 (omega arith)) n (inl is)
   zero_and x fine n (inr (inr h)) = ⊎_elim (fine n) (λ none. absurd none) (of_append (notes x) [] n h)
 
-  negated_notes : (x : Expr) → notes (negated x) ≡ Operands 2 ∷ (Literal (kept.Int (pos 0)) ∷ []) ++ (notes x ++ [])
-  negated_notes x = notes-Chain _ _ ∙ ap (λ z. Operands 2 ∷ z ++ (link_notes (roll-ChainTree (record { op = arith_op.Minus; operand = x })) ++ [])) (notes-Int (pos 0)) ∙ ap (λ z. Operands 2 ∷ (Literal (kept.Int (pos 0)) ∷ []) ++ (z ++ [])) (link_notes-of arith_op.Minus x)
+  negated_notes : (x : Expr) → notes (negated x) ≡ Signs 1 ∷ (Literal (kept.Int (pos 0)) ∷ []) ++ (notes x ++ [])
+  negated_notes x = notes-Chain _ _ ∙ ap (λ z. Signs 1 ∷ z ++ (link_notes (roll-ChainTree (record { op = arith_op.Minus; operand = x })) ++ [])) (notes-Int (pos 0)) ∙ ap (λ z. Signs 1 ∷ (Literal (kept.Int (pos 0)) ∷ []) ++ (z ++ [])) (link_notes-of arith_op.Minus x)
 
   unary_says : ExprSays (IsUnary room deep)
   unary_says _ _ _ (IsUnary.atom x) = atom_says _ _ _ x
   unary_says _ _ _ (IsUnary.negative o n) = noted (notes-Int _) (after (opener o) (negative_says n))
   unary_says _ _ _ (IsUnary.minus {x} o not_number a) =
-      let one = after (opener o) (d.unary _ _ _ a) in
-      noted (negated_notes x) (record { size = one.size; fine = λ few. zero_and x (one.fine few) })
+      let operand = d.unary _ _ _ a in
+      noted (negated_notes x) (record { size = omega (arith, (opener o).size, operand.size, ap signs (append-nil (notes x))); fine = zero_and x operand.fine })
 
   prod_says : ExprSays (IsProd room deep)
   prod_says = chain_says IsTimes (IsUnary room deep) (λ o t r h. times_says h) unary_says

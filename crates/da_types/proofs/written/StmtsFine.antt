@@ -1,6 +1,6 @@
 -- What is noted of statements that tokens spell is fine.
-use Rattle.std.specs.Prelude.{◌≡◌, refl, ℕ, zero, suc, ◌^◌, ◌<◌, ◌≤◌, List, [], ◌∷◌, ◌++◌, map, flat_map, length, Option, Some, None, option_map, option_to_list}
-use Rattle.std.proofs.Common.{◌∙◌, ap, sym, subst, arith}
+use Rattle.std.specs.Prelude.{◌≡◌, refl, ℕ, zero, suc, List, [], ◌∷◌, ◌++◌, map, flat_map, Option, option_map, option_to_list}
+use Rattle.std.proofs.Common.{◌∙◌, ap, sym, arith}
 use Rattle.std.proofs.lemmas.List.{append-nil}
 use Rattle.std.proofs.lemmas.Grind.{flat_map-append}
 use Rattle.da_values.specs.declared.token.Mark.{Mark}
@@ -10,7 +10,7 @@ use Rattle.da_lang.specs.declared.tree.Branch.{Branch}
 use Rattle.da_lang.specs.declared.tree.Expr.{Expr}
 use Rattle.da_lang.specs.declared.tree.Stmt.{Stmt}
 use Rattle.da_lang.specs.declared.tree.TimeoutTree.{TimeoutTree}
-use Rattle.da_lang.specs.Deeds.{Deed, Doing, all_if, deed, deeds_of, deeds_of_branch, deeds_of_timeout}
+use Rattle.da_lang.specs.Deeds.{Deed, all_if, deeds_of, deeds_of_branch, deeds_of_timeout}
 use Rattle.da_lang.specs.ExprGrammar.{Deeper, IsExpr, deeper}
 use Rattle.da_lang.specs.Spelling.{Spelling, Room}
 use Rattle.da_lang.specs.StmtGrammar.{BodyIn, IsBlock, IsBranch, IsElse, IsStmt, IsTimeout}

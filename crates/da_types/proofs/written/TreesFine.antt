@@ -14,29 +14,28 @@ use Rattle.da_lang.specs.declared.tree.Param.{Param}
 use Rattle.da_lang.specs.declared.tree.PatternTree.{PatternTree}
 use Rattle.da_lang.specs.declared.tree.Stmt.{Stmt}
 use Rattle.da_lang.specs.declared.tree.Tree.{Tree}
-use Rattle.da_lang.specs.declared.ty.ChannelKind.{ChannelKind}
 use Rattle.da_lang.specs.declared.ty.Ty.{Ty}
 use Rattle.da_lang.specs.Accepted.{IsWritten}
-use Rattle.da_lang.specs.ClassParts.{Body, Place, body_in}
+use Rattle.da_lang.specs.ClassParts.{Body, body_in}
 use Rattle.da_lang.specs.Deeds.{deeds, deeds_of}
 use Rattle.da_lang.specs.ExprGrammar.{IsPattern, deeper}
 use Rattle.da_lang.specs.Grammar.{IsAt, IsClass, IsCount, IsDecls, IsFrom, IsKind, IsMain, IsMember, IsMessage, IsMline, IsParam, IsParams, IsProgram, IsTypedProgram, Spells, TypedParam}
-use Rattle.da_lang.specs.Spelling.{Spelling, Room, Closed, Named, Number, Separated}
+use Rattle.da_lang.specs.Spelling.{Spelling, Room, Closed, Named, Separated}
 use Rattle.da_lang.specs.StmtGrammar.{BodyIn, IsBlock}
 use Rattle.da_lang.specs.TypeGrammar.{IsType, TypeIn}
-use Rattle.da_types.specs.Constants.{Notes, AreFine, all, body_notes, class_notes, deed_notes, line_notes, notes, pattern_notes, place_notes, tree_notes}
-use Rattle.da_types.proofs.resolved.StatementsFill.{deeds-all}
+use Rattle.da_types.specs.Constants.{Notes, AreFine, all, body_notes, class_notes, deed_notes, line_notes, notes, pattern_notes, tree_notes}
+use Rattle.da_types.proofs.resolved.NotesKept.{signs-append}
 use Rattle.da_types.proofs.totality.FoundMatches.{flattened}
 use Rattle.da_types.proofs.written.ExprsFine.{deeper_says, pattern_says, PatternSays}
 use Rattle.da_types.proofs.written.Says.{Says, nothing, token, opener, name_says, number_says, both, after, until, less, noted, behind_says, ended_says}
-use Rattle.da_types.proofs.written.StmtsFine.{block_says, body_says, stmt_notes, noted_deeds}
+use Rattle.da_types.proofs.written.StmtsFine.{block_says, body_says, stmt_notes}
 
 -- tokens of which nothing is noted
 abbrev Passes : {A : Type 0} → Spelling A → Type 0
 Passes {A} Rule = (x : A) (t r : List Tok) → Rule x t r → length r ≤ length t
 
 silent : {t r : List Tok} → length r ≤ length t → Says 0 [] t r
-silent shorter = record { size = omega (arith, shorter); fine = λ few n h. absurd h }
+silent shorter = record { size = omega (arith, shorter); fine = λ n h. absurd h }
 
 module _ {A : Type 0} (Item : Spelling A) (passes : Passes Item) where
   separated_passes : (k : Mark) → Passes (Separated k Item)
@@ -150,7 +149,10 @@ module _ (room : ℕ → Room) (f : ℕ) where
   decls_say (IsDecls.class c others) = less (omega arith) (both (class_says c) (decls_say others))
 
   program_says : {t : Tree} {tokens : List Tok} → IsTypedProgram room f t tokens → length tokens < 2 ^ 32 → AreFine (tree_notes t)
-  program_says (IsProgram.program k decls lines) few = (after (silent (kind_passes _ _ _ k)) (both (decls_say decls) (main_says room f lines))).fine few
+  program_says {t} (IsProgram.program k decls lines) few =
+      let classes = decls_say decls in
+      let main = main_says room f lines in
+      record { each = (both classes main).fine; few = omega (arith, few, kind_passes _ _ _ k, classes.size, main.size, signs-append (flat_map class_notes t.classes) (flat_map line_notes t.main)) }
 
 pub written_fine : (t : Tree) → IsWritten t → AreFine (tree_notes t)
 unfolding Spells

@@ -1,4 +1,4 @@
-use Rattle.std.proofs.Common.{◌∙◌, sym, subst}
+use Rattle.std.proofs.Common.{subst}
 use Rattle.da_lang.specs.Accepted.{IsAccepted}
 use Rattle.da_types.proofs.sound.AcceptedLaws.{is_sound, is_total, is_typed}
 use Rattle.da_types.proofs.sound.AcceptedShaped.{ends, keeps_shaped}

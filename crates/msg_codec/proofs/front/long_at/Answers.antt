@@ -1,0 +1,6 @@
+use Rattle.std.proofs.Common.{arith, refl}
+use Rattle.msg_codec.proofs.Numbers.{long_read}
+use Rattle.msg_codec.proofs.front.long_at.Goals as goal
+
+pub returns : goal.returns
+returns c = let read = c.in_ok-digits.ensures.cases in long_read _ _ _ _ 8 c.type_inv.bytes (omega (arith, read.2)) read.0 read.1 refl c.from_be_bytes.ensures

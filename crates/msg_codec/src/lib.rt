@@ -1,0 +1,13 @@
+//! Packets: a message with its sender and its time as bytes, and back.
+#![tactic(auto)]
+
+mod front;
+mod packet;
+mod reading;
+#[cfg(test)]
+mod tests;
+mod writing;
+
+pub use packet::{CodecFault, Packet};
+pub use reading::decode;
+pub use writing::encode;
