@@ -196,12 +196,7 @@ fn find<S: Store>(
 
 /// Puts the parts of a row into slots one by one, as many as there are of both.
 #[tactic(auto, using(crate::proofs::Bindings::bound_slots, crate::proofs::Bindings::bound_end))]
-fn bind<S: Store>(
-    alloc: Global,
-    s: &mut S,
-    slots: &List<u16>,
-    row: &Row,
-) -> Result<(), NoMemory>
+fn bind<S: Store>(alloc: Global, s: &mut S, slots: &List<u16>, row: &Row) -> Result<(), NoMemory>
     requires { SomeProcess (S.stands s.old) (λ p class d. TakesAll p class slots.now row.now) }
     ensures stands { OnOk result (EachProcess (S.stands s.old) (λ p class d. S.stands s.new p class (bind_all slots.now row.now d))) }
     ensures actions { S.actions s.new ≡ S.actions s.old }
