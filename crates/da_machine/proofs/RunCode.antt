@@ -57,17 +57,17 @@ pub record IsAt (m : Machine) (at : ℕ) (loops : List (List Val)) (turns : ℕ)
   pub taken : m.turns ≡ turns
 
 -- a statement whose code does something is no yield point
-works_on : (code : Code) (at line : ℕ) (k : ItemKind-F ItemKind Alt Item RBranch) (end : ℕ) → WorkAt code at line k end → kind_yields k ≡ false
-works_on code _ _ _ _ (WorkAt.assign x has) = refl
-works_on code _ _ _ _ (WorkAt.add x has) = refl
-works_on code _ _ _ _ (WorkAt.del x has) = refl
-works_on code _ _ _ _ (WorkAt.send x y has) = refl
-works_on code _ _ _ _ (WorkAt.output x has) = refl
-works_on code _ _ _ _ (WorkAt.choice x) = refl
-works_on code _ _ _ _ (WorkAt.while x jump block back) = refl
-works_on code _ _ _ _ (WorkAt.for x has rest) = refl
-works_on code _ _ _ _ (WorkAt.call x) = refl
-works_on code _ _ _ _ WorkAt.pass = refl
+works_on : (code : Code) (class : Class) (at line : ℕ) (k : ItemKind-F ItemKind Alt Item RBranch) (end : ℕ) → WorkAt code class at line k end → kind_yields k ≡ false
+works_on code class _ _ _ _ (WorkAt.assign x has) = refl
+works_on code class _ _ _ _ (WorkAt.add x has) = refl
+works_on code class _ _ _ _ (WorkAt.del x has) = refl
+works_on code class _ _ _ _ (WorkAt.send x y has) = refl
+works_on code class _ _ _ _ (WorkAt.output x has) = refl
+works_on code class _ _ _ _ (WorkAt.choice x) = refl
+works_on code class _ _ _ _ (WorkAt.while x jump block back) = refl
+works_on code class _ _ _ _ (WorkAt.for x has rest) = refl
+works_on code class _ _ _ _ (WorkAt.call x) = refl
+works_on code class _ _ _ _ WorkAt.pass = refl
 
 module _ (p : Program) (class : Class) (code : Code) (promises : Promises p class) where
   abbrev As : Machine → Data → Ran → Type 0
@@ -134,22 +134,22 @@ module _ (p : Program) (class : Class) (code : Code) (promises : Promises p clas
   with_loops : (m : Machine) (to : ℕ) (loops : List (List Val)) (todo : List Task) → m.loops ≡ loops → CodeFor code class to loops todo → CodeFor code class to m.loops todo
   with_loops m to loops todo is code_for = subst (λ l. CodeFor code class to l todo) (sym is) code_for
 
-  item_as : (at : ℕ) (i : Item) (end : ℕ) → ItemAt code at i end → (left n : ℕ) → left + n ≡ max_turns → (m : Machine) (d : Data) (loops : List (List Val)) (todo : List Task)
+  item_as : (at : ℕ) (i : Item) (end : ℕ) → ItemAt code class at i end → (left n : ℕ) → left + n ≡ max_turns → (m : Machine) (d : Data) (loops : List (List Val)) (todo : List Task)
       → IsWorld p class d (Do i ∷ todo) → IsAt m at loops n → CodeFor code class end loops todo → ((l : ℕ) → left ≡ suc l → GoesOn l (n + 1)) → As m d (run class left n d (Do i ∷ todo))
   item_as _ _ _ (ItemAt.works {at} {end} {i} has work) zero n sum m d loops todo world is code_for goes_on =
-      late_as m d at n loops (Do i) todo world.known is (omega (arith, sum)) (works_on code at (line_of i) (kind_of i) end work) has
+      late_as m d at n loops (Do i) todo world.known is (omega (arith, sum)) (works_on code class at (line_of i) (kind_of i) end work) has
   item_as _ _ _ (ItemAt.works {at} {end} {i} has work) (suc left) n sum m d loops todo world is code_for goes_on =
       let stands = All-head (IsTask p class d.me) (Do i) todo world.tasks in
-      turn_as m d at n left loops (Do i) todo world is (omega (arith, sum)) (works_on code at (line_of i) (kind_of i) end work) has
+      turn_as m d at n left loops (Do i) todo world is (omega (arith, sum)) (works_on code class at (line_of i) (kind_of i) end work) has
       (works p class code (in_turn m (line_of i) (at + 1)) d world.known (line_of i) refl todo at (kind_of i) end work i (ItemAt.works has work) (promises.reads_all i stands) (promises.kinds i stands) m.stack
       (with_loops m end loops todo is.inside code_for))
       (goes_on left refl)
-  item_as _ _ _ (ItemAt.label {at} {k} {i} is_kind has point) left n sum m d loops todo world is code_for goes_on =
-      yields_as m d at k n left loops (Do i) todo world.known is (ap kind_yields is_kind) has (CodeFor.does (ItemAt.label is_kind has point) code_for)
-  item_as _ _ _ (ItemAt.await {at} {end} {k} {i} {alts} {entries} is_kind has point blocks) left n sum m d loops todo world is code_for goes_on =
-      yields_as m d at k n left loops (Do i) todo world.known is (ap kind_yields is_kind) has (CodeFor.does (ItemAt.await is_kind has point blocks) code_for)
+  item_as _ _ _ (ItemAt.label {at} {k} {i} is_kind has point numbered) left n sum m d loops todo world is code_for goes_on =
+      yields_as m d at k n left loops (Do i) todo world.known is (ap kind_yields is_kind) has (CodeFor.does (ItemAt.label is_kind has point numbered) code_for)
+  item_as _ _ _ (ItemAt.await {at} {end} {k} {i} {alts} {entries} is_kind has point numbered blocks) left n sum m d loops todo world is code_for goes_on =
+      yields_as m d at k n left loops (Do i) todo world.known is (ap kind_yields is_kind) has (CodeFor.does (ItemAt.await is_kind has point numbered blocks) code_for)
 
-  loop_as : (at s line end : ℕ) (body : List Item) → LoopAt code at s body line end → (left n : ℕ) → left + n ≡ max_turns → (m : Machine) (d : Data) (outer : List (List Val)) (elements : List Val) (todo : List Task)
+  loop_as : (at s line end : ℕ) (body : List Item) → LoopAt code class at s body line end → (left n : ℕ) → left + n ≡ max_turns → (m : Machine) (d : Data) (outer : List (List Val)) (elements : List Val) (todo : List Task)
       → IsWorld p class d (Loop s elements body line ∷ todo) → IsAt m at (outer ++ elements ∷ []) n → CodeFor code class end outer todo → ((l : ℕ) → left ≡ suc l → GoesOn l (n + 1))
       → As m d (run class left n d (Loop s elements body line ∷ todo))
   loop_as _ _ _ _ _ (LoopAt.loop {at} {end} {s} {line} {body} has next block back) zero n sum m d outer elements todo world is code_for goes_on =
@@ -161,7 +161,7 @@ module _ (p : Program) (class : Class) (code : Code) (promises : Promises p clas
       (λ x xs same. promises.next_element s line x xs body (subst (λ l. IsTask p class d.me (Loop s l body line)) same stands)) m.stack todo code_for)
       (goes_on left refl)
 
-  prepare_as : (at end : ℕ) (call : SetupCall) → Has code at (op.Turn call.line) → EnterAt code (at + 1) call.args class.params class.setup end → (left n : ℕ) → left + n ≡ max_turns → (m : Machine) (d : Data)
+  prepare_as : (at end : ℕ) (call : SetupCall) → Has code at (op.Turn call.line) → EnterAt code class (at + 1) call.args class.params class.setup end → (left n : ℕ) → left + n ≡ max_turns → (m : Machine) (d : Data)
       (loops : List (List Val)) (todo : List Task) → IsWorld p class d (Prepare call ∷ todo) → IsAt m at loops n → CodeFor code class end loops todo → ((l : ℕ) → left ≡ suc l → GoesOn l (n + 1))
       → As m d (run class left n d (Prepare call ∷ todo))
   prepare_as at end call has entry zero n sum m d loops todo world is code_for goes_on =

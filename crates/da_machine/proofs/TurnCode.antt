@@ -45,7 +45,7 @@ use Rattle.da_machine.proofs.StoreCode.{back_is, stores_lead}
 
 module _ (class : Class) (code : Code) where
   -- the code of statements in front of what is to do
-  pub block_for : (at : ℕ) (is : List Item) (end : ℕ) → BlockAt code at is end → (loops : List (List Val)) (todo : List Task) → CodeFor code class end loops todo → CodeFor code class at loops (do_all is todo)
+  pub block_for : (at : ℕ) (is : List Item) (end : ℕ) → BlockAt code class at is end → (loops : List (List Val)) (todo : List Task) → CodeFor code class end loops todo → CodeFor code class at loops (do_all is todo)
   block_for _ _ _ (BlockAt.empty {at}) loops todo code_for = code_for
   block_for _ _ _ (BlockAt.item {at} {to} {end} {i} {is} x xs) loops todo code_for = CodeFor.does x (block_for to is end xs loops todo code_for)
 
@@ -140,7 +140,7 @@ module _ (p : Program) (class : Class) (code : Code) where
     goes_round v false at to st again is has one_way other =
         turn_later _ (moved m to st) d (quiet d todo) refl (one p class code d known _ _ d [] _ has tt (rw (top_last st v, below_last st v, is) refl)) (here (moved m to st) d todo other)
 
-    chooses : (exit at : ℕ) (bs : List RBranch) (other : List Item) → BranchesAt code exit at bs other → AllRead class (map (λ b. (out-RBranch b).cond) bs) → AllByRecursion (BindsRow p class) bs
+    chooses : (exit at : ℕ) (bs : List RBranch) (other : List Item) → BranchesAt code class exit at bs other → AllRead class (map (λ b. (out-RBranch b).cond) bs) → AllByRecursion (BindsRow p class) bs
         → (st : List Val) → CodeFor code class exit m.loops todo → DoesTurn (moved m at st) d (choose class line d todo bs other)
     chooses _ _ _ _ (BranchesAt.otherwise {exit} {at} {other} x) read promised st code_for = here (moved m at st) d _ (block_for class code at other exit x m.loops todo code_for)
     chooses _ _ _ _ (BranchesAt.branch {exit} {at} {test} {to} {end} {b} {bs} {other} x jump found body leave others) read promised st code_for =
@@ -149,7 +149,7 @@ module _ (p : Program) (class : Class) (code : Code) where
         (comes _ (moved m to st) d _ [] _ refl (binds (test + 1) (out-RBranch b).found (out-RBranch b).binds to found promised.0 st) (block_for class code to (out-RBranch b).body end body m.loops todo (CodeFor.jumps leave code_for)))
         (chooses exit (end + 1) bs other others read.1 promised.1 st code_for))
 
-    pub enters : (at : ℕ) (args : List RExpr) (params : List ℕ) (body : List Item) (end : ℕ) → EnterAt code at args params body end → AllRead class args → IsEntered p class args params
+    pub enters : (at : ℕ) (args : List RExpr) (params : List ℕ) (body : List Item) (end : ℕ) → EnterAt code class at args params body end → AllRead class args → IsEntered p class args params
         → (st : List Val) → CodeFor code class end m.loops todo → DoesTurn (moved m at st) d (enter class line d todo args params body)
     enters _ _ _ _ _ (EnterAt.enter {at} {to} {into} {end} {args} {params} {body} xs stores block) read promised st code_for =
         with_all_given at to st (eval_all class.queries args d) _ (exprs_give p class code d known m at args to xs read st)
@@ -158,7 +158,7 @@ module _ (p : Program) (class : Class) (code : Code) where
         (stores_lead p class code m d known to params into stores vs st (all_long class.queries d args vs is ∙ promised.one_each) (promised.takes d vs known.shaped is)))
         (block_for class code into body end block m.loops todo code_for))
 
-    pub works : (at : ℕ) (k : ItemKind-F ItemKind Alt Item RBranch) (end : ℕ) → WorkAt code at line k end → (i : Item) → ItemAt code at i end → AllRead class (exprs_in k) → Promised p class k
+    pub works : (at : ℕ) (k : ItemKind-F ItemKind Alt Item RBranch) (end : ℕ) → WorkAt code class at line k end → (i : Item) → ItemAt code class at i end → AllRead class (exprs_in k) → Promised p class k
         → (st : List Val) → CodeFor code class end m.loops todo → DoesTurn (moved m (at + 1) st) d (kind_turn class line d todo (Do i) k)
     works _ _ _ (WorkAt.assign {at} {line} {end} {s} {e} x has) i self read promised st code_for =
         with_given (at + 1) end st st (eval class.queries e d) _ (expr_gives p class code d known m (at + 1) e end x read.0 st)
@@ -194,7 +194,7 @@ module _ (p : Program) (class : Class) (code : Code) where
     works _ _ _ (WorkAt.pass {at} {line}) i self read promised st code_for = here (moved m (at + 1) st) d todo code_for
 
   -- the rest of a loop
-  pub loops_on : (m : Machine) (d : Data) → IsKnown p class d → (at s line end : ℕ) (body : List Item) (outer : List (List Val)) (left : List Val) → LoopAt code at s body line end
+  pub loops_on : (m : Machine) (d : Data) → IsKnown p class d → (at s line end : ℕ) (body : List Item) (outer : List (List Val)) (left : List Val) → LoopAt code class at s body line end
       → m.loops ≡ outer ++ left ∷ [] → ((x : Val) (xs : List Val) → left ≡ x ∷ xs → Takes p class s x) → (st : List Val) (todo : List Task) → CodeFor code class end outer todo
       → DoesTurn (moved m (at + 1) st) d (loop_turn class line d todo s left body)
   loops_on m d known _ _ _ _ _ outer [] (LoopAt.loop {at} {end} {s} {line} {body} turn has block back) is takes st todo code_for =
