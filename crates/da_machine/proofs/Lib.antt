@@ -14,3 +14,4 @@ pub mod Stacks
 pub mod StoreCode
 pub mod TurnCode
 pub mod ValueKinds
+pub mod promises

@@ -34,6 +34,7 @@ use Rattle.da_machine.specs.Conditions.{IsKnown, Takes}
 use Rattle.da_machine.specs.Promises.{Promises}
 use Rattle.da_machine.specs.RunsTo.{RunsTo}
 use Rattle.da_machine.specs.Stops.{IsReady, IsRun, IsStop}
+use Rattle.da_machine.proofs.promises.Promised.{promises_known}
 use Rattle.da_machine.proofs.Leading.{Leads, joined, one, stops}
 use Rattle.da_machine.proofs.TurnCode.{Does, DoesTurn, Stands, enters, loops_on, works}
 
@@ -199,7 +200,7 @@ module _ (p : Program) (class : Class) (code : Code) (promises : Promises p clas
 -- The machine runs as what it has to do.
 pub ready_runs : (p : Program) (class : Class) (code : Code) (m : Machine) (d : Data) (todo : List Task) → m.turns ≤ max_turns → IsReady p class code m d todo → RunsAs p class code m d (run_to_yield class m.turns d todo)
 ready_runs p class code m d todo early ready =
-    runs_as p class code ready.promises (max_turns - m.turns) m.turns (omega (arith, early)) m.place m.loops todo ready.code_for m d
+    runs_as p class code (promises_known p class d ready.accepted ready.knows) (max_turns - m.turns) m.turns (omega (arith, early)) m.place m.loops todo ready.code_for m d
     (record { known = record { accepted = ready.accepted; shaped = ready.knows }; tasks = ready.tasks }) (record { place = refl; inside = refl; taken = refl })
 
 -- What a call leaves where its run is that one.

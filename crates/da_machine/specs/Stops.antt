@@ -13,7 +13,6 @@ use Rattle.da_machine.specs.declared.machine.Machine.{Machine}
 use Rattle.da_machine.specs.declared.machine.Stop.{Stop}
 use Rattle.da_machine.specs.declared.machine.Stop.TheVariants as stop
 use Rattle.da_machine.specs.CodeFor.{Has, CodeFor}
-use Rattle.da_machine.specs.Promises.{Promises}
 
 -- The machine stops in front of the yield point with which what is left begins, and the code where it stands stands for
 -- what is left; or at the end; or at the fault.
@@ -26,7 +25,6 @@ IsStop code class s m todo (Faults kind line) = s ≡ stop.Fault kind line
 -- as types say, and the code where the machine stands stands for what it has to do.
 pub record IsReady (p : Program) (class : Class) (code : Code) (m : Machine) (d : Data) (todo : List Task) : Type 0 where
   pub accepted : IsAccepted p
-  pub promises : Promises p class
   pub knows : ShapedData p class d
   pub tasks : ShapedTasks p class d.me todo
   pub code_for : CodeFor code class m.place m.loops todo
