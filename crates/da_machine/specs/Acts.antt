@@ -1,6 +1,8 @@
 -- What an instruction does to the machine, and to what the process knows.
 use Rattle.std.specs.Prelude.{◌≡◌, ℕ, ◌+◌, ◌-◌, pos, nat_lt, nat_le, not, Bool, true, false, if◌then◌else◌, List, [], ◌∷◌, ◌++◌, length, take, drop, Option, Some, None, Result, Ok, Err}
-use Rattle.da_values.specs.declared.val.Val.{Val}
+use Rattle.da_values.specs.declared.val.Val.{Val, out-Val}
+use Rattle.da_values.specs.declared.val.Val.TheOpen as layer
+use Rattle.da_values.specs.declared.val.Val.TheOpen.{Val-F}
 use Rattle.da_values.specs.declared.val.Val.TheVariants as val
 use Rattle.da_values.specs.declared.value.Value.{Value}
 use Rattle.da_values.specs.Order.{val_cmp}
@@ -128,6 +130,14 @@ outcome_of (Err kind) = Err kind
 abbrev pub IsTaken : Machine → Machine → Option Val → Type 0
 IsTaken old new None = (innermost old.loops ≡ []) × (new ≡ record old { loops = below old.loops })
 IsTaken old new (Some x) = (xs : List Val) × (innermost old.loops ≡ x ∷ xs) × (new ≡ record old { loops = below old.loops ++ xs ∷ [] })
+
+-- whether a value is a set
+abbrev pub is_set_in : Val-F Val → Bool
+is_set_in (layer.Set elements) = true
+is_set_in _ = false
+
+abbrev pub is_set : Val → Bool
+is_set v = is_set_in (out-Val v)
 
 -- whether a truth value is the given one
 abbrev pub same : Bool → Bool → Bool

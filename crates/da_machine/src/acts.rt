@@ -7,12 +7,13 @@ ghost use Rattle.da_lang.specs.declared.program.Class.{Class};
 ghost use Rattle.da_lang.specs.declared.program.Program.{Program};
 ghost use Rattle.da_machine.specs.Acts.{act, Goes, below, innermost, lower, moved, next_element, outcome_of, pushed, top, upper};
 ghost use Rattle.da_machine.specs.Allowed.{TakesRow};
-ghost use Rattle.da_machine.specs.Conditions.{EachProcess, SomeProcess, TakesAll};
+ghost use Rattle.da_machine.specs.Conditions.{EachProcess, IsPrintable, SomeProcess, TakesAll};
 ghost use Rattle.da_machine.specs.RunsTo.{Acted, Began, MayAct};
 ghost use Rattle.da_machine.specs.Acts.{IsTaken};
 ghost use Rattle.da_values.specs.Order.{val_cmp};
 ghost use Rattle.da_values.specs.Sets.{canon};
-ghost use Rattle.da_values.specs.Value.{val_of, vals};
+ghost use Rattle.da_lang.specs.declared.event.Action.TheVariants as action;
+ghost use Rattle.da_values.specs.Value.{val_of, value_of, vals};
 ghost use Rattle.std.specs.Option.{option_map};
 ghost use Rattle.std.specs.Prelude.{◌≡◌, [], ◌∷◌, ◌++◌, ◌+◌, ◌<◌, ◌^◌, IfOk, MatchOption, OnErr, OnOk, Some, ℕ};
 
@@ -146,6 +147,31 @@ fn send<S: Store>(alloc: Global, m: &mut Machine, s: &mut S) -> Result<Option<St
     s.send(&message, &to)?;
     m.place += 1;
     Ok(None)
+}
+
+/// Prints the top value.
+#[tactic(auto, using(crate::proofs::Stacks::top_last, crate::proofs::Stacks::below_last))]
+fn print<S: Store>(m: &mut Machine, s: &mut S) -> Result<Option<Stop>, NoMemory>
+    requires room { m.old.place + 1 < 2 ^ 64 }
+    requires allowed { MayAct (Some op.Output) m.old (S.stands s.old) }
+    ensures acted { IfOk result (Acted (Some op.Output) m.old m.new (S.stands s.old) (S.stands s.new) (S.actions s.old) (S.actions s.new)) }
+    ensures began { OnErr result (Began (Some op.Output) m.old (S.stands s.old) (S.actions s.old) (S.actions s.new)) }
+{
+    let v = m.pop();
+    output(s, v)?;
+    m.place += 1;
+    Ok(None)
+}
+
+// Prints a value.
+#[tactic(auto, using(crate::proofs::ValueKinds::kept_again))]
+fn output<S: Store>(s: &mut S, v: Value) -> Result<(), NoMemory>
+    requires { SomeProcess (S.stands s.old) (λ p class d. IsPrintable p (val_of v)) }
+    ensures stands { OnOk result (EachProcess (S.stands s.old) (λ p class d. S.stands s.new p class d)) }
+    ensures actions { OnOk result (EachProcess (S.stands s.old) (λ p class d. S.actions s.new ≡ S.actions s.old ++ action.Out d.me (value_of (val_of v)) ∷ [])) }
+    ensures same { OnErr result (S.actions s.new ≡ S.actions s.old) }
+{
+    s.output(&v)
 }
 
 /// Takes the next element of the innermost loop into a slot, or leaves the loop.
@@ -330,12 +356,7 @@ pub fn act<S: Store>(
             Ok(None)
         }
         Instr::Send => send(alloc, m, s),
-        Instr::Output => {
-            let v = m.pop();
-            s.output(&v)?;
-            m.place += 1;
-            Ok(None)
-        }
+        Instr::Output => print(m, s),
         Instr::Take => {
             let v = m.pop();
             m.loops.push(Rest::new(alloc, v))?;

@@ -1,6 +1,6 @@
 //! Arithmetic outside queries.
 ghost use Rattle.da_lang.specs.Arithmetic.{arithmetic, divided, fitted, max_range, numbers_from, of_numbers, of_sets, quotient, range, remainder};
-ghost use Rattle.da_machine.specs.Acts.{outcome_of};
+ghost use Rattle.da_machine.specs.Acts.{is_set, outcome_of};
 ghost use Rattle.da_values.specs.Order.{val_cmp};
 ghost use Rattle.da_machine.specs.Acts.{same};
 ghost use Rattle.da_values.specs.Sets.{set_has, set_insert, set_union};
@@ -9,10 +9,10 @@ ghost use Rattle.da_values.specs.Value.{val_of};
 ghost use Rattle.da_values.specs.Views.{int_of};
 ghost use Rattle.std.specs.Int.{complement_if, int_gap, w128};
 ghost use Rattle.std.specs.List.{filter};
-ghost use Rattle.std.specs.Prelude.{◌≡◌, ◌≢◌, ◌<◌, ◌⊎◌, false, true, IfSome, ◌^◌, ◌+ℤ◌, ◌≤ℤ◌, pos, neg_ℤ, int_lt, nat_le, not, ℤ, FitsSigned, IfOk, OnOk, MatchOption, SomeIff, if◌then◌else◌, unsigned_abs};
+ghost use Rattle.std.specs.Prelude.{◌≡◌, ◌&&◌, ◌≢◌, ◌<◌, ◌⊎◌, false, true, IfSome, ◌^◌, ◌+ℤ◌, ◌≤ℤ◌, pos, neg_ℤ, int_lt, nat_le, not, ℤ, FitsSigned, IfOk, OnOk, MatchOption, SomeIff, if◌then◌else◌, unsigned_abs};
 
 use crate::sets::{add_copies, set_of_all};
-use crate::values::{fit, number};
+use crate::values::{fit, is_set, number, set_of};
 use da_lang::{ArithOp, FaultKind};
 use da_values::{NoMemory, SetVal, Value, copy_value, set_has, set_insert};
 use std::alloc::Global;
@@ -74,7 +74,7 @@ fn number_at(first: i128, i: u32) -> Value
 }
 
 /// An operation on two sets, or else on two numbers.
-#[tactic(auto, using(crate::proofs::ValueKinds::arithmetic_of, crate::proofs::ValueKinds::viewing))]
+#[tactic(auto, using(crate::proofs::ValueKinds::arithmetic_of_sets, crate::proofs::ValueKinds::arithmetic_of_numbers))]
 pub fn arithmetic(
     alloc: Global,
     op: ArithOp,
@@ -83,21 +83,19 @@ pub fn arithmetic(
 ) -> Result<Result<Value, FaultKind>, NoMemory>
     ensures { IfOk result (λ found. outcome_of found ≡ arithmetic op (val_of a) (val_of b)) }
 {
-    match a {
-        Value::Set(xs) => match b {
-            Value::Set(ys) => Ok(Ok(Value::Set(combined(alloc, op, xs, ys)?))),
-            Value::Int(other) => Ok(computed(op, 0, other)),
-            Value::Bool(_) => Ok(computed(op, 0, 0)),
-            Value::Text(_) => Ok(computed(op, 0, 0)),
-            Value::Proc(_) => Ok(computed(op, 0, 0)),
-            Value::Tuple(_) => Ok(computed(op, 0, 0)),
-        },
-        Value::Int(first) => Ok(computed(op, first, number(b))),
-        Value::Bool(_) => Ok(computed(op, 0, number(b))),
-        Value::Text(_) => Ok(computed(op, 0, number(b))),
-        Value::Proc(_) => Ok(computed(op, 0, number(b))),
-        Value::Tuple(_) => Ok(computed(op, 0, number(b))),
+    if are_sets(&a, &b) {
+        let (xs, ys) = (set_of(alloc, a), set_of(alloc, b));
+        Ok(Ok(Value::Set(combined(alloc, op, xs, ys)?)))
+    } else {
+        Ok(computed(op, number(a), number(b)))
     }
+}
+
+// Whether both values are sets.
+fn are_sets(a: &Value, b: &Value) -> bool
+    ensures { result ≡ (is_set (val_of a.now) && is_set (val_of b.now)) }
+{
+    is_set(a) && is_set(b)
 }
 
 // An operation on two sets.

@@ -3,7 +3,7 @@ ghost use Rattle.da_lang.specs.Evaluation.{asked};
 ghost use Rattle.da_lang.specs.Arithmetic.{fitted};
 ghost use Rattle.da_lang.specs.Queries.{compares};
 ghost use Rattle.da_lang.specs.Turns.{packet_len, max_packet, recipients};
-ghost use Rattle.da_machine.specs.Acts.{outcome_of};
+ghost use Rattle.da_machine.specs.Acts.{is_set, outcome_of};
 ghost use Rattle.da_values.specs.Order.{val_cmp};
 ghost use Rattle.da_values.specs.Sets.{set_has};
 ghost use Rattle.da_values.specs.Value.{val_of};
@@ -48,6 +48,21 @@ pub fn number(v: Value) -> i128
         Value::Proc(_) => 0,
         Value::Tuple(_) => 0,
         Value::Set(_) => 0,
+    }
+}
+
+/// Whether a value is a set.
+#[tactic(auto, using(crate::proofs::ValueKinds::viewing))]
+pub fn is_set(v: &Value) -> bool
+    ensures { result ≡ is_set (val_of v.now) }
+{
+    match v {
+        Value::Set(_) => true,
+        Value::Int(_) => false,
+        Value::Bool(_) => false,
+        Value::Text(_) => false,
+        Value::Proc(_) => false,
+        Value::Tuple(_) => false,
     }
 }
 
