@@ -186,7 +186,8 @@ fn ranges_and_queries(rt: HostRuntime) -> Result<(), Fail> {
     }
     match range(rt.alloc(), Value::Int(-50_000), Value::Int(50_000))? {
         Ok(Value::Set(numbers)) => assert_eq!(rt; numbers.len(), 100_000),
-        _ => assert!(rt; false),
+        Ok(_other) => assert!(rt; false),
+        Err(_kind) => assert!(rt; false),
     }
     assert!(rt; fitting(Value::Int(9_223_372_036_854_775_808)).is_err());
     assert!(rt; fitting(Value::Int(-9_223_372_036_854_775_808)).is_ok());
@@ -287,7 +288,8 @@ fn elements_come_ascending(rt: HostRuntime) -> Result<(), Fail> {
     for expected in [1, 2, 3] {
         match rest.next(alloc)? {
             Some(Value::Int(number)) => assert_eq!(rt; number, expected),
-            _ => assert!(rt; false),
+            Some(_other) => assert!(rt; false),
+            None => assert!(rt; false),
         }
     }
     assert!(rt; rest.next(alloc)?.is_none());
@@ -296,6 +298,7 @@ fn elements_come_ascending(rt: HostRuntime) -> Result<(), Fail> {
 }
 
 // A store that is refused all memory.
+#[derive(Drop)]
 struct Refused {
     me: u16,
     clock: u64,
