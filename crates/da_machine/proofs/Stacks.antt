@@ -1,0 +1,89 @@
+-- The last values of a list, and the elements that are left behind the first ones.
+use Rattle.std.proofs.Common.{◌≡◌, ℕ, zero, suc, ◌+◌, ◌-◌, ◌<◌, ◌≤◌, List, [], ◌∷◌, ◌++◌, length, take, drop, Option, Some, None, refl, sym, ap, ◌∙◌, subst, arith, append_assoc}
+use Rattle.std.specs.Prelude.{slice_get, reverse}
+use Rattle.std.proofs.Common.{length-append}
+use mathlib.Core.List.{append-nil, reverse-append}
+use Rattle.da_values.specs.declared.val.Val.{Val}
+use Rattle.da_machine.specs.Acts.{top, below, innermost, upper, lower, IsTaken}
+use Rattle.da_machine.specs.declared.machine.Machine.{Machine}
+
+pub top_last : (vs : List Val) (v : Val) → top (vs ++ v ∷ []) ≡ v
+top_last [] v = refl
+top_last (x ∷ []) v = refl
+top_last (x ∷ y ∷ vs) v = top_last (y ∷ vs) v
+
+pub below_last : {A : Type 0} (xs : List A) (x : A) → below (xs ++ x ∷ []) ≡ xs
+below_last [] x = refl
+below_last (y ∷ []) x = refl
+below_last (y ∷ z ∷ xs) x = ap (λ l. y ∷ l) (below_last (z ∷ xs) x)
+
+pub innermost_last : (loops : List (List Val)) (left : List Val) → innermost (loops ++ left ∷ []) ≡ left
+innermost_last [] left = refl
+innermost_last (x ∷ []) left = refl
+innermost_last (x ∷ y ∷ loops) left = innermost_last (y ∷ loops) left
+
+take_front : {A : Type 0} (xs ys : List A) → take (length xs) (xs ++ ys) ≡ xs
+take_front [] ys = refl
+take_front (x ∷ xs) ys = ap (λ l. x ∷ l) (take_front xs ys)
+
+drop_front : {A : Type 0} (xs ys : List A) → drop (length xs) (xs ++ ys) ≡ ys
+drop_front [] ys = refl
+drop_front (x ∷ xs) ys = drop_front xs ys
+
+-- the first so many, and the others, of a list that was cut there
+pub cut_at : {A : Type 0} (xs ys zs : List A) (keep : ℕ) → xs ++ ys ≡ zs → length xs ≡ keep → (xs ≡ take keep zs) × (ys ≡ drop keep zs)
+cut_at xs ys zs keep whole long = (
+  sym (take_front xs ys) ∙ ap (λ l. take (length xs) l) whole ∙ ap (λ k. take k zs) long,
+  sym (drop_front xs ys) ∙ ap (λ l. drop (length xs) l) whole ∙ ap (λ k. drop k zs) long,
+)
+
+-- the loop over a set goes on with its next element, or has none
+pub dropped_next : (xs : List Val) (k : ℕ) (x : Val) → slice_get xs k ≡ Some x → drop k xs ≡ x ∷ drop (k + 1) xs
+dropped_next [] k x e = absurd (let f : None ≡ Some x = e in cc)
+dropped_next (y ∷ xs) zero x e = let same : y ≡ x = cc in ap (λ z. z ∷ xs) same
+dropped_next (y ∷ xs) (suc k) x e = let n : suc k + 1 ≡ suc (k + 1) = omega arith in rw n (dropped_next xs k x e)
+
+pub dropped_none : (xs : List Val) (k : ℕ) → length xs ≤ k → drop k xs ≡ []
+dropped_none [] zero le = refl
+dropped_none [] (suc k) le = refl
+dropped_none (x ∷ xs) zero le = absurd (omega (arith, le))
+dropped_none (x ∷ xs) (suc k) le = dropped_none xs k (omega (arith, le))
+
+-- a loop that takes values off down to some that it keeps, and puts them upon another stack
+pub record Turning (old now turned : List Val) (keep : ℕ) : Type 0 where
+  pub popped : List Val
+  pub whole : now ++ popped ≡ old
+  pub enough : keep ≤ length now
+  pub made : reverse turned ≡ popped
+
+pub turning_begins : (old : List Val) (n : ℕ) → Turning old old [] (length old - n)
+turning_begins old n = record { popped = []; whole = append-nil old; enough = omega arith; made = refl }
+
+one_fewer : (keep : ℕ) (now later : List Val) (v : Val) → now ≡ later ++ v ∷ [] → keep < length now → keep ≤ length later
+one_fewer keep now later v is more = let long : length now ≡ length later + 1 = ap length is ∙ length-append later (v ∷ []) in omega (arith, long, more)
+
+pub turning_on : (old now later turned : List Val) (keep : ℕ) (v : Val) → Turning old now turned keep → keep < length now → now ≡ later ++ v ∷ [] → Turning old later (turned ++ v ∷ []) keep
+turning_on old now later turned keep v came more is = record {
+  popped = v ∷ came.popped;
+  whole = sym (append_assoc later (v ∷ []) came.popped) ∙ ap (λ l. l ++ came.popped) (sym is) ∙ came.whole;
+  enough = one_fewer keep now later v is more;
+  made = reverse-append turned (v ∷ []) ∙ ap (λ l. v ∷ l) came.made;
+}
+
+pub turning_done : (old now turned : List Val) (n : ℕ) → Turning old now turned (length old - n) → length now ≤ length old - n → (reverse turned ≡ upper n old) × (now ≡ lower n old)
+turning_done old now turned n came few =
+    let cut = cut_at now came.popped old (length old - n) came.whole (omega (arith, came.enough, few)) in (came.made ∙ cut.1, cut.0)
+
+-- a row that takes the values from the top down
+pub record Unturning (old now row : List Val) : Type 0 where
+  pub rest : row ++ reverse now ≡ reverse old
+
+pub unturning_on : (old now later row : List Val) (v : Val) → Unturning old now row → now ≡ later ++ v ∷ [] → Unturning old later (row ++ v ∷ [])
+unturning_on old now later row v came is = record {
+  rest = append_assoc row (v ∷ []) (reverse later) ∙ ap (λ l. row ++ l) (sym (ap reverse is ∙ reverse-append later (v ∷ []))) ∙ came.rest;
+}
+
+-- the next element is taken from the innermost loop
+pub taken_some : (old : Machine) (outer : List (List Val)) (left rest : List Val) (v : Val) → old.loops ≡ outer ++ left ∷ [] → left ≡ v ∷ rest → IsTaken old (record old { loops = outer ++ rest ∷ [] }) (Some v)
+taken_some old outer left rest v is next =
+    (rest, ap innermost is ∙ innermost_last outer left ∙ next, ap (λ l. record old { loops = l ++ rest ∷ [] }) (sym (ap below is ∙ below_last outer left)))

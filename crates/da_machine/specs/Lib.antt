@@ -1,0 +1,11 @@
+pub mod Acts
+pub mod Allowed
+pub mod CodeFor
+pub mod Conditions
+pub mod Entries
+pub mod Forward
+pub mod Points
+pub mod Promises
+pub mod Reads
+pub mod RunsTo
+pub mod Stops

@@ -1,0 +1,24 @@
+//! The code of a class.
+use da_lang::Instr;
+use da_values::List;
+
+/// A yield point: behind a label there is one entry, at an `await` one for each alternative, in order. An entry is a
+/// place in the instructions.
+#[derive(Debug, Drop)]
+pub struct YieldPoint {
+    pub label: bool,
+    pub entries: List<u64>,
+}
+
+/// The code of a class.
+#[derive(Debug, Drop)]
+pub struct Code {
+    /// The instructions. Places in them are counted from 0.
+    pub instrs: List<Instr>,
+    /// The yield points, in the order of the inlined text, counted from 0.
+    pub yields: List<YieldPoint>,
+    /// Where each process of the class begins, ascending by process.
+    pub starts: List<u64>,
+    /// Where the body of each handler begins, in text order.
+    pub handlers: List<u64>,
+}
