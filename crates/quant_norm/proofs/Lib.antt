@@ -1,0 +1,5 @@
+pub mod BoundLaws
+pub mod NormLaw
+pub mod PlaceLaws
+pub mod RangeLaws
+pub mod RenameLaws

@@ -1,0 +1,3 @@
+pub mod NodeLaws
+pub mod SpelledLaws
+pub mod WidthLaws
