@@ -1,5 +1,7 @@
 pub mod BoundLaws
+pub mod ClassLaw
 pub mod NormLaw
 pub mod PlaceLaws
+pub mod QueryLaw
 pub mod RangeLaws
 pub mod RenameLaws

@@ -2,3 +2,4 @@ pub mod Nodes
 pub mod Plans
 pub mod Questions
 pub mod Spelled
+pub mod Told
