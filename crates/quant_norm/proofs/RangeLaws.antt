@@ -11,13 +11,13 @@ use Rattle.da_lang.specs.declared.query.RGen.{RGen}
 use Rattle.da_lang.specs.Matching.{Row, Extends, Candidate, matched_candidate}
 use Rattle.da_lang.specs.Queries.{candidates, step_rows, extensions}
 use Rattle.da_lang.specs.World.{Data}
-use Rattle.da_lang.proofs.LiveMatchLaws.{behind as put_behind}
+use Rattle.da_lang.proofs.LiveMatchLaws.{behind as behind_row}
 use Rattle.da_lang.proofs.RowLaws.{extends_itself, extends_further}
 use Rattle.query_plan.specs.Nodes.{node_rows, parts_added, IsPlan}
-use Rattle.query_plan.specs.Plans.{Place, Norm, added, at_node, behind, bound, rename_gen, rename_pattern, gens_on, semi_on, anti_on}
-use Rattle.query_plan.proofs.WidthLaws.{found_adds}
+use Rattle.query_plan.specs.Plans.{Place, Norm, added, at_node, behind, vars_behind, gen_node, known, rename_gen, rename_pattern, gens_on, semi_on, anti_on}
+use Rattle.query_plan.proofs.WidthLaws.{candidate_of}
 use Rattle.quant_norm.proofs.PlaceLaws.{Grown, grown_itself, grown_on, Good, Made, added_made, Kept, kept_by, semi_kept, anti_kept, row_wide}
-use Rattle.quant_norm.proofs.RenameLaws.{seen, AllIn, AllIn-append, AllIn-range, wider, seen_more, Tracks, bound_tracks, Both, candidate_follows, parts_renamed}
+use Rattle.quant_norm.proofs.RenameLaws.{seen, AllIn, AllIn-append, AllIn-range, wider, seen_more, Tracks, behind_tracks, HasParts, Both, candidate_follows, parts_renamed}
 
 -- two beginnings of one row that are equally long
 pub same_front : (a b xs ys : Row) → a ++ xs ≡ b ++ ys → length a ≡ length b → a ≡ b
@@ -37,21 +37,23 @@ extends_same a b (more, e) long = sym (same_front a b more [] (sym e ∙ sym (ap
 pub one_front : (a b c : Row) → Extends a c → Extends b c → length a ≡ length b → a ≡ b
 one_front a b c (xs, e) (ys, f) long = same_front a b xs ys (sym e ∙ f) long
 
-same_behind : (row xs ys : Row) → row ++ xs ≡ row ++ ys → xs ≡ ys
-same_behind [] xs ys e = e
-same_behind (z ∷ row) xs ys e = let others : row ++ xs ≡ row ++ ys = cc in same_behind row xs ys others
-
 some_same : (a b : Row) → ◌≡◌ {A = Option Row} (Some a) (Some b) → a ≡ b
 some_same a b e = cc
 
 -- what stands behind the one row stands behind the other
-both_left : (row vars longer : Row) (left right : Option Row) → Both row vars left right → left ≡ Some longer → (more : Row) × (longer ≡ row ++ more) × (right ≡ Some (vars ++ more))
-both_left row vars longer left right (None, one, two) e = absurd (cc)
-both_left row vars longer left right (Some more, one, two) e = (more, some_same longer (row ++ more) (sym e ∙ one), two)
+both_left : (n : ℕ) (row vars longer : Row) (left right : Option Row) → Both n row vars left right → left ≡ Some longer → (more : Row) × (longer ≡ row ++ more) × (right ≡ Some (vars ++ more)) × (length more ≡ n)
+both_left n row vars longer left right both e = go both.found both.parts both.one both.two
+  where
+    go : (found : Option Row) → HasParts n found → left ≡ behind_row row found → right ≡ behind_row vars found → (more : Row) × (longer ≡ row ++ more) × (right ≡ Some (vars ++ more)) × (length more ≡ n)
+    go None parts one two = absurd (cc)
+    go (Some more) parts one two = (more, some_same longer (row ++ more) (sym e ∙ one), two, parts)
 
-both_right : (row vars longer : Row) (left right : Option Row) → Both row vars left right → right ≡ Some longer → (more : Row) × (longer ≡ vars ++ more) × (left ≡ Some (row ++ more))
-both_right row vars longer left right (None, one, two) e = absurd (cc)
-both_right row vars longer left right (Some more, one, two) e = (more, some_same longer (vars ++ more) (sym e ∙ two), one)
+both_right : (n : ℕ) (row vars longer : Row) (left right : Option Row) → Both n row vars left right → right ≡ Some longer → (more : Row) × (longer ≡ vars ++ more) × (left ≡ Some (row ++ more)) × (length more ≡ n)
+both_right n row vars longer left right both e = go both.found both.parts both.one both.two
+  where
+    go : (found : Option Row) → HasParts n found → left ≡ behind_row row found → right ≡ behind_row vars found → (more : Row) × (longer ≡ vars ++ more) × (left ≡ Some (row ++ more)) × (length more ≡ n)
+    go None parts one two = absurd (cc)
+    go (Some more) parts one two = (more, some_same longer (vars ++ more) (sym e ∙ two), one, parts)
 
 module _ (d : Data) where
   -- each row of the place has as its extensions in the other node those that `more` gives of its variables
@@ -85,9 +87,9 @@ module _ (d : Data) where
   }
 
   -- one generator
-  module _ (g : RGen) (nodes : List Node) (at : Place) (good : Good nodes at) (end : List Node × ℕ) (made : Made d (node.Gen at.node (rename_gen (bound at.vars at.width) g)) nodes end) where
+  module _ (g : RGen) (nodes : List Node) (at : Place) (good : Good nodes at) (end : List Node × ℕ) (made : Made d (gen_node at g) nodes end) where
     abbrev renamed : RGen
-    renamed = rename_gen (bound at.vars at.width) g
+    renamed = rename_gen (known (vars_behind at g)) g
 
     abbrev last : Place
     last = behind at g end.1
@@ -95,33 +97,30 @@ module _ (d : Data) where
     in_row : (r : Row) → Has (node_rows d nodes at.node) r → AllIn at.vars (length r)
     in_row r h = subst (AllIn at.vars) (sym (row_wide d nodes at good r h)) good.vars_in
 
-    tracks : (r : Row) → Has (node_rows d nodes at.node) r → Tracks d.me d.slots (bound at.vars at.width) r (seen at.vars r)
-    tracks r h = subst (λ k. Tracks d.me d.slots (bound at.vars k) r (seen at.vars r)) (row_wide d nodes at good r h) (bound_tracks d.me d.slots at.vars r (in_row r h))
+    tracks : (r : Row) → Has (node_rows d nodes at.node) r → Tracks d.me d.slots (parts_added g) (known (vars_behind at g)) r (seen at.vars r)
+    tracks r h =
+        subst (λ k. Tracks d.me d.slots (parts_added g) (known (at.vars ++ range_with_len (suc k) (parts_added g))) r (seen at.vars r)) (row_wide d nodes at good r h)
+        (behind_tracks d.me d.slots at.vars r (parts_added g) (in_row r h))
 
-    follows : (c : Candidate) (r : Row) → Has (node_rows d nodes at.node) r → Both r (seen at.vars r) (matched_candidate d renamed.message renamed.peer c r) (matched_candidate d g.message g.peer c (seen at.vars r))
-    follows c r h = candidate_follows d (bound at.vars at.width) g c r (seen at.vars r) (tracks r h)
-
-    long_enough : (c : Candidate) (vars more : Row) → Has (candidates d g.source) c → matched_candidate d g.message g.peer c vars ≡ Some (vars ++ more) → length more ≡ parts_added g
-    long_enough c vars more there e =
-        let (parts, is, long) = found_adds d g c vars (vars ++ more) there e in
-        ap length (same_behind vars more parts is) ∙ long
+    follows : (c : Candidate) (r : Row) → Has (candidates d g.source) c → Has (node_rows d nodes at.node) r → Both (parts_added g) r (seen at.vars r) (matched_candidate d renamed.message renamed.peer c r) (matched_candidate d g.message g.peer c (seen at.vars r))
+    follows c r element h = candidate_follows d (known (vars_behind at g)) g c r (seen at.vars r) (candidate_of d g.source c element) (tracks r h)
 
     sees : (r more : Row) → Has (node_rows d nodes at.node) r → length more ≡ parts_added g → seen last.vars (r ++ more) ≡ seen at.vars r ++ more
     sees r more h long = seen_more at.vars r more at.width (parts_added g) good.vars_in (row_wide d nodes at good r h) long
 
     -- where a row of the node comes from
-    split : (q : Row) → Has (node_rows d end.0 end.1) q → (r : Row) × (more : Row) × (c : Candidate) × Has (node_rows d nodes at.node) r × Has (candidates d g.source) c × (q ≡ r ++ more) × (matched_candidate d g.message g.peer c (seen at.vars r) ≡ Some (seen at.vars r ++ more))
+    split : (q : Row) → Has (node_rows d end.0 end.1) q → (r : Row) × (more : Row) × (c : Candidate) × Has (node_rows d nodes at.node) r × Has (candidates d g.source) c × (q ≡ r ++ more) × (matched_candidate d g.message g.peer c (seen at.vars r) ≡ Some (seen at.vars r ++ more)) × (length more ≡ parts_added g)
     split q h =
         let (r, there, k) = made.from q h in
         let (c, element, e) = of_filter_map (λ c. matched_candidate d renamed.message renamed.peer c r) (candidates d g.source) q k in
-        let (more, is, found) = both_left r (seen at.vars r) q _ _ (follows c r there) e in
-        (r, more, c, there, element, is, found)
+        let (more, is, found, long) = both_left (parts_added g) r (seen at.vars r) q _ _ (follows c r element there) e in
+        (r, more, c, there, element, is, found, long)
 
     good_behind : Good end.0 last
     good_behind = record {
       plan = made.plan;
       there = made.there;
-      wide = made.wide ∙ ap (λ k. k + parts_added renamed) good.wide ∙ ap (λ k. at.width + k) (parts_renamed (bound at.vars at.width) g);
+      wide = made.wide ∙ ap (λ k. k + parts_added renamed) good.wide ∙ ap (λ k. at.width + k) (parts_renamed (known (vars_behind at g)) g);
       vars_in = AllIn-append at.vars (range_with_len (suc at.width) (parts_added g)) (at.width + parts_added g)
         (wider at.vars at.width (at.width + parts_added g) (omega arith) good.vars_in)
         (AllIn-range (parts_added g) (suc at.width) (at.width + parts_added g) (omega arith) (omega arith));
@@ -133,16 +132,16 @@ module _ (d : Data) where
       good = good_behind;
       into = λ r s h k.
         let (c, element, e) = of_filter_map (λ c. matched_candidate d g.message g.peer c (seen at.vars r)) (candidates d g.source) s k in
-        let (more, is, found) = both_right r (seen at.vars r) s _ _ (follows c r h) e in
+        let (more, is, found, long) = both_right (parts_added g) r (seen at.vars r) s _ _ (follows c r element h) e in
         (
           r ++ more,
           made.into (r ++ more) (r, h, Has-filter_map (λ c. matched_candidate d renamed.message renamed.peer c r) (candidates d g.source) c (r ++ more) element found),
           (more, refl),
-          sees r more h (long_enough c (seen at.vars r) more element (e ∙ ap Some is)) ∙ sym is,
+          sees r more h long ∙ sym is,
         );
       from = λ q h.
-        let (r, more, c, there, element, is, found) = split q h in
-        let value : seen last.vars q ≡ seen at.vars r ++ more = ap (seen last.vars) is ∙ sees r more there (long_enough c (seen at.vars r) more element found) in
+        let (r, more, c, there, element, is, found, long) = split q h in
+        let value : seen last.vars q ≡ seen at.vars r ++ more = ap (seen last.vars) is ∙ sees r more there long in
         (
           r,
           there,
@@ -154,7 +153,7 @@ module _ (d : Data) where
   pub gens_ranged : (gens : List RGen) (nodes : List Node) (at : Place) → Good nodes at → Ranged (extensions d gens) nodes at (gens_on gens at nodes)
   gens_ranged [] nodes at good = ranged_itself nodes at good
   gens_ranged (g ∷ gs) nodes at good =
-      let n : Node = node.Gen at.node (rename_gen (bound at.vars at.width) g) in
+      let n : Node = gen_node at g in
       let one = step_ranged g nodes at good (added nodes n) (added_made d nodes n good.plan (good.there, tt) tt) in
       ranged_then g gs nodes at ((added nodes n).0, behind at g (added nodes n).1) (gens_on (g ∷ gs) at nodes) one
       (gens_ranged gs (added nodes n).0 (behind at g (added nodes n).1) one.good)

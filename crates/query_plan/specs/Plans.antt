@@ -1,5 +1,5 @@
 -- From conditions to nodes.
-use Rattle.std.specs.Prelude.{ℕ, zero, suc, ◌+◌, ◌-◌, ◌==◌, Bool, true, if◌then◌else◌, List, [], ◌∷◌, ◌++◌, map, length, position, slice_get, Option, Some, None}
+use Rattle.std.specs.Prelude.{ℕ, suc, ◌+◌, ◌==◌, Bool, true, if◌then◌else◌, List, [], ◌∷◌, ◌++◌, map, length, position, Option, Some, None}
 use Rattle.std.specs.List.{range_with_len}
 use Rattle.da_values.specs.declared.value.Value.TheVariants as kept
 use Rattle.da_lang.specs.declared.query.Agg.{Agg}
@@ -36,19 +36,14 @@ pub record Place : Type 0 where
 
 -- Terms and patterns with the parts of rows in the place of variables.
 
--- a part, or the other term where there is none
-abbrev pub part_or : Option ℕ → Term → Term
-part_or None other = other
-part_or (Some part) other = term.Part part
+-- the part of a variable, where there is one
+abbrev pub part_of : Option ℕ → Term
+part_of None = term.Foreign
+part_of (Some part) = term.Part part
 
 -- variable k, where the variables stand in these parts
 abbrev pub known : List ℕ → ℕ → Term
-known vars k = part_or (at_number vars k) term.Foreign
-
--- the same in the patterns of a generator: those which they bind stand behind the rows, in order
-abbrev pub bound : List ℕ → ℕ → ℕ → Term
-bound vars width zero = term.Foreign
-bound vars width (suc k) = part_or (slice_get vars k) (term.Part (width + (suc k - length vars)))
+known vars k = part_of (at_number vars k)
 
 abbrev pub rename_step : (ℕ → Term) → Term-F Term → Term
 rename_step f (layer.Const c) = term.Const c
@@ -109,16 +104,22 @@ semi_on at child = added child.0 (node.Semi at.node child.1)
 abbrev pub anti_on : Place → List Node × ℕ → List Node × ℕ
 anti_on at child = added child.0 (node.Anti at.node child.1)
 
+-- the variables behind a generator: its own stand in the parts that it adds
+abbrev pub vars_behind : Place → RGen → List ℕ
+vars_behind at g = at.vars ++ range_with_len (suc at.width) (parts_added g)
+
 -- behind a generator, at its node
 abbrev pub behind : Place → RGen → ℕ → Place
-behind at g k = record { node = k; width = at.width + parts_added g; vars = at.vars ++ range_with_len (suc at.width) (parts_added g) }
+behind at g k = record { node = k; width = at.width + parts_added g; vars = vars_behind at g }
+
+-- the node of a generator
+abbrev pub gen_node : Place → RGen → Node
+gen_node at g = node.Gen at.node (rename_gen (known (vars_behind at g)) g)
 
 -- the chain of the generators
 abbrev pub gens_on : List RGen → Place → List Node → List Node × Place
 gens_on [] at nodes = (nodes, at)
-gens_on (g ∷ gs) at nodes =
-    let first = added nodes (node.Gen at.node (rename_gen (bound at.vars at.width) g)) in
-    gens_on gs (behind at g first.1) first.0
+gens_on (g ∷ gs) at nodes = let first = added nodes (gen_node at g) in gens_on gs (behind at g first.1) first.0
 
 -- one condition after the other
 abbrev pub all_on : List Norm → Norm
