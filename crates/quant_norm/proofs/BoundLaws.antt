@@ -28,9 +28,10 @@ use Rattle.da_lang.proofs.RowLaws.{extends_itself}
 use Rattle.query_plan.specs.Nodes.{extends, bound_part, node_rows, width_of, IsPlan}
 use Rattle.query_plan.specs.Plans.{Place, added, at_node, behind_agg, known, rename, rename_other, filter_on, semi_on, compared}
 use Rattle.query_plan.proofs.NodeLaws.{Extends-from_test, test_from_Extends}
-use Rattle.quant_norm.proofs.PlaceLaws.{Grown, grown_itself, grown_on, still_there, width_stays, Good, good_on, Made, added_made, later, sooner, row_wide, Kept, kept_by, filter_kept, semi_kept}
+use Rattle.quant_norm.specs.GoodPlaces.{AllIn, Good}
+use Rattle.quant_norm.proofs.PlaceLaws.{Grown, grown_itself, grown_on, still_there, width_stays, good_on, Made, added_made, later, sooner, row_wide, Kept, kept_by, filter_kept, semi_kept}
 use Rattle.quant_norm.proofs.RangeLaws.{same_front, one_front, Ranged, of_longer, in_longer, whole_grown}
-use Rattle.quant_norm.proofs.RenameLaws.{seen, AllIn, wider, seen_front, get_behind, known_value}
+use Rattle.quant_norm.proofs.RenameLaws.{seen, wider, seen_front, get_behind, known_value}
 
 pub two_same : {A B : Type 0} (a b : A) (x y : B) → a ≡ b → x ≡ y → ◌≡◌ {A = A × B} (a, x) (b, y)
 two_same a b x y e f = cc
@@ -68,22 +69,21 @@ module _ (d : Data) where
     good = two.good;
     vars_same = two.vars_same ∙ one.vars_same;
     into = λ r h.
-      let (more, between) = one.into r h in
-      let (most, there) = two.into (r ++ more) between in
-      (more ++ most, subst (Has (node_rows d end.0 end.1.node)) (append_assoc r more most) there);
+        let (more, between) = one.into r h in
+        let (most, there) = two.into (r ++ more) between in
+        (more ++ most, subst (Has (node_rows d end.0 end.1.node)) (append_assoc r more most) there);
     from = λ q h.
-      let (p, most, between, longest, second) = two.from q h in
-      let (r, more, there, longer, first) = one.from p between in
-      let same_vars : seen middle.1.vars p ≡ seen at.vars r = ap (λ vs. seen vs p) one.vars_same ∙ ap (seen at.vars) longer ∙ seen_behind nodes at r more good there in
-      (
-        r,
-        more ++ most,
-        there,
-        longest ∙ ap (λ z. z ++ most) longer ∙ append_assoc r more most,
-        λ u. two_same (value middle.2 (q ++ u)) (meant (seen at.vars r)) (other end.2 (q ++ u)) (intended (seen at.vars r))
-          (ap (λ z. value middle.2 (z ++ u)) longest ∙ ap (value middle.2) (append_assoc p most u) ∙ first (most ++ u))
-          (second u ∙ ap intended same_vars),
-      );
+        let (p, most, between, longest, second) = two.from q h in
+        let (r, more, there, longer, first) = one.from p between in
+        let same_vars : seen middle.1.vars p ≡ seen at.vars r = ap (λ vs. seen vs p) one.vars_same ∙ ap (seen at.vars) longer ∙ seen_behind nodes at r more good there in (
+          r,
+          more ++ most,
+          there,
+          longest ∙ ap (λ z. z ++ most) longer ∙ append_assoc r more most,
+          λ u. two_same (value middle.2 (q ++ u)) (meant (seen at.vars r)) (other end.2 (q ++ u)) (intended (seen at.vars r))
+              (ap (λ z. value middle.2 (z ++ u)) longest ∙ ap (value middle.2) (append_assoc p most u) ∙ first (most ++ u))
+              (second u ∙ ap intended same_vars),
+        );
   }
 
   pub bound_by : {X Y U V : Type 0} (value : X → Row → U) (meant : Row → U) (other : Y → Row → V) (intended : Row → V) (make : X → Y) (worth : U → V) (nodes : List Node) (at : Place) (end : List Node × Place × X) → ((x : X) (r : Row) → other (make x) r ≡ worth (value x r)) → ((r : Row) → intended r ≡ worth (meant r)) → Bound value meant nodes at end → Bound other intended nodes at (end.0, end.1, make end.2)
@@ -129,7 +129,7 @@ module _ (d : Data) where
         kept_by d (λ r. holds d (condition.Cmp op a b) r ≡ true) (λ r. meets r ≡ true) nodes at (filter_on (condition.Cmp op a b) at all)
         (λ r h. ((λ e. sym (here same r h) ∙ e), (λ e. here same r h ∙ e)))
         (kept_sooner (λ r. holds d (condition.Cmp op a b) r ≡ true) nodes all at (filter_on (condition.Cmp op a b) at all) good bound.grown
-          (filter_kept d (condition.Cmp op a b) all at (good_on nodes all at good bound.grown bound.good.plan)))
+        (filter_kept d (condition.Cmp op a b) all at (good_on nodes all at good bound.grown bound.good.plan)))
 
     abbrev child : List Node × ℕ
     child = filter_on (condition.Cmp op a b) last all
@@ -140,16 +140,16 @@ module _ (d : Data) where
         kept_by d (λ r. (s : Row) × Has (node_rows d child.0 child.1) s × Extends r s) (λ r. meets r ≡ true) nodes at (semi_on at child)
         (λ r h. (
           (λ found.
-            let (q, there, longer) = found in
-            let (between, passes) = inner.from q there in
-            let (s, more, begin, front, is) = bound.from q between in
-            let same : s ≡ r = one_front s r q (more, front) longer (wide_alike s r begin h) in
-            subst (λ z. meets z ≡ true) same (sym (compared_at q s is) ∙ passes)),
+              let (q, there, longer) = found in
+              let (between, passes) = inner.from q there in
+              let (s, more, begin, front, is) = bound.from q between in
+              let same : s ≡ r = one_front s r q (more, front) longer (wide_alike s r begin h) in
+              subst (λ z. meets z ≡ true) same (sym (compared_at q s is) ∙ passes)),
           (λ passes.
-            let (more, between) = bound.into r h in
-            let (s, rest, begin, front, is) = bound.from (r ++ more) between in
-            let same : s ≡ r = one_front s r (r ++ more) (rest, front) (more, refl) (wide_alike s r begin h) in
-            (r ++ more, inner.into (r ++ more) between (compared_at (r ++ more) s is ∙ subst (λ z. meets z ≡ true) (sym same) passes), (more, refl))),
+              let (more, between) = bound.into r h in
+              let (s, rest, begin, front, is) = bound.from (r ++ more) between in
+              let same : s ≡ r = one_front s r (r ++ more) (rest, front) (more, refl) (wide_alike s r begin h) in
+              (r ++ more, inner.into (r ++ more) between (compared_at (r ++ more) s is ∙ subst (λ z. meets z ≡ true) (sym same) passes), (more, refl))),
         ))
         (semi_kept d nodes at child good (grown_on nodes all child.0 bound.grown inner.grown) inner.good.plan inner.good.there)
 
@@ -203,7 +203,7 @@ module _ (d : Data) where
     part_same r h =
         ap (λ z. aggregate op z (term_set d inner (longer_rows r))) (others_behind nodes at other r good h)
         ∙ ap (aggregate op (other_value d (seen at.vars r) other))
-          (canon_alike val_cmp val_order same_from_val_cmp (map (λ q. value_at d q inner) (longer_rows r)) (map (λ s. value_at d s t) (found r)) (λ x. (out_of r h x, back_in r h x)))
+        (canon_alike val_cmp val_order same_from_val_cmp (map (λ q. value_at d q inner) (longer_rows r)) (map (λ s. value_at d s t) (found r)) (λ x. (out_of r h x, back_in r h x)))
 
     abbrev agg_at : Node
     agg_at = node.AggBind at.node child.1 op inner outer
@@ -229,11 +229,12 @@ module _ (d : Data) where
             there = made.there;
             wide = made.wide ∙ ap suc (width_stays nodes child.0 at.node grown good.there ∙ good.wide);
             vars_in = wider at.vars at.width (suc at.width) (omega arith) good.vars_in;
+            tight = omega (arith, good.tight, made.reads.0);
           };
           vars_same = refl;
           into = λ r h. (part r ∷ [], made.into (r ++ part r ∷ []) (r, later d nodes child.0 at.node r grown good.there h, refl));
           from = λ q h.
-            let (r, there, e) = made.from q h in
-            let begin : Has (node_rows d nodes at.node) r = sooner d nodes child.0 at.node r grown good.there there in
-            (r, part r ∷ [], begin, e, λ u. ap (λ z. operand_value d part_term (z ++ u)) e ∙ part_value r begin (part r) u ∙ part_same r begin);
+              let (r, there, e) = made.from q h in
+              let begin : Has (node_rows d nodes at.node) r = sooner d nodes child.0 at.node r grown good.there there in
+              (r, part r ∷ [], begin, e, λ u. ap (λ z. operand_value d part_term (z ++ u)) e ∙ part_value r begin (part r) u ∙ part_same r begin);
         }

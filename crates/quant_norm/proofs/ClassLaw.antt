@@ -67,7 +67,7 @@ module _ (d : Data) where
       record {
         begun = begun_on plan.nodes end.0 telling.begun answered.grown answered.plan;
         asked = all_zipped_more (TellsQuery d end.0) queries plan.queries q end.1
-          (zip_map (TellsQuery d plan.nodes) (TellsQuery d end.0) queries plan.queries (query_stays plan.nodes end.0 answered.grown) telling.asked) answered.tells;
+            (zip_map (TellsQuery d plan.nodes) (TellsQuery d end.0) queries plan.queries (query_stays plan.nodes end.0 answered.grown) telling.asked) answered.tells;
         flagged = zip_map (TellsFlag d plan.nodes) (TellsFlag d end.0) conds plan.flags (flag_stays plan.nodes end.0 answered.grown) telling.flagged;
       }
 
@@ -79,7 +79,7 @@ module _ (d : Data) where
         begun = begun_on plan.nodes end.0 telling.begun flagged.grown flagged.plan;
         asked = zip_map (TellsQuery d plan.nodes) (TellsQuery d end.0) queries plan.queries (query_stays plan.nodes end.0 flagged.grown) telling.asked;
         flagged = all_zipped_more (TellsFlag d end.0) conds plan.flags b end.1
-          (zip_map (TellsFlag d plan.nodes) (TellsFlag d end.0) conds plan.flags (flag_stays plan.nodes end.0 flagged.grown) telling.flagged) flagged.tells;
+            (zip_map (TellsFlag d plan.nodes) (TellsFlag d end.0) conds plan.flags (flag_stays plan.nodes end.0 flagged.grown) telling.flagged) flagged.tells;
       }
 
   all_told : (more queries : List Query) (conds : List Cond) (plan : Plan) → Telling queries conds plan → Telling (queries ++ more) conds (with_all more plan)

@@ -1,5 +1,6 @@
 pub mod BoundLaws
 pub mod ClassLaw
+pub mod GrowthLaws
 pub mod NormLaw
 pub mod PlaceLaws
 pub mod QueryLaw

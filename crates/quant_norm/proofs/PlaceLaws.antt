@@ -18,7 +18,8 @@ use Rattle.query_plan.specs.Spelled.{same_node}
 use Rattle.query_plan.proofs.NodeLaws.{InNode, node_rows-front, node_rows-at, of_rows, in_rows, of_set, in_set, node_rows-last}
 use Rattle.query_plan.proofs.SpelledLaws.{one_from_test}
 use Rattle.query_plan.proofs.WidthLaws.{width_of-front, width_of-last, width_of-at, rows_wide}
-use Rattle.quant_norm.proofs.RenameLaws.{AllIn, get_front}
+use Rattle.quant_norm.specs.GoodPlaces.{AllIn, Good}
+use Rattle.quant_norm.proofs.RenameLaws.{get_front}
 
 -- nodes that begin with others
 abbrev pub Grown : List Node → List Node → Type 0
@@ -60,7 +61,7 @@ one_behind xs x = length-append xs (x ∷ [])
 
 pub plan_push : (nodes : List Node) (n : Node) → IsPlan nodes → ReadsBelow (length nodes) n → IsEven (width_of nodes) n → IsPlan (nodes ++ n ∷ [])
 plan_push nodes n plan below even i m there = elim (cases_lt i (length nodes)) [
-    inl less ↦ (
+  | inl less ↦ (
       let (reads_below, is_even) = plan i m (sym (get_front nodes (n ∷ []) i less) ∙ there) in
       (reads_below, even_local (width_of nodes) (width_of (nodes ++ n ∷ [])) m (same_widths nodes (n ∷ []) (reads m) i (omega (arith, less)) reads_below) is_even))
   | inr past ↦ (
@@ -70,14 +71,9 @@ plan_push nodes n plan below even i m there = elim (cases_lt i (length nodes)) [
       let same : n ≡ m = cc in
       subst (λ z. ReadsBelow i z × IsEven (width_of (nodes ++ n ∷ [])) z) same (
         subst (λ k. ReadsBelow k n) (sym last) below,
-        even_local (width_of nodes) (width_of (nodes ++ n ∷ [])) n (same_widths nodes (n ∷ []) (reads n) (length nodes) (omega arith) below) even)) ]
-
--- A place among nodes.
-pub record Good (nodes : List Node) (at : Place) : Type 0 where
-  pub plan : IsPlan nodes
-  pub there : at.node < length nodes
-  pub wide : width_of nodes at.node ≡ at.width
-  pub vars_in : AllIn at.vars at.width
+        even_local (width_of nodes) (width_of (nodes ++ n ∷ [])) n (same_widths nodes (n ∷ []) (reads n) (length nodes) (omega arith) below) even,
+      ))
+]
 
 -- the same place among more nodes
 pub good_on : (nodes longer : List Node) (at : Place) → Good nodes at → Grown nodes longer → IsPlan longer → Good longer at
@@ -86,6 +82,7 @@ good_on nodes longer at good grown plan = record {
   there = still_there nodes longer at.node grown good.there;
   wide = width_stays nodes longer at.node grown good.there ∙ good.wide;
   vars_in = good.vars_in;
+  tight = good.tight;
 }
 
 module _ (d : Data) where
@@ -94,6 +91,7 @@ module _ (d : Data) where
     pub grown : Grown nodes end.0
     pub plan : IsPlan end.0
     pub there : end.1 < length end.0
+    pub reads : ReadsBelow end.1 n
     pub wide : width_of end.0 end.1 ≡ width_step (width_of nodes) n
     pub into : (r : Row) → InNode d (node_rows d nodes) n r → Has (node_rows d end.0 end.1) r
     pub from : (r : Row) → Has (node_rows d end.0 end.1) r → InNode d (node_rows d nodes) n r
@@ -103,6 +101,7 @@ module _ (d : Data) where
     grown = (n ∷ [], refl);
     plan = plan_push nodes n plan below even;
     there = omega (arith, one_behind nodes n);
+    reads = below;
     wide = width_of-last nodes n;
     into = λ r k. subst (λ z. Has z r) (sym (node_rows-last d nodes n)) (in_set d (node_rows d nodes) n r k);
     from = λ r h. of_set d (node_rows d nodes) n r (subst (λ z. Has z r) (node_rows-last d nodes n) h);
@@ -113,6 +112,7 @@ module _ (d : Data) where
     grown = grown_itself nodes;
     plan = plan;
     there = slice_get_within nodes k n found;
+    reads = (plan k n found).0;
     wide = width_of-at nodes k n found (plan k n found).0;
     into = λ r h. in_rows d nodes k n r found (plan k n found).0 h;
     from = λ r h. of_rows d nodes k n r found (plan k n found).0 h;
@@ -173,34 +173,39 @@ module _ (d : Data) where
   }
 
   -- from what a node that was added has
-  kept_made : (P : Row → Type 0) (n : Node) (nodes before : List Node) (at : Place) (end : List Node × ℕ) → Good nodes at → Grown nodes before → Made n before end → width_step (width_of before) n ≡ at.width
+  kept_made : (P : Row → Type 0) (n : Node) (nodes before : List Node) (at : Place) (end : List Node × ℕ) → Good nodes at → Grown nodes before → Made n before end → width_step (width_of before) n ≡ at.width → at.width ≤ length at.vars + end.1
       → ((r : Row) → Has (node_rows d nodes at.node) r → P r → InNode d (node_rows d before) n r) → ((r : Row) → InNode d (node_rows d before) n r → Has (node_rows d nodes at.node) r × P r) → Kept P nodes at end
-  kept_made P n nodes before at end good grown made wide into from = record {
+  kept_made P n nodes before at end good grown made wide tight into from = record {
     grown = grown_on nodes before end.0 grown made.grown;
-    good = record { plan = made.plan; there = made.there; wide = made.wide ∙ wide; vars_in = good.vars_in };
+    good = record { plan = made.plan; there = made.there; wide = made.wide ∙ wide; vars_in = good.vars_in; tight = tight };
     into = λ r h p. made.into r (into r h p);
     from = λ r h. from r (made.from r h);
   }
 
   pub filter_kept : (b : Cond) (nodes : List Node) (at : Place) → Good nodes at → Kept (λ r. holds d b r ≡ true) nodes at (filter_on b at nodes)
   filter_kept b nodes at good =
+      let made = added_made nodes (node.Filter at.node b) good.plan (good.there, tt) tt in
       kept_made (λ r. holds d b r ≡ true) (node.Filter at.node b) nodes nodes at (filter_on b at nodes) good (grown_itself nodes)
-      (added_made nodes (node.Filter at.node b) good.plan (good.there, tt) tt) good.wide (λ r h e. (h, e)) (λ r k. k)
+      made good.wide (omega (arith, good.tight, made.reads.0)) (λ r h e. (h, e)) (λ r k. k)
 
   -- a place, and a node that stands behind it
   pub semi_kept : (nodes : List Node) (at : Place) (child : List Node × ℕ) → Good nodes at → Grown nodes child.0 → IsPlan child.0 → child.1 < length child.0 → Kept (λ r. (s : Row) × Has (node_rows d child.0 child.1) s × Extends r s) nodes at (semi_on at child)
   semi_kept nodes at child good grown plan there =
+      let made = added_made child.0 (node.Semi at.node child.1) plan (still_there nodes child.0 at.node grown good.there, (there, tt)) tt in
       kept_made (λ r. (s : Row) × Has (node_rows d child.0 child.1) s × Extends r s) (node.Semi at.node child.1) nodes child.0 at (semi_on at child) good grown
-      (added_made child.0 (node.Semi at.node child.1) plan (still_there nodes child.0 at.node grown good.there, (there, tt)) tt)
+      made
       (width_stays nodes child.0 at.node grown good.there ∙ good.wide)
+      (omega (arith, good.tight, made.reads.0))
       (λ r h found. (later nodes child.0 at.node r grown good.there h, found))
       (λ r k. (sooner nodes child.0 at.node r grown good.there k.0, k.1))
 
   pub anti_kept : (nodes : List Node) (at : Place) (child : List Node × ℕ) → Good nodes at → Grown nodes child.0 → IsPlan child.0 → child.1 < length child.0 → Kept (λ r. (s : Row) → Has (node_rows d child.0 child.1) s → Extends r s → ⊥) nodes at (anti_on at child)
   anti_kept nodes at child good grown plan there =
+      let made = added_made child.0 (node.Anti at.node child.1) plan (still_there nodes child.0 at.node grown good.there, (there, tt)) tt in
       kept_made (λ r. (s : Row) → Has (node_rows d child.0 child.1) s → Extends r s → ⊥) (node.Anti at.node child.1) nodes child.0 at (anti_on at child) good grown
-      (added_made child.0 (node.Anti at.node child.1) plan (still_there nodes child.0 at.node grown good.there, (there, tt)) tt)
+      made
       (width_stays nodes child.0 at.node grown good.there ∙ good.wide)
+      (omega (arith, good.tight, made.reads.0))
       (λ r h none. (later nodes child.0 at.node r grown good.there h, none))
       (λ r k. (sooner nodes child.0 at.node r grown good.there k.0, k.1))
 
@@ -209,12 +214,16 @@ module _ (d : Data) where
   union_kept P Q nodes at left right good one two =
       let left_there : left.1 < length right.0 = still_there left.0 right.0 left.1 two.grown one.good.there in
       let left_wide : width_of right.0 left.1 ≡ at.width = width_stays left.0 right.0 left.1 two.grown one.good.there ∙ one.good.wide in
+      let made = added_made right.0 (node.Union left.1 right.1) two.good.plan (left_there, (two.good.there, tt)) (left_wide ∙ sym two.good.wide) in
       kept_made (λ r. P r ⊎ Q r) (node.Union left.1 right.1) nodes right.0 at (added right.0 (node.Union left.1 right.1)) good (grown_on nodes left.0 right.0 one.grown two.grown)
-      (added_made right.0 (node.Union left.1 right.1) two.good.plan (left_there, (two.good.there, tt)) (left_wide ∙ sym two.good.wide))
+      made
       left_wide
+      (omega (arith, one.good.tight, made.reads.0))
       (λ r h either. elim either [
-          inl p ↦ inl (later left.0 right.0 left.1 r two.grown one.good.there (one.into r h p))
-        | inr q ↦ inr (two.into r (later nodes left.0 at.node r one.grown good.there h) q) ])
+        | inl p ↦ inl (later left.0 right.0 left.1 r two.grown one.good.there (one.into r h p))
+        | inr q ↦ inr (two.into r (later nodes left.0 at.node r one.grown good.there h) q)
+      ])
       (λ r k. elim k [
-          inl x ↦ (let (there, p) = one.from r (sooner left.0 right.0 left.1 r two.grown one.good.there x) in (there, inl p))
-        | inr y ↦ (let (there, q) = two.from r y in (sooner nodes left.0 at.node r one.grown good.there there, inr q)) ])
+        | inl x ↦ (let (there, p) = one.from r (sooner left.0 right.0 left.1 r two.grown one.good.there x) in (there, inl p))
+        | inr y ↦ (let (there, q) = two.from r y in (sooner nodes left.0 at.node r one.grown good.there there, inr q))
+      ])

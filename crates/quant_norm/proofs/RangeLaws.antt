@@ -2,6 +2,7 @@
 use Rattle.std.specs.Prelude.{◌≡◌, ◌⊎◌, ◌<◌, ◌≤◌, ◌+◌, ℕ, zero, suc, Bool, true, false, not, List, [], ◌∷◌, ◌++◌, map, length, Option, Some, None, refl}
 use Rattle.std.specs.List.{list_any, list_all, filter_map, range_with_len}
 use Rattle.std.proofs.Common.{ap, sym, subst, ◌∙◌, inl, inr, arith, length-append, append_assoc, append-nil}
+use Rattle.std.proofs.lemmas.List.FromFn.{length-range_with_len}
 use Rattle.std.proofs.lemmas.Bool.{false≢true, not-true, not_from_false, false_from_ne_true, cases_Bool}
 use Rattle.da_values.specs.Sets.{Has}
 use Rattle.da_values.proofs.Members.{of_filter_map, Has-filter_map, of_flat_map, Has-flat_map, Has-from_any, any_from_has, each_from_all, all_from_each}
@@ -16,8 +17,9 @@ use Rattle.da_lang.proofs.RowLaws.{extends_itself, extends_further}
 use Rattle.query_plan.specs.Nodes.{node_rows, parts_added, IsPlan}
 use Rattle.query_plan.specs.Plans.{Place, Norm, added, at_node, behind, vars_behind, gen_node, known, rename_gen, rename_pattern, gens_on, semi_on, anti_on}
 use Rattle.query_plan.proofs.WidthLaws.{candidate_of}
-use Rattle.quant_norm.proofs.PlaceLaws.{Grown, grown_itself, grown_on, Good, Made, added_made, Kept, kept_by, semi_kept, anti_kept, row_wide}
-use Rattle.quant_norm.proofs.RenameLaws.{seen, AllIn, AllIn-append, AllIn-range, wider, seen_more, Tracks, behind_tracks, HasParts, Both, candidate_follows, parts_renamed}
+use Rattle.quant_norm.specs.GoodPlaces.{AllIn, Good}
+use Rattle.quant_norm.proofs.PlaceLaws.{Grown, grown_itself, grown_on, Made, added_made, Kept, kept_by, semi_kept, anti_kept, row_wide}
+use Rattle.quant_norm.proofs.RenameLaws.{seen, AllIn-append, AllIn-range, wider, seen_more, Tracks, behind_tracks, HasParts, Both, candidate_follows, parts_renamed}
 
 -- two beginnings of one row that are equally long
 pub same_front : (a b xs ys : Row) → a ++ xs ≡ b ++ ys → length a ≡ length b → a ≡ b
@@ -76,14 +78,14 @@ module _ (d : Data) where
     grown = grown_on nodes middle.0 end.0 one.grown others.grown;
     good = others.good;
     into = λ r s h k.
-      let (t, first, more) = of_flat_map (extensions d gs) (step_rows d g (seen at.vars r)) s k in
-      let (p, there, longer, is) = one.into r t h first in
-      let (q, last, longest, value) = others.into p s there (subst (λ z. Has (extensions d gs z) s) (sym is) more) in
-      (q, last, extends_further r p q longer longest, value);
+        let (t, first, more) = of_flat_map (extensions d gs) (step_rows d g (seen at.vars r)) s k in
+        let (p, there, longer, is) = one.into r t h first in
+        let (q, last, longest, value) = others.into p s there (subst (λ z. Has (extensions d gs z) s) (sym is) more) in
+        (q, last, extends_further r p q longer longest, value);
     from = λ q h.
-      let (p, there, longest, more) = others.from q h in
-      let (r, begin, longer, first) = one.from p there in
-      (r, begin, extends_further r p q longer longest, Has-flat_map (extensions d gs) (step_rows d g (seen at.vars r)) (seen middle.1.vars p) (seen end.1.vars q) first more);
+        let (p, there, longest, more) = others.from q h in
+        let (r, begin, longer, first) = one.from p there in
+        (r, begin, extends_further r p q longer longest, Has-flat_map (extensions d gs) (step_rows d g (seen at.vars r)) (seen middle.1.vars p) (seen end.1.vars q) first more);
   }
 
   -- one generator
@@ -122,8 +124,9 @@ module _ (d : Data) where
       there = made.there;
       wide = made.wide ∙ ap (λ k. k + parts_added renamed) good.wide ∙ ap (λ k. at.width + k) (parts_renamed (known (vars_behind at g)) g);
       vars_in = AllIn-append at.vars (range_with_len (suc at.width) (parts_added g)) (at.width + parts_added g)
-        (wider at.vars at.width (at.width + parts_added g) (omega arith) good.vars_in)
-        (AllIn-range (parts_added g) (suc at.width) (at.width + parts_added g) (omega arith) (omega arith));
+          (wider at.vars at.width (at.width + parts_added g) (omega arith) good.vars_in)
+          (AllIn-range (parts_added g) (suc at.width) (at.width + parts_added g) (omega arith) (omega arith));
+      tight = omega (arith, good.tight, made.reads.0, length-append at.vars (range_with_len (suc at.width) (parts_added g)), length-range_with_len (suc at.width) (parts_added g));
     }
 
     step_ranged : Ranged (step_rows d g) nodes at (end.0, last)
@@ -131,23 +134,21 @@ module _ (d : Data) where
       grown = made.grown;
       good = good_behind;
       into = λ r s h k.
-        let (c, element, e) = of_filter_map (λ c. matched_candidate d g.message g.peer c (seen at.vars r)) (candidates d g.source) s k in
-        let (more, is, found, long) = both_right (parts_added g) r (seen at.vars r) s _ _ (follows c r element h) e in
-        (
-          r ++ more,
-          made.into (r ++ more) (r, h, Has-filter_map (λ c. matched_candidate d renamed.message renamed.peer c r) (candidates d g.source) c (r ++ more) element found),
-          (more, refl),
-          sees r more h long ∙ sym is,
-        );
+          let (c, element, e) = of_filter_map (λ c. matched_candidate d g.message g.peer c (seen at.vars r)) (candidates d g.source) s k in
+          let (more, is, found, long) = both_right (parts_added g) r (seen at.vars r) s _ _ (follows c r element h) e in (
+            r ++ more,
+            made.into (r ++ more) (r, h, Has-filter_map (λ c. matched_candidate d renamed.message renamed.peer c r) (candidates d g.source) c (r ++ more) element found),
+            (more, refl),
+            sees r more h long ∙ sym is,
+          );
       from = λ q h.
-        let (r, more, c, there, element, is, found, long) = split q h in
-        let value : seen last.vars q ≡ seen at.vars r ++ more = ap (seen last.vars) is ∙ sees r more there long in
-        (
-          r,
-          there,
-          (more, is),
-          subst (Has (step_rows d g (seen at.vars r))) (sym value) (Has-filter_map (λ c. matched_candidate d g.message g.peer c (seen at.vars r)) (candidates d g.source) c (seen at.vars r ++ more) element found),
-        );
+          let (r, more, c, there, element, is, found, long) = split q h in
+          let value : seen last.vars q ≡ seen at.vars r ++ more = ap (seen last.vars) is ∙ sees r more there long in (
+            r,
+            there,
+            (more, is),
+            subst (Has (step_rows d g (seen at.vars r))) (sym value) (Has-filter_map (λ c. matched_candidate d g.message g.peer c (seen at.vars r)) (candidates d g.source) c (seen at.vars r ++ more) element found),
+          );
     }
 
   pub gens_ranged : (gens : List RGen) (nodes : List Node) (at : Place) → Good nodes at → Ranged (extensions d gens) nodes at (gens_on gens at nodes)
@@ -168,9 +169,9 @@ module _ (d : Data) where
       (λ r h. (
         (λ none. not_from_false (test r) (false_from_ne_true (test r) (λ e. none r (kept.into r h e) (extends_itself r)))),
         (λ e s there longer.
-          let (begin, holds_there) = kept.from s there in
-          let same : s ≡ r = extends_same r s longer (row_wide d nodes at good r h ∙ sym (row_wide d nodes at good s begin)) in
-          false≢true (sym (not-true (test r) e) ∙ ap test (sym same) ∙ holds_there)),
+            let (begin, holds_there) = kept.from s there in
+            let same : s ≡ r = extends_same r s longer (row_wide d nodes at good r h ∙ sym (row_wide d nodes at good s begin)) in
+            false≢true (sym (not-true (test r) e) ∙ ap test (sym same) ∙ holds_there)),
       ))
       (anti_kept d nodes at child good kept.grown kept.good.plan kept.good.there)
 
@@ -207,10 +208,11 @@ module _ (d : Data) where
       kept_by d (λ r. (q : Row) → Has (node_rows d end.0 end.1) q → Extends r q → ⊥) (λ r. list_all test (more (seen at.vars r)) ≡ true) nodes at (anti_on at end)
       (λ r h. (
         (λ none. all_from_each test (more (seen at.vars r)) (λ s one. elim (cases_Bool (test s)) [
-            inl passes ↦ passes
-          | inr fails ↦ (let (q, there, longer, is) = in_longer more (λ z. not (test z)) nodes at last end good ranged kept r s h one (not_from_false (test s) fails) in absurd (none q there longer)) ])),
+          | inl passes ↦ passes
+          | inr fails ↦ (let (q, there, longer, is) = in_longer more (λ z. not (test z)) nodes at last end good ranged kept r s h one (not_from_false (test s) fails) in absurd (none q there longer))
+        ])),
         (λ e q there longer.
-          let (one, fails) = of_longer more (λ z. not (test z)) nodes at last end good ranged kept r q h there longer in
-          false≢true (sym (not-true (test (seen last.1.vars q)) fails) ∙ each_from_all test (more (seen at.vars r)) (seen last.1.vars q) e one)),
+            let (one, fails) = of_longer more (λ z. not (test z)) nodes at last end good ranged kept r q h there longer in
+            false≢true (sym (not-true (test (seen last.1.vars q)) fails) ∙ each_from_all test (more (seen at.vars r)) (seen last.1.vars q) e one)),
       ))
       (anti_kept d nodes at end good (whole_grown more (λ z. not (test z)) nodes at last end good ranged kept) kept.good.plan kept.good.there)

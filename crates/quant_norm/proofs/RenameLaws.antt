@@ -27,6 +27,7 @@ use Rattle.da_lang.specs.World.{Data, nothing, or_nothing, at_number}
 use Rattle.da_lang.proofs.LiveMatchLaws.{behind}
 use Rattle.da_lang.proofs.MatchingLaws.{term-Const, term-Me, term-Slot, term-Part, term-Tuple, term-Foreign, match-Any, match-Bind, match-Const, match-Me, match-Equal, match-Tuple}
 use Rattle.da_lang.proofs.TermInduction.{term_induction, pattern_induction}
+use Rattle.quant_norm.specs.GoodPlaces.{IsIn, AllIn}
 use Rattle.query_plan.specs.Nodes.{binds, parts_added}
 use Rattle.query_plan.proofs.WidthLaws.{binds-Any, binds-Bind, binds-Const, binds-Me, binds-Equal, binds-Tuple, IsOf}
 use Rattle.query_plan.specs.Plans.{part_of, known, rename, rename_other, rename_pattern, rename_gen}
@@ -35,13 +36,6 @@ use Rattle.query_plan.proofs.PlansAt.{rename-Const, rename-Me, rename-Slot, rena
 -- the values of the variables that stand in these parts of a row
 abbrev pub seen : List ℕ → Row → Row
 seen vars row = map (λ part. or_nothing (at_number row part)) vars
-
--- the parts are there in rows of this width
-abbrev pub IsIn : ℕ → ℕ → Type 0
-IsIn width part = (0 < part) × (part ≤ width)
-
-abbrev pub AllIn : List ℕ → ℕ → Type 0
-AllIn vars width = AllByRecursion (IsIn width) vars
 
 -- Members of lists one behind the other.
 
@@ -163,7 +157,7 @@ seen_part (x ∷ more) row first (suc many) e less =
     let (rest, is, none) = seen_part more (row ++ x ∷ []) (first + 1) many (omega (arith, longer, e)) (omega (arith, less)) in (
       rest,
       ap (λ z. or_nothing z ∷ seen (range_with_len (first + 1) many) (row ++ x ∷ more)) here
-      ∙ ap (λ zs. x ∷ zs) (ap (seen (range_with_len (first + 1) many)) (sym (append_assoc row (x ∷ []) more)) ∙ is),
+          ∙ ap (λ zs. x ∷ zs) (ap (seen (range_with_len (first + 1) many)) (sym (append_assoc row (x ∷ []) more)) ∙ is),
       none,
     )
 
@@ -226,9 +220,9 @@ module _ (me : ℕ) (slots : List Val) where
   behind_tracks vars row n all more less k =
       let (rest, is, none) = seen_part more row (suc (length row)) n refl less in
       let whole : seen (vars ++ range_with_len (suc (length row)) n) (row ++ more) ≡ (seen vars row ++ more) ++ rest =
-        seen-append vars (range_with_len (suc (length row)) n) (row ++ more)
-        ∙ ap (λ zs. zs ++ seen (range_with_len (suc (length row)) n) (row ++ more)) (seen_front vars row more all)
-        ∙ ap (λ zs. seen vars row ++ zs) is ∙ sym (append_assoc (seen vars row) more rest) in
+      seen-append vars (range_with_len (suc (length row)) n) (row ++ more)
+      ∙ ap (λ zs. zs ++ seen (range_with_len (suc (length row)) n) (row ++ more)) (seen_front vars row more all)
+      ∙ ap (λ zs. seen vars row ++ zs) is ∙ sym (append_assoc (seen vars row) more rest) in
       known_sees (vars ++ range_with_len (suc (length row)) n) (row ++ more) k
       ∙ ap (λ z. or_nothing (at_number z k)) whole
       ∙ part_before (seen vars row ++ more) rest k none
@@ -300,9 +294,9 @@ module _ (me : ℕ) (slots : List Val) (f : ℕ → Term) where
       let count : sum (map binds (p ∷ ps)) ≡ binds p + sum (map binds ps) = sum_by-cons (λ k. k) (binds p) (map binds ps) in
       subst (λ k. Both k row vars (match_parts (map (matched me slots) (map (rename_pattern f) (p ∷ ps))) (x ∷ xs) row) (match_parts (map (matched me slots) (p ∷ ps)) (x ∷ xs) vars)) (sym count)
       (both_then (binds p) (sum (map binds ps)) (match_parts (map (matched me slots) (map (rename_pattern f) ps)) xs) (match_parts (map (matched me slots) ps) xs) row vars
-        (matched me slots (rename_pattern f p) x row) (matched me slots p x vars)
-        (λ more long. parts_follow ps each.1 xs (sum (map binds ps)) (row ++ more) (vars ++ more) (omega arith) (tracks_on me slots n (sum (map binds ps)) f row vars more (omega (arith, long, count, few)) tracks))
-        (each.0 n x row vars (omega (arith, count, few)) tracks))
+      (matched me slots (rename_pattern f p) x row) (matched me slots p x vars)
+      (λ more long. parts_follow ps each.1 xs (sum (map binds ps)) (row ++ more) (vars ++ more) (omega arith) (tracks_on me slots n (sum (map binds ps)) f row vars more (omega (arith, long, count, few)) tracks))
+      (each.0 n x row vars (omega (arith, count, few)) tracks))
 
   tuple_follows : (ps : List Pattern) → AllByRecursion Follows ps → (x : Val-F Val) (n : ℕ) (row vars : Row) → sum (map binds ps) ≤ n → Tracks me slots n f row vars → Both (sum (map binds ps)) row vars (match_tuple (map (matched me slots) (map (rename_pattern f) ps)) x row) (match_tuple (map (matched me slots) ps) x vars)
   tuple_follows ps each (layer.Tuple xs) n row vars few tracks = parts_follow ps each xs n row vars few tracks
@@ -320,11 +314,11 @@ module _ (me : ℕ) (slots : List Val) (f : ℕ → Term) where
       (λ c. follows_as (pattern.Const c) (pattern.Const c) 0 (renamed-Const f c) (binds-Const c) (λ n x row vars few tracks. both_as 0 0 row vars _ _ _ _ refl (match-Const me slots x row c) (match-Const me slots x vars c) (both_where (is_same x (val_of c)) row vars)))
       (follows_as pattern.Me pattern.Me 0 (renamed-Me f) binds-Me (λ n x row vars few tracks. both_as 0 0 row vars _ _ _ _ refl (match-Me me slots x row) (match-Me me slots x vars) (both_where (is_same x (val.Proc me)) row vars)))
       (λ t. follows_as (pattern.Equal t) (pattern.Equal (rename f t)) 0 (renamed-Equal f t) (binds-Equal t) (λ n x row vars few tracks.
-        both_as 0 0 row vars _ (where_true (is_same x (term_value me slots vars t)) row) _ (where_true (is_same x (term_value me slots vars t)) vars) refl
-        (match-Equal me slots x row (rename f t) ∙ ap (λ z. where_true (is_same x z) row) (renamed_value me slots f row vars (tracks_now me slots n f row vars tracks) t))
-        (match-Equal me slots x vars t) (both_where (is_same x (term_value me slots vars t)) row vars)))
+      both_as 0 0 row vars _ (where_true (is_same x (term_value me slots vars t)) row) _ (where_true (is_same x (term_value me slots vars t)) vars) refl
+      (match-Equal me slots x row (rename f t) ∙ ap (λ z. where_true (is_same x z) row) (renamed_value me slots f row vars (tracks_now me slots n f row vars tracks) t))
+      (match-Equal me slots x vars t) (both_where (is_same x (term_value me slots vars t)) row vars)))
       (λ ps each. follows_as (pattern.Tuple ps) (pattern.Tuple (map (rename_pattern f) ps)) (sum (map binds ps)) (renamed-Tuple f ps) (binds-Tuple ps) (λ n x row vars few tracks.
-        both_as (sum (map binds ps)) (sum (map binds ps)) row vars _ _ _ _ refl (match-Tuple me slots x row (map (rename_pattern f) ps)) (match-Tuple me slots x vars ps) (tuple_follows ps each (out-Val x) n row vars few tracks)))
+      both_as (sum (map binds ps)) (sum (map binds ps)) row vars _ _ _ _ refl (match-Tuple me slots x row (map (rename_pattern f) ps)) (match-Tuple me slots x vars ps) (tuple_follows ps each (out-Val x) n row vars few tracks)))
 
 -- a candidate of a generator
 module _ (d : Data) (f : ℕ → Term) where

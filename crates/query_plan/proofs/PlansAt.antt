@@ -1,5 +1,5 @@
 -- Renamed terms and patterns, the nodes of conditions, and how they are spelled, one equation for each form.
-use Rattle.std.specs.Prelude.{◌≡◌, ℕ, suc, Bool, true, false, if◌then◌else◌, List, [], ◌∷◌, map, Option, Some, None, refl}
+use Rattle.std.specs.Prelude.{◌≡◌, ℕ, Bool, List, [], ◌∷◌, map, Option, Some, None}
 use Rattle.std.proofs.Common.{ap, sym, ◌∙◌}
 use Rattle.da_values.specs.declared.val.Val.{Val}
 use Rattle.da_values.specs.declared.val.Val.TheVariants as val
@@ -25,8 +25,8 @@ use Rattle.da_lang.specs.declared.query.Term.TheOpen as term_layer
 use Rattle.da_lang.specs.declared.query.Term.TheFolds.{fold-roll-Term}
 use Rattle.da_lang.specs.declared.tree.CmpOp.{CmpOp}
 use Rattle.da_lang.specs.Live.{tagged, term_spelled}
-use Rattle.query_plan.specs.Plans.{Place, Norm, Binding, rename_step, rename, rename_pattern_step, rename_pattern, filter_on, anti_on, all_on, any_on, some_on, each_on, all_bound, compared, cond_step, operand_step, agg_step, signed_step, norm, norm_if, operand_bound, agg_bound, signed_bound, known}
-use Rattle.query_plan.specs.Spelled.{number, agg_op_number, cmp_op_number, option_spelled, other_spelled, gens_spelled, cond_spelled_step, operand_spelled_step, agg_spelled_step, signed_spelled_step, cond_spelled}
+use Rattle.query_plan.specs.Plans.{Place, Norm, Binding, rename_step, rename, rename_pattern_step, rename_pattern, cond_step, operand_step, agg_step, signed_step, norm, norm_if, operand_bound, agg_bound, signed_bound}
+use Rattle.query_plan.specs.Spelled.{number, cmp_op_number, cond_spelled_step, operand_spelled_step, agg_spelled_step, signed_spelled_step, cond_spelled}
 
 module _ (f : ℕ → Term) where
   pub rename-Const : (c : Value) → rename f (term.Const c) ≡ term.Const c

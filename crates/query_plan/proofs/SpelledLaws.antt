@@ -1,5 +1,5 @@
 -- Nodes that are spelled alike are one.
-use Rattle.std.specs.Prelude.{◌≡◌, ◌↔◌, ℕ, pos, Bool, true, false, List, [], ◌∷◌, map, Option, Some, None, refl}
+use Rattle.std.specs.Prelude.{◌≡◌, ◌↔◌, ℕ, Bool, true, false, List, [], ◌∷◌, map, Option, Some, None, refl}
 use Rattle.std.specs.List.{AllByRecursion}
 use Rattle.std.specs.Ordering.{is_eq}
 use Rattle.std.specs.declared.cmp.Ordering.{Ordering}
@@ -10,15 +10,15 @@ use Rattle.std.proofs.lemmas.Cmp.{tied_itself}
 use Rattle.da_values.specs.declared.val.Val.{Val}
 use Rattle.da_values.specs.declared.val.Val.TheVariants as val
 use Rattle.da_values.specs.Order.{val_cmp}
-use Rattle.da_values.specs.Views.{int_of, parts_of, truth_of}
+use Rattle.da_values.specs.Views.{parts_of, truth_of}
 use Rattle.da_values.proofs.OrderLaws.{val_order, same_from_val_cmp}
-use Rattle.da_values.proofs.ViewLaws.{int_of-Int, parts_of-Tuple, truth_of-Bool}
+use Rattle.da_values.proofs.ViewLaws.{parts_of-Tuple, truth_of-Bool}
 use Rattle.da_lang.specs.declared.query.Agg.{Agg, out-Agg, roll-Agg, roll-out-Agg}
 use Rattle.da_lang.specs.declared.query.AggOp.{AggOp}
 use Rattle.da_lang.specs.declared.query.AggOp.TheVariants.{Count, Sum, Min, Max}
 use Rattle.da_lang.specs.declared.query.Cond.{Cond, out-Cond, roll-Cond, roll-out-Cond}
 use Rattle.da_lang.specs.declared.query.Cond.TheVariants as cond
-use Rattle.da_lang.specs.declared.query.Cond.TheOpen.{Cond-F, Operand-F, Agg-F, SignedOperand-F}
+use Rattle.da_lang.specs.declared.query.Cond.TheOpen.{Cond-F, Operand-F}
 use Rattle.da_lang.specs.declared.query.Cond.TheFolds.{fold-Operand, fold-Agg, fold-SignedOperand, fold_out-Cond, fold_out-Operand, fold-roll-Agg, fold-roll-SignedOperand, map-Cond, map-Operand}
 use Rattle.da_lang.specs.declared.query.LivePattern.{LivePattern}
 use Rattle.da_lang.specs.declared.query.Node.{Node}
@@ -30,7 +30,7 @@ use Rattle.da_lang.specs.declared.query.SignedOperand.{SignedOperand, out-Signed
 use Rattle.da_lang.specs.declared.query.Term.{Term}
 use Rattle.da_lang.specs.declared.tree.CmpOp.{CmpOp}
 use Rattle.da_lang.specs.declared.tree.CmpOp.TheVariants.{Eq, Ne, Lt, Le, Gt, Ge}
-use Rattle.da_lang.specs.Live.{tagged, term_spelled, live_spelled}
+use Rattle.da_lang.specs.Live.{tagged, term_spelled}
 use Rattle.da_lang.proofs.CondInduction.{Where, cond_induction}
 use Rattle.da_lang.proofs.OnceLaws.{live_tells}
 use Rattle.da_lang.proofs.SpelledLaws.{same_tag, same_rest, same_number, term_tells, Tells}
@@ -244,11 +244,11 @@ agg_case op gens b t other part y e =
     let third = rest_same _ _ _ _ second in
     let fourth = rest_same _ _ _ _ third in
     same_agg op z.op gens z.gens b z.cond t z.term other z.other
-      (agg_ops_tell op z.op (numbers_tell _ _ (first_same _ _ _ _ first)))
-      (gens_tell gens z.gens (first_same _ _ _ _ second))
-      (guards_tell b z.cond part (first_same _ _ _ _ third))
-      (term_tells t z.term (first_same _ _ _ _ fourth))
-      (others_tell other z.other (first_same _ _ _ _ (rest_same _ _ _ _ fourth)))
+    (agg_ops_tell op z.op (numbers_tell _ _ (first_same _ _ _ _ first)))
+    (gens_tell gens z.gens (first_same _ _ _ _ second))
+    (guards_tell b z.cond part (first_same _ _ _ _ third))
+    (term_tells t z.term (first_same _ _ _ _ fourth))
+    (others_tell other z.other (first_same _ _ _ _ (rest_same _ _ _ _ fourth)))
     ∙ roll-out-Agg y
 
 signed_at : (minus : Bool) (a : Operand) → signed_spelled (roll-SignedOperand (record { minus = minus; operand = a })) ≡ val.Tuple (val.Bool minus ∷ operand_spelled a ∷ [])

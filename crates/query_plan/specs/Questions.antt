@@ -1,7 +1,5 @@
 -- The plan of a class: its numbered queries and the conditions of its `await`s, in the order of the inlined text.
-use Rattle.std.specs.Prelude.{◌≡◌, ℕ, zero, suc, ◌+◌, ◌≤◌, Bool, true, false, if◌then◌else◌, List, [], ◌∷◌, ◌++◌, map, flat_map, replicate, sum, length, Option, Some, None}
-use Rattle.da_values.specs.declared.val.Val.{Val}
-use Rattle.da_values.specs.declared.val.Val.TheVariants as val
+use Rattle.std.specs.Prelude.{ℕ, zero, suc, ◌+◌, if◌then◌else◌, List, [], ◌∷◌, ◌++◌, map, flat_map, sum}
 use Rattle.da_lang.specs.declared.program.Class.{Class}
 use Rattle.da_lang.specs.declared.program.Item.{Item}
 use Rattle.da_lang.specs.declared.program.ItemKind.TheOpen.{ItemKind-F, Item-F, RBranch-F, Alt-F}
@@ -17,10 +15,9 @@ use Rattle.da_lang.specs.declared.query.Node.TheVariants as node
 use Rattle.da_lang.specs.declared.query.Query.{Query}
 use Rattle.da_lang.specs.declared.query.Query.TheVariants as query
 use Rattle.da_lang.specs.declared.query.QueryNode.{QueryNode}
-use Rattle.da_lang.specs.declared.query.RGen.{RGen}
 use Rattle.da_lang.specs.declared.query.Shape.TheVariants as shape
 use Rattle.query_plan.specs.declared.plan.Plan.{Plan}
-use Rattle.query_plan.specs.Plans.{Place, Norm, gens_on, test_on, denied_on, known, rename, norm, norm_if, agg_bound}
+use Rattle.query_plan.specs.Plans.{Place, gens_on, test_on, denied_on, known, rename, norm, norm_if, agg_bound}
 
 -- How many numbered queries a part of the text has.
 

@@ -6,7 +6,7 @@ use Rattle.da_lang.specs.declared.query.AggOp.{AggOp}
 use Rattle.da_lang.specs.declared.query.AggOp.TheVariants.{Count, Sum, Min, Max}
 use Rattle.da_lang.specs.declared.query.Cond.{Cond}
 use Rattle.da_lang.specs.declared.query.Cond.TheOpen.{Cond-F, Operand-F, Agg-F, SignedOperand-F}
-use Rattle.da_lang.specs.declared.query.Cond.TheFolds.{fold-Cond, fold-Operand, fold-Agg, fold-SignedOperand}
+use Rattle.da_lang.specs.declared.query.Cond.TheFolds.{fold-Cond}
 use Rattle.da_lang.specs.declared.query.LivePattern.{LivePattern}
 use Rattle.da_lang.specs.declared.query.Node.{Node}
 use Rattle.da_lang.specs.declared.query.Node.TheVariants as node

@@ -1,5 +1,5 @@
 -- What the rows of nodes tell of the numbered queries of a class, and of the alternatives of its `await`s.
-use Rattle.std.specs.Prelude.{◌≡◌, ◌<◌, ℕ, Bool, true, false, not, List, [], ◌∷◌, map, length, Option, Some, None}
+use Rattle.std.specs.Prelude.{◌≡◌, ◌<◌, ℕ, Bool, true, false, not, List, [], ◌∷◌, map, length, Option, None}
 use Rattle.std.specs.List.{AllZip}
 use Rattle.da_values.specs.declared.val.Val.{Val}
 use Rattle.da_values.specs.declared.val.Val.TheVariants as val

@@ -38,10 +38,10 @@ world = record {
   slots = val.Set (num 1 ∷ num 2 ∷ []) ∷ val.Set (num 2 ∷ num 3 ∷ []) ∷ [];
   sent = [];
   received =
-    record { message = message (codes "a") 7; peer = 3; time = 1 }
-    ∷ record { message = message (codes "b") 8; peer = 2; time = 1 }
-    ∷ record { message = message (codes "a") 7; peer = 2; time = 2 }
-    ∷ [];
+      record { message = message (codes "a") 7; peer = 3; time = 1 }
+      ∷ record { message = message (codes "b") 8; peer = 2; time = 1 }
+      ∷ record { message = message (codes "a") 7; peer = 2; time = 2 }
+      ∷ [];
   clock = 2;
 }
 
