@@ -1,0 +1,5 @@
+pub mod NodeLaws
+pub mod PlansAt
+pub mod SpelledLaws
+pub mod WidthLaws
+mod examples

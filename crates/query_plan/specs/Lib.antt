@@ -1,0 +1,5 @@
+pub mod Nodes
+pub mod Plans
+pub mod Questions
+pub mod Spelled
+pub mod Told
