@@ -1,14 +1,11 @@
 //! The code of a class, and the machine that runs it over any store.
 #![tactic(auto)]
 
-mod acts;
-mod arithmetic;
 mod code;
 mod machine;
 mod run;
 mod stack;
 mod store;
-mod values;
 
 pub use code::{Code, YieldPoint};
 pub use machine::{Machine, Stop};

