@@ -63,10 +63,12 @@ module _ (stands : Standing) (old new : List Action) (slots : List ℕ) (values 
         record {
           alive = (a.0, a.1, put_slot a.2 s v, put a.0 a.1 a.2 a.3, put_known a.0 a.1 a.2 s v a.4 all2.0, all2.1);
           follows = λ p class d is.
-              let f = came.follows p class d is in
-              (put_slot f.0 s v, put p class f.0 f.1,
-              sym (ap (λ ss. bind_all ss (v ∷ drop (place + 1) values) f.0) (drop_some slots place s is_slot))
-              ∙ sym (ap (λ vs. bind_all (drop place slots) vs f.0) (drop_some values place v is_value)) ∙ f.2);
+              let f = came.follows p class d is in (
+                put_slot f.0 s v,
+                put p class f.0 f.1,
+                sym (ap (λ ss. bind_all ss (v ∷ drop (place + 1) values) f.0) (drop_some slots place s is_slot))
+                    ∙ sym (ap (λ vs. bind_all (drop place slots) vs f.0) (drop_some values place v is_value)) ∙ f.2,
+              );
           same = quiet ∙ came.same;
         }
 

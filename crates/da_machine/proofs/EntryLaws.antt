@@ -14,11 +14,12 @@ use Rattle.da_machine.specs.declared.code.Code.{Code}
 use Rattle.da_machine.specs.declared.code.YieldPoint.{YieldPoint}
 use Rattle.da_machine.specs.CodeFor.{Has, AltsAt, CodeFor, EnterAt, ItemAt, LoopAt}
 use Rattle.da_machine.specs.Entries.{IsPoint}
+use Rattle.da_machine.specs.Points.{AtLabel, AtAwait, conditions_of, IsNumbered}
 use Rattle.da_machine.proofs.TurnCode.{block_for}
 
 module _ (code : Code) (class : Class) where
   -- each alternative has its entry
-  pub alt_entry : (exit at : ℕ) (alts : List Alt) (entries : List ℕ) → AltsAt code exit at alts entries → (loops : List (List Val)) (todo : List Task) → CodeFor code class exit loops todo
+  pub alt_entry : (exit at : ℕ) (alts : List Alt) (entries : List ℕ) → AltsAt code class exit at alts entries → (loops : List (List Val)) (todo : List Task) → CodeFor code class exit loops todo
       → (n : ℕ) (a : Alt) → slice_get alts n ≡ Some a → (entry : ℕ) × (slice_get entries n ≡ Some entry) × CodeFor code class entry loops (do_all (out-Alt a).body todo)
   alt_entry _ _ _ _ (AltsAt.done {exit}) loops todo code_for n a there = absurd (let none : ◌≡◌ {A = Option Alt} None (Some a) = there in cc)
   alt_entry _ _ _ _ (AltsAt.alt {exit} {at} {end} {a = b} {alts} {entries} block leave others) loops todo code_for zero a there =
@@ -33,14 +34,16 @@ module _ (code : Code) (class : Class) where
   same_number : (at k j : ℕ) → Has code at (op.Yield k) → Has code at (op.Yield j) → j ≡ k
   same_number at k j here there = let e = one_instr at (op.Yield j) (op.Yield k) there here in cc
 
-  item_point : (at : ℕ) (i : Item) (end : ℕ) → ItemAt code at i end → (k : ℕ) → Has code at (op.Yield k) → (loops : List (List Val)) (todo : List Task) → CodeFor code class end loops todo → IsPoint code class k loops (Do i ∷ todo)
+  item_point : (at : ℕ) (i : Item) (end : ℕ) → ItemAt code class at i end → (k : ℕ) → Has code at (op.Yield k) → (loops : List (List Val)) (todo : List Task) → CodeFor code class end loops todo → IsPoint code class k loops (Do i ∷ todo)
   item_point _ _ _ (ItemAt.works {at} {end} {i} has work) k here loops todo code_for = absurd (let e = one_instr at _ _ has here in cc)
-  item_point _ _ _ (ItemAt.label {at} {k = j} {i} is has point) k here loops todo code_for =
+  item_point _ _ _ (ItemAt.label {at} {k = j} {i} is has point numbered) k here loops todo code_for =
       let same : j ≡ k = same_number at k j here has in
-      IsPoint.at_label i todo (at + 1) is (subst (λ n. slice_get code.yields n ≡ Some (record { label = true; entries = (at + 1) ∷ [] })) same point) code_for
-  item_point _ _ _ (ItemAt.await {at} {end} {k = j} {i} {alts} {entries} is has point blocks) k here loops todo code_for =
+      IsPoint.at_label i todo (at + 1) is (subst (λ n. slice_get code.yields n ≡ Some (record { label = true; entries = (at + 1) ∷ [] })) same point)
+      (subst (λ n. IsNumbered class n AtLabel) same numbered) code_for
+  item_point _ _ _ (ItemAt.await {at} {end} {k = j} {i} {alts} {entries} is has point numbered blocks) k here loops todo code_for =
       let same : j ≡ k = same_number at k j here has in
       IsPoint.at_await i todo alts entries is (subst (λ n. slice_get code.yields n ≡ Some (record { label = false; entries = entries })) same point)
+      (subst (λ n. IsNumbered class n (AtAwait (conditions_of alts))) same numbered)
       (alt_entry end (at + 1) alts entries blocks loops todo code_for)
 
   -- where the code stands for what is to do at a yield point, it stands at the entries for what a move leaves

@@ -7,6 +7,7 @@ use Rattle.da_lang.specs.declared.code.Instr.{Instr}
 use Rattle.da_lang.specs.declared.code.Instr.TheVariants as op
 use Rattle.da_lang.specs.declared.program.Alt.{Alt}
 use Rattle.da_lang.specs.declared.program.ChainPart.{ChainPart}
+use Rattle.da_lang.specs.declared.program.Class.{Class}
 use Rattle.da_lang.specs.declared.program.Item.{Item}
 use Rattle.da_lang.specs.declared.program.ItemKind.{ItemKind}
 use Rattle.da_lang.specs.declared.program.ItemKind.TheOpen.{ItemKind-F}
@@ -97,55 +98,56 @@ module _ (code : Code) where
   found_on _ _ _ _ (FoundAt.unbound {at}) = nowhere at
   found_on _ _ _ _ (FoundAt.bound {at} has) = at_one at _ has tt
 
-  mutual
-    pub block_on : (at : ℕ) (is : List Item) (end : ℕ) → BlockAt code at is end → Onward code at end
-    block_on _ _ _ (BlockAt.empty {at}) = nowhere at
-    block_on _ _ _ (BlockAt.item {at} {to} {end} {i} {is} x xs) = both_on at to end (item_on at i to x) (block_on to is end xs)
+  module _ (class : Class) where
+    mutual
+      pub block_on : (at : ℕ) (is : List Item) (end : ℕ) → BlockAt code class at is end → Onward code at end
+      block_on _ _ _ (BlockAt.empty {at}) = nowhere at
+      block_on _ _ _ (BlockAt.item {at} {to} {end} {i} {is} x xs) = both_on at to end (item_on at i to x) (block_on to is end xs)
 
-    item_on : (at : ℕ) (i : Item) (end : ℕ) → ItemAt code at i end → Onward code at end
-    item_on _ _ _ (ItemAt.works {at} {end} has work) = one_and at end _ has tt (work_on at _ _ end work has)
-    item_on _ _ _ (ItemAt.label {at} is has point) = at_one at _ has tt
-    item_on _ _ _ (ItemAt.await {at} {end} {alts = alts} {entries} is has point blocks) = one_and at end _ has tt (alts_on end (at + 1) alts entries blocks)
+      item_on : (at : ℕ) (i : Item) (end : ℕ) → ItemAt code class at i end → Onward code at end
+      item_on _ _ _ (ItemAt.works {at} {end} has work) = one_and at end _ has tt (work_on at _ _ end work has)
+      item_on _ _ _ (ItemAt.label {at} is has point numbered) = at_one at _ has tt
+      item_on _ _ _ (ItemAt.await {at} {end} {alts = alts} {entries} is has point numbered blocks) = one_and at end _ has tt (alts_on end (at + 1) alts entries blocks)
 
-    work_on : (at line : ℕ) (k : ItemKind-F ItemKind Alt Item RBranch) (end : ℕ) → WorkAt code at line k end → Has code at (op.Turn line) → Onward code (at + 1) end
-    work_on _ _ _ _ (WorkAt.assign {at} {end = end} x has) turn = and_one (at + 1) end _ (expr_on (at + 1) _ end x) has tt
-    work_on _ _ _ _ (WorkAt.add {at} {end = end} x has) turn = and_one (at + 1) end _ (expr_on (at + 1) _ end x) has tt
-    work_on _ _ _ _ (WorkAt.del {at} {end = end} x has) turn = and_one (at + 1) end _ (expr_on (at + 1) _ end x) has tt
-    work_on _ _ _ _ (WorkAt.send {at} {to = to} {end} x y has) turn = and_one (at + 1) end _ (both_on (at + 1) to end (expr_on (at + 1) _ to x) (expr_on to _ end y)) has tt
-    work_on _ _ _ _ (WorkAt.output {at} {end = end} x has) turn = and_one (at + 1) end _ (expr_on (at + 1) _ end x) has tt
-    work_on _ _ _ _ (WorkAt.choice {at} {end = end} {branches} {other} x) turn = branches_on end (at + 1) branches other x
-    work_on _ _ _ _ (WorkAt.while {at} {to = to} {end} {body = body} x jump block back) turn =
-        let inner = block_on (to + 1) body end block in
-        and_one (at + 1) end _ (both_on (at + 1) (to + 1) end (and_one (at + 1) to _ (expr_on (at + 1) _ to x) jump (omega (arith, inner.upward))) inner) back (inr (ap is_turn turn))
-    work_on _ _ _ _ (WorkAt.for {at} {to = to} {end} {s} {body = body} x has rest) turn =
-        both_on (at + 1) (to + 1) end (and_one (at + 1) to _ (expr_on (at + 1) _ to x) has tt) (loop_on (to + 1) s body _ end rest)
-    work_on _ _ _ _ (WorkAt.call {at} {end = end} x) turn = enter_on (at + 1) _ _ _ end x
-    work_on _ _ _ _ (WorkAt.pass {at}) turn = nowhere (at + 1)
+      work_on : (at line : ℕ) (k : ItemKind-F ItemKind Alt Item RBranch) (end : ℕ) → WorkAt code class at line k end → Has code at (op.Turn line) → Onward code (at + 1) end
+      work_on _ _ _ _ (WorkAt.assign {at} {end = end} x has) turn = and_one (at + 1) end _ (expr_on (at + 1) _ end x) has tt
+      work_on _ _ _ _ (WorkAt.add {at} {end = end} x has) turn = and_one (at + 1) end _ (expr_on (at + 1) _ end x) has tt
+      work_on _ _ _ _ (WorkAt.del {at} {end = end} x has) turn = and_one (at + 1) end _ (expr_on (at + 1) _ end x) has tt
+      work_on _ _ _ _ (WorkAt.send {at} {to = to} {end} x y has) turn = and_one (at + 1) end _ (both_on (at + 1) to end (expr_on (at + 1) _ to x) (expr_on to _ end y)) has tt
+      work_on _ _ _ _ (WorkAt.output {at} {end = end} x has) turn = and_one (at + 1) end _ (expr_on (at + 1) _ end x) has tt
+      work_on _ _ _ _ (WorkAt.choice {at} {end = end} {branches} {other} x) turn = branches_on end (at + 1) branches other x
+      work_on _ _ _ _ (WorkAt.while {at} {to = to} {end} {body = body} x jump block back) turn =
+          let inner = block_on (to + 1) body end block in
+          and_one (at + 1) end _ (both_on (at + 1) (to + 1) end (and_one (at + 1) to _ (expr_on (at + 1) _ to x) jump (omega (arith, inner.upward))) inner) back (inr (ap is_turn turn))
+      work_on _ _ _ _ (WorkAt.for {at} {to = to} {end} {s} {body = body} x has rest) turn =
+          both_on (at + 1) (to + 1) end (and_one (at + 1) to _ (expr_on (at + 1) _ to x) has tt) (loop_on (to + 1) s body _ end rest)
+      work_on _ _ _ _ (WorkAt.call {at} {end = end} x) turn = enter_on (at + 1) _ _ _ end x
+      work_on _ _ _ _ (WorkAt.pass {at}) turn = nowhere (at + 1)
 
-    branches_on : (exit at : ℕ) (bs : List RBranch) (other : List Item) → BranchesAt code exit at bs other → Onward code at exit
-    branches_on _ _ _ _ (BranchesAt.otherwise {exit} {at} {other} x) = block_on at other exit x
-    branches_on _ _ _ _ (BranchesAt.branch {exit} {at} {test} {to} {end} {bs = bs} {other} x jump found block leave others) =
-        let inner = both_on (test + 1) to end (found_on (test + 1) _ _ to found) (block_on to _ end block) in
-        let rest = branches_on exit (end + 1) bs other others in
-        let tested = and_one at test _ (expr_on at _ test x) jump (omega (arith, inner.upward)) in
-        both_on at (end + 1) exit (and_one at end _ (both_on at (test + 1) end tested inner) leave (inl (omega (arith, rest.upward)))) rest
+      branches_on : (exit at : ℕ) (bs : List RBranch) (other : List Item) → BranchesAt code class exit at bs other → Onward code at exit
+      branches_on _ _ _ _ (BranchesAt.otherwise {exit} {at} {other} x) = block_on at other exit x
+      branches_on _ _ _ _ (BranchesAt.branch {exit} {at} {test} {to} {end} {bs = bs} {other} x jump found block leave others) =
+          let inner = both_on (test + 1) to end (found_on (test + 1) _ _ to found) (block_on to _ end block) in
+          let rest = branches_on exit (end + 1) bs other others in
+          let tested = and_one at test _ (expr_on at _ test x) jump (omega (arith, inner.upward)) in
+          both_on at (end + 1) exit (and_one at end _ (both_on at (test + 1) end tested inner) leave (inl (omega (arith, rest.upward)))) rest
 
-    alts_on : (exit at : ℕ) (alts : List Alt) (entries : List ℕ) → AltsAt code exit at alts entries → Onward code at exit
-    alts_on _ _ _ _ (AltsAt.done {exit}) = nowhere exit
-    alts_on _ _ _ _ (AltsAt.alt {exit} {at} {end} {alts = alts} {entries} block leave others) =
-        let rest = alts_on exit (end + 1) alts entries others in
-        both_on at (end + 1) exit (and_one at end _ (block_on at _ end block) leave (inl (omega (arith, rest.upward)))) rest
+      alts_on : (exit at : ℕ) (alts : List Alt) (entries : List ℕ) → AltsAt code class exit at alts entries → Onward code at exit
+      alts_on _ _ _ _ (AltsAt.done {exit}) = nowhere exit
+      alts_on _ _ _ _ (AltsAt.alt {exit} {at} {end} {alts = alts} {entries} block leave others) =
+          let rest = alts_on exit (end + 1) alts entries others in
+          both_on at (end + 1) exit (and_one at end _ (block_on at _ end block) leave (inl (omega (arith, rest.upward)))) rest
 
-    pub loop_on : (at s : ℕ) (body : List Item) (line end : ℕ) → LoopAt code at s body line end → Onward code at end
-    loop_on _ _ _ _ _ (LoopAt.loop {at} {end} {body = body} has next block back) =
-        let inner = block_on (at + 2) body end block in
-        let place : at + 1 + 1 ≡ at + 2 = omega arith in
-        let head = subst (Onward code at) place (and_one at (at + 1) _ (at_one at _ has tt) next (omega (arith, inner.upward))) in
-        and_one at end _ (both_on at (at + 2) end head inner) back (inr (ap is_turn has))
+      pub loop_on : (at s : ℕ) (body : List Item) (line end : ℕ) → LoopAt code class at s body line end → Onward code at end
+      loop_on _ _ _ _ _ (LoopAt.loop {at} {end} {body = body} has next block back) =
+          let inner = block_on (at + 2) body end block in
+          let place : at + 1 + 1 ≡ at + 2 = omega arith in
+          let head = subst (Onward code at) place (and_one at (at + 1) _ (at_one at _ has tt) next (omega (arith, inner.upward))) in
+          and_one at end _ (both_on at (at + 2) end head inner) back (inr (ap is_turn has))
 
-    pub enter_on : (at : ℕ) (args : List RExpr) (params : List ℕ) (body : List Item) (end : ℕ) → EnterAt code at args params body end → Onward code at end
-    enter_on _ _ _ _ _ (EnterAt.enter {at} {to} {into} {end} {args} {params} {body} xs stores block) =
-        both_on at into end (both_on at to into (exprs_on at args to xs) (stores_on to params into stores)) (block_on into body end block)
+      pub enter_on : (at : ℕ) (args : List RExpr) (params : List ℕ) (body : List Item) (end : ℕ) → EnterAt code class at args params body end → Onward code at end
+      enter_on _ _ _ _ _ (EnterAt.enter {at} {to} {into} {end} {args} {params} {body} xs stores block) =
+          both_on at into end (both_on at to into (exprs_on at args to xs) (stores_on to params into stores)) (block_on into body end block)
 
   -- code that is onward as a whole is forward
   pub whole_forward : Onward code 0 (length code.instrs) → IsForward code

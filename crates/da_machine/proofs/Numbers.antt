@@ -86,6 +86,7 @@ end_alike xs x z = (of_end, into_end)
   where
     of_end : Has (xs ++ x ∷ []) z → Has (x ∷ xs) z
     of_end h = elim (of_append xs (x ∷ []) z h) [ inl there ↦ inr there | inr last ↦ elim last [ inl same ↦ inl same | inr none ↦ absurd none ] ]
+
     into_end : Has (x ∷ xs) z → Has (xs ++ x ∷ []) z
     into_end h = elim h [ inl same ↦ Has-append_right xs (x ∷ []) z (inl same) | inr there ↦ Has-append_left xs (x ∷ []) z there ]
 

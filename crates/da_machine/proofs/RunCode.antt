@@ -57,17 +57,17 @@ pub record IsAt (m : Machine) (at : ℕ) (loops : List (List Val)) (turns : ℕ)
   pub taken : m.turns ≡ turns
 
 -- a statement whose code does something is no yield point
-works_on : (code : Code) (at line : ℕ) (k : ItemKind-F ItemKind Alt Item RBranch) (end : ℕ) → WorkAt code at line k end → kind_yields k ≡ false
-works_on code _ _ _ _ (WorkAt.assign x has) = refl
-works_on code _ _ _ _ (WorkAt.add x has) = refl
-works_on code _ _ _ _ (WorkAt.del x has) = refl
-works_on code _ _ _ _ (WorkAt.send x y has) = refl
-works_on code _ _ _ _ (WorkAt.output x has) = refl
-works_on code _ _ _ _ (WorkAt.choice x) = refl
-works_on code _ _ _ _ (WorkAt.while x jump block back) = refl
-works_on code _ _ _ _ (WorkAt.for x has rest) = refl
-works_on code _ _ _ _ (WorkAt.call x) = refl
-works_on code _ _ _ _ WorkAt.pass = refl
+works_on : (code : Code) (class : Class) (at line : ℕ) (k : ItemKind-F ItemKind Alt Item RBranch) (end : ℕ) → WorkAt code class at line k end → kind_yields k ≡ false
+works_on code class _ _ _ _ (WorkAt.assign x has) = refl
+works_on code class _ _ _ _ (WorkAt.add x has) = refl
+works_on code class _ _ _ _ (WorkAt.del x has) = refl
+works_on code class _ _ _ _ (WorkAt.send x y has) = refl
+works_on code class _ _ _ _ (WorkAt.output x has) = refl
+works_on code class _ _ _ _ (WorkAt.choice x) = refl
+works_on code class _ _ _ _ (WorkAt.while x jump block back) = refl
+works_on code class _ _ _ _ (WorkAt.for x has rest) = refl
+works_on code class _ _ _ _ (WorkAt.call x) = refl
+works_on code class _ _ _ _ WorkAt.pass = refl
 
 module _ (p : Program) (class : Class) (code : Code) (promises : Promises p class) where
   abbrev As : Machine → Data → Ran → Type 0
@@ -124,7 +124,7 @@ module _ (p : Program) (class : Class) (code : Code) (promises : Promises p clas
       let kept = promises.keeps t d todo world.known.shaped world.tasks in
       subst (As m d) (sym (run_turn class left n d t todo works))
       (behind_as m (in_turn m (line_of_task t) (at + 1)) d after.data' after.todo after.actions after.fault (n + 1) (run class left (n + 1)) begins (ap (λ k. k + 1) is.taken) does
-       (λ m1 stands. goes_on m1 after.data' after.todo (record { known = record { accepted = world.known.accepted; shaped = kept.0 }; tasks = kept.1 }) stands))
+      (λ m1 stands. goes_on m1 after.data' after.todo (record { known = record { accepted = world.known.accepted; shaped = kept.0 }; tasks = kept.1 }) stands))
 
   -- what goes on behind a turn
   abbrev GoesOn : ℕ → ℕ → Type 0
@@ -134,22 +134,22 @@ module _ (p : Program) (class : Class) (code : Code) (promises : Promises p clas
   with_loops : (m : Machine) (to : ℕ) (loops : List (List Val)) (todo : List Task) → m.loops ≡ loops → CodeFor code class to loops todo → CodeFor code class to m.loops todo
   with_loops m to loops todo is code_for = subst (λ l. CodeFor code class to l todo) (sym is) code_for
 
-  item_as : (at : ℕ) (i : Item) (end : ℕ) → ItemAt code at i end → (left n : ℕ) → left + n ≡ max_turns → (m : Machine) (d : Data) (loops : List (List Val)) (todo : List Task)
+  item_as : (at : ℕ) (i : Item) (end : ℕ) → ItemAt code class at i end → (left n : ℕ) → left + n ≡ max_turns → (m : Machine) (d : Data) (loops : List (List Val)) (todo : List Task)
       → IsWorld p class d (Do i ∷ todo) → IsAt m at loops n → CodeFor code class end loops todo → ((l : ℕ) → left ≡ suc l → GoesOn l (n + 1)) → As m d (run class left n d (Do i ∷ todo))
   item_as _ _ _ (ItemAt.works {at} {end} {i} has work) zero n sum m d loops todo world is code_for goes_on =
-      late_as m d at n loops (Do i) todo world.known is (omega (arith, sum)) (works_on code at (line_of i) (kind_of i) end work) has
+      late_as m d at n loops (Do i) todo world.known is (omega (arith, sum)) (works_on code class at (line_of i) (kind_of i) end work) has
   item_as _ _ _ (ItemAt.works {at} {end} {i} has work) (suc left) n sum m d loops todo world is code_for goes_on =
       let stands = All-head (IsTask p class d.me) (Do i) todo world.tasks in
-      turn_as m d at n left loops (Do i) todo world is (omega (arith, sum)) (works_on code at (line_of i) (kind_of i) end work) has
+      turn_as m d at n left loops (Do i) todo world is (omega (arith, sum)) (works_on code class at (line_of i) (kind_of i) end work) has
       (works p class code (in_turn m (line_of i) (at + 1)) d world.known (line_of i) refl todo at (kind_of i) end work i (ItemAt.works has work) (promises.reads_all i stands) (promises.kinds i stands) m.stack
-       (with_loops m end loops todo is.inside code_for))
+      (with_loops m end loops todo is.inside code_for))
       (goes_on left refl)
-  item_as _ _ _ (ItemAt.label {at} {k} {i} is_kind has point) left n sum m d loops todo world is code_for goes_on =
-      yields_as m d at k n left loops (Do i) todo world.known is (ap kind_yields is_kind) has (CodeFor.does (ItemAt.label is_kind has point) code_for)
-  item_as _ _ _ (ItemAt.await {at} {end} {k} {i} {alts} {entries} is_kind has point blocks) left n sum m d loops todo world is code_for goes_on =
-      yields_as m d at k n left loops (Do i) todo world.known is (ap kind_yields is_kind) has (CodeFor.does (ItemAt.await is_kind has point blocks) code_for)
+  item_as _ _ _ (ItemAt.label {at} {k} {i} is_kind has point numbered) left n sum m d loops todo world is code_for goes_on =
+      yields_as m d at k n left loops (Do i) todo world.known is (ap kind_yields is_kind) has (CodeFor.does (ItemAt.label is_kind has point numbered) code_for)
+  item_as _ _ _ (ItemAt.await {at} {end} {k} {i} {alts} {entries} is_kind has point numbered blocks) left n sum m d loops todo world is code_for goes_on =
+      yields_as m d at k n left loops (Do i) todo world.known is (ap kind_yields is_kind) has (CodeFor.does (ItemAt.await is_kind has point numbered blocks) code_for)
 
-  loop_as : (at s line end : ℕ) (body : List Item) → LoopAt code at s body line end → (left n : ℕ) → left + n ≡ max_turns → (m : Machine) (d : Data) (outer : List (List Val)) (elements : List Val) (todo : List Task)
+  loop_as : (at s line end : ℕ) (body : List Item) → LoopAt code class at s body line end → (left n : ℕ) → left + n ≡ max_turns → (m : Machine) (d : Data) (outer : List (List Val)) (elements : List Val) (todo : List Task)
       → IsWorld p class d (Loop s elements body line ∷ todo) → IsAt m at (outer ++ elements ∷ []) n → CodeFor code class end outer todo → ((l : ℕ) → left ≡ suc l → GoesOn l (n + 1))
       → As m d (run class left n d (Loop s elements body line ∷ todo))
   loop_as _ _ _ _ _ (LoopAt.loop {at} {end} {s} {line} {body} has next block back) zero n sum m d outer elements todo world is code_for goes_on =
@@ -158,10 +158,10 @@ module _ (p : Program) (class : Class) (code : Code) (promises : Promises p clas
       let stands = All-head (IsTask p class d.me) (Loop s elements body line) todo world.tasks in
       turn_as m d at n left (outer ++ elements ∷ []) (Loop s elements body line) todo world is (omega (arith, sum)) refl has
       (loops_on p class code (in_turn m line (at + 1)) d world.known at s line (end + 1) body outer elements (LoopAt.loop has next block back) is.inside
-       (λ x xs same. promises.next_element s line x xs body (subst (λ l. IsTask p class d.me (Loop s l body line)) same stands)) m.stack todo code_for)
+      (λ x xs same. promises.next_element s line x xs body (subst (λ l. IsTask p class d.me (Loop s l body line)) same stands)) m.stack todo code_for)
       (goes_on left refl)
 
-  prepare_as : (at end : ℕ) (call : SetupCall) → Has code at (op.Turn call.line) → EnterAt code (at + 1) call.args class.params class.setup end → (left n : ℕ) → left + n ≡ max_turns → (m : Machine) (d : Data)
+  prepare_as : (at end : ℕ) (call : SetupCall) → Has code at (op.Turn call.line) → EnterAt code class (at + 1) call.args class.params class.setup end → (left n : ℕ) → left + n ≡ max_turns → (m : Machine) (d : Data)
       (loops : List (List Val)) (todo : List Task) → IsWorld p class d (Prepare call ∷ todo) → IsAt m at loops n → CodeFor code class end loops todo → ((l : ℕ) → left ≡ suc l → GoesOn l (n + 1))
       → As m d (run class left n d (Prepare call ∷ todo))
   prepare_as at end call has entry zero n sum m d loops todo world is code_for goes_on =
@@ -170,7 +170,7 @@ module _ (p : Program) (class : Class) (code : Code) (promises : Promises p clas
       let stands = All-head (IsTask p class d.me) (Prepare call) todo world.tasks in
       turn_as m d at n left loops (Prepare call) todo world is (omega (arith, sum)) refl has
       (enters p class code (in_turn m call.line (at + 1)) d world.known call.line refl todo (at + 1) call.args class.params class.setup end entry
-       (promises.setup_reads d.me call world.known.shaped.is_class stands) (promises.setup d.me call world.known.shaped.is_class stands) m.stack (with_loops m end loops todo is.inside code_for))
+      (promises.setup_reads d.me call world.known.shaped.is_class stands) (promises.setup d.me call world.known.shaped.is_class stands) m.stack (with_loops m end loops todo is.inside code_for))
       (goes_on left refl)
 
   runs_as : (left n : ℕ) → left + n ≡ max_turns → (at : ℕ) (loops : List (List Val)) (todo : List Task) → CodeFor code class at loops todo → (m : Machine) (d : Data) → IsWorld p class d todo → IsAt m at loops n
@@ -184,17 +184,17 @@ module _ (p : Program) (class : Class) (code : Code) (promises : Promises p clas
   runs_as zero n sum _ _ _ (CodeFor.does {at} {to} {loops} {i} {todo} x code_for) m d world is = item_as at i to x zero n sum m d loops todo world is code_for (λ l e. absurd (omega arith))
   runs_as (suc left) n sum _ _ _ (CodeFor.does {at} {to} {loops} {i} {todo} x code_for) m d world is =
       item_as at i to x (suc left) n sum m d loops todo world is code_for (λ l e m1 d1 todo1 world1 stands1. subst (λ k. As m1 d1 (run class k (n + 1) d1 todo1)) (omega arith)
-       (runs_as left (n + 1) (omega (arith, sum)) m1.place m1.loops todo1 stands1.code_for m1 d1 world1 (record { place = refl; inside = refl; taken = stands1.same_turns })))
+      (runs_as left (n + 1) (omega (arith, sum)) m1.place m1.loops todo1 stands1.code_for m1 d1 world1 (record { place = refl; inside = refl; taken = stands1.same_turns })))
   runs_as zero n sum _ _ _ (CodeFor.loops {at} {to} {s} {line} {outer} {left = elements} {body} {todo} x code_for) m d world is =
       loop_as at s line to body x zero n sum m d outer elements todo world is code_for (λ l e. absurd (omega arith))
   runs_as (suc left) n sum _ _ _ (CodeFor.loops {at} {to} {s} {line} {outer} {left = elements} {body} {todo} x code_for) m d world is =
       loop_as at s line to body x (suc left) n sum m d outer elements todo world is code_for (λ l e m1 d1 todo1 world1 stands1. subst (λ k. As m1 d1 (run class k (n + 1) d1 todo1)) (omega arith)
-       (runs_as left (n + 1) (omega (arith, sum)) m1.place m1.loops todo1 stands1.code_for m1 d1 world1 (record { place = refl; inside = refl; taken = stands1.same_turns })))
+      (runs_as left (n + 1) (omega (arith, sum)) m1.place m1.loops todo1 stands1.code_for m1 d1 world1 (record { place = refl; inside = refl; taken = stands1.same_turns })))
   runs_as zero n sum _ _ _ (CodeFor.prepares {at} {to} {loops} {call} {todo} has entry code_for) m d world is =
       prepare_as at to call has entry zero n sum m d loops todo world is code_for (λ l e. absurd (omega arith))
   runs_as (suc left) n sum _ _ _ (CodeFor.prepares {at} {to} {loops} {call} {todo} has entry code_for) m d world is =
       prepare_as at to call has entry (suc left) n sum m d loops todo world is code_for (λ l e m1 d1 todo1 world1 stands1. subst (λ k. As m1 d1 (run class k (n + 1) d1 todo1)) (omega arith)
-       (runs_as left (n + 1) (omega (arith, sum)) m1.place m1.loops todo1 stands1.code_for m1 d1 world1 (record { place = refl; inside = refl; taken = stands1.same_turns })))
+      (runs_as left (n + 1) (omega (arith, sum)) m1.place m1.loops todo1 stands1.code_for m1 d1 world1 (record { place = refl; inside = refl; taken = stands1.same_turns })))
 
 -- The machine runs as what it has to do.
 pub ready_runs : (p : Program) (class : Class) (code : Code) (m : Machine) (d : Data) (todo : List Task) → m.turns ≤ max_turns → IsReady p class code m d todo → RunsAs p class code m d (run_to_yield class m.turns d todo)

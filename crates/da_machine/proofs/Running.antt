@@ -37,9 +37,13 @@ module _ (p : Program) (class : Class) (code : Code) where
   -- what is left of the run behind an instruction that goes on
   rest_of : (done : Act) (m1 : Machine) (stands : Data → Type 0) (d : Data) (old new due : List Action) (s : Stop) (m2 : Machine) (d2 : Data) → IsAct done None m1 stands d old new → RunsBy done d due s m2 d2
       → (d1 : Data) × (more : List Action) × stands d1 × RunsTo p class code m1 d1 more s m2 d2 × (new ++ more ≡ old ++ due)
-  rest_of (Goes n1 d1 now) m1 stands d old new due s m2 d2 acted run =
-      (d1, run.0, acted.2, subst (λ x. RunsTo p class code x d1 run.0 s m2 d2) (sym acted.1) run.2,
-      ap (λ l. l ++ run.0) acted.3 ∙ append_assoc old now run.0 ∙ ap (λ l. old ++ l) (sym run.1))
+  rest_of (Goes n1 d1 now) m1 stands d old new due s m2 d2 acted run = (
+    d1,
+    run.0,
+    acted.2,
+    subst (λ x. RunsTo p class code x d1 run.0 s m2 d2) (sym acted.1) run.2,
+    ap (λ l. l ++ run.0) acted.3 ∙ append_assoc old now run.0 ∙ ap (λ l. old ++ l) (sym run.1),
+  )
   rest_of (Halts s1 n1) m1 stands d old new due s m2 d2 acted run = absurd (let e = acted.0 in cc)
 
   -- an instruction that halts ends it

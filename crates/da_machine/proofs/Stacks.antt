@@ -34,9 +34,10 @@ drop_front (x ∷ xs) ys = drop_front xs ys
 
 -- the first so many, and the others, of a list that was cut there
 pub cut_at : {A : Type 0} (xs ys zs : List A) (keep : ℕ) → xs ++ ys ≡ zs → length xs ≡ keep → (xs ≡ take keep zs) × (ys ≡ drop keep zs)
-cut_at xs ys zs keep whole long =
-    (sym (take_front xs ys) ∙ ap (λ l. take (length xs) l) whole ∙ ap (λ k. take k zs) long,
-    sym (drop_front xs ys) ∙ ap (λ l. drop (length xs) l) whole ∙ ap (λ k. drop k zs) long)
+cut_at xs ys zs keep whole long = (
+  sym (take_front xs ys) ∙ ap (λ l. take (length xs) l) whole ∙ ap (λ k. take k zs) long,
+  sym (drop_front xs ys) ∙ ap (λ l. drop (length xs) l) whole ∙ ap (λ k. drop k zs) long,
+)
 
 -- the loop over a set goes on with its next element, or has none
 pub dropped_next : (xs : List Val) (k : ℕ) (x : Val) → slice_get xs k ≡ Some x → drop k xs ≡ x ∷ drop (k + 1) xs

@@ -45,7 +45,7 @@ use Rattle.da_machine.proofs.StoreCode.{back_is, stores_lead}
 
 module _ (class : Class) (code : Code) where
   -- the code of statements in front of what is to do
-  pub block_for : (at : ℕ) (is : List Item) (end : ℕ) → BlockAt code at is end → (loops : List (List Val)) (todo : List Task) → CodeFor code class end loops todo → CodeFor code class at loops (do_all is todo)
+  pub block_for : (at : ℕ) (is : List Item) (end : ℕ) → BlockAt code class at is end → (loops : List (List Val)) (todo : List Task) → CodeFor code class end loops todo → CodeFor code class at loops (do_all is todo)
   block_for _ _ _ (BlockAt.empty {at}) loops todo code_for = code_for
   block_for _ _ _ (BlockAt.item {at} {to} {end} {i} {is} x xs) loops todo code_for = CodeFor.does x (block_for to is end xs loops todo code_for)
 
@@ -107,8 +107,8 @@ module _ (p : Program) (class : Class) (code : Code) where
     sends v w true end st is has sendable code_for =
         comes _ (moved m (end + 1) st) d (sent_to v (recipients w) d) (sending d.me v (recipients w) d.clock) todo refl
         (one p class code d known _ _ _ _ _ has
-         (rw (top_last (st ++ v ∷ []) w, below_last (st ++ v ∷ []) w, top_last st v, is) (sendable (leb-true (packet_len v) max_packet is)))
-         (rw (top_last (st ++ v ∷ []) w, below_last (st ++ v ∷ []) w, top_last st v, below_last st v, is) refl)) code_for
+        (rw (top_last (st ++ v ∷ []) w, below_last (st ++ v ∷ []) w, top_last st v, is) (sendable (leb-true (packet_len v) max_packet is)))
+        (rw (top_last (st ++ v ∷ []) w, below_last (st ++ v ∷ []) w, top_last st v, below_last st v, is) refl)) code_for
     sends v w false end st is has sendable code_for =
         faulty _ Message refl (record {
           last = moved m end st;
@@ -140,61 +140,61 @@ module _ (p : Program) (class : Class) (code : Code) where
     goes_round v false at to st again is has one_way other =
         turn_later _ (moved m to st) d (quiet d todo) refl (one p class code d known _ _ d [] _ has tt (rw (top_last st v, below_last st v, is) refl)) (here (moved m to st) d todo other)
 
-    chooses : (exit at : ℕ) (bs : List RBranch) (other : List Item) → BranchesAt code exit at bs other → AllRead class (map (λ b. (out-RBranch b).cond) bs) → AllByRecursion (BindsRow p class) bs
+    chooses : (exit at : ℕ) (bs : List RBranch) (other : List Item) → BranchesAt code class exit at bs other → AllRead class (map (λ b. (out-RBranch b).cond) bs) → AllByRecursion (BindsRow p class) bs
         → (st : List Val) → CodeFor code class exit m.loops todo → DoesTurn (moved m at st) d (choose class line d todo bs other)
     chooses _ _ _ _ (BranchesAt.otherwise {exit} {at} {other} x) read promised st code_for = here (moved m at st) d _ (block_for class code at other exit x m.loops todo code_for)
     chooses _ _ _ _ (BranchesAt.branch {exit} {at} {test} {to} {end} {b} {bs} {other} x jump found body leave others) read promised st code_for =
         with_given at test st st (eval class.queries (out-RBranch b).cond d) _ (expr_gives p class code d known m at _ test x read.0 st)
         (λ v is. decides v (truth_of v) test (end + 1) st (quiet (bind_found class.queries (out-RBranch b).found (out-RBranch b).binds d) (do_all (out-RBranch b).body todo)) (choose class line d todo bs other) refl jump
-         (comes _ (moved m to st) d _ [] _ refl (binds (test + 1) (out-RBranch b).found (out-RBranch b).binds to found promised.0 st) (block_for class code to (out-RBranch b).body end body m.loops todo (CodeFor.jumps leave code_for)))
-         (chooses exit (end + 1) bs other others read.1 promised.1 st code_for))
+        (comes _ (moved m to st) d _ [] _ refl (binds (test + 1) (out-RBranch b).found (out-RBranch b).binds to found promised.0 st) (block_for class code to (out-RBranch b).body end body m.loops todo (CodeFor.jumps leave code_for)))
+        (chooses exit (end + 1) bs other others read.1 promised.1 st code_for))
 
-    pub enters : (at : ℕ) (args : List RExpr) (params : List ℕ) (body : List Item) (end : ℕ) → EnterAt code at args params body end → AllRead class args → IsEntered p class args params
+    pub enters : (at : ℕ) (args : List RExpr) (params : List ℕ) (body : List Item) (end : ℕ) → EnterAt code class at args params body end → AllRead class args → IsEntered p class args params
         → (st : List Val) → CodeFor code class end m.loops todo → DoesTurn (moved m at st) d (enter class line d todo args params body)
     enters _ _ _ _ _ (EnterAt.enter {at} {to} {into} {end} {args} {params} {body} xs stores block) read promised st code_for =
         with_all_given at to st (eval_all class.queries args d) _ (exprs_give p class code d known m at args to xs read st)
         (λ vs is. comes _ (moved m into st) d (bind_all params vs d) [] (do_all body todo) refl
-         (subst (λ e. Leads p class code (moved m to (st ++ vs)) d (moved m into st) e []) (back_is params vs d promised.distinct)
-          (stores_lead p class code m d known to params into stores vs st (all_long class.queries d args vs is ∙ promised.one_each) (promised.takes d vs known.shaped is)))
-         (block_for class code into body end block m.loops todo code_for))
+        (subst (λ e. Leads p class code (moved m to (st ++ vs)) d (moved m into st) e []) (back_is params vs d promised.distinct)
+        (stores_lead p class code m d known to params into stores vs st (all_long class.queries d args vs is ∙ promised.one_each) (promised.takes d vs known.shaped is)))
+        (block_for class code into body end block m.loops todo code_for))
 
-    pub works : (at : ℕ) (k : ItemKind-F ItemKind Alt Item RBranch) (end : ℕ) → WorkAt code at line k end → (i : Item) → ItemAt code at i end → AllRead class (exprs_in k) → Promised p class k
+    pub works : (at : ℕ) (k : ItemKind-F ItemKind Alt Item RBranch) (end : ℕ) → WorkAt code class at line k end → (i : Item) → ItemAt code class at i end → AllRead class (exprs_in k) → Promised p class k
         → (st : List Val) → CodeFor code class end m.loops todo → DoesTurn (moved m (at + 1) st) d (kind_turn class line d todo (Do i) k)
     works _ _ _ (WorkAt.assign {at} {line} {end} {s} {e} x has) i self read promised st code_for =
         with_given (at + 1) end st st (eval class.queries e d) _ (expr_gives p class code d known m (at + 1) e end x read.0 st)
         (λ v is. comes _ (moved m (end + 1) st) d (put_slot d s v) [] todo refl
-         (one p class code d known _ _ _ [] _ has (rw (top_last st v) (promised d v known.shaped is)) (rw (top_last st v, below_last st v) refl)) code_for)
+        (one p class code d known _ _ _ [] _ has (rw (top_last st v) (promised d v known.shaped is)) (rw (top_last st v, below_last st v) refl)) code_for)
     works _ _ _ (WorkAt.add {at} {line} {end} {s} {e} x has) i self read promised st code_for =
         with_given (at + 1) end st st (eval class.queries e d) _ (expr_gives p class code d known m (at + 1) e end x read.0 st)
         (λ v is. comes _ (moved m (end + 1) st) d (with_element s v d) [] todo refl
-         (one p class code d known _ _ _ [] _ has (rw (top_last st v) (promised d v known.shaped is)) (rw (top_last st v, below_last st v) refl)) code_for)
+        (one p class code d known _ _ _ [] _ has (rw (top_last st v) (promised d v known.shaped is)) (rw (top_last st v, below_last st v) refl)) code_for)
     works _ _ _ (WorkAt.del {at} {line} {end} {s} {e} x has) i self read promised st code_for =
         with_given (at + 1) end st st (eval class.queries e d) _ (expr_gives p class code d known m (at + 1) e end x read.0 st)
         (λ v is. comes _ (moved m (end + 1) st) d (without_element s v d) [] todo refl
-         (one p class code d known _ _ _ [] _ has (rw (top_last st v) (promised d v known.shaped is)) (rw (top_last st v, below_last st v) refl)) code_for)
+        (one p class code d known _ _ _ [] _ has (rw (top_last st v) (promised d v known.shaped is)) (rw (top_last st v, below_last st v) refl)) code_for)
     works _ _ _ (WorkAt.send {at} {line} {to} {end} {m = e} {e = e2} x y has) i self read promised st code_for =
         with_given (at + 1) to st st (eval class.queries e d) _ (expr_gives p class code d known m (at + 1) e to x read.0 st)
         (λ v is. with_given to end (st ++ v ∷ []) (st ++ v ∷ []) (eval class.queries e2 d) _ (expr_gives p class code d known m to e2 end y read.1.0 (st ++ v ∷ []))
-         (λ w is2. sends v w (nat_le (packet_len v) max_packet) end st refl has (promised d v known.shaped is w is2) code_for))
+        (λ w is2. sends v w (nat_le (packet_len v) max_packet) end st refl has (promised d v known.shaped is w is2) code_for))
     works _ _ _ (WorkAt.output {at} {line} {end} {e} x has) i self read promised st code_for =
         with_given (at + 1) end st st (eval class.queries e d) _ (expr_gives p class code d known m (at + 1) e end x read.0 st)
         (λ v is. comes _ (moved m (end + 1) st) d d (Out d.me (value_of v) ∷ []) todo refl
-         (one p class code d known _ _ _ _ _ has (rw (top_last st v) (promised d v known.shaped is)) (rw (top_last st v, below_last st v) refl)) code_for)
+        (one p class code d known _ _ _ _ _ has (rw (top_last st v) (promised d v known.shaped is)) (rw (top_last st v, below_last st v) refl)) code_for)
     works _ _ _ (WorkAt.choice {at} {line} {end} {branches} {other} x) i self read promised st code_for = chooses end (at + 1) branches other x read promised st code_for
     works _ _ _ (WorkAt.while {at} {line} {to} {end} {e} {body} x jump block back) i self read promised st code_for =
         with_given (at + 1) to st st (eval class.queries e d) _ (expr_gives p class code d known m (at + 1) e to x read.0 st)
         (λ v is. goes_round v (truth_of v) to (end + 1) st (do_all body (Do i ∷ todo)) refl jump
-         (block_for class code (to + 1) body end block m.loops (Do i ∷ todo) (CodeFor.jumps back (CodeFor.does self code_for))) code_for)
+        (block_for class code (to + 1) body end block m.loops (Do i ∷ todo) (CodeFor.jumps back (CodeFor.does self code_for))) code_for)
     works _ _ _ (WorkAt.for {at} {line} {to} {end} {s} {e} {body} x has rest) i self read promised st code_for =
         with_given (at + 1) to st st (eval class.queries e d) _ (expr_gives p class code d known m (at + 1) e to x read.0 st)
         (λ v is. comes _ (record m { place = to + 1; stack = st; loops = m.loops ++ elements_of v ∷ [] }) d d [] (Loop s (elements_of v) body line ∷ todo) refl
-         (one p class code d known _ _ _ [] _ has tt (rw (top_last st v, below_last st v) refl)) (CodeFor.loops rest code_for))
+        (one p class code d known _ _ _ [] _ has tt (rw (top_last st v, below_last st v) refl)) (CodeFor.loops rest code_for))
     works _ _ _ (WorkAt.call {at} {line} {end} {args} {body} x) i self read promised st code_for =
         enters (at + 1) (map value_of_arg args) (map slot_of_arg args) body end x read promised st code_for
     works _ _ _ (WorkAt.pass {at} {line}) i self read promised st code_for = here (moved m (at + 1) st) d todo code_for
 
   -- the rest of a loop
-  pub loops_on : (m : Machine) (d : Data) → IsKnown p class d → (at s line end : ℕ) (body : List Item) (outer : List (List Val)) (left : List Val) → LoopAt code at s body line end
+  pub loops_on : (m : Machine) (d : Data) → IsKnown p class d → (at s line end : ℕ) (body : List Item) (outer : List (List Val)) (left : List Val) → LoopAt code class at s body line end
       → m.loops ≡ outer ++ left ∷ [] → ((x : Val) (xs : List Val) → left ≡ x ∷ xs → Takes p class s x) → (st : List Val) (todo : List Task) → CodeFor code class end outer todo
       → DoesTurn (moved m (at + 1) st) d (loop_turn class line d todo s left body)
   loops_on m d known _ _ _ _ _ outer [] (LoopAt.loop {at} {end} {s} {line} {body} turn has block back) is takes st todo code_for =

@@ -27,6 +27,7 @@ use Rattle.da_lang.specs.declared.tree.CmpOp.{CmpOp}
 use Rattle.da_lang.specs.Turns.{kind_of, line_of, slot_of_arg, value_of_arg}
 use Rattle.da_lang.specs.World.{Task, Do, Loop, Prepare}
 use Rattle.da_machine.specs.declared.code.Code.{Code}
+use Rattle.da_machine.specs.Points.{AtLabel, AtAwait, conditions_of, IsNumbered}
 
 -- the instruction stands at the place
 abbrev pub Has : Code → ℕ → Instr → Type 0
@@ -82,51 +83,51 @@ module _ (code : Code) where
     unbound : {at : ℕ} {slots : List ℕ} → FoundAt at None slots at
     bound : {at n : ℕ} {slots : List ℕ} → Has code at (op.Found n slots) → FoundAt at (Some n) slots (at + 1)
 
-  mutual
-    -- the code of statements, one after the other
-    pub data BlockAt : ℕ → List Item → ℕ → Type 0 where
-      empty : {at : ℕ} → BlockAt at [] at
-      item : {at to end : ℕ} {i : Item} {is : List Item} → ItemAt at i to → BlockAt to is end → BlockAt at (i ∷ is) end
-
-    -- The code of a statement begins with its turn. Of a label or an `await` it is a yield point, behind which the
-    -- statement goes on: behind the label, or with the alternatives.
-    pub data ItemAt : ℕ → Item → ℕ → Type 0 where
-      works : {at end : ℕ} {i : Item} → Has code at (op.Turn (line_of i)) → WorkAt at (line_of i) (kind_of i) end → ItemAt at i end
-      label : {at k : ℕ} {i : Item} → kind_of i ≡ kind.Label → Has code at (op.Yield k) → slice_get code.yields k ≡ Some (record { label = true; entries = (at + 1) ∷ [] }) → ItemAt at i (at + 1)
-      await : {at end k : ℕ} {i : Item} {alts : List Alt} {entries : List ℕ} → kind_of i ≡ kind.Await alts → Has code at (op.Yield k) → slice_get code.yields k ≡ Some (record { label = false; entries = entries }) → AltsAt end (at + 1) alts entries → ItemAt at i end
-
-    -- the code behind the turn at this place, of a statement of a kind on a line
-    pub data WorkAt : ℕ → ℕ → ItemKind-F ItemKind Alt Item RBranch → ℕ → Type 0 where
-      assign : {at line end s : ℕ} {e : RExpr} → ExprAt (at + 1) e end → Has code end (op.SetSlot s) → WorkAt at line (kind.Assign s e) (end + 1)
-      add : {at line end s : ℕ} {e : RExpr} → ExprAt (at + 1) e end → Has code end (op.Add s) → WorkAt at line (kind.Add s e) (end + 1)
-      del : {at line end s : ℕ} {e : RExpr} → ExprAt (at + 1) e end → Has code end (op.Del s) → WorkAt at line (kind.Del s e) (end + 1)
-      send : {at line to end : ℕ} {m e : RExpr} → ExprAt (at + 1) m to → ExprAt to e end → Has code end op.Send → WorkAt at line (kind.Send m e) (end + 1)
-      output : {at line end : ℕ} {e : RExpr} → ExprAt (at + 1) e end → Has code end op.Output → WorkAt at line (kind.Output e) (end + 1)
-      choice : {at line end : ℕ} {branches : List RBranch} {other : List Item} → BranchesAt end (at + 1) branches other → WorkAt at line (kind.If branches other) end
-      while : {at line to end : ℕ} {e : RExpr} {body : List Item} → ExprAt (at + 1) e to → Has code to (op.JumpUnless (end + 1)) → BlockAt (to + 1) body end → Has code end (op.Jump at) → WorkAt at line (kind.While e body) (end + 1)
-      for : {at line to end s : ℕ} {e : RExpr} {body : List Item} → ExprAt (at + 1) e to → Has code to op.Take → LoopAt (to + 1) s body line end → WorkAt at line (kind.For s e body) end
-      call : {at line end : ℕ} {args : List BindArg} {body : List Item} → EnterAt (at + 1) (map value_of_arg args) (map slot_of_arg args) body end → WorkAt at line (kind.Call args body) end
-      pass : {at line : ℕ} → WorkAt at line kind.Pass (at + 1)
-
-    -- the branches of an `if` in order and then its last block, each of which goes on at the given place
-    pub data BranchesAt : ℕ → ℕ → List RBranch → List Item → Type 0 where
-      otherwise : {exit at : ℕ} {other : List Item} → BlockAt at other exit → BranchesAt exit at [] other
-      branch : {exit at test to end : ℕ} {b : RBranch} {bs : List RBranch} {other : List Item} → ExprAt at (out-RBranch b).cond test → Has code test (op.JumpUnless (end + 1)) → FoundAt (test + 1) (out-RBranch b).found (out-RBranch b).binds to → BlockAt to (out-RBranch b).body end → Has code end (op.Jump exit) → BranchesAt exit (end + 1) bs other → BranchesAt exit at (b ∷ bs) other
-
-    -- the blocks of alternatives with their entries, each of which goes on at the given place; no code runs into them
-    pub data AltsAt : ℕ → ℕ → List Alt → List ℕ → Type 0 where
-      done : {exit : ℕ} → AltsAt exit exit [] []
-      alt : {exit at end : ℕ} {a : Alt} {alts : List Alt} {entries : List ℕ} → BlockAt at (out-Alt a).body end → Has code end (op.Jump exit) → AltsAt exit (end + 1) alts entries → AltsAt exit at (a ∷ alts) (at ∷ entries)
-
-    -- the code of the rest of a loop, which a turn begins too
-    pub data LoopAt : ℕ → ℕ → List Item → ℕ → ℕ → Type 0 where
-      loop : {at end s line : ℕ} {body : List Item} → Has code at (op.Turn line) → Has code (at + 1) (op.Next s (end + 1)) → BlockAt (at + 2) body end → Has code end (op.Jump at) → LoopAt at s body line (end + 1)
-
-    -- parameters get the values of all arguments, and then comes the body
-    pub data EnterAt : ℕ → List RExpr → List ℕ → List Item → ℕ → Type 0 where
-      enter : {at to into end : ℕ} {args : List RExpr} {params : List ℕ} {body : List Item} → ExprsAt at args to → StoresAt to params into → BlockAt into body end → EnterAt at args params body end
-
   module _ (class : Class) where
+    mutual
+      -- the code of statements, one after the other
+      pub data BlockAt : ℕ → List Item → ℕ → Type 0 where
+        empty : {at : ℕ} → BlockAt at [] at
+        item : {at to end : ℕ} {i : Item} {is : List Item} → ItemAt at i to → BlockAt to is end → BlockAt at (i ∷ is) end
+
+      -- The code of a statement begins with its turn. Of a label or an `await` it is a yield point, behind which the
+      -- statement goes on: behind the label, or with the alternatives. Its number is that of the statement in the class.
+      pub data ItemAt : ℕ → Item → ℕ → Type 0 where
+        works : {at end : ℕ} {i : Item} → Has code at (op.Turn (line_of i)) → WorkAt at (line_of i) (kind_of i) end → ItemAt at i end
+        label : {at k : ℕ} {i : Item} → kind_of i ≡ kind.Label → Has code at (op.Yield k) → slice_get code.yields k ≡ Some (record { label = true; entries = (at + 1) ∷ [] }) → IsNumbered class k AtLabel → ItemAt at i (at + 1)
+        await : {at end k : ℕ} {i : Item} {alts : List Alt} {entries : List ℕ} → kind_of i ≡ kind.Await alts → Has code at (op.Yield k) → slice_get code.yields k ≡ Some (record { label = false; entries = entries }) → IsNumbered class k (AtAwait (conditions_of alts)) → AltsAt end (at + 1) alts entries → ItemAt at i end
+
+      -- the code behind the turn at this place, of a statement of a kind on a line
+      pub data WorkAt : ℕ → ℕ → ItemKind-F ItemKind Alt Item RBranch → ℕ → Type 0 where
+        assign : {at line end s : ℕ} {e : RExpr} → ExprAt (at + 1) e end → Has code end (op.SetSlot s) → WorkAt at line (kind.Assign s e) (end + 1)
+        add : {at line end s : ℕ} {e : RExpr} → ExprAt (at + 1) e end → Has code end (op.Add s) → WorkAt at line (kind.Add s e) (end + 1)
+        del : {at line end s : ℕ} {e : RExpr} → ExprAt (at + 1) e end → Has code end (op.Del s) → WorkAt at line (kind.Del s e) (end + 1)
+        send : {at line to end : ℕ} {m e : RExpr} → ExprAt (at + 1) m to → ExprAt to e end → Has code end op.Send → WorkAt at line (kind.Send m e) (end + 1)
+        output : {at line end : ℕ} {e : RExpr} → ExprAt (at + 1) e end → Has code end op.Output → WorkAt at line (kind.Output e) (end + 1)
+        choice : {at line end : ℕ} {branches : List RBranch} {other : List Item} → BranchesAt end (at + 1) branches other → WorkAt at line (kind.If branches other) end
+        while : {at line to end : ℕ} {e : RExpr} {body : List Item} → ExprAt (at + 1) e to → Has code to (op.JumpUnless (end + 1)) → BlockAt (to + 1) body end → Has code end (op.Jump at) → WorkAt at line (kind.While e body) (end + 1)
+        for : {at line to end s : ℕ} {e : RExpr} {body : List Item} → ExprAt (at + 1) e to → Has code to op.Take → LoopAt (to + 1) s body line end → WorkAt at line (kind.For s e body) end
+        call : {at line end : ℕ} {args : List BindArg} {body : List Item} → EnterAt (at + 1) (map value_of_arg args) (map slot_of_arg args) body end → WorkAt at line (kind.Call args body) end
+        pass : {at line : ℕ} → WorkAt at line kind.Pass (at + 1)
+
+      -- the branches of an `if` in order and then its last block, each of which goes on at the given place
+      pub data BranchesAt : ℕ → ℕ → List RBranch → List Item → Type 0 where
+        otherwise : {exit at : ℕ} {other : List Item} → BlockAt at other exit → BranchesAt exit at [] other
+        branch : {exit at test to end : ℕ} {b : RBranch} {bs : List RBranch} {other : List Item} → ExprAt at (out-RBranch b).cond test → Has code test (op.JumpUnless (end + 1)) → FoundAt (test + 1) (out-RBranch b).found (out-RBranch b).binds to → BlockAt to (out-RBranch b).body end → Has code end (op.Jump exit) → BranchesAt exit (end + 1) bs other → BranchesAt exit at (b ∷ bs) other
+
+      -- the blocks of alternatives with their entries, each of which goes on at the given place; no code runs into them
+      pub data AltsAt : ℕ → ℕ → List Alt → List ℕ → Type 0 where
+        done : {exit : ℕ} → AltsAt exit exit [] []
+        alt : {exit at end : ℕ} {a : Alt} {alts : List Alt} {entries : List ℕ} → BlockAt at (out-Alt a).body end → Has code end (op.Jump exit) → AltsAt exit (end + 1) alts entries → AltsAt exit at (a ∷ alts) (at ∷ entries)
+
+      -- the code of the rest of a loop, which a turn begins too
+      pub data LoopAt : ℕ → ℕ → List Item → ℕ → ℕ → Type 0 where
+        loop : {at end s line : ℕ} {body : List Item} → Has code at (op.Turn line) → Has code (at + 1) (op.Next s (end + 1)) → BlockAt (at + 2) body end → Has code end (op.Jump at) → LoopAt at s body line (end + 1)
+
+      -- parameters get the values of all arguments, and then comes the body
+      pub data EnterAt : ℕ → List RExpr → List ℕ → List Item → ℕ → Type 0 where
+        enter : {at to into end : ℕ} {args : List RExpr} {params : List ℕ} {body : List Item} → ExprsAt at args to → StoresAt to params into → BlockAt into body end → EnterAt at args params body end
+
     -- The code at the place, with these rests of loops, the innermost last, stands for what is to do.
     pub data CodeFor : ℕ → List (List Val) → List Task → Type 0 where
       ends : {at : ℕ} → Has code at op.End → CodeFor at [] []

@@ -4,6 +4,7 @@ pub mod CodeFor
 pub mod Conditions
 pub mod Entries
 pub mod Forward
+pub mod Points
 pub mod Promises
 pub mod Reads
 pub mod RunsTo

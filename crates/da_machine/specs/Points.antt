@@ -1,0 +1,62 @@
+-- The yield points of a class.
+use Rattle.std.specs.Prelude.{◌≡◌, ℕ, List, [], ◌∷◌, ◌++◌, map, Some, flat_map, slice_get}
+use Rattle.da_lang.specs.declared.program.Alt.{Alt}
+use Rattle.da_lang.specs.declared.program.Class.{Class}
+use Rattle.da_lang.specs.declared.program.Item.{Item}
+use Rattle.da_lang.specs.declared.program.ItemKind.{ItemKind}
+use Rattle.da_lang.specs.declared.program.ItemKind.TheFolds.{fold-Item}
+use Rattle.da_lang.specs.declared.program.ItemKind.TheOpen.{ItemKind-F, Alt-F, Item-F, RBranch-F}
+use Rattle.da_lang.specs.declared.program.ItemKind.TheViews.{out-Alt}
+use Rattle.da_lang.specs.declared.query.Cond.{Cond}
+
+-- a label, or an `await` with the conditions of its alternatives
+pub data Point : Type 0 where
+  AtLabel : Point
+  AtAwait : List Cond → Point
+
+abbrev pub condition_of : Alt → Cond
+condition_of a = (out-Alt a).cond
+
+abbrev pub conditions_of : List Alt → List Cond
+conditions_of alts = map condition_of alts
+
+-- an alternative: what it waits for, and the yield points of its block
+pub record AltPoints : Type 0 where
+  pub waits_for : Cond
+  pub inside : List Point
+
+abbrev pub Points : Type 0
+Points = List Point
+
+abbrev pub points_of : List Points → Points
+points_of = flat_map (λ points. points)
+
+-- the yield points in a statement; an `await` comes before those of its alternatives
+abbrev pub kind_points_step : ItemKind-F Points AltPoints Points Points → Points
+kind_points_step (ItemKind-F.If branches other) = points_of branches ++ points_of other
+kind_points_step (ItemKind-F.While e body) = points_of body
+kind_points_step (ItemKind-F.For s e body) = points_of body
+kind_points_step (ItemKind-F.Call args body) = points_of body
+kind_points_step (ItemKind-F.Await alts) = AtAwait (map (λ a. a.waits_for) alts) ∷ flat_map (λ a. a.inside) alts
+kind_points_step ItemKind-F.Label = AtLabel ∷ []
+kind_points_step _ = []
+
+abbrev pub alt_points_step : Alt-F Points AltPoints Points Points → AltPoints
+alt_points_step a = record { waits_for = a.cond; inside = points_of a.body }
+
+abbrev pub item_points_step : Item-F Points AltPoints Points Points → Points
+item_points_step i = i.kind
+
+abbrev pub branch_points_step : RBranch-F Points AltPoints Points Points → Points
+branch_points_step b = points_of b.body
+
+unfoldable pub points_in : Item → Points
+points_in = fold-Item Points AltPoints Points Points kind_points_step alt_points_step item_points_step branch_points_step
+
+-- those of a class, in the order of its inlined text: of `run`, then of its handlers
+abbrev pub class_points : Class → Points
+class_points class = flat_map points_in class.run ++ flat_map (λ h. flat_map points_in h.body) class.handlers
+
+-- the yield point of this number
+abbrev pub IsNumbered : Class → ℕ → Point → Type 0
+IsNumbered class k point = slice_get (class_points class) k ≡ Some point
