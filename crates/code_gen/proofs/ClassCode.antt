@@ -1,5 +1,5 @@
 -- The code that is added for openings and handlers.
-use Rattle.std.proofs.Common.{◌≡◌, ℕ, ◌+◌, ◌<◌, ◌≤◌, Bool, true, false, List, [], ◌∷◌, ◌++◌, length, map, take, get_or, Option, Some, None, refl, sym, ap, ◌∙◌, subst, arith}
+use Rattle.std.proofs.Common.{◌≡◌, ℕ, ◌+◌, ◌^◌, ◌<◌, ◌≤◌, Bool, true, false, List, [], ◌∷◌, ◌++◌, length, map, take, get_or, Option, Some, None, refl, sym, ap, ◌∙◌, subst, arith}
 use Rattle.std.specs.Prelude.{◌==◌, flat_map, if◌then◌else◌}
 use Rattle.std.proofs.lemmas.Bool.{eq-eqb, eqb-true}
 use Rattle.std.proofs.lemmas.List.{append-nil, map-id, take_all, take_more}
@@ -11,7 +11,7 @@ use Rattle.da_lang.specs.declared.program.ProcDecl.{ProcDecl}
 use Rattle.da_lang.specs.declared.program.SetupCall.{SetupCall}
 use Rattle.da_machine.specs.declared.code.Code.{Code}
 use Rattle.da_machine.specs.CodeFor.{Has, BlockAt, EnterAt, ExprsAt, StoresAt}
-use Rattle.da_machine.specs.Points.{Point, Points}
+use Rattle.da_machine.specs.Points.{Point, Points, class_points}
 use Rattle.code_gen.specs.Made.{AreBehind, AreNumbered, Grown, MadeBlock, MadeExprs, MadeHandlers, MadeSetup, MadeSetups, MadeStores, added, block_points, end_of, handler_points}
 use Rattle.code_gen.specs.Open.{HandlersAt, OpenSetups, SetupAt, own_setups}
 use Rattle.code_gen.proofs.ExprCode.{behind_too}
@@ -24,11 +24,11 @@ pub made_unprepared : (a : Code) (class : Class) → MadeSetup a a class None
 made_unprepared a class = record { grown = grown_none a; stands = SetupAt.no_setup }
 
 -- nothing is numbered where there is nothing
-no_numbers : (class : Class) (from : ℕ) (ps : Points) → ps ≡ [] → AreNumbered class from ps
-no_numbers class from ps none = subst (AreNumbered class from) (sym none) (λ n point there. absurd (let no : ◌≡◌ {A = Option Point} None (Some point) = there in cc))
+no_numbers : (class : Class) (from : ℕ) (ps : Points) → length (class_points class) < 2 ^ 32 → ps ≡ [] → AreNumbered class from ps
+no_numbers class from ps few none = subst (AreNumbered class from) (sym none) (record { few = few; each = λ n point there. absurd (let no : ◌≡◌ {A = Option Point} None (Some point) = there in cc) })
 
-pub made_prepared : (a b c d e : Code) (class : Class) (call : SetupCall) → block_points class.setup ≡ [] → b ≡ added a (op.Turn call.line) → MadeExprs b c call.args → MadeStores c d (map (λ s. s) class.params) → MadeBlock d e class.setup → MadeSetup a e class (Some call)
-made_prepared a b c d e class call none is_b values stores block =
+pub made_prepared : (a b c d e : Code) (class : Class) (call : SetupCall) → length (class_points class) < 2 ^ 32 → block_points class.setup ≡ [] → b ≡ added a (op.Turn call.line) → MadeExprs b c call.args → MadeStores c d (map (λ s. s) class.params) → MadeBlock d e class.setup → MadeSetup a e class (Some call)
+made_prepared a b c d e class call few none is_b values stores block =
     let nothing_more : length (block_points class.setup) ≡ 0 = ap length none in
     let de : Grown d e 0 = subst (Grown d e) nothing_more block.grown in
     let ce = grown_on c d e 0 0 stores.grown de in
@@ -37,7 +37,7 @@ made_prepared a b c d e class call none is_b values stores block =
     let slots = kept_stores d e (grown_keeps d e 0 de) (subst (λ l. StoresAt d (end_of c) l (end_of d)) (map-id class.params) stores.stands) in
     record {
       grown = grown_on a b e 0 0 (put_grown a b _ is_b) be;
-      stands = SetupAt.setup (stays_has b e 0 (end_of a) _ be (put_has a b _ is_b)) (EnterAt.enter first slots (block.stands class (no_numbers class (length d.yields) (block_points class.setup) none)));
+      stands = SetupAt.setup (stays_has b e 0 (end_of a) _ be (put_has a b _ is_b)) (EnterAt.enter first slots (block.stands class (no_numbers class (length d.yields) (block_points class.setup) few none)));
     }
 
 -- openings

@@ -1,5 +1,5 @@
 -- The code of a class, from its openings, `run` and its handlers.
-use Rattle.std.proofs.Common.{◌≡◌, ℕ, zero, suc, ◌+◌, ◌<◌, ◌≤◌, Bool, true, false, List, [], ◌∷◌, ◌++◌, length, map, Option, Some, None, refl, sym, ap, ◌∙◌, subst, arith, inl, inr, append_assoc, length-append}
+use Rattle.std.proofs.Common.{◌≡◌, ℕ, zero, suc, ◌+◌, ◌^◌, ◌<◌, ◌≤◌, Bool, true, false, List, [], ◌∷◌, ◌++◌, length, map, Option, Some, None, refl, sym, ap, ◌∙◌, subst, arith, inl, inr, append_assoc, length-append}
 use Rattle.std.specs.Prelude.{◌==◌, flat_map, if◌then◌else◌, option_map, slice_get}
 use Rattle.std.specs.List.{AllByRecursion}
 use Rattle.std.proofs.lemmas.Option.{slice_get-map, slice_get_within}
@@ -153,13 +153,13 @@ handlers_again f starts given class _ _ _ _ (HandlersAt.handler {at} {end} {last
 sum_of_both : (rs hs : Points) → 0 + (length rs + length hs) ≡ length (rs ++ hs)
 sum_of_both rs hs = omega (arith, length-append rs hs)
 
-all_points : (class : Class) → AreNumbered class 0 (class_points class)
-all_points class n point there = let e : n ≡ 0 + n = omega arith in subst (λ m. IsNumbered class m point) e there
+all_points : (class : Class) → length (class_points class) < 2 ^ 32 → AreNumbered class 0 (class_points class)
+all_points class few = record { few = few; each = λ n point there. let e : n ≡ 0 + n = omega arith in subst (λ m. IsNumbered class m point) e there }
 
 -- a start; the openings up to b; their jumps; `run` up to d; its end; the handlers up to f; the same code with its entries
-pub is_code : (p : Program) (number : ℕ) (class : Class) (a b c d e f z : Code) (starts leaves places entries : List ℕ) (run : ℕ) → a.instrs ≡ [] → a.yields ≡ [] → MadeSetups a b class (own_setups number p.procs) starts leaves → run ≡ end_of b → places ≡ leaves
+pub is_code : (p : Program) (number : ℕ) (class : Class) (a b c d e f z : Code) (starts leaves places entries : List ℕ) (run : ℕ) → length (class_points class) < 2 ^ 32 → a.instrs ≡ [] → a.yields ≡ [] → MadeSetups a b class (own_setups number p.procs) starts leaves → run ≡ end_of b → places ≡ leaves
     → c ≡ filled b places (op.Jump run) → MadeBlock c d class.run → e ≡ added d op.End → MadeHandlers e f class.handlers entries → z ≡ record f { starts = starts; handlers = entries } → IsCodeOf p number class z
-is_code p number class a b c d e f z starts leaves places entries run no_instrs no_yields openings is_run listed filled_so block is_e bodies is_z =
+is_code p number class a b c d e f z starts leaves places entries run few no_instrs no_yields openings is_run listed filled_so block is_e bodies is_z =
     let j = op.Jump run in
     let is_c : c ≡ filled b leaves j = filled_so ∙ ap (λ l. filled b l j) listed in
     let rs = block_points class.run in
@@ -180,7 +180,7 @@ is_code p number class a b c d e f z starts leaves places entries run no_instrs 
     let cz = keeps_on c f z (grown_keeps c f _ cf) fz in
     let dz = keeps_on d f z (grown_keeps d f _ df) fz in
     let bz = keeps_on b c z bc cz in
-    let numbered : AreNumbered class (length c.yields) (class_points class) = subst (λ k. AreNumbered class k (class_points class)) (sym none) (all_points class) in
+    let numbered : AreNumbered class (length c.yields) (class_points class) = subst (λ k. AreNumbered class k (class_points class)) (sym none) (all_points class few) in
     let run_c = block.stands class (front_numbers class (length c.yields) rs hs numbered) in
     let run_z = kept_block d z dz class run_c in
     let end_f : Has f (end_of d) op.End = stays_has e f _ (end_of d) op.End bodies.grown (put_has d e op.End is_e) in

@@ -1,6 +1,8 @@
 pub mod ClassCode
 pub mod ClassLaws
 pub mod ExprCode
+pub mod FewPoints
+pub mod Generated
 pub mod Growing
 pub mod ItemCode
 pub mod Kept

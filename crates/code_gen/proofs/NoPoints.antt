@@ -107,9 +107,3 @@ cases = record {
 
 pub none_in : (items : List Item) → HasNoYield items → block_points items ≡ []
 none_in items none = block_none items (items_induction cases items) none
-
--- `setup` of a class that is there
-found_there : (classes : List Class) (k : ℕ) (c : Class) → slice_get classes k ≡ Some c → Has classes c
-found_there [] k c is = absurd (let bad : ◌≡◌ {A = Option Class} None (Some c) = is in cc)
-found_there (d ∷ classes) zero c is = inl (let e : ◌≡◌ {A = Option Class} (Some d) (Some c) = is in cc)
-found_there (d ∷ classes) (suc k) c is = inr (found_there classes k c is)

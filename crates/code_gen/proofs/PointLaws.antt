@@ -92,12 +92,15 @@ points_at i =
 
 -- the first of numbered points, and those behind them
 pub front_numbers : (class : Class) (from : ℕ) (ps qs : Points) → AreNumbered class from (ps ++ qs) → AreNumbered class from ps
-front_numbers class from ps qs all n point there = all n point (in_front ps qs n (slice_get_within ps n point there) ∙ there)
+front_numbers class from ps qs all = record { few = all.few; each = λ n point there. all.each n point (in_front ps qs n (slice_get_within ps n point there) ∙ there) }
 
 pub rest_numbers : (class : Class) (from : ℕ) (ps qs : Points) → AreNumbered class from (ps ++ qs) → AreNumbered class (from + length ps) qs
-rest_numbers class from ps qs all n point there =
-    let place : from + (length ps + n) ≡ from + length ps + n = omega arith in
-    subst (λ m. IsNumbered class m point) place (all (length ps + n) point (behind_front ps qs n ∙ there))
+rest_numbers class from ps qs all = record { few = all.few; each = λ n point there. later n point there }
+  where
+    later : (n : ℕ) (point : Point) → slice_get qs n ≡ Some point → IsNumbered class (from + length ps + n) point
+    later n point there =
+        let place : from + (length ps + n) ≡ from + length ps + n = omega arith in
+        subst (λ m. IsNumbered class m point) place (all.each (length ps + n) point (behind_front ps qs n ∙ there))
 
 pub after_numbers : (class : Class) (a b : Code) (ps qs : Points) → Grown a b (length ps) → AreNumbered class (length a.yields) (ps ++ qs) → AreNumbered class (length b.yields) qs
 after_numbers class a b ps qs grown all = subst (λ m. AreNumbered class m qs) (sym grown.count) (rest_numbers class (length a.yields) ps qs all)

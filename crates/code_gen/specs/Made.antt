@@ -1,5 +1,5 @@
 -- What is added to code, and for what it stands.
-use Rattle.std.specs.Prelude.{◌≡◌, ℕ, ◌+◌, ◌<◌, ◌≤◌, Bool, true, false, List, [], ◌∷◌, ◌++◌, length, map, flat_map, Option, Some, slice_get, slice_set}
+use Rattle.std.specs.Prelude.{◌≡◌, ℕ, ◌+◌, ◌^◌, ◌<◌, ◌≤◌, Bool, true, false, List, [], ◌∷◌, ◌++◌, length, map, flat_map, Option, Some, slice_get, slice_set}
 use Rattle.std.specs.List.{AllByRecursion}
 use Rattle.da_lang.specs.declared.code.Instr.{Instr}
 use Rattle.da_lang.specs.declared.program.Alt.{Alt}
@@ -19,7 +19,7 @@ use Rattle.da_machine.specs.declared.code.Code.{Code}
 use Rattle.da_machine.specs.declared.code.YieldPoint.{YieldPoint}
 use Rattle.da_machine.specs.CodeFor.{BlockAt, EnterAt, ExprAt, ExprsAt, FoundAt, Has, ItemAt, LoopAt, PartsAt, StoresAt, WorkAt}
 use Rattle.da_lang.specs.declared.code.Instr.TheVariants as op
-use Rattle.da_machine.specs.Points.{AtAwait, AtLabel, IsNumbered, Point, Points, conditions_of, points_in}
+use Rattle.da_machine.specs.Points.{AtAwait, AtLabel, IsNumbered, Point, Points, class_points, conditions_of, points_in}
 use Rattle.code_gen.specs.Open.{HandlersAt, OpenAlts, OpenBranches, OpenSetups, SetupAt}
 
 -- with an instruction more; with another one at a place; with the same one at several places
@@ -55,9 +55,10 @@ pub record Grown (old new : Code) (points : ℕ) : Type 0 where
   pub yields : (k : ℕ) → k < length old.yields → slice_get new.yields k ≡ slice_get old.yields k
   pub count : length new.yields ≡ length old.yields + points
 
--- these are the yield points of the class from this number on
-abbrev pub AreNumbered : Class → ℕ → Points → Type 0
-AreNumbered class from points = (n : ℕ) (point : Point) → slice_get points n ≡ Some point → IsNumbered class (from + n) point
+-- these are the yield points of the class from this number on, and it has no more than 32 bits count
+pub record AreNumbered (class : Class) (from : ℕ) (points : Points) : Type 0 where
+  pub few : length (class_points class) < 2 ^ 32
+  pub each : (n : ℕ) (point : Point) → slice_get points n ≡ Some point → IsNumbered class (from + n) point
 
 -- those of a block, of branches and of alternatives
 abbrev pub block_points : List Item → Points

@@ -3,7 +3,8 @@ ghost use Rattle.code_gen.specs.ClassCode.{IsCodeOf};
 ghost use Rattle.code_gen.specs.Made.{MadeHandlers, MadeSetup, MadeSetups, block_points, end_of};
 ghost use Rattle.code_gen.specs.Open.{own_setups};
 ghost use Rattle.da_lang.specs.declared.program.Class.{Class};
-ghost use Rattle.std.specs.Prelude.{◌≡◌, ◌<◌, ◌∷◌, [], IfOk, List, OnOk, Some, length, slice_get};
+ghost use Rattle.da_machine.specs.Points.{class_points};
+ghost use Rattle.std.specs.Prelude.{◌≡◌, ◌<◌, ◌^◌, ◌∷◌, [], IfOk, List, OnOk, Some, length, slice_get};
 
 use crate::emit::{fill_jumps, here, put};
 use crate::exprs::{emit_exprs, emit_stored};
@@ -33,6 +34,7 @@ fn class_code(
     number: usize,
     class: &Class,
 ) -> Result<Code, NoMemory>
+    requires few { length (class_points class.now) < 2 ^ 32 }
     requires setup { block_points class.now.setup ≡ [] }
     ensures { IfOk result (λ code. IsCodeOf program.now number class.now code) }
 {
@@ -66,18 +68,20 @@ fn emit_setups(
     code: &mut Code,
     starts: &mut List<u64>,
 ) -> Result<List<usize>, NoMemory>
+    requires few { length (class_points class.now) < 2 ^ 32 }
     requires setup { block_points class.now.setup ≡ [] }
     requires starts { starts.old ≡ [] }
     ensures { IfOk result (λ leaves. MadeSetups code.old code.new class.now (own_setups number procs.now) starts.new leaves) }
 {
     let mut leaves = List::new(alloc);
     'openings: for proc in procs {
-        if usize::from(proc.class) == number {
-            starts.push(here(code))?;
-            emit_setup(alloc, class, &proc.setup, code)?;
-            leaves.push(code.instrs.len())?;
-            put(code, Instr::End)?;
+        if usize::from(proc.class) != number {
+            continue;
         }
+        starts.push(here(code))?;
+        emit_setup(alloc, class, &proc.setup, code)?;
+        leaves.push(code.instrs.len())?;
+        put(code, Instr::End)?;
     }
     Ok(leaves)
 }
@@ -90,6 +94,7 @@ fn emit_setup(
     setup: &Option<SetupCall>,
     code: &mut Code,
 ) -> Result<(), NoMemory>
+    requires few { length (class_points class.now) < 2 ^ 32 }
     requires setup { block_points class.now.setup ≡ [] }
     ensures { OnOk result (MadeSetup code.old code.new class.now setup.now) }
 {

@@ -2,7 +2,7 @@
 ghost use Rattle.code_gen.specs.Made.{MadeFound, added, end_of, filled, patched, pointed, repointed};
 ghost use Rattle.da_lang.specs.declared.code.Instr.TheVariants as op;
 ghost use Rattle.da_machine.specs.CodeFor.{jump_at};
-ghost use Rattle.std.specs.Prelude.{◌≡◌, ◌++◌, ◌∷◌, [], length, IfOk, OnOk};
+ghost use Rattle.std.specs.Prelude.{◌≡◌, ◌<◌, ◌^◌, ◌++◌, ◌∷◌, [], length, IfOk, OnOk};
 
 use da_lang::Instr;
 use da_machine::{Code, YieldPoint};
@@ -61,13 +61,13 @@ pub fn fill_jumps(code: &mut Code, holes: &[usize], to: u64)
     }
 }
 
-/// The number of the next yield point. A class of an accepted program has at most 16,384.
-pub fn next_number(code: &Code) -> Result<u32, NoMemory>
-    ensures { IfOk result (λ number. number ≡ length code.now.yields) }
+/// The number of the next yield point, where 32 bits count those before it.
+pub fn next_number(code: &Code) -> u32
+    ensures { length code.now.yields < 2 ^ 32 → result ≡ length code.now.yields }
 {
     match u32::try_from(code.yields.len()) {
-        Ok(number) => Ok(number),
-        Err(_) => Err(NoMemory),
+        Ok(number) => number,
+        Err(_) => u32::MAX,
     }
 }
 
@@ -78,11 +78,10 @@ pub fn add_point(code: &mut Code, point: YieldPoint) -> Result<(), NoMemory>
     code.yields.push(point)
 }
 
-/// Writes a yield point over the one of a number, if there is one.
-pub fn set_point(code: &mut Code, number: u32, point: YieldPoint)
-    ensures { code.new ≡ repointed code.old number point }
+/// Writes a yield point over the one at a place, if there is one.
+pub fn set_point(code: &mut Code, at: usize, point: YieldPoint)
+    ensures { code.new ≡ repointed code.old at point }
 {
-    let at = number as usize;
     if at < code.yields.len() {
         code.yields.set(at, point);
     }

@@ -155,7 +155,8 @@ fn emit_branch(alloc: Global, branch: &RBranch, code: &mut Code) -> Result<usize
 fn emit_await(alloc: Global, alts: &[Alt], code: &mut Code) -> Result<(), NoMemory>
     ensures { OnOk result (MadeAwait code.old code.new alts.now) }
 {
-    let number = next_number(code)?;
+    let at = code.yields.len();
+    let number = next_number(code);
     let reserved = YieldPoint {
         label: true,
         entries: List::new(alloc),
@@ -170,13 +171,13 @@ fn emit_await(alloc: Global, alts: &[Alt], code: &mut Code) -> Result<(), NoMemo
         leaves.push(code.instrs.len())?;
         put(code, Instr::End)?;
     }
-    let exit = here(code);
-    fill_jumps(code, leaves.as_slice(), exit);
+    let behind = here(code);
+    fill_jumps(code, leaves.as_slice(), behind);
     let point = YieldPoint {
         label: false,
         entries,
     };
-    set_point(code, number, point);
+    set_point(code, at, point);
     Ok(())
 }
 
@@ -185,7 +186,7 @@ fn emit_await(alloc: Global, alts: &[Alt], code: &mut Code) -> Result<(), NoMemo
 fn emit_label(alloc: Global, code: &mut Code) -> Result<(), NoMemory>
     ensures { OnOk result (MadeLabel code.old code.new) }
 {
-    let number = next_number(code)?;
+    let number = next_number(code);
     put(code, Instr::Yield(number))?;
     let mut entries = List::new(alloc);
     entries.push(here(code))?;
