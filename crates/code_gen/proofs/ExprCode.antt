@@ -2,7 +2,6 @@
 use Rattle.std.proofs.Common.{◌≡◌, ℕ, ◌+◌, ◌-◌, ◌<◌, ◌≤◌, Bool, true, false, not, List, [], ◌∷◌, ◌++◌, length, map, take, get_or, append_assoc, Option, Some, None, refl, sym, ap, ◌∙◌, subst, arith, inl, inr}
 use Rattle.std.specs.List.{AllByRecursion}
 use Rattle.std.proofs.lemmas.List.{append-nil, map-append, take_all, take_more}
-
 use Rattle.da_values.specs.declared.val.Val.{Val}
 use Rattle.da_values.specs.declared.val.Val.TheVariants as val
 use Rattle.da_values.specs.declared.value.Value.{Value}
@@ -56,7 +55,7 @@ behind_two a b c d x y i e first second is build =
     record {
       grown = grown_on a b d 0 0 first.grown rest;
       stands = subst (λ n. ExprAt d (end_of a) e n) (sym (put_end c d i is))
-      (build d (end_of a) (end_of b) (end_of c) (kept_expr b d (grown_keeps b d 0 rest) first.stands) (kept_expr c d (grown_keeps c d 0 last) second.stands) (put_has c d i is));
+          (build d (end_of a) (end_of b) (end_of c) (kept_expr b d (grown_keeps b d 0 rest) first.stands) (kept_expr c d (grown_keeps c d 0 last) second.stands) (put_has c d i is));
     }
 
 pub made_range : (a b c d : Code) (x y : RExpr) → MadeExpr a b x → MadeExpr b c y → d ≡ added c op.Range → MadeExpr a d (ex.Range x y)
@@ -100,7 +99,7 @@ made_tuple a b c es n first many is =
     record {
       grown = grown_on a b c 0 0 first.grown last;
       stands = subst (λ m. ExprAt c (end_of a) (ex.Tuple es) m) (sym (put_end b c (op.Pack n) is))
-      (ExprAt.tuple (kept_exprs b c (grown_keeps b c 0 last) first.stands) (subst (λ m. Has c (end_of b) (op.Pack m)) many (put_has b c (op.Pack n) is)));
+          (ExprAt.tuple (kept_exprs b c (grown_keeps b c 0 last) first.stands) (subst (λ m. Has c (end_of b) (op.Pack m)) many (put_has b c (op.Pack n) is)));
     }
 
 pub made_set : (a b c : Code) (es : List RExpr) (n : ℕ) → MadeExprs a b es → n ≡ length es → c ≡ added b (op.Collect n) → MadeExpr a c (ex.SetOf es)
@@ -109,7 +108,7 @@ made_set a b c es n first many is =
     record {
       grown = grown_on a b c 0 0 first.grown last;
       stands = subst (λ m. ExprAt c (end_of a) (ex.SetOf es) m) (sym (put_end b c (op.Collect n) is))
-      (ExprAt.set (kept_exprs b c (grown_keeps b c 0 last) first.stands) (subst (λ m. Has c (end_of b) (op.Collect m)) many (put_has b c (op.Collect n) is)));
+          (ExprAt.set (kept_exprs b c (grown_keeps b c 0 last) first.stands) (subst (λ m. Has c (end_of b) (op.Collect m)) many (put_has b c (op.Collect n) is)));
     }
 
 -- chains
@@ -128,7 +127,7 @@ made_parts_after a b c d ps p first operand is =
     record {
       grown = grown_on a b d 0 0 first.grown rest;
       stands = subst (λ n. PartsAt d (end_of a) (ps ++ p ∷ []) n) (sym (put_end c d i is))
-      (parts_after d (end_of a) ps (end_of b) (kept_parts b d (grown_keeps b d 0 rest) first.stands) p (end_of c) (kept_expr c d (grown_keeps c d 0 last) operand.stands) (put_has c d i is));
+          (parts_after d (end_of a) ps (end_of b) (kept_parts b d (grown_keeps b d 0 rest) first.stands) p (end_of c) (kept_expr c d (grown_keeps c d 0 last) operand.stands) (put_has c d i is));
     }
 
 pub made_parts_next : (a b c d : Code) (ps : List ChainPart) (k : ℕ) (p : ChainPart) → k < length ps → p ≡ get_or ps k p → MadeParts a b (take k ps) → MadeExpr b c (out-ChainPart p).operand → d ≡ added c (op.Arith (out-ChainPart p).op) → MadeParts a d (take (k + 1) ps)
@@ -175,7 +174,7 @@ made_operand a b c d es holes e first value is =
       grown = grown_on a b d 0 0 first.grown rest;
       behind = behind_too a holes (end_of c) first.behind (omega (arith, first.grown.instrs.longer, value.grown.instrs.longer));
       stands = subst (λ n. OperandsAt d (end_of a) (es ++ e ∷ []) n (holes ++ end_of c ∷ [])) (sym (put_end c d op.End is))
-      (operands_after d (end_of a) es (end_of b) holes (operands_stay b d 0 (end_of a) es (end_of b) holes rest first.stands) e (end_of c) (kept_expr c d (grown_keeps c d 0 last) value.stands) (put_has c d op.End is));
+          (operands_after d (end_of a) es (end_of b) holes (operands_stay b d 0 (end_of a) es (end_of b) holes rest first.stands) e (end_of c) (kept_expr c d (grown_keeps c d 0 last) value.stands) (put_has c d op.End is));
     }
 
 pub operands_next : (a b c d : Code) (es : List RExpr) (k : ℕ) (holes now : List ℕ) (hole : ℕ) (e : RExpr) → k < length es → e ≡ get_or es k e → Operands a b (take k es) holes → MadeExpr b c e → hole ≡ end_of c → now ≡ holes ++ hole ∷ [] → d ≡ added c op.End → Operands a d (take (k + 1) es) now

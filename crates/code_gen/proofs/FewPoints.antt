@@ -81,7 +81,7 @@ cases = record {
   if_one = λ branches other each rest i is.
       let counted : kind_counted (it.If branches other) ≡ sum (map branch_counted branches) + block_count other = kind_counted-If branches other in
       let few : length (flat_map branch_points branches ++ block_points other) ≤ suc (kind_counted (it.If branches other)) =
-          omega (arith, branches_few branches each, block_few other rest, length-append (flat_map branch_points branches) (block_points other), counted) in
+      omega (arith, branches_few branches each, block_few other rest, length-append (flat_map branch_points branches) (block_points other), counted) in
       of_kind i (kind.If branches other) _ (is ∙ it.outs-If branches other) few;
   while = λ e body each i is.
       let counted : kind_counted (it.While e body) ≡ block_count body = kind_counted-While e body in

@@ -81,16 +81,16 @@ made_if a b c d f i bs other leaves exit is is_b branches block is_exit is_f =
     let leads : exit ≡ end_of f = is_exit ∙ sym end_f in
     turned a f i (kind.If bs other) (ps ++ qs) (ap out-ItemKind is ∙ it.outs-If bs other) refl (none_then a b f _ ab bf) (stays_has b f _ (end_of a) _ bf (put_has a b _ is_b))
     (λ class numbered.
-        let at_b = same_numbers class a b (ps ++ qs) ab numbered in
-        let at_c = branches.stands class (front_numbers class (length b.yields) ps qs at_b) in
-        let at_d = branches_stay c d _ class (end_of b) bs (end_of c) leaves block.grown at_c in
-        let may = holes_may_be j d leaves (branch_holes d class (end_of b) bs (end_of c) leaves at_d) in
-        let df : Keeps d f = subst (Keeps d) (sym is_f) (fill_keeps j d leaves may) in
-        let written = subst (λ z. AllByRecursion (λ at. Has z at j) leaves) (sym is_f) (fill_has j d leaves may) in
-        let last = subst (λ n. BlockAt f class (end_of c) other n) (sym is_exit) (kept_block d f df class (block.stands class (after_numbers class b c ps qs branches.grown at_b))) in
-        let choice = branches_written d f class exit other (end_of b) bs (end_of c) leaves at_d df written last in
-        subst (λ n. WorkAt f class (end_of a) (line_of i) (kind.If bs other) n) leads
-        (WorkAt.choice (subst (λ n. BranchesAt f class exit n bs other) (put_end a b _ is_b) choice)))
+    let at_b = same_numbers class a b (ps ++ qs) ab numbered in
+    let at_c = branches.stands class (front_numbers class (length b.yields) ps qs at_b) in
+    let at_d = branches_stay c d _ class (end_of b) bs (end_of c) leaves block.grown at_c in
+    let may = holes_may_be j d leaves (branch_holes d class (end_of b) bs (end_of c) leaves at_d) in
+    let df : Keeps d f = subst (Keeps d) (sym is_f) (fill_keeps j d leaves may) in
+    let written = subst (λ z. AllByRecursion (λ at. Has z at j) leaves) (sym is_f) (fill_has j d leaves may) in
+    let last = subst (λ n. BlockAt f class (end_of c) other n) (sym is_exit) (kept_block d f df class (block.stands class (after_numbers class b c ps qs branches.grown at_b))) in
+    let choice = branches_written d f class exit other (end_of b) bs (end_of c) leaves at_d df written last in
+    subst (λ n. WorkAt f class (end_of a) (line_of i) (kind.If bs other) n) leads
+    (WorkAt.choice (subst (λ n. BranchesAt f class exit n bs other) (put_end a b _ is_b) choice)))
 
 pub made_while : (a b c d f g h : Code) (e : RExpr) (body : List Item) (line start test exit : ℕ) → start ≡ end_of a → b ≡ added a (op.Turn line) → MadeExpr b c e → test ≡ end_of c
     → d ≡ added c op.End → MadeBlock d f body → g ≡ added f (op.Jump start) → exit ≡ end_of g → h ≡ patched g test (op.JumpUnless exit) → MadeWhile a h e body line
@@ -172,8 +172,8 @@ made_for a b c i s e body is head loop =
     let bc = grown_keeps b c (length ps) loop.grown in
     turned a c i (kind.For s e body) ps (ap out-ItemKind is ∙ it.outs-For s e body) refl (none_then a b c (length ps) head.grown loop.grown) (bc.instrs (end_of a) _ refl head.turn)
     (λ class numbered.
-        let rest = subst (λ m. LoopAt c class m s body (line_of i) (end_of c)) head.ends (loop.stands class (same_numbers class a b ps head.grown numbered)) in
-        WorkAt.for (kept_expr b c bc head.value) (bc.instrs head.value_end op.Take refl head.doing) rest)
+    let rest = subst (λ m. LoopAt c class m s body (line_of i) (end_of c)) head.ends (loop.stands class (same_numbers class a b ps head.grown numbered)) in
+    WorkAt.for (kept_expr b c bc head.value) (bc.instrs head.value_end op.Take refl head.doing) rest)
 
 pub made_call : (a b c d f : Code) (i : Item) (args : List BindArg) (body : List Item) → (out-Item i).kind ≡ it.Call args body → b ≡ added a (op.Turn (line_of i)) → MadeExprs b c (map value_of_arg args) → MadeStores c d (map slot_of_arg args) → MadeBlock d f body → MadeItem a f i
 made_call a b c d f i args body is is_b values stores block =
@@ -185,9 +185,9 @@ made_call a b c d f i args body is is_b values stores block =
     let bf = none_then b c f n values.grown cf in
     turned a f i (kind.Call args body) ps (ap out-ItemKind is ∙ it.outs-Call args body) refl (none_then a b f n ab bf) (stays_has b f n (end_of a) _ bf (put_has a b _ is_b))
     (λ class numbered.
-        let at_d = same_numbers class a d ps (grown_on a b d 0 0 ab (grown_on b c d 0 0 values.grown stores.grown)) numbered in
-        let first = subst (λ m. ExprsAt f m (map value_of_arg args) (end_of c)) (put_end a b _ is_b) (kept_exprs c f (grown_keeps c f n cf) values.stands) in
-        WorkAt.call (EnterAt.enter first (kept_stores d f (grown_keeps d f n df) stores.stands) (block.stands class at_d)))
+    let at_d = same_numbers class a d ps (grown_on a b d 0 0 ab (grown_on b c d 0 0 values.grown stores.grown)) numbered in
+    let first = subst (λ m. ExprsAt f m (map value_of_arg args) (end_of c)) (put_end a b _ is_b) (kept_exprs c f (grown_keeps c f n cf) values.stands) in
+    WorkAt.call (EnterAt.enter first (kept_stores d f (grown_keeps d f n df) stores.stands) (block.stands class at_d)))
 
 -- a statement that is a yield point
 pub label_item : (a b : Code) (i : Item) → (out-Item i).kind ≡ it.Label → MadeLabel a b → MadeItem a b i

@@ -3,9 +3,7 @@ ghost use Rattle.code_gen.specs.Made.{MadeAwait, MadeBlock, MadeBranches, MadeIt
 ghost use Rattle.da_lang.specs.Turns.{slot_of_arg, value_of_arg};
 ghost use Rattle.std.specs.Prelude.{◌≡◌, ◌∷◌, [], IfOk, List, OnOk, length, map};
 
-use crate::emit::{
-    add_point, emit_found, fill_jumps, here, next_number, patch, put, set_point,
-};
+use crate::emit::{add_point, emit_found, fill_jumps, here, next_number, patch, put, set_point};
 use crate::exprs::{emit_bound, emit_doing, emit_expr, emit_values};
 use da_lang::{Alt, BindArg, Instr, Item, ItemKind, RBranch, RExpr};
 use da_machine::{Code, YieldPoint};
