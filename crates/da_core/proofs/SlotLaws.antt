@@ -1,0 +1,34 @@
+-- Slots in code.
+use Rattle.std.proofs.Common.{◌≡◌, ℕ, zero, suc, ◌+◌, ◌≤◌, List, [], ◌∷◌, ◌++◌, length, map, set, Option, Some, None, refl, sym, ap, ◌∙◌, arith}
+use Rattle.std.specs.Prelude.{slice_get, slice_set}
+use Rattle.std.specs.Option.{option_map}
+use Rattle.std.proofs.lemmas.List.{map-set, set-set}
+use Rattle.std.proofs.lemmas.Option.{slice_get-map, slice_get_past}
+use Rattle.da_values.specs.declared.val.Val.{Val}
+use Rattle.da_values.specs.declared.value.Value.{Value}
+use Rattle.da_values.specs.Value.{val_of, vals}
+use Rattle.da_values.proofs.ViewLaws.{elements_of-val_of, proc_of-val_of, proc_of-Proc, int_of-val_of, truth_of-val_of}
+use Rattle.da_lang.specs.World.{at_number, with_slot}
+
+pub ruleset viewing = (elements_of-val_of, proc_of-val_of, proc_of-Proc, int_of-val_of, truth_of-val_of)
+
+-- a slot is numbered from 1, and its place is counted from 0
+module _ (s place : ℕ) (is : s ≡ place + 1) where
+  next : s ≡ suc place
+  next = omega (arith, is)
+
+  pub slot_there : (slots : List Value) → option_map val_of (slice_get slots place) ≡ at_number (vals slots) s
+  slot_there slots = sym (slice_get-map val_of slots place) ∙ sym (ap (at_number (vals slots)) next)
+
+  pub no_slot : (slots : List Value) → length slots ≤ place → None ≡ at_number (vals slots) s
+  no_slot slots past = sym (ap (option_map val_of) (slice_get_past slots place past)) ∙ slot_there slots
+
+  pub slot_put : (slots : List Value) (v : Value) → vals (slice_set slots place v) ≡ with_slot (vals slots) s (val_of v)
+  slot_put slots v = map-set val_of slots place v ∙ sym (ap (λ n. with_slot (vals slots) n (val_of v)) next)
+
+  pub slot_taken : (slots : List Value) (v : Value) (x : Val) → with_slot (vals (slice_set slots place v)) s x ≡ with_slot (vals slots) s x
+  slot_taken slots v x =
+      ap (λ n. with_slot (vals (slice_set slots place v)) n x) next
+      ∙ ap (λ vs. slice_set vs place x) (map-set val_of slots place v)
+      ∙ set-set (vals slots) place (val_of v) x
+      ∙ sym (ap (λ n. with_slot (vals slots) n x) next)
