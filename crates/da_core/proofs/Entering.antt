@@ -29,6 +29,7 @@ use Rattle.da_lang.specs.Turns.{bind_found, do_all, kind_of}
 use Rattle.da_lang.specs.World.{Data, Task, Do, World, Phase, New, Waiting, Ended, Faulted, at_number, class_of, class_of_decl}
 use Rattle.da_lang.proofs.MoveLaws.{step_begins, step_at_label, step_at_await}
 use Rattle.da_core.proofs.Laws.{class_has}
+use Rattle.da_core.proofs.RunLaws.{class_of_runs}
 use Rattle.da_machine.specs.declared.code.Code.{Code}
 use Rattle.da_machine.specs.declared.code.YieldPoint.{YieldPoint}
 use Rattle.da_machine.specs.declared.machine.Machine.{Machine}
@@ -117,7 +118,7 @@ module _ (core : Core) (w : World) (s : StandsFor core w) where
   code_for_class = is_code core.compiled.now s.class s.code s.compiled d.me s.knows.is_class s.code_is
 
   pub runs_class : ClassRuns s.class
-  runs_class = s.runs.classes s.class (class_has p d.me s.class s.knows.is_class)
+  runs_class = class_of_runs p s.runs s.class (class_has p d.me s.class s.knows.is_class)
 
   may : (begin : Begin) (todo : List Task) → begin.turns ≤ 1 → ShapedTasks p s.class d.me todo → CodeFor s.code.code s.class begin.entry m.loops todo
       → MayRun p s.class s.code core.known m begin d todo

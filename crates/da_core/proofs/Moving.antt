@@ -1,5 +1,5 @@
 -- What a core stands for behind a move.
-use Rattle.std.proofs.Common.{◌≡◌, ℕ, List, [], ◌∷◌, ◌++◌, Some, refl, sym, ap, ◌∙◌, subst}
+use Rattle.std.proofs.Common.{◌≡◌, ℕ, List, [], ◌∷◌, ◌++◌, Option, Some, None, refl, sym, ap, ◌∙◌, subst}
 use Rattle.std.specs.Prelude.{false}
 use Rattle.std.specs.List.{All}
 use Rattle.da_lang.specs.declared.event.Action.{Action}
@@ -7,14 +7,14 @@ use Rattle.da_lang.specs.declared.program.Class.{Class}
 use Rattle.da_lang.specs.declared.program.Program.{Program}
 use Rattle.da_lang.specs.Runs.{Halt, AtYield, UsedUp, Faults, Ran, run_to_yield}
 use Rattle.da_lang.specs.Shaped.{IsTask, ShapedTasks}
-use Rattle.da_lang.specs.Steps.{moved, phase_after}
+use Rattle.da_lang.specs.Steps.{Stepped, move_step, moved, phase_after, proc_step}
 use Rattle.da_lang.specs.World.{Data, Task, World}
 use Rattle.da_types.specs.KeepsShaped.{LeavesShaped}
 use Rattle.da_core.proofs.Laws.{keeps_shaped}
 use Rattle.da_machine.specs.declared.code.Code.{Code}
 use Rattle.da_machine.specs.declared.machine.Machine.{Machine}
 use Rattle.da_machine.specs.RunsTo.{IsFront}
-use Rattle.da_machine.specs.Stops.{IsReady}
+
 use Rattle.da_core.specs.declared.compiled.ClassCode.{ClassCode}
 use Rattle.da_core.specs.declared.process.Core.{Core}
 use Rattle.da_core.specs.declared.known.Known.{Known}
@@ -55,11 +55,6 @@ tasks_left p class code known m begin d todo may =
     let left = leaves p class code known m begin d todo may in
     subst (λ me. ShapedTasks p class me ran.todo) (sym left.same) left.tasks
 
--- the code may be run there
-pub ready : (p : Program) (class : Class) (code : ClassCode) (known : Known) (m : Machine) (begin : Begin) (d : Data) (todo : List Task) → MayRun p class code known m begin d todo
-    → IsReady p class code.code (record m { place = begin.entry; turns = begin.turns }) d todo
-ready p class code known m begin d todo may = record { accepted = may.accepted; knows = may.knows; tasks = may.tasks; code_for = may.code_for }
-
 -- WHERE THE PROCESS STANDS
 
 at_behind : (p : Program) (class : Class) (code : ClassCode) (m : Machine) (w : World) (halt : Halt) → IsBehind class code m w.todo (phase_after halt) → IsAt p class code.code m w (phase_after halt)
@@ -84,37 +79,46 @@ module _ (core : Core) (w : World) (s : StandsFor core w) (k : ℕ) (code : Clas
   abbrev after : World
   after = (moved d.me k ran).world
 
-  -- the process before the move with the actions of the caller; the process, the machine and its standing behind the move
-  module _ (out : List Action) (known : Known) (m : Machine) (stands : Standing) (run : HasRun can.class code d.me k ran (record core.known { actions = out }) known m stands) where
-    abbrev pub new : Core
-    new = record core { known = record known { actions = [] }; machine = m; place = stands.place; flags = stands.flags; spent = false }
+  pub not_none : proc_step (program_of core) w (move_step k) ≡ None → ⊥
+  not_none none = let both : ◌≡◌ {A = Option Stepped} None (Some (moved d.me k ran)) = sym none ∙ can.step in cc
 
-    pub stands_after : StandsFor new after
-    stands_after =
-        let left = leaves (program_of core) can.class code core.known core.machine begin d can.todo can.may in
-        record {
-          unspent = refl;
-          compiled = s.compiled;
-          runs = s.runs;
-          class = can.class;
-          code = code;
-          code_is = ap (code_of core.compiled.now) left.same ∙ can.code_is;
-          knows = left.knows;
-          tasks = tasks_left (program_of core) can.class code core.known core.machine begin d can.todo can.may;
-          same = run.same;
-          no_actions = refl;
-          place = run.place;
-          at = at_behind (program_of core) can.class code m after ran.halt run.behind;
-        }
+  -- the process before the move with the actions of the caller; the process, the machine and its standing behind the move,
+  -- where the actions are given back
+  module _ (own : List Action) (known : Known) (m : Machine) (stands : Standing) (run : HasRun can.class code d.me k ran (record core.known { actions = own }) known m stands) where
+    module _ (empty : List Action) (none : empty ≡ []) where
+      abbrev pub new : Core
+      new = record core { known = record known { actions = empty }; machine = m; place = stands.place; flags = stands.flags; spent = false }
 
-    pub has_moved : HasMoved core w k new (stopped_at stands.place) out known.actions
-    has_moved = record {
-      after = moved d.me k ran;
-      step = can.step;
-      stands = stands_after;
-      stopped = stops_so ran.data' ran.todo stands stands.place ran.halt run.place;
-      added = run.actions;
-    }
+      pub stands_after : StandsFor new after
+      stands_after =
+          let left = leaves (program_of core) can.class code core.known core.machine begin d can.todo can.may in
+          record {
+            unspent = refl;
+            compiled = s.compiled;
+            runs = s.runs;
+            class = can.class;
+            code = code;
+            code_is = ap (code_of core.compiled.now) left.same ∙ can.code_is;
+            knows = left.knows;
+            tasks = tasks_left (program_of core) can.class code core.known core.machine begin d can.todo can.may;
+            same = run.same;
+            no_actions = none;
+            place = run.place;
+            at = at_behind (program_of core) can.class code m after ran.halt run.behind;
+          }
 
-  pub has_begun : (out new : List Action) → IsFront out new (move_actions d.me k ran) → HasBegun core w k out new
-  has_begun out new front = record { after = moved d.me k ran; step = can.step; front = front }
+      pub has_moved : (out given : List Action) → own ≡ out → given ≡ known.actions → HasMoved core w k new (stopped_at stands.place) out given
+      has_moved out given from back = record {
+        after = moved d.me k ran;
+        step = can.step;
+        stands = stands_after;
+        stopped = stops_so ran.data' ran.todo stands stands.place ran.halt run.place;
+        added = back ∙ run.actions ∙ ap (λ xs. xs ++ move_actions d.me k ran) from;
+      }
+
+  pub has_begun : (own out given left : List Action) → own ≡ out → given ≡ left → IsFront own left (move_actions d.me k ran) → HasBegun core w k out given
+  has_begun own out given left from back (more, is) = record {
+    after = moved d.me k ran;
+    step = can.step;
+    front = (more, ap (λ xs. xs ++ more) back ∙ is ∙ ap (λ xs. xs ++ move_actions d.me k ran) from);
+  }

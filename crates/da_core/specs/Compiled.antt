@@ -14,9 +14,9 @@ abbrev pub program_of : Compiled → Program
 program_of c = c.typed
 
 -- the code of the class at this place of the program, with what is waited for at each of its yield points
-pub record IsCodeFor (p : Program) (place : ℕ) (class : Class) (code : ClassCode) : Type 0 where
-  pub code : IsCodeOf p place class code.code
-  pub waits : code.waits ≡ waits_of class
+pub record IsCodeFor (p : Program) (place : ℕ) (class : Class) (c : ClassCode) : Type 0 where
+  pub code : IsCodeOf p place class c.code
+  pub waits : c.waits ≡ waits_of class
 
 -- it stands in the list of codes
 pub record HasCode (p : Program) (codes : List ClassCode) (place : ℕ) (class : Class) : Type 0 where

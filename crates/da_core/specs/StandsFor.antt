@@ -46,11 +46,11 @@ pub record BeginsWith (todo : List Task) (kind : ItemKind-F ItemKind Alt Item RB
   pub is : kind_of item ≡ kind
 
 -- an `await` of so many alternatives, which hold as these flags say
-pub record AwaitsAs (d : Data) (todo : List Task) (flags : List Bool) (count : ℕ) : Type 0 where
+pub record AwaitsAs (d : Data) (todo : List Task) (kept : List Bool) (count : ℕ) : Type 0 where
   pub alts : List Alt
   pub begins : BeginsWith todo (kind.Await alts)
   pub size : length alts ≡ count
-  pub flags : flags ≡ map (λ b. holds d b []) (conditions_of alts)
+  pub flags : kept ≡ map (λ b. holds d b []) (conditions_of alts)
 
 -- where a process stands: its place is that of the world
 abbrev pub IsPlace : Data → List Task → List Bool → Place → Phase → Type 0

@@ -8,8 +8,10 @@ mod moves;
 mod opening;
 mod place;
 mod process;
+mod runs;
 mod waits;
 
 pub use compiled::{Compiled, compile};
 pub use place::{Place, StepFault, Stopped};
 pub use process::Core;
+pub use runs::runs_now;
