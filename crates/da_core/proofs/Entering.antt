@@ -240,7 +240,7 @@ module _ (core : Core) (w : World) (s : StandsFor core w) where
       → found ≡ begin_at code.code m.place core.flags core.place k → IsBeginIn code k found
   begin_found code is k found same =
       let by_code : (other : ClassCode) → s.code ≡ other → found ≡ begin_at other.code m.place core.flags core.place k → IsBeginIn other k found =
-      λ other is_that that. subst (λ (x : ClassCode). found ≡ begin_at x.code m.place core.flags core.place k → IsBeginIn x k found) is_that (λ e. subst IsBegin (sym e) (begins k)) that in
+      λ other is_that that. subst (λ (x : ClassCode). found ≡ begin_at x.code m.place core.flags core.place k → IsBeginIn x k found) is_that (λ e. subst (IsBegin k) (sym e) (begins k)) that in
       by_code code (same_code code is) same
 
   pub no_code : None ≡ code_of core.compiled.now core.known.me → ⊥

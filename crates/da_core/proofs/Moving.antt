@@ -67,7 +67,17 @@ stops_so d todo s place.Label AtYield is = refl
 stops_so d todo s (place.Await count) AtYield is = refl
 stops_so d todo s place.Ended UsedUp is = refl
 stops_so d todo s place.Faulted (Faults kind line) is = refl
-stops_so d todo s _ halt is = absurd is
+stops_so d todo s place.New AtYield is = absurd is
+stops_so d todo s place.New UsedUp is = absurd is
+stops_so d todo s place.New (Faults kind line) is = absurd is
+stops_so d todo s place.Label UsedUp is = absurd is
+stops_so d todo s place.Label (Faults kind line) is = absurd is
+stops_so d todo s (place.Await count) UsedUp is = absurd is
+stops_so d todo s (place.Await count) (Faults kind line) is = absurd is
+stops_so d todo s place.Ended AtYield is = absurd is
+stops_so d todo s place.Ended (Faults kind line) is = absurd is
+stops_so d todo s place.Faulted AtYield is = absurd is
+stops_so d todo s place.Faulted UsedUp is = absurd is
 
 module _ (core : Core) (w : World) (s : StandsFor core w) (k : ℕ) (code : ClassCode) (begin : Begin) (can : CanMove core w k code begin) where
   abbrev d : Data

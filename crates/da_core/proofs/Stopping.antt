@@ -89,7 +89,7 @@ module _ (code : ClassCode) (class : Class) (number : ℕ) (loops : List (List V
         let conditions = one_wait (conditions_of alts) (waits_there (AtAwait (conditions_of alts)) numbered) in
         let place_is : s.place ≡ place.Await (length alts) =
         stands.place ∙ ap (λ (x : YieldPoint). place_at x.label (length stands.has.conditions)) label
-        ∙ ap (λ cs. place.Await (length cs)) conditions ∙ ap place.Await (length-map condition_of alts) in
+        ∙ ap (λ cs. place.Await (length cs)) conditions ∙ ap place.Await (length-map alts condition_of) in
         let flags_are : s.flags ≡ map (λ b. holds d b []) (conditions_of alts) =
         stands.flags ∙ ap (λ (x : Data). map (λ b. holds x b []) stands.has.conditions) (sym same) ∙ ap (map (λ b. holds d b [])) conditions in
         subst (λ x. IsPlace d (Do i ∷ rest) s.flags x Waiting) (sym place_is) (record {
