@@ -14,7 +14,6 @@ use Rattle.da_core.proofs.Laws.{keeps_shaped}
 use Rattle.da_machine.specs.declared.code.Code.{Code}
 use Rattle.da_machine.specs.declared.machine.Machine.{Machine}
 use Rattle.da_machine.specs.RunsTo.{IsFront}
-
 use Rattle.da_core.specs.declared.compiled.ClassCode.{ClassCode}
 use Rattle.da_core.specs.declared.process.Core.{Core}
 use Rattle.da_core.specs.declared.known.Known.{Known}
