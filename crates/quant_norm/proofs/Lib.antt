@@ -1,3 +1,4 @@
+pub mod AddedAt
 pub mod BoundLaws
 pub mod ClassLaw
 pub mod GrowthLaws

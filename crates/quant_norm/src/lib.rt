@@ -1,2 +1,16 @@
-//! Plans of classes: the law that ties the nodes of a plan to the queries and conditions of its class.
+//! Plans of classes: from conditions and queries to nodes.
 #![tactic(auto)]
+
+mod bindings;
+mod classes;
+mod conditions;
+mod counts;
+mod ending;
+mod generators;
+mod nodes;
+mod place;
+mod queries;
+mod rename;
+
+pub use classes::normalise_class;
+pub use ending::Ending;
