@@ -109,7 +109,7 @@ after_quiet P (Err ending.Memory) status same read write holds = inl same
 -- THE REPLIES OF `replay`
 
 -- the reply to an accepted program and a schedule is its run
-run_reply : (s : List ℕ) (program : Program) (events : List Event) (status : Status) (bytes : List ℕ) → SpellsSchedule s events → RunReply program s status bytes
+pub run_reply : (s : List ℕ) (program : Program) (events : List Event) (status : Status) (bytes : List ℕ) → SpellsSchedule s events → RunReply program s status bytes
     → (status ≡ run_status program events) × (bytes ≡ run_text program events)
 run_reply s program events _ _ good (bad_schedule line is) = absurd (not_bad s events line good is)
 run_reply s program events _ _ good (ran others is) =
@@ -163,7 +163,7 @@ ran_front program p opened events before after same stands front = subst (λ q. 
 pub says_accepted : (t : List ℕ) (program : Program) (bytes : List ℕ) → Accepts t program → bytes ≡ accepted_text (length program.classes) (length program.procs) → CheckReply t Done bytes
 says_accepted t program bytes accepts is = subst (CheckReply t Done) (sym is) (accepted program accepts)
 
-accepted_reply : (t : List ℕ) (program : Program) (status : Status) (bytes : List ℕ) → Accepts t program → CheckReply t status bytes
+pub accepted_reply : (t : List ℕ) (program : Program) (status : Status) (bytes : List ℕ) → Accepts t program → CheckReply t status bytes
     → (status ≡ Done) × (bytes ≡ accepted_text (length program.classes) (length program.procs))
 accepted_reply t program _ _ accepts (declined kind line refuses) = absurd (accepted_or_not t program kind line accepts refuses)
 accepted_reply t program _ _ accepts (accepted other also) = (refl, ap (λ (p : Program). accepted_text (length p.classes) (length p.procs)) (accepts_one t program other accepts also))

@@ -23,26 +23,26 @@ use Rattle.dalgo.specs.FirstForm.{runs_today}
 use Rattle.dalgo.specs.Replies.{IsNotYet, IsRefused, ReplayRefuses, RunsToday}
 use Rattle.dalgo.specs.Verdict.{Accepts, HasNoTree, HasTree, IsMisnamed, IsMistyped, IsTooLarge, Refuses, too_long, not_cut, no_program, too_deep, misnamed, too_large, mistyped}
 
-same_list : (text : List ℕ) (ts us : List Token) → tokens text ≡ Ok ts → tokens text ≡ Ok us → ts ≡ us
+pub same_list : (text : List ℕ) (ts us : List Token) → tokens text ≡ Ok ts → tokens text ≡ Ok us → ts ≡ us
 same_list text ts us one other = let both : ◌≡◌ {A = Result (List Token) LexFault} (Ok ts) (Ok us) = sym one ∙ other in cc
 
 -- a text that is cut has no fault
-cut_or_not : (text : List ℕ) (ts : List Token) (fault : LexFault) → tokens text ≡ Ok ts → tokens text ≡ Err fault → ⊥
+pub cut_or_not : (text : List ℕ) (ts : List Token) (fault : LexFault) → tokens text ≡ Ok ts → tokens text ≡ Err fault → ⊥
 cut_or_not text ts fault one other = let both : ◌≡◌ {A = Result (List Token) LexFault} (Ok ts) (Err fault) = sym one ∙ other in cc
 
 -- a text has one tree
-one_tree : (text : List ℕ) (tree other : Tree) → HasTree text tree → HasTree text other → tree ≡ other
+pub one_tree : (text : List ℕ) (tree other : Tree) → HasTree text tree → HasTree text other → tree ≡ other
 one_tree text tree other has also =
     let list = same_list text also.list has.list also.lexed has.lexed in
     let spelled : SpellsWithin 32 other (toks text has.list) = subst (λ ts. SpellsWithin 32 other (toks text ts)) list also.spelled in
     Spells_unique tree other (toks text has.list) (SpellsWithin_spells 32 tree (toks text has.list) has.spelled) (SpellsWithin_spells 32 other (toks text has.list) spelled)
 
-no_tree : (text : List ℕ) (tree : Tree) (why : ParseFault) (line : ℕ) → HasTree text tree → HasNoTree text why line → ⊥
+pub no_tree : (text : List ℕ) (tree : Tree) (why : ParseFault) (line : ℕ) → HasTree text tree → HasNoTree text why line → ⊥
 no_tree text tree why line has lacks =
     lacks.none tree (subst (λ ts. SpellsWithin 32 tree (toks text ts)) (same_list text has.list lacks.list has.lexed lacks.lexed) has.spelled)
 
 -- a list of which something is told has an element
-none_told : {K : Type 0} (rank : K → ℕ) (xs : List (scopes.Refused K)) (x : scopes.Refused K) → xs ≡ [] → scopes.told rank xs ≡ Some x → ⊥
+pub none_told : {K : Type 0} (rank : K → ℕ) (xs : List (scopes.Refused K)) (x : scopes.Refused K) → xs ≡ [] → scopes.told rank xs ≡ Some x → ⊥
 none_told rank xs x empty is =
     let clash : ◌≡◌ {A = Option _} None (Some x) = sym (ap (scopes.told rank) empty) ∙ is in
     cc
@@ -53,7 +53,7 @@ none_least lines line empty is =
     cc
 
 -- a text is not both accepted and refused
-same_resolved : (tree other : Tree) (p q : Program) → tree ≡ other → Resolves tree p → Resolves other q → p ≡ q
+pub same_resolved : (tree other : Tree) (p q : Program) → tree ≡ other → Resolves tree p → Resolves other q → p ≡ q
 same_resolved tree other p q same one also = one.becomes ∙ ap resolved same ∙ sym also.becomes
 
 named : (t : List ℕ) (program : Program) (kind : ScopeKind) (line : ℕ) → Accepts t program → IsMisnamed t kind line → ⊥

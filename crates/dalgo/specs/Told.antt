@@ -1,5 +1,5 @@
 -- What is said of texts that are told, and what a sink gained of a reply.
-use Rattle.std.specs.Prelude.{ℕ, ◌⊎◌, List, [], Option, Some, None}
+use Rattle.std.specs.Prelude.{◌≡◌, ℕ, ◌⊎◌, List, [], Option, Some, None}
 use Rattle.da_outside.specs.Outside.{Appends, AppendsFront}
 use Rattle.dalgo.specs.declared.status.Status.{Status}
 
@@ -17,3 +17,7 @@ pub record Gains (Reply : Status → List ℕ → Type 0) (status : Status) (bef
 -- it gained nothing, or a front of the bytes of a reply
 abbrev pub Begins : (Status → List ℕ → Type 0) → Option (List ℕ) → Option (List ℕ) → Type 0
 Begins Reply before after = Appends before after [] ⊎ ((status : Status) × (bytes : List ℕ) × Reply status bytes × AppendsFront before after bytes)
+
+-- there is one reply
+abbrev pub IsOne : (Status → List ℕ → Type 0) → Type 0
+IsOne Reply = (status other : Status) (bytes others : List ℕ) → Reply status bytes → Reply other others → (status ≡ other) × (bytes ≡ others)

@@ -3,7 +3,7 @@ ghost use Rattle.da_lang.specs.declared.event.Event.{Event};
 ghost use Rattle.da_lang.specs.declared.program.Program.{Program};
 ghost use Rattle.da_outside.specs.Outside.{Appends, AppendsFront, Rose};
 ghost use Rattle.dalgo.specs.Replies.{CheckReply, HasReadCause, IsAccepted, IsAnswer, IsCheck, IsOther, IsReplay, ReplayReply, RunsToday, RunsWhole};
-ghost use Rattle.dalgo.specs.Told.{Begins, Gains, OfTold};
+ghost use Rattle.dalgo.specs.Told.{Begins, Gains, IsOne, OfTold};
 ghost use Rattle.dalgo.specs.Verdict.{Accepts};
 ghost use Rattle.sched_text.specs.ScheduleText.{SpellsSchedule};
 ghost use Rattle.std.specs.Prelude.{ℕ, ◌≡◌, ◌<◌, ◌≤◌, List, Some, codes, map};
@@ -18,6 +18,7 @@ use da_outside::{Files, Sink};
 use std::alloc::Global;
 
 /// Does what the words ask for, and says how that ended. The words are those after the program's name.
+#[tactic(auto, using(crate::proofs::OneReply::one_reply, crate::proofs::OneReply::one_check))]
 pub fn dalgo<F: Files, K: Sink>(
     alloc: Global,
     words: &[String],
@@ -28,6 +29,10 @@ pub fn dalgo<F: Files, K: Sink>(
     // told, it is the reply to some text in its place.
     ensures replies { (p q : List ℕ) → IsReplay (map string_bytes words.now) p q → IsAnswer result
         → OfTold (F.told files.old p) (λ t. OfTold (F.told files.old q) (λ s. Gains (ReplayReply t s) result (K.taken out.old) (K.taken out.new))) }
+
+    // Two texts have one reply, and so has one.
+    ensures one { (t s : List ℕ) → IsOne (ReplayReply t s) }
+    ensures one_check { (t : List ℕ) → IsOne (CheckReply t) }
 
     // An accepted program of the form that runs today runs, unless a read or write failed or memory was refused.
     ensures complete { (p q t s : List ℕ) (program : Program) (events : List Event) → IsReplay (map string_bytes words.now) p q
