@@ -9,8 +9,6 @@ mod run;
 mod sets;
 mod stack;
 mod store;
-#[cfg(test)]
-mod tests;
 mod values;
 
 pub use code::{Code, YieldPoint};
