@@ -1,7 +1,7 @@
 //! Cases, and how files hold them.
 //!
-//! A line `=== check`, `=== sizes` or `=== print`, behind which a remark may stand, begins a case. The lines behind it
-//! are its text, up to the next such line. In a text `@COUNT PART@` stands for so many copies of the part, in which `#`
+//! A line `=== check`, `=== sizes`, `=== code` or `=== print`, behind which a remark may stand, begins a case. The lines
+//! behind it are its text, up to the next such line. In a text `@COUNT PART@` stands for so many copies of the part, in which `#`
 //! is the number of the copy, from 1 on, and `~` the next number.
 use std::alloc::{AllocError, Global};
 
@@ -12,6 +12,8 @@ pub enum Asked {
     Check,
     /// The same, and how large its classes are.
     Sizes,
+    /// The code of its classes.
+    Code,
     /// The text of its tree.
     Print,
 }
@@ -37,6 +39,7 @@ fn case_of(alloc: Global, part: &str) -> Result<Case, AllocError> {
     let (what, text) = part.split_once('\n').unwrap_or((part, ""));
     let asked = match what.split(' ').next() {
         Some("sizes") => Asked::Sizes,
+        Some("code") => Asked::Code,
         Some("print") => Asked::Print,
         _ => Asked::Check,
     };

@@ -2,6 +2,7 @@
 #![tactic(auto)]
 
 mod cases;
+mod code;
 mod front;
 #[cfg(test)]
 mod graphs;
@@ -11,13 +12,15 @@ mod words;
 
 use anyhow::Context;
 use cases::{Asked, Case, cases_of};
+use code::tell_code;
 use da_lang::Program;
 use front::{Refusal, print_text, typed_of};
 use std::{fs, rt, str};
 
 /// The files of cases, in the order of the answers.
-const FILES: [&str; 9] = [
+const FILES: [&str; 10] = [
     "scopes", "deeds", "limits", "accepted", "long", "copies", "grammar", "printing", "checks",
+    "code",
 ];
 
 fn main(rt: HostRuntime) -> anyhow::Result<()> {
@@ -46,6 +49,10 @@ fn answer<R: Print + AllocGlobal>(rt: &R, case: &Case) -> anyhow::Result<()> {
         Asked::Print => answer_print(rt, text),
         Asked::Check => match typed_of(rt.alloc(), text) {
             Ok(typed) => tell_program(rt, typed.program()),
+            Err(refusal) => tell_refusal(rt, refusal),
+        },
+        Asked::Code => match typed_of(rt.alloc(), text) {
+            Ok(typed) => tell_code(rt, &typed),
             Err(refusal) => tell_refusal(rt, refusal),
         },
         Asked::Sizes => match typed_of(rt.alloc(), text) {

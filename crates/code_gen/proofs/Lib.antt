@@ -1,0 +1,13 @@
+pub mod ClassCode
+pub mod ClassLaws
+pub mod ExprCode
+pub mod FewPoints
+pub mod Generated
+pub mod Growing
+pub mod ItemCode
+pub mod Kept
+pub mod Lists
+pub mod NoPoints
+pub mod PointCode
+pub mod PointLaws
+pub mod WorkCode

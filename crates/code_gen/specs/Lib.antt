@@ -1,0 +1,3 @@
+pub mod ClassCode
+pub mod Made
+pub mod Open
