@@ -1,0 +1,242 @@
+-- Where the move of a core goes on in the code.
+use Rattle.std.proofs.Common.{◌≡◌, ℕ, zero, suc, ◌≤◌, List, [], ◌∷◌, Option, Some, None, refl, sym, ap, ◌∙◌, subst, arith}
+use Rattle.std.specs.Prelude.{Bool, true, false, MatchOption, slice_get}
+use Rattle.std.specs.Option.{option_map}
+use Rattle.std.proofs.lemmas.Option.{slice_get-map}
+use Rattle.da_values.specs.declared.val.Val.{Val}
+use Rattle.da_lang.specs.declared.code.Instr.TheVariants as op
+use Rattle.da_lang.specs.declared.program.Alt.{Alt}
+use Rattle.da_lang.specs.declared.program.Class.{Class}
+use Rattle.da_lang.specs.declared.program.Item.{Item}
+use Rattle.da_lang.specs.declared.program.ItemKind.{ItemKind}
+use Rattle.da_lang.specs.declared.program.ItemKind.TheOpen as kind
+use Rattle.da_lang.specs.declared.program.ItemKind.TheOpen.{ItemKind-F}
+use Rattle.da_lang.specs.declared.program.ItemKind.TheViews.{out-Alt}
+use Rattle.da_lang.specs.declared.program.ProcDecl.{ProcDecl}
+use Rattle.da_lang.specs.declared.program.Program.{Program}
+use Rattle.da_lang.specs.declared.program.RBranch.{RBranch}
+use Rattle.da_lang.specs.declared.query.Query.{Query}
+use Rattle.da_lang.specs.Queries.{holds}
+use Rattle.da_lang.specs.Runs.{run_to_yield}
+use Rattle.da_lang.specs.Shaped.{ShapedTasks}
+use Rattle.da_lang.specs.Steps.{first_tasks, move_step, moved, proc_step}
+use Rattle.da_lang.specs.Turns.{bind_found, do_all, kind_of}
+use Rattle.da_lang.specs.World.{Data, Task, Do, World, Phase, New, Waiting, Ended, Faulted, at_number, class_of, class_of_decl}
+use Rattle.da_lang.proofs.MoveLaws.{step_begins, step_at_label, step_at_await}
+use Rattle.da_core.proofs.Laws.{class_has}
+use Rattle.da_core.proofs.RunLaws.{class_of_runs}
+use Rattle.da_machine.specs.declared.code.Code.{Code}
+use Rattle.da_machine.specs.declared.code.YieldPoint.{YieldPoint}
+use Rattle.da_machine.specs.declared.machine.Machine.{Machine}
+use Rattle.da_machine.specs.CodeFor.{Has as HasInstr, CodeFor}
+use Rattle.da_machine.specs.Entries.{IsPoint}
+use Rattle.da_machine.specs.Points.{condition_of, conditions_of}
+use Rattle.da_machine.proofs.EntryLaws.{at_point}
+use Rattle.da_core.specs.declared.compiled.ClassCode.{ClassCode}
+use Rattle.da_core.specs.declared.compiled.Compiled.{Compiled}
+use Rattle.da_core.specs.declared.process.Core.{Core}
+use Rattle.da_core.specs.declared.moves.Begin.{Begin}
+use Rattle.da_core.specs.declared.place.Place.{Place}
+use Rattle.da_core.specs.declared.place.Place.TheVariants as place
+use Rattle.da_core.specs.Begins.{CanMove, MayRun, begin_at, behind_turn, entry_behind, entry_of, if_flag, point_of}
+use Rattle.da_core.specs.Compiled.{IsCodeFor, IsCompiled, code_at, code_of, program_of as compiled_program}
+use Rattle.da_core.specs.RunsNow.{ClassRuns}
+use Rattle.da_core.proofs.Tasks.{alt_shaped, first_shaped, rest_shaped}
+use Rattle.da_core.specs.StandsFor.{AwaitsAs, BeginsWith, IsAt, IsPlace, IsWaiting, StandsFor, program_of}
+
+-- THE CODE OF A PROCESS
+
+module _ (c : Compiled) (class : Class) (code : ClassCode) (is : IsCompiled c) where
+  found_code : (found : Option ProcDecl) → class_of_decl (compiled_program c) found ≡ Some class → code_at c.codes found ≡ Some code
+      → (place : ℕ) × IsCodeFor (compiled_program c) place class code
+  found_code None classed coded = absurd (let none : ◌≡◌ {A = Option Class} None (Some class) = classed in cc)
+  found_code (Some decl) classed coded =
+      let has = is.classes decl.class class classed in
+      let both : ◌≡◌ {A = Option ClassCode} (Some has.code) (Some code) = sym has.there ∙ coded in
+      let same : has.code ≡ code = cc in
+      (decl.class, subst (IsCodeFor (compiled_program c) decl.class class) same has.is)
+
+  pub is_code : (me : ℕ) → class_of (compiled_program c) me ≡ Some class → code_of c me ≡ Some code → (place : ℕ) × IsCodeFor (compiled_program c) place class code
+  is_code me classed coded = found_code (at_number (compiled_program c).procs me) classed coded
+
+-- WITHOUT QUERIES NOTHING IS BOUND
+
+no_rows : (found : Option ℕ) (binds : List ℕ) (d : Data) → bind_found [] found binds d ≡ d
+no_rows None binds d = refl
+no_rows (Some zero) binds d = refl
+no_rows (Some (suc n)) binds d = refl
+
+pub unbound : (queries : List Query) → queries ≡ [] → (found : Option ℕ) (binds : List ℕ) (d : Data) → bind_found queries found binds d ≡ d
+unbound queries is found binds d = ap (λ qs. bind_found qs found binds d) is ∙ no_rows found binds d
+
+-- ENTRIES
+
+module _ (code : Code) (class : Class) (number : ℕ) (loops : List (List Val)) where
+  pub label_entry : (todo : List Task) → IsPoint code class number loops todo → (i : Item) (rest : List Task) → todo ≡ Do i ∷ rest → kind_of i ≡ kind.Label
+      → (entry : ℕ) × (slice_get code.yields number ≡ Some (record { label = true; entries = entry ∷ [] })) × CodeFor code class entry loops rest
+  label_entry _ (IsPoint.at_label j todo entry is there numbered code_for) i rest same label =
+      let tail : todo ≡ rest = cc in
+      (entry, there, subst (CodeFor code class entry loops) tail code_for)
+  label_entry _ (IsPoint.at_await j todo alts entries is there numbered each) i rest same label =
+      absurd (let head : j ≡ i = cc in let kinds : ◌≡◌ {A = ItemKind-F ItemKind Alt Item RBranch} (kind.Await alts) kind.Label = sym is ∙ ap kind_of head ∙ label in cc)
+
+  pub await_entry : (todo : List Task) → IsPoint code class number loops todo → (i : Item) (rest : List Task) (alts : List Alt) → todo ≡ Do i ∷ rest → kind_of i ≡ kind.Await alts
+      → (n : ℕ) (a : Alt) → slice_get alts n ≡ Some a
+      → (point : YieldPoint) × (entry : ℕ) × (slice_get code.yields number ≡ Some point) × (slice_get point.entries n ≡ Some entry) × CodeFor code class entry loops (do_all (out-Alt a).body rest)
+  await_entry _ (IsPoint.at_label j todo entry is there numbered code_for) i rest alts same await n a has =
+      absurd (let head : j ≡ i = cc in let kinds : ◌≡◌ {A = ItemKind-F ItemKind Alt Item RBranch} kind.Label (kind.Await alts) = sym is ∙ ap kind_of head ∙ await in cc)
+  await_entry _ (IsPoint.at_await j todo others entries is there numbered each) i rest alts same await n a has =
+      let tail : todo ≡ rest = cc in
+      let head : j ≡ i = cc in
+      let kinds : ◌≡◌ {A = ItemKind-F ItemKind Alt Item RBranch} (kind.Await others) (kind.Await alts) = sym is ∙ ap kind_of head ∙ await in
+      let those : others ≡ alts = cc in
+      let (entry, stands, code_for) = each n a (ap (λ xs. slice_get xs n) those ∙ has) in
+      (record { label = false; entries = entries }, entry, there, stands, subst (λ tasks. CodeFor code class entry loops (do_all (out-Alt a).body tasks)) tail code_for)
+
+pub entry_is : (code : Code) (at number n entry : ℕ) (point : YieldPoint) → HasInstr code at (op.Yield number) → slice_get code.yields number ≡ Some point → slice_get point.entries n ≡ Some entry
+    → entry_behind code at n ≡ Some entry
+entry_is code at number n entry point here there stands = ap (λ i. entry_of (point_of code i) n) here ∙ ap (λ x. entry_of x n) there ∙ stands
+
+-- A MOVE OF A CORE
+
+module _ (core : Core) (w : World) (s : StandsFor core w) where
+  abbrev p : Program
+  p = program_of core
+
+  abbrev d : Data
+  d = w.data'
+
+  abbrev m : Machine
+  m = core.machine
+
+  code_for_class : (place : ℕ) × IsCodeFor p place s.class s.code
+  code_for_class = is_code core.compiled.now s.class s.code s.compiled d.me s.knows.is_class s.code_is
+
+  pub runs_class : ClassRuns s.class
+  runs_class = class_of_runs p s.runs s.class (class_has p d.me s.class s.knows.is_class)
+
+  may : (begin : Begin) (todo : List Task) → begin.turns ≤ 1 → ShapedTasks p s.class d.me todo → CodeFor s.code.code s.class begin.entry m.loops todo
+      → MayRun p s.class s.code core.known m begin d todo
+  may begin todo early tasks code_for = record {
+    accepted = s.compiled.accepted;
+    runs = runs_class;
+    forward = code_for_class.1.code.forward;
+    waits = code_for_class.1.waits;
+    knows = s.knows;
+    tasks = tasks;
+    same = s.same;
+    code_for = code_for;
+    early = early;
+  }
+
+  -- what the start of a move is, where there is one
+  abbrev pub IsBeginIn : ClassCode → ℕ → Option Begin → Type 0
+  IsBeginIn code k found = MatchOption found (proc_step p w (move_step k) ≡ None) (λ begin. CanMove core w k code begin)
+
+  abbrev pub IsBegin : ℕ → Option Begin → Type 0
+  IsBegin = IsBeginIn s.code
+
+  begins_new : w.phase ≡ New → CodeFor s.code.code s.class m.place m.loops (first_tasks p s.class d.me) → IsBegin 0 (Some (record { entry = m.place; turns = 0 }))
+  begins_new new at = record {
+    class = s.class;
+    todo = first_tasks p s.class d.me;
+    code_is = s.code_is;
+    step = step_begins p s.class w s.knows.is_class new;
+    may = may (record { entry = m.place; turns = 0 }) (first_tasks p s.class d.me) (omega arith) (first_shaped p s.class d.me) at;
+  }
+
+  begins_at_label : w.phase ≡ Waiting → BeginsWith w.todo kind.Label → IsWaiting s.class s.code.code m w.todo → IsBegin 0 (behind_turn (entry_behind s.code.code m.place 0))
+  begins_at_label waits begins at =
+      let (entry, there, code_for) = label_entry s.code.code s.class at.number m.loops w.todo (at_point s.code.code s.class m.place m.loops w.todo at.code_for at.number at.there) begins.item begins.rest begins.first begins.is in
+      let goes : entry_behind s.code.code m.place 0 ≡ Some entry = entry_is s.code.code m.place at.number 0 entry (record { label = true; entries = entry ∷ [] }) at.there there refl in
+      let start : Begin = record { entry = entry; turns = 1 } in
+      let can : CanMove core w 0 s.code start = record {
+        class = s.class;
+        todo = begins.rest;
+        code_is = s.code_is;
+        step = step_at_label p s.class w s.knows.is_class begins.item begins.rest waits begins.first begins.is;
+        may = may start begins.rest (omega arith) (rest_shaped p s.class d.me begins.item w.todo begins.rest begins.first s.tasks) code_for;
+      } in
+      subst (λ found. IsBegin 0 (behind_turn found)) (sym goes) can
+
+  module _ (waits : w.phase ≡ Waiting) (count : ℕ) (awaits : AwaitsAs d w.todo core.flags count) (at : IsWaiting s.class s.code.code m w.todo) where
+    abbrev b : BeginsWith w.todo (kind.Await awaits.alts)
+    b = awaits.begins
+
+    flag_is : (n : ℕ) → slice_get core.flags n ≡ option_map (λ c. holds d c []) (option_map condition_of (slice_get awaits.alts n))
+    flag_is n =
+        ap (λ flags. slice_get flags n) awaits.flags ∙ slice_get-map (λ c. holds d c []) (conditions_of awaits.alts) n
+        ∙ ap (option_map (λ c. holds d c [])) (slice_get-map condition_of awaits.alts n)
+
+    no_alternative : (n : ℕ) → slice_get awaits.alts n ≡ None → proc_step p w (move_step (suc n)) ≡ None
+    no_alternative n none = rw (s.knows.is_class, waits, b.first, b.is, none) refl
+
+    not_now : (n : ℕ) (a : Alt) → slice_get awaits.alts n ≡ Some a → holds d (out-Alt a).cond [] ≡ false → proc_step p w (move_step (suc n)) ≡ None
+    not_now n a there false' = rw (s.knows.is_class, waits, b.first, b.is, there, false') refl
+
+    takes : (n : ℕ) (a : Alt) → slice_get awaits.alts n ≡ Some a → holds d (out-Alt a).cond [] ≡ true → IsBegin (suc n) (behind_turn (entry_behind s.code.code m.place n))
+    takes n a there true' =
+        let (point, entry, yields, stands, code_for) = await_entry s.code.code s.class at.number m.loops w.todo (at_point s.code.code s.class m.place m.loops w.todo at.code_for at.number at.there) b.item b.rest awaits.alts b.first b.is n a there in
+        let goes : entry_behind s.code.code m.place n ≡ Some entry = entry_is s.code.code m.place at.number n entry point at.there yields stands in
+        let start : Begin = record { entry = entry; turns = 1 } in
+        let tasks : ShapedTasks p s.class d.me (do_all (out-Alt a).body b.rest) = alt_shaped p s.class d.me b.item w.todo b.rest b.first s.tasks awaits.alts a n b.is there in
+        let bound = unbound s.class.queries runs_class.no_queries (out-Alt a).found (out-Alt a).binds d in
+        let can : CanMove core w (suc n) s.code start = record {
+          class = s.class;
+          todo = do_all (out-Alt a).body b.rest;
+          code_is = s.code_is;
+          step =
+              step_at_await p s.class w s.knows.is_class b.item b.rest awaits.alts a (suc n) waits b.first b.is there true'
+              ∙ ap (λ (x : Data). Some (moved d.me (suc n) (run_to_yield s.class 1 x (do_all (out-Alt a).body b.rest)))) bound;
+          may = may start (do_all (out-Alt a).body b.rest) (omega arith) tasks code_for;
+        } in
+        subst (λ found. IsBegin (suc n) (behind_turn found)) (sym goes) can
+
+    by_flag : (n : ℕ) (a : Alt) (flag : Bool) → slice_get awaits.alts n ≡ Some a → holds d (out-Alt a).cond [] ≡ flag → IsBegin (suc n) (if_flag (Some flag) (behind_turn (entry_behind s.code.code m.place n)))
+    by_flag n a true there is = takes n a there is
+    by_flag n a false there is = not_now n a there is
+
+    by_alternative : (n : ℕ) (found : Option Alt) → slice_get awaits.alts n ≡ found
+        → IsBegin (suc n) (if_flag (option_map (λ c. holds d c []) (option_map condition_of found)) (behind_turn (entry_behind s.code.code m.place n)))
+    by_alternative n None there = no_alternative n there
+    by_alternative n (Some a) there = by_flag n a (holds d (out-Alt a).cond []) there refl
+
+    begins_at_await : (n : ℕ) → IsBegin (suc n) (if_flag (slice_get core.flags n) (behind_turn (entry_behind s.code.code m.place n)))
+    begins_at_await n =
+        subst (λ flag. IsBegin (suc n) (if_flag flag (behind_turn (entry_behind s.code.code m.place n)))) (sym (flag_is n)) (by_alternative n (slice_get awaits.alts n) refl)
+
+    none_at_await : proc_step p w (move_step 0) ≡ None
+    none_at_await = rw (s.knows.is_class, waits, b.first, b.is) refl
+
+  begins_by : (place : Place) (phase : Phase) (k : ℕ) → w.phase ≡ phase → IsPlace d w.todo core.flags place phase → IsAt p s.class s.code.code m w phase
+      → IsBegin k (begin_at s.code.code m.place core.flags place k)
+  begins_by place.New New zero is stands at = begins_new is at
+  begins_by place.New New (suc k) is stands at = rw (s.knows.is_class, is) refl
+  begins_by place.Label Waiting zero is stands at = begins_at_label is stands at
+  begins_by place.Label Waiting (suc k) is stands at = rw (s.knows.is_class, is, stands.first, stands.is) refl
+  begins_by (place.Await count) Waiting zero is stands at = none_at_await is count stands at
+  begins_by (place.Await count) Waiting (suc k) is stands at = begins_at_await is count stands at k
+  begins_by place.Ended Ended zero is stands at = rw (s.knows.is_class, is) refl
+  begins_by place.Ended Ended (suc k) is stands at = rw (s.knows.is_class, is) refl
+  begins_by place.Faulted Faulted zero is stands at = rw (s.knows.is_class, is) refl
+  begins_by place.Faulted Faulted (suc k) is stands at = rw (s.knows.is_class, is) refl
+  begins_by _ _ k is stands at = absurd stands
+
+  -- where the move of a number goes on, and that it is not allowed where it goes on nowhere
+  pub begins : (k : ℕ) → IsBegin k (begin_at s.code.code m.place core.flags core.place k)
+  begins k = begins_by core.place w.phase k refl s.place s.at
+
+  same_code : (code : ClassCode) → code_of core.compiled.now core.known.me ≡ Some code → s.code ≡ code
+  same_code code is =
+      let both : ◌≡◌ {A = Option ClassCode} (Some s.code) (Some code) = sym s.code_is ∙ ap (λ (x : Data). code_of core.compiled.now x.me) s.same ∙ is in
+      cc
+
+  pub begin_found : (code : ClassCode) → code_of core.compiled.now core.known.me ≡ Some code → (k : ℕ) (found : Option Begin)
+      → found ≡ begin_at code.code m.place core.flags core.place k → IsBeginIn code k found
+  begin_found code is k found same =
+      let by_code : (other : ClassCode) → s.code ≡ other → found ≡ begin_at other.code m.place core.flags core.place k → IsBeginIn other k found =
+      λ other is_that that. subst (λ (x : ClassCode). found ≡ begin_at x.code m.place core.flags core.place k → IsBeginIn x k found) is_that (λ e. subst (IsBegin k) (sym e) (begins k)) that in
+      by_code code (same_code code is) same
+
+  pub no_code : None ≡ code_of core.compiled.now core.known.me → ⊥
+  no_code none = let both : ◌≡◌ {A = Option ClassCode} None (Some s.code) = none ∙ ap (λ (x : Data). code_of core.compiled.now x.me) (sym s.same) ∙ s.code_is in cc

@@ -1,0 +1,15 @@
+pub mod Carrying
+pub mod DefaultForms
+pub mod Entering
+pub mod Fronts
+pub mod Laws
+pub mod Moving
+pub mod PlainForms
+pub mod RunForms
+pub mod RunLaws
+pub mod Sending
+pub mod SlotLaws
+pub mod Starting
+pub mod Stopping
+pub mod Tasks
+pub mod WaitForms

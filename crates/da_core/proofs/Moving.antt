@@ -1,0 +1,146 @@
+-- What a core stands for behind a move.
+use Rattle.std.proofs.Common.{◌≡◌, ℕ, List, [], ◌++◌, Option, Some, None, refl, sym, ap, ◌∙◌, subst}
+use Rattle.std.specs.Prelude.{Bool, false}
+use Rattle.da_lang.specs.declared.event.Action.{Action}
+use Rattle.da_lang.specs.declared.program.Class.{Class}
+use Rattle.da_lang.specs.declared.program.Program.{Program}
+use Rattle.da_lang.specs.Runs.{Halt, AtYield, UsedUp, Faults, Ran, run_to_yield}
+use Rattle.da_lang.specs.Shaped.{ShapedTasks}
+use Rattle.da_lang.specs.Steps.{Stepped, move_step, moved, phase_after, proc_step}
+use Rattle.da_lang.specs.World.{Data, Task, World, Phase, New, Waiting, Ended, Faulted}
+use Rattle.da_types.specs.KeepsShaped.{LeavesShaped}
+use Rattle.da_core.proofs.Laws.{keeps_shaped}
+use Rattle.da_machine.specs.declared.machine.Machine.{Machine}
+use Rattle.da_machine.specs.RunsTo.{IsFront}
+use Rattle.da_core.specs.declared.compiled.ClassCode.{ClassCode}
+use Rattle.da_core.specs.declared.process.Core.{Core}
+use Rattle.da_core.specs.declared.known.Known.{Known}
+use Rattle.da_core.specs.declared.moves.Begin.{Begin}
+use Rattle.da_core.specs.declared.moves.Standing.{Standing}
+use Rattle.da_core.specs.declared.place.Place.{Place}
+use Rattle.da_core.specs.declared.place.Place.TheVariants as place
+use Rattle.da_core.specs.declared.place.Stopped.{Stopped}
+use Rattle.da_core.specs.Begins.{CanMove, HasRun, IsBehind, MayRun, move_actions}
+use Rattle.da_core.specs.Compiled.{code_of}
+use Rattle.da_core.specs.Moved.{HasBegun, HasMoved, phase_at, phase_of, stopped_at}
+use Rattle.da_core.specs.StandsFor.{IsAt, IsPlace, StandsFor, program_of}
+
+-- where the actions are others
+pub may_with : (p : Program) (class : Class) (code : ClassCode) (known : Known) (m : Machine) (begin : Begin) (d : Data) (todo : List Task) (actions : List Action)
+    → MayRun p class code known m begin d todo → MayRun p class code (record known { actions = actions }) m begin d todo
+may_with p class code known m begin d todo actions may = record {
+  accepted = may.accepted;
+  runs = may.runs;
+  forward = may.forward;
+  waits = may.waits;
+  knows = may.knows;
+  tasks = may.tasks;
+  same = may.same;
+  code_for = may.code_for;
+  early = may.early;
+}
+
+-- the run leaves what is shaped
+pub leaves : (p : Program) (class : Class) (code : ClassCode) (known : Known) (m : Machine) (begin : Begin) (d : Data) (todo : List Task) → MayRun p class code known m begin d todo
+    → let ran = run_to_yield class begin.turns d todo in LeavesShaped p class d.me ran.data' ran.todo ran.actions
+leaves p class code known m begin d todo may = (keeps_shaped p may.accepted).runs class begin.turns d todo may.knows may.tasks
+
+pub tasks_left : (p : Program) (class : Class) (code : ClassCode) (known : Known) (m : Machine) (begin : Begin) (d : Data) (todo : List Task) → MayRun p class code known m begin d todo
+    → let ran = run_to_yield class begin.turns d todo in ShapedTasks p class ran.data'.me ran.todo
+tasks_left p class code known m begin d todo may =
+    let ran = run_to_yield class begin.turns d todo in
+    let left = leaves p class code known m begin d todo may in
+    subst (λ me. ShapedTasks p class me ran.todo) (sym left.same) left.tasks
+
+-- WHERE THE PROCESS STANDS
+
+at_behind : (p : Program) (class : Class) (code : ClassCode) (m : Machine) (w : World) (halt : Halt) → IsBehind class code m w.todo (phase_after halt) → IsAt p class code.code m w (phase_after halt)
+at_behind p class code m w AtYield is = is
+at_behind p class code m w UsedUp is = tt
+at_behind p class code m w (Faults kind line) is = tt
+
+phase_is : (d : Data) (todo : List Task) (flags : List Bool) (place : Place) (phase : Phase) → IsPlace d todo flags place phase → phase ≡ phase_at place
+phase_is d todo flags place.New New is = refl
+phase_is d todo flags place.Label Waiting is = refl
+phase_is d todo flags (place.Await count) Waiting is = refl
+phase_is d todo flags place.Ended Ended is = refl
+phase_is d todo flags place.Faulted Faulted is = refl
+phase_is d todo flags _ _ is = absurd is
+
+pub stands_in_phase : (core : Core) (w : World) → StandsFor core w → w.phase ≡ phase_at core.place
+stands_in_phase core w s = phase_is w.data' w.todo core.flags core.place w.phase s.place
+
+pub stands_at : (core : Core) (w : World) → StandsFor core w → IsPlace w.data' w.todo core.flags core.place w.phase
+stands_at core w s = s.place
+
+stops_so : (d : Data) (todo : List Task) (s : Standing) (place : Place) (halt : Halt) → IsPlace d todo s.flags place (phase_after halt) → phase_of (stopped_at place) ≡ phase_after halt
+stops_so d todo s place.Label AtYield is = refl
+stops_so d todo s (place.Await count) AtYield is = refl
+stops_so d todo s place.Ended UsedUp is = refl
+stops_so d todo s place.Faulted (Faults kind line) is = refl
+stops_so d todo s place.New AtYield is = absurd is
+stops_so d todo s place.New UsedUp is = absurd is
+stops_so d todo s place.New (Faults kind line) is = absurd is
+stops_so d todo s place.Label UsedUp is = absurd is
+stops_so d todo s place.Label (Faults kind line) is = absurd is
+stops_so d todo s (place.Await count) UsedUp is = absurd is
+stops_so d todo s (place.Await count) (Faults kind line) is = absurd is
+stops_so d todo s place.Ended AtYield is = absurd is
+stops_so d todo s place.Ended (Faults kind line) is = absurd is
+stops_so d todo s place.Faulted AtYield is = absurd is
+stops_so d todo s place.Faulted UsedUp is = absurd is
+
+module _ (core : Core) (w : World) (s : StandsFor core w) (k : ℕ) (code : ClassCode) (begin : Begin) (can : CanMove core w k code begin) where
+  abbrev d : Data
+  d = w.data'
+
+  abbrev ran : Ran
+  ran = run_to_yield can.class begin.turns d can.todo
+
+  abbrev after : World
+  after = (moved d.me k ran).world
+
+  pub not_none : proc_step (program_of core) w (move_step k) ≡ None → ⊥
+  not_none none = let both : ◌≡◌ {A = Option Stepped} None (Some (moved d.me k ran)) = sym none ∙ can.step in cc
+
+  -- the process before the move with the actions of the caller; the process, the machine and its standing behind the move,
+  -- where the actions are given back
+  module _ (own : List Action) (known : Known) (m : Machine) (stands : Standing) (run : HasRun can.class code d.me k ran (record core.known { actions = own }) known m stands) where
+    module _ (empty : List Action) (none : empty ≡ []) where
+      abbrev pub new : Core
+      new = record core { known = record known { actions = empty }; machine = m; place = stands.place; flags = stands.flags; spent = false }
+
+      pub stands_after : StandsFor new after
+      stands_after =
+          let left = leaves (program_of core) can.class code core.known core.machine begin d can.todo can.may in
+          record {
+            unspent = refl;
+            compiled = s.compiled;
+            runs = s.runs;
+            class = can.class;
+            code = code;
+            code_is = ap (code_of core.compiled.now) left.same ∙ can.code_is;
+            knows = left.knows;
+            tasks = tasks_left (program_of core) can.class code core.known core.machine begin d can.todo can.may;
+            same = run.same;
+            no_actions = none;
+            place = run.place;
+            at = at_behind (program_of core) can.class code m after ran.halt run.behind;
+          }
+
+      pub has_moved : (out given : List Action) → own ≡ out → given ≡ known.actions → (answer : Stopped) → answer ≡ stopped_at stands.place → HasMoved core w k new answer out given
+      has_moved out given from back answer is = record {
+        after = moved d.me k ran;
+        step = can.step;
+        stands = stands_after;
+        same = (leaves (program_of core) can.class code core.known core.machine begin d can.todo can.may).same;
+        stopped = ap phase_of is ∙ stops_so ran.data' ran.todo stands stands.place ran.halt run.place;
+        added = back ∙ run.actions ∙ ap (λ xs. xs ++ move_actions d.me k ran) from;
+      }
+
+  pub has_begun : (own out given left : List Action) → own ≡ out → given ≡ left → IsFront own left (move_actions d.me k ran) → HasBegun core w k out given
+  has_begun own out given left from back (more, is) = record {
+    after = moved d.me k ran;
+    step = can.step;
+    front = (more, ap (λ xs. xs ++ more) back ∙ is ∙ ap (λ xs. xs ++ move_actions d.me k ran) from);
+  }

@@ -1,0 +1,36 @@
+use Rattle.std.proofs.Common.{◌∙◌}
+use Rattle.da_core.specs.StandsFor.{program_of}
+use Rattle.da_core.proofs.Moving.{has_begun, has_moved, may_with, stands_after}
+use Rattle.da_core.proofs.process.Core.make_move.Goals as goal
+
+pub returns-in_err-standing-clause-front : goal.returns-in_err-standing-clause-front
+returns-in_err-standing-clause-front c = λ fault w s.
+    let core = c.args.self.now in
+    let code = c.in-Some.code.now in
+    let begin = c.in-Some.begin in
+    let can = c.in-Some.ensures w s in
+    let may = may_with (program_of core) can.class code core.known core.machine begin w.data' can.todo c.replace.result can.may in
+    has_begun core w s c.args.k code begin can c.replace.result c.args.out.now c.replace-2.result c.run_from-run.new.known.actions c.replace.ensures.value c.replace-2.ensures.value
+    (c.in_err-standing.ensures.part (program_of core) can.class w.data' can.todo may)
+
+pub returns-clause-ready : goal.returns-clause-ready
+returns-clause-ready c = λ unspent.
+    let core = c.args.self.now in
+    let (w, s) = c.requires c.if-self.false in
+    let code = c.in-Some.code.now in
+    let begin = c.in-Some.begin in
+    let can = c.in-Some.ensures w s in
+    let may = may_with (program_of core) can.class code core.known core.machine begin w.data' can.todo c.replace.result can.may in
+    let run = c.in_ok-standing.ensures.runs (program_of core) can.class w.data' can.todo may in
+    (_, stands_after core w s c.args.k code begin can c.replace.result c.run_from-run.new.known c.run_from-run.new.machine c.in_ok-standing.standing run c.replace-2.new.dest (c.replace-2.ensures.after ∙ c.new-2.ensures))
+
+pub returns-clause-moves : goal.returns-clause-moves
+returns-clause-moves c = λ w s.
+    let core = c.args.self.now in
+    let code = c.in-Some.code.now in
+    let begin = c.in-Some.begin in
+    let can = c.in-Some.ensures w s in
+    let may = may_with (program_of core) can.class code core.known core.machine begin w.data' can.todo c.replace.result can.may in
+    let run = c.in_ok-standing.ensures.runs (program_of core) can.class w.data' can.todo may in
+    has_moved core w s c.args.k code begin can c.replace.result c.run_from-run.new.known c.run_from-run.new.machine c.in_ok-standing.standing run c.replace-2.new.dest (c.replace-2.ensures.after ∙ c.new-2.ensures)
+    c.args.out.now c.replace-2.result c.replace.ensures.value c.replace-2.ensures.value c.stopped_at-stopped.result c.stopped_at-stopped.ensures

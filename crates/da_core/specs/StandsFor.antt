@@ -1,0 +1,99 @@
+-- The worlds that a process in code stands for.
+use Rattle.std.specs.Prelude.{◌≡◌, ℕ, Bool, false, List, [], ◌∷◌, map, length, Some}
+use Rattle.da_lang.specs.declared.code.Instr.TheVariants as op
+use Rattle.da_lang.specs.declared.program.Alt.{Alt}
+use Rattle.da_lang.specs.declared.program.Class.{Class}
+use Rattle.da_lang.specs.declared.program.Item.{Item}
+use Rattle.da_lang.specs.declared.program.ItemKind.{ItemKind}
+use Rattle.da_lang.specs.declared.program.ItemKind.TheOpen as kind
+use Rattle.da_lang.specs.declared.program.ItemKind.TheOpen.{ItemKind-F}
+use Rattle.da_lang.specs.declared.program.Program.{Program}
+use Rattle.da_lang.specs.declared.program.RBranch.{RBranch}
+use Rattle.da_lang.specs.Queries.{holds}
+use Rattle.da_lang.specs.Shaped.{ShapedData, ShapedTasks}
+use Rattle.da_lang.specs.Steps.{first_tasks}
+use Rattle.da_lang.specs.Turns.{kind_of}
+use Rattle.da_lang.specs.World.{Data, Task, Do, World, Phase, New, Waiting, Ended, Faulted}
+use Rattle.da_machine.specs.declared.code.Code.{Code}
+use Rattle.da_machine.specs.declared.machine.Machine.{Machine}
+use Rattle.da_machine.specs.CodeFor.{Has, CodeFor}
+use Rattle.da_machine.specs.Points.{conditions_of}
+use Rattle.da_core.specs.declared.compiled.ClassCode.{ClassCode}
+use Rattle.da_core.specs.declared.process.Core.{Core}
+use Rattle.da_core.specs.declared.place.Place.{Place}
+use Rattle.da_core.specs.declared.place.Place.TheVariants as place
+use Rattle.da_core.specs.Compiled.{IsCompiled, code_of}
+use Rattle.da_core.specs.Compiled as compiled
+use Rattle.da_core.specs.Known.{data_of}
+use Rattle.da_core.specs.RunsNow.{RunsNow}
+
+abbrev pub program_of : Core → Program
+program_of core = compiled.program_of core.compiled.now
+
+-- earlier memory was refused in the midst of an event
+abbrev pub is_spent : Core → Bool
+is_spent core = core.spent
+
+-- of each alternative whether it holds
+abbrev pub flags_of : Core → List Bool
+flags_of core = core.flags
+
+-- the first thing to do is a statement of this kind
+pub record BeginsWith (todo : List Task) (kind : ItemKind-F ItemKind Alt Item RBranch) : Type 0 where
+  pub item : Item
+  pub rest : List Task
+  pub first : todo ≡ Do item ∷ rest
+  pub is : kind_of item ≡ kind
+
+-- an `await` of so many alternatives, which hold as these flags say
+pub record AwaitsAs (d : Data) (todo : List Task) (kept : List Bool) (count : ℕ) : Type 0 where
+  pub alts : List Alt
+  pub begins : BeginsWith todo (kind.Await alts)
+  pub size : length alts ≡ count
+  pub flags : kept ≡ map (λ b. holds d b []) (conditions_of alts)
+
+-- where a process stands: its place is that of the world
+abbrev pub IsPlace : Data → List Task → List Bool → Place → Phase → Type 0
+IsPlace d todo flags place.New New = todo ≡ []
+IsPlace d todo flags place.Label Waiting = BeginsWith todo kind.Label
+IsPlace d todo flags (place.Await count) Waiting = AwaitsAs d todo flags count
+IsPlace d todo flags place.Ended Ended = Unit {0}
+IsPlace d todo flags place.Faulted Faulted = Unit {0}
+IsPlace d todo flags place phase = ⊥
+
+-- the machine stands in front of a yield point, and the code there stands for what is to do
+pub record IsWaiting (class : Class) (code : Code) (m : Machine) (todo : List Task) : Type 0 where
+  pub number : ℕ
+  pub there : Has code m.place (op.Yield number)
+  pub code_for : CodeFor code class m.place m.loops todo
+
+-- where the machine stands in the code: before the first event at the start of the process
+abbrev pub IsAt : Program → Class → Code → Machine → World → Phase → Type 0
+IsAt p class code m w New = CodeFor code class m.place m.loops (first_tasks p class w.data'.me)
+IsAt p class code m w Waiting = IsWaiting class code m w.todo
+IsAt p class code m w Ended = Unit {0}
+IsAt p class code m w Faulted = Unit {0}
+
+-- A core stands for a world that is as types say, of a process of a compiled program: it knows the same, stands at the same
+-- place with the same alternatives, and the code where its machine stands stands for what is to do. It is not spent.
+pub record StandsFor (core : Core) (w : World) : Type 0 where
+  pub unspent : core.spent ≡ false
+  pub compiled : IsCompiled core.compiled.now
+  pub runs : RunsNow (program_of core)
+  pub class : Class
+  pub code : ClassCode
+  pub code_is : code_of core.compiled.now w.data'.me ≡ Some code
+  pub knows : ShapedData (program_of core) class w.data'
+  pub tasks : ShapedTasks (program_of core) class w.data'.me w.todo
+  pub same : w.data' ≡ data_of core.known
+  pub no_actions : core.known.actions ≡ []
+  pub place : IsPlace w.data' w.todo core.flags core.place w.phase
+  pub at : IsAt (program_of core) class code.code core.machine w w.phase
+
+-- it holds of each world that the core stands for
+abbrev pub Whichever : Core → (World → Type 0) → Type 0
+Whichever core holds = (w : World) → StandsFor core w → holds w
+
+-- a core that is not spent stands for some world
+abbrev pub IsReady : Core → Type 0
+IsReady core = core.spent ≡ false → (w : World) × StandsFor core w

@@ -1,0 +1,17 @@
+//! One process in code: what it knows, where it stands in the code of its class, and its moves.
+#![tactic(auto)]
+
+mod compiled;
+mod conditions;
+mod known;
+mod moves;
+mod opening;
+mod place;
+mod process;
+mod runs;
+mod waits;
+
+pub use compiled::{Compiled, compile};
+pub use place::{Place, StepFault, Stopped};
+pub use process::Core;
+pub use runs::runs_now;

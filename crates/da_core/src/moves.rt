@@ -1,0 +1,177 @@
+//! The run of a move.
+ghost use Rattle.da_core.specs.Begins.{HasPoint, HasRun, HasStopped, MayRun, MayStop, StandsAt, begin_at, behind_turn, entry_behind, move_actions, place_at as place_lem};
+ghost use Rattle.da_lang.specs.Runs.{run_to_yield};
+ghost use Rattle.da_lang.specs.World.{Data, Task};
+ghost use Rattle.da_lang.specs.declared.program.Class.{Class};
+ghost use Rattle.da_lang.specs.declared.program.Program.{Program};
+ghost use Rattle.da_machine.specs.RunsTo.{IsFront};
+ghost use Rattle.std.specs.Prelude.{◌≡◌, IfOk, List, OnErr};
+
+use crate::compiled::ClassCode;
+use crate::conditions::flags_of;
+use crate::known::Known;
+use crate::place::Place;
+use da_lang::{Action, Instr};
+use da_machine::{Code, Machine, Stop, run_code};
+use da_values::{List, NoMemory};
+use std::alloc::Global;
+
+/// Where a move goes on in the code, and how many turns of the event were taken by then.
+#[derive(Clone, Copy, Debug)]
+pub struct Begin {
+    pub entry: u64,
+    pub turns: u32,
+}
+
+/// Where a process stands, and at an `await` for each alternative whether its condition holds.
+#[derive(Debug, Drop)]
+pub struct Standing {
+    pub place: Place,
+    pub flags: List<bool>,
+}
+
+/// Where the move of this number goes on, or `None` where it is not allowed, for a process that stands so.
+pub fn begin_in(code: &Code, at: u64, flags: &[bool], place: Place, k: u32) -> Option<Begin>
+    ensures { result ≡ begin_at code.now at flags.now place k }
+{
+    match place {
+        Place::New => {
+            if k == 0 {
+                Some(Begin {
+                    entry: at,
+                    turns: 0,
+                })
+            } else {
+                None
+            }
+        }
+        Place::Label => {
+            if k == 0 {
+                begin_behind(code, at, 0)
+            } else {
+                None
+            }
+        }
+        Place::Await(_) => {
+            let n = k.checked_sub(1)? as usize;
+            let flag = flags.get(n)?;
+            if *flag {
+                begin_behind(code, at, n)
+            } else {
+                None
+            }
+        }
+        Place::Ended => None,
+        Place::Faulted => None,
+    }
+}
+
+// Behind entry `n`, counted from 0, of the yield point at a place. The yield point was the first turn.
+fn begin_behind(code: &Code, at: u64, n: usize) -> Option<Begin>
+    ensures { result ≡ behind_turn (entry_behind code.now at n) }
+{
+    let entry = entry_in(code, at, n)?;
+    Some(Begin { entry, turns: 1 })
+}
+
+// Entry `n`, counted from 0, of the yield point at a place, or `None` where there is none.
+fn entry_in(code: &Code, at: u64, n: usize) -> Option<u64>
+    ensures { result ≡ entry_behind code.now at n }
+{
+    match code.instrs.get(at as usize)? {
+        Instr::Yield(number) => {
+            let point = code.yields.get(*number as usize)?;
+            point.entries.get(n).copied()
+        }
+        _ => None,
+    }
+}
+
+/// Tells the move of this number and runs it, up to the next yield point, to the end or to a fault.
+pub fn run_from(
+    alloc: Global,
+    code: &ClassCode,
+    begin: Begin,
+    k: u32,
+    known: &mut Known,
+    machine: &mut Machine,
+) -> Result<Standing, NoMemory>
+    requires { (p : Program) × (class : Class) × (d : Data) × (todo : List Task)
+        × MayRun p class code.now known.old machine.old begin d todo }
+    ensures runs { IfOk result (λ s. (p : Program) (class : Class) (d : Data) (todo : List Task)
+        → MayRun p class code.now known.old machine.old begin d todo
+        → let ran = run_to_yield class begin.turns d todo in
+        HasRun class code.now d.me k ran known.old known.new machine.new s) }
+    ensures part { OnErr result ((p : Program) (class : Class) (d : Data) (todo : List Task)
+        → MayRun p class code.now known.old machine.old begin d todo
+        → let ran = run_to_yield class begin.turns d todo in
+        IsFront known.old.actions known.new.actions (move_actions d.me k ran)) }
+{
+    known.actions.push(Action::Took { p: known.me, k })?;
+    machine.place = begin.entry;
+    machine.turns = begin.turns;
+    let stop = run_code(alloc, &code.code, machine, known)?;
+    match stand(code, stop, known) {
+        Ok(standing) => Ok(standing),
+        Err(e) => Err(e),
+    }
+}
+
+// How a process stands whose code stopped so. The end and a fault are told.
+fn stand(code: &ClassCode, stop: Stop, known: &mut Known) -> Result<Standing, NoMemory>
+    requires { MayStop code.now stop }
+    ensures stops { IfOk result (λ s. HasStopped code.now known.old known.new stop s) }
+    ensures same { OnErr result (known.new.actions ≡ known.old.actions) }
+{
+    match stop {
+        Stop::Yield(number) => wait_at(code, number, known),
+        Stop::Ended => {
+            known.actions.push(Action::End { p: known.me })?;
+            Ok(Standing {
+                place: Place::Ended,
+                flags: List::new(known.alloc),
+            })
+        }
+        Stop::Fault { kind, line } => {
+            known.actions.push(Action::Fault {
+                p: known.me,
+                kind,
+                line,
+            })?;
+            Ok(Standing {
+                place: Place::Faulted,
+                flags: List::new(known.alloc),
+            })
+        }
+    }
+}
+
+// How a process waits at the yield point of this number.
+fn wait_at(code: &ClassCode, number: u32, known: &Known) -> Result<Standing, NoMemory>
+    requires { HasPoint code.now number }
+    ensures { IfOk result (λ s. StandsAt code.now known.now number s) }
+{
+    let Some(point) = code.code.yields.get(number as usize) else {
+        unreachable!()
+    };
+    let Some(conditions) = code.waits.get(number as usize) else {
+        unreachable!()
+    };
+    let place = place_at(point.label, conditions.len())?;
+    let flags = flags_of(known, conditions.as_slice())?;
+    Ok(Standing { place, flags })
+}
+
+// Where a process waits, at a label or at an `await` of so many alternatives. No memory has room for more than 32 bits
+// count.
+fn place_at(label: bool, count: usize) -> Result<Place, NoMemory>
+    ensures { IfOk result (λ place. place ≡ place_lem label count) }
+{
+    if label {
+        return Ok(Place::Label);
+    }
+    if count > u32::MAX as usize {
+        return Err(NoMemory);
+    }
+    Ok(Place::Await(count as u32))
+}

@@ -1,0 +1,178 @@
+//! A process in code.
+ghost use Rattle.da_core.specs.Begins.{CanMove};
+ghost use Rattle.da_core.specs.Compiled.{IsCompiled, program_of as compiled_program};
+ghost use Rattle.da_core.specs.Moved.{HasBegun, HasMoved, phase_at, stopped_at as stopped_lem};
+ghost use Rattle.da_core.specs.RunsNow.{RunsNow};
+ghost use Rattle.da_core.specs.StandsFor.{IsPlace, IsReady, StandsFor, Whichever, flags_of, is_spent, program_of};
+ghost use Rattle.da_lang.specs.Shaped.{IsProcess};
+ghost use Rattle.da_lang.specs.Steps.{move_step, proc_step};
+ghost use Rattle.da_lang.specs.World.{opening};
+ghost use Rattle.std.specs.Prelude.{◌≡◌, ◌↔◌, IfOk, IsErrOf, IsSome, IsTrue, MatchOption, None, true, false};
+
+use crate::compiled::{ClassCode, Compiled};
+use crate::known::Known;
+use crate::moves::{Begin, begin_in, run_from};
+use crate::opening::first_values;
+use crate::place::{Place, StepFault, Stopped};
+use da_lang::Action;
+use da_machine::Machine;
+use da_values::{List, NoMemory};
+use std::alloc::Global;
+use std::mem;
+
+/// A process of a compiled program. Contracts see the worlds that it stands for, by `StandsFor`.
+#[derive(Debug, Drop)]
+pub struct Core<'c> {
+    alloc: Global,
+    compiled: &'c Compiled,
+    known: Known,
+    machine: Machine,
+    place: Place,
+    flags: List<bool>,
+    spent: bool,
+}
+
+impl<'c> Core<'c> {
+    /// A process before its first event. The program is one of those that run as yet.
+    pub fn start(alloc: Global, compiled: &'c Compiled, me: u16) -> Result<Core<'c>, NoMemory>
+        requires compiled { IsCompiled compiled.now }
+        requires there { IsProcess (compiled_program compiled.now) me }
+        requires runs { RunsNow (compiled_program compiled.now) }
+        ensures program { IfOk result (λ core. program_of core ≡ compiled_program compiled.now) }
+        ensures stands { IfOk result (λ core.
+            StandsFor core (opening (compiled_program compiled.now) me)) }
+    {
+        let Some(class) = compiled.class_of(me) else {
+            unreachable!()
+        };
+        let Some(entry) = compiled.start_of(me) else {
+            unreachable!()
+        };
+        let slots = first_values(alloc, me, class.slots.as_slice())?;
+        let known = Known {
+            alloc,
+            me,
+            clock: 0,
+            slots,
+            sent: List::new(alloc),
+            received: List::new(alloc),
+            actions: List::new(alloc),
+        };
+        Ok(Core {
+            alloc,
+            compiled,
+            known,
+            machine: Machine::new(alloc, entry),
+            place: Place::New,
+            flags: List::new(alloc),
+            spent: false,
+        })
+    }
+
+    /// Where the process stands. It takes no memory.
+    #[tactic(auto, using(crate::proofs::Moving::stands_in_phase))]
+    pub fn place(&self) -> Place
+        ensures phase { Whichever self.now (λ w. w.phase ≡ phase_at result) }
+        ensures place { Whichever self.now (λ w.
+            IsPlace w.data' w.todo (flags_of self.now) result w.phase) }
+    {
+        self.place
+    }
+
+    /// Whether an earlier event found no memory. It takes no memory.
+    pub fn is_spent(&self) -> bool
+        ensures { result ≡ is_spent self.now }
+    {
+        self.spent
+    }
+
+    /// Whether the move of this number is allowed: 0 is the one from the opening or a label, and each other number takes
+    /// that alternative. On a spent core no move is. It takes no memory.
+    pub fn can_move(&self, k: u32) -> bool
+        ensures spent { is_spent self.now ≡ true → result ≡ false }
+        ensures allowed { Whichever self.now (λ w.
+            IsTrue result ↔ IsSome (proc_step (program_of self.now) w (move_step k))) }
+    {
+        !self.spent && self.begin(k).is_some()
+    }
+
+    /// Makes the move of this number, and adds its actions to `out`. `Spent` comes exactly where an earlier event found no
+    /// memory, and else `Forbidden` exactly where the move is not allowed; nothing has changed then. `Memory` leaves a
+    /// spent core, and `out` has a front of the actions of the move besides.
+    pub fn make_move(&mut self, k: u32, out: &mut List<Action>) -> Result<Stopped, StepFault>
+        requires { IsReady self.old }
+        ensures ready { IsReady self.new }
+        ensures program { program_of self.new ≡ program_of self.old }
+        ensures moves { IfOk result (λ stopped. Whichever self.old (λ w.
+            HasMoved self.old w k self.new stopped out.old out.new)) }
+        ensures spent { is_spent self.old ≡ true → IsErrOf result StepFault.Spent }
+        ensures only_spent { IsErrOf result StepFault.Spent
+            → (is_spent self.old ≡ true) × (self.new ≡ self.old) × (out.new ≡ out.old) }
+        ensures forbidden { IsErrOf result StepFault.Forbidden → Whichever self.old (λ w.
+            proc_step (program_of self.old) w (move_step k) ≡ None) }
+        ensures allowed { Whichever self.old (λ w.
+            proc_step (program_of self.old) w (move_step k) ≡ None
+            → IsErrOf result StepFault.Forbidden) }
+        ensures same { IsErrOf result StepFault.Forbidden
+            → (self.new ≡ self.old) × (out.new ≡ out.old) }
+        ensures memory { IsErrOf result StepFault.Memory → is_spent self.new ≡ true }
+        ensures front { IsErrOf result StepFault.Memory → Whichever self.old (λ w.
+            HasBegun self.old w k out.old out.new) }
+    {
+        if self.spent {
+            return Err(StepFault::Spent);
+        }
+        let Some((code, begin)) = self.begin(k) else {
+            return Err(StepFault::Forbidden);
+        };
+        self.spent = true;
+        self.known.actions = mem::replace(out, List::new(self.alloc));
+        let run = run_from(
+            self.alloc,
+            code,
+            begin,
+            k,
+            &mut self.known,
+            &mut self.machine,
+        );
+        *out = mem::replace(&mut self.known.actions, List::new(self.alloc));
+        let standing = run?;
+        let stopped = stopped_at(standing.place);
+        self.place = standing.place;
+        self.flags = standing.flags;
+        self.spent = false;
+        Ok(stopped)
+    }
+
+    // The code of the process, and where the move of this number goes on in it, or `None` where it is not allowed.
+    #[tactic(auto, using(crate::proofs::Entering::begin_found, crate::proofs::Entering::no_code))]
+    fn begin(&self, k: u32) -> Option<(&'c ClassCode, Begin)>
+        ensures { Whichever self.now (λ w. MatchOption result
+            (proc_step (program_of self.now) w (move_step k) ≡ None)
+            (λ found. CanMove self.now w k found.0.now found.1)) }
+    {
+        let compiled = self.compiled;
+        let code = compiled.code_of(self.known.me)?;
+        let begin = begin_in(
+            &code.code,
+            self.machine.place,
+            self.flags.as_slice(),
+            self.place,
+            k,
+        )?;
+        Some((code, begin))
+    }
+}
+
+// How a process has stopped that stands at this place.
+fn stopped_at(place: Place) -> Stopped
+    ensures { result ≡ stopped_lem place }
+{
+    match place {
+        Place::New => Stopped::AtYield,
+        Place::Label => Stopped::AtYield,
+        Place::Await(_) => Stopped::AtYield,
+        Place::Ended => Stopped::Ended,
+        Place::Faulted => Stopped::Faulted,
+    }
+}
