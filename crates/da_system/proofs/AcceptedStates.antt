@@ -77,7 +77,7 @@ module _ (program : Program) (class : Class) (w : World) where
   never_taken Ended = refl
   never_taken Faulted = refl
 
-never_steps : (program : Program) (w : World) (class : Option Class) → step_in program w (Take 0) class ≡ None
+pub never_steps : (program : Program) (w : World) (class : Option Class) → step_in program w (Take 0) class ≡ None
 never_steps program w None = refl
 never_steps program w (Some class) = never_taken program class w w.phase
 

@@ -1,6 +1,8 @@
 pub mod AcceptedStates
+pub mod AnswerLemmas
 pub mod FlatLemmas
-pub mod RunLemmas
+pub mod NoRows
+pub mod QuietMoves
 pub mod SoundLaws
 pub mod StandLemmas
 pub mod StepLemmas

@@ -1,49 +1,141 @@
--- From the state that the code keeps to each state that it stands for.
-use Rattle.std.proofs.Common.{◌≡◌, refl, sym, ◌∙◌, ap, subst, Bool, List, [], append-nil}
-use Rattle.std.specs.Prelude.{◌↔◌, None, IsSome, IsTrue, OnOk, Result, Ok, Err}
-use Rattle.da_lang.specs.declared.event.Action.{Action}
-use Rattle.da_lang.specs.declared.event.Event.{Event}
+-- Cores and the worlds that they stand for, by their numbers.
+use Rattle.std.proofs.Common.{◌≡◌, refl, sym, subst, ℕ, zero, suc, ◌+◌, ◌-◌, ◌<◌, ◌≤◌, true, false, List, [], ◌∷◌, ◌++◌, length, map, arith, ap, ◌∙◌}
+use Rattle.std.specs.Prelude.{Option, Some, None, is_some, slice_get, slice_index_or, slice_set}
+use Rattle.std.specs.List.{range_with_len}
+use Rattle.std.proofs.lemmas.Bool.{false≢true}
+use Rattle.std.proofs.lemmas.Option.{slice_get_within}
 use Rattle.da_lang.specs.declared.program.Program.{Program}
+use Rattle.da_lang.specs.World.{World, at_number, opening}
+use Rattle.da_core.specs.declared.process.Core.{Core}
+use Rattle.da_core.specs.StandsFor.{StandsFor}
+use Rattle.da_core.specs.StandsFor as process
+use Rattle.da_system.specs.Channels.{put_numbered}
+use Rattle.da_core.specs.Compiled.{IsCompiled}
+use Rattle.da_core.specs.RunsNow.{RunsNow}
 use Rattle.da_system.specs.declared.system.System.{System}
-use Rattle.da_system.specs.State.{HasStepped, StandAlike, Stands, Whichever, state_of}
-use Rattle.da_system.specs.SystemStep.{SystemState, Steps, Tells, sys_step}
+use Rattle.da_system.specs.State.{StandFrom, Stands, StandsAt, program_of}
+use Rattle.da_system.specs.SystemStep.{start}
+use Rattle.da_system.proofs.SystemLaws.{length-opened}
 
-pub stands_itself : (system : System) (s : SystemState) → state_of system ≡ s → Stands system s
-stands_itself system s is = record { is = sym is }
+module _ (program : Program) where
+  -- a core has its world at the same place, and where there is no core there is no world
+  stand_get : (first : ℕ) (cores : List Core) (ws : List World) (k : ℕ) (core : Core) → StandFrom program first cores ws → slice_get cores k ≡ Some core
+      → (w : World) × (slice_get ws k ≡ Some w) × StandsAt program (first + k) core w
+  stand_get first [] ws k core stand there = absurd (false≢true (ap is_some there))
+  stand_get first (c ∷ cores) [] k core stand there = absurd stand
+  stand_get first (c ∷ cores) (w ∷ ws) zero core stand there =
+      let same : c ≡ core = cc in
+      (w, refl, subst (λ x. StandsAt program (first + 0) x w) same (subst (λ n. StandsAt program n c w) (let here : first ≡ first + 0 = omega arith in here) stand.0))
+  stand_get first (c ∷ cores) (w ∷ ws) (suc k) core stand there =
+      let (v, is, at) = stand_get (first + 1) cores ws k core stand.1 there in
+      (v, is, subst (λ n. StandsAt program n core v) (let next : first + 1 + k ≡ first + suc k = omega arith in next) at)
 
-pub some_stands : (system : System) → (s : SystemState) × Stands system s
-some_stands system = (state_of system, record { is = refl })
+  stand_none : (first : ℕ) (cores : List Core) (ws : List World) (k : ℕ) → StandFrom program first cores ws → slice_get cores k ≡ None → slice_get ws k ≡ None
+  stand_none first [] [] k stand none = refl
+  stand_none first [] (w ∷ ws) k stand none = absurd stand
+  stand_none first (c ∷ cores) [] k stand none = refl
+  stand_none first (c ∷ cores) (w ∷ ws) zero stand none = absurd (false≢true (sym (ap is_some none)))
+  stand_none first (c ∷ cores) (w ∷ ws) (suc k) stand none = stand_none (first + 1) cores ws k stand.1 none
 
-module _ (program : Program) (system : System) (e : Event) where
-  pub forbidden_whichever : sys_step program (state_of system) e ≡ None → Whichever system (λ s. sys_step program s e ≡ None)
-  forbidden_whichever none = λ s stands. ap (λ (t : SystemState). sys_step program t e) stands.is ∙ none
+  stand_set : (first : ℕ) (cores : List Core) (ws : List World) (k : ℕ) (core : Core) (w : World) → StandFrom program first cores ws → StandsAt program (first + k) core w
+      → StandFrom program first (slice_set cores k core) (slice_set ws k w)
+  stand_set first [] [] k core w stand at = tt
+  stand_set first [] (v ∷ ws) k core w stand at = absurd stand
+  stand_set first (c ∷ cores) [] k core w stand at = absurd stand
+  stand_set first (c ∷ cores) (v ∷ ws) zero core w stand at = (subst (λ n. StandsAt program n core w) (let here : first + 0 ≡ first = omega arith in here) at, stand.1)
+  stand_set first (c ∷ cores) (v ∷ ws) (suc k) core w stand at =
+      (stand.0, stand_set (first + 1) cores ws k core w stand.1 (subst (λ n. StandsAt program n core w) (let next : first + suc k ≡ first + 1 + k = omega arith in next) at))
 
-  pub none_kept : (s : SystemState) → Stands system s → sys_step program s e ≡ None → sys_step program (state_of system) e ≡ None
-  none_kept s stands none = ap (λ (t : SystemState). sys_step program t e) (sym stands.is) ∙ none
+  stand_length : (first : ℕ) (cores : List Core) (ws : List World) → StandFrom program first cores ws → length cores ≡ length ws
+  stand_length first [] [] stand = refl
+  stand_length first [] (w ∷ ws) stand = absurd stand
+  stand_length first (c ∷ cores) [] stand = absurd stand
+  stand_length first (c ∷ cores) (w ∷ ws) stand = ap suc (stand_length (first + 1) cores ws stand.1)
 
-  pub enabled_whichever : (b : Bool) → (IsTrue b ↔ IsSome (sys_step program (state_of system) e)) → Whichever system (λ s. IsTrue b ↔ IsSome (sys_step program s e))
-  enabled_whichever b here = λ s stands. subst (λ (t : SystemState). IsTrue b ↔ IsSome (sys_step program t e)) (sym stands.is) here
+  -- the same by numbers
+  pub core_at : (cores : List Core) (ws : List World) (p : ℕ) (core : Core) → StandFrom program 1 cores ws → at_number cores p ≡ Some core
+      → (w : World) × (at_number ws p ≡ Some w) × StandsAt program p core w
+  core_at cores ws zero core stand there = absurd (false≢true (ap is_some there))
+  core_at cores ws (suc place) core stand there =
+      let (w, is, at) = stand_get 1 cores ws place core stand there in
+      (w, is, subst (λ n. StandsAt program n core w) (let here : 1 + place ≡ suc place = omega arith in here) at)
 
-  pub steps_whichever : (other : System) (old new : List Action) → Steps program (state_of system) e (state_of other) old new → Whichever system (λ s. HasStepped program s e other old new)
-  steps_whichever other old new steps = λ s stands. record {
-    after = record { state = state_of other; actions = steps.actions };
-    step = ap (λ (t : SystemState). sys_step program t e) stands.is ∙ steps.is;
-    stands = record { is = refl };
-    added = steps.added;
-  }
+  pub none_at : (cores : List Core) (ws : List World) (p : ℕ) → StandFrom program 1 cores ws → at_number cores p ≡ None → at_number ws p ≡ None
+  none_at cores ws zero stand none = refl
+  none_at cores ws (suc place) stand none = stand_none 1 cores ws place stand none
 
--- the same of an event that is seen to be this one
-module _ (program : Program) (system : System) (e seen : Event) (is : e ≡ seen) where
-  pub forbidden_by : sys_step program (state_of system) seen ≡ None → Whichever system (λ s. sys_step program s e ≡ None)
-  forbidden_by none = forbidden_whichever program system e (ap (sys_step program (state_of system)) is ∙ none)
+  pub core_put : (cores : List Core) (ws : List World) (p : ℕ) (core : Core) (w : World) → StandFrom program 1 cores ws → StandsAt program p core w
+      → StandFrom program 1 (put_numbered cores p core) (put_numbered ws p w)
+  core_put cores ws zero core w stand at = stand
+  core_put cores ws (suc place) core w stand at = stand_set 1 cores ws place core w stand (subst (λ n. StandsAt program n core w) (let here : suc place ≡ 1 + place = omega arith in here) at)
 
-  pub enabled_by : (b : Bool) → (IsTrue b ↔ IsSome (sys_step program (state_of system) seen)) → Whichever system (λ s. IsTrue b ↔ IsSome (sys_step program s e))
-  enabled_by b here = enabled_whichever program system e b (subst (λ (x : Event). IsTrue b ↔ IsSome (sys_step program (state_of system) x)) (sym is) here)
+  -- there is a world where there is a core
+  there_at : (cores : List Core) (ws : List World) (p : ℕ) (found : Option Core) → StandFrom program 1 cores ws → at_number cores p ≡ found → is_some (at_number ws p) ≡ is_some found
+  there_at cores ws p None stand is = ap is_some (none_at cores ws p stand is)
+  there_at cores ws p (Some core) stand is = let (w, there, at) = core_at cores ws p core stand is in ap is_some there
 
-  -- it changed nothing and told nothing
-  pub tells_by : {T E : Type 0} (r : Result T E) (out : List Action) → OnOk r (Tells program (state_of system) seen []) → OnOk r (Whichever system (λ s. HasStepped program s e system out out))
-  tells_by (Ok x) out tells = steps_whichever program system e system out out (record { actions = []; is = ap (sys_step program (state_of system)) is ∙ tells; added = sym (append-nil out) })
-  tells_by (Err fault) out tells = tt
+  pub world_there : (cores : List Core) (ws : List World) (p : ℕ) → StandFrom program 1 cores ws → is_some (at_number ws p) ≡ is_some (at_number cores p)
+  world_there cores ws p stand = there_at cores ws p (at_number cores p) stand refl
 
-pub alike : (system other : System) → state_of other ≡ state_of system → StandAlike system other
-alike system other same = λ s. (λ stands. record { is = stands.is ∙ sym same }, λ stands. record { is = stands.is ∙ same })
+  -- THE OPENING: new processes, one after the other
+
+  opened_from : (first n : ℕ) (cores : List Core) (core : Core) → StandFrom program first cores (map (opening program) (range_with_len first n)) → StandsAt program (first + n) core (opening program (first + n))
+      → StandFrom program first (cores ++ core ∷ []) (map (opening program) (range_with_len first (suc n)))
+  opened_from first zero [] core stand at = (subst (λ k. StandsAt program k core (opening program k)) (let here : first + 0 ≡ first = omega arith in here) at, tt)
+  opened_from first zero (c ∷ cores) core stand at = absurd stand
+  opened_from first (suc n) [] core stand at = absurd stand
+  opened_from first (suc n) (c ∷ cores) core stand at =
+      (stand.0, opened_from (first + 1) n cores core stand.1 (subst (λ k. StandsAt program k core (opening program k)) (let next : first + suc n ≡ first + 1 + n = omega arith in next) at))
+
+  pub opened_more : (n me : ℕ) (cores : List Core) (core : Core) → me ≡ n + 1 → process.program_of core ≡ program → StandsFor core (opening program me) → StandFrom program 1 cores (map (opening program) (range_with_len 1 n))
+      → StandFrom program 1 (cores ++ core ∷ []) (map (opening program) (range_with_len 1 (n + 1)))
+  opened_more n me cores core is same stands stand =
+      let here : me ≡ 1 + n = omega (arith, is) in
+      let at : StandsAt program me core (opening program me) = record { same = same; number = refl; stands = stands } in
+      subst (λ k. StandFrom program 1 (cores ++ core ∷ []) (map (opening program) (range_with_len 1 k))) (let next : suc n ≡ n + 1 = omega arith in next)
+      (opened_from 1 n cores core stand (subst (λ k. StandsAt program k core (opening program k)) here at))
+
+-- a system of so many new processes stands for the state before any event
+pub opened_stands : (system : System) (n : ℕ) → system.spent ≡ false → IsCompiled system.compiled.now → RunsNow (program_of system) → n ≡ length (program_of system).procs
+    → StandFrom (program_of system) 1 system.cores.items (map (opening (program_of system)) (range_with_len 1 n)) → Stands system (start (program_of system))
+opened_stands system n unspent compiled runs all stand =
+    let here : StandFrom (program_of system) 1 system.cores.items (map (opening (program_of system)) (range_with_len 1 (length (program_of system).procs))) =
+    subst (λ k. StandFrom (program_of system) 1 system.cores.items (map (opening (program_of system)) (range_with_len 1 k))) all stand in
+    record {
+      unspent = unspent;
+      compiled = compiled;
+      runs = runs;
+      kind = refl;
+      each = stand_length (program_of system) 1 system.cores.items _ here ∙ length-opened (program_of system) 1 (length (program_of system).procs);
+      cores = here;
+      channels = refl;
+    }
+
+-- the number of a core that is there is not greater than the number of cores
+pub within : (cores : List Core) (p : ℕ) → is_some (at_number cores p) ≡ true → p ≤ length cores
+within cores zero there = omega arith
+within cores (suc place) there = of (slice_get cores place) refl there
+  where
+    of : (found : Option Core) → slice_get cores place ≡ found → is_some found ≡ true → suc place ≤ length cores
+    of None is some = absurd (false≢true some)
+    of (Some core) is some = omega (arith, slice_get_within cores place core is)
+
+-- A MEMBER BY ITS PLACE AND BY ITS NUMBER
+
+get_is : {A : Type 0} (xs : List A) (place : ℕ) (d : A) → place < length xs → slice_get xs place ≡ Some (slice_index_or xs place d)
+get_is [] place d inside = absurd (omega (arith, inside))
+get_is (x ∷ xs) zero d inside = refl
+get_is (x ∷ xs) (suc place) d inside = get_is xs place d (omega (arith, inside))
+
+pub numbered_at : {A : Type 0} (xs : List A) (p place : ℕ) (x : A) → p ≡ place + 1 → place < length xs → x ≡ slice_index_or xs place x → at_number xs p ≡ Some x
+numbered_at xs zero place x is inside same = absurd (omega (arith, is))
+numbered_at xs (suc k) place x is inside same = ap (slice_get xs) (let here : k ≡ place = omega (arith, is) in here) ∙ get_is xs place x inside ∙ ap Some (sym same)
+
+pub numbered_put : {A : Type 0} (xs : List A) (p place : ℕ) (x : A) → p ≡ place + 1 → slice_set xs place x ≡ put_numbered xs p x
+numbered_put xs zero place x is = absurd (omega (arith, is))
+numbered_put xs (suc k) place x is = ap (λ n. slice_set xs n x) (let here : place ≡ k = omega (arith, is) in here)
+
+pub set_same : {A : Type 0} (xs : List A) (place : ℕ) (x y : A) → y ≡ x → x ≡ slice_index_or xs place x → slice_set xs place y ≡ xs
+set_same [] place x y same is = refl
+set_same (z ∷ zs) zero x y same is = ap (λ h. h ∷ zs) (same ∙ is)
+set_same (z ∷ zs) (suc place) x y same is = ap (λ t. z ∷ t) (set_same zs place x y same is)

@@ -1,7 +1,5 @@
 pub mod Channels
 pub mod FlatChannels
-pub mod Place
-pub mod Printing
 pub mod SoundState
 pub mod SourceRun
 pub mod State

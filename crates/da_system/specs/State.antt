@@ -1,78 +1,79 @@
 -- The states that a system in code stands for.
-use Rattle.std.specs.Prelude.{◌≡◌, ◌↔◌, ℕ, ◌+◌, ◌-◌, ◌^◌, ◌<◌, ◌≤◌, List, [], ◌∷◌, ◌++◌, length, Option, Some, None}
+use Rattle.std.specs.Prelude.{◌≡◌, ◌↔◌, ℕ, ◌+◌, Bool, true, false, List, [], ◌∷◌, ◌++◌, length, Option, Some, None, Result, Ok, Err}
 use Rattle.da_lang.specs.declared.event.Action.{Action}
-use Rattle.da_lang.specs.declared.event.Event.{Event}
-use Rattle.da_lang.specs.declared.event.Event.TheVariants.{Move}
-use Rattle.da_lang.specs.declared.program.Class.{Class}
-use Rattle.da_lang.specs.declared.program.Item.{Item}
 use Rattle.da_lang.specs.declared.program.Program.{Program}
-use Rattle.da_lang.specs.World.{World, class_of, opening_data}
-use Rattle.da_system.specs.declared.machine.Start.{Start}
-use Rattle.da_system.specs.declared.process.Process.{Process}
+use Rattle.da_lang.specs.World.{World}
+use Rattle.da_machine.specs.RunsTo.{IsFront}
+use Rattle.da_core.specs.declared.place.StepFault.{StepFault}
+use Rattle.da_core.specs.declared.place.StepFault.TheVariants.{Forbidden, Memory, Spent}
+use Rattle.da_core.specs.declared.process.Core.{Core}
+use Rattle.da_core.specs.Compiled.{IsCompiled}
+use Rattle.da_core.specs.Compiled as compiled
+use Rattle.da_core.specs.RunsNow.{RunsNow}
+use Rattle.da_core.specs.StandsFor.{StandsFor}
+use Rattle.da_core.specs.StandsFor as process
 use Rattle.da_system.specs.declared.system.System.{System}
 use Rattle.da_system.specs.Channels.{no_letters}
-use Rattle.da_system.specs.Place.{move_at, world_of}
-use Rattle.da_system.specs.Printing.{PrintsOnly}
-use Rattle.da_system.specs.SystemStep.{AfterEvent, SystemState, stepped, sys_step}
+use Rattle.da_system.specs.SystemStep.{AfterEvent, SystemState}
 
 abbrev pub program_of : System → Program
-program_of system = system.program.now
+program_of system = compiled.program_of system.compiled.now
 
-abbrev pub run_in : Option Class → List Item
-run_in None = []
-run_in (Some class) = class.run
+-- an earlier step found no memory
+abbrev pub is_spent : System → Bool
+is_spent system = system.spent
 
--- the statements of `run` of the process of this number
-abbrev pub run_of : Program → ℕ → List Item
-run_of program me = run_in (class_of program me)
+-- a core of the program stands for a world, which is that of the process of this number
+pub record StandsAt (program : Program) (me : ℕ) (core : Core) (w : World) : Type 0 where
+  pub same : process.program_of core ≡ program
+  pub number : w.data'.me ≡ me
+  pub stands : StandsFor core w
 
--- the worlds of processes that are numbered from the first. A process that does no more than print knows what it knew at
--- the opening.
-abbrev pub worlds_from : Program → ℕ → List Process → List World
-worlds_from program first [] = []
-worlds_from program first (p ∷ ps) = world_of (run_of program first) (opening_data program first) p ∷ worlds_from program (first + 1) ps
+-- cores stand for the worlds of processes that are numbered from the first, in their order
+abbrev pub StandFrom : Program → ℕ → List Core → List World → Type 0
+StandFrom program first [] [] = Unit {0}
+StandFrom program first (core ∷ cores) (w ∷ ws) = StandsAt program first core w × StandFrom program (first + 1) cores ws
+StandFrom program first _ _ = ⊥
 
--- the state of these processes, which have sent nothing
-abbrev pub state_in : Program → List Process → SystemState
-state_in program ps = record { kind = program.kind; worlds = worlds_from program 1 ps; channels = no_letters (length program.procs) }
-
-abbrev pub state_of : System → SystemState
-state_of system = state_in (program_of system) system.processes
-
--- the system stands for this state
+-- The system stands for this state of a compiled program: it is not spent, each of its cores stands for the world of its
+-- process, and nothing is under way, since no program that runs as yet sends anything.
 pub record Stands (system : System) (s : SystemState) : Type 0 where
-  pub is : s ≡ state_of system
+  pub unspent : system.spent ≡ false
+  pub compiled : IsCompiled system.compiled.now
+  pub runs : RunsNow (program_of system)
+  pub kind : s.kind ≡ (program_of system).kind
+  pub each : length system.cores.items ≡ length (program_of system).procs
+  pub cores : StandFrom (program_of system) 1 system.cores.items s.worlds
+  pub channels : s.channels ≡ no_letters (length (program_of system).procs)
 
 -- it holds of each state that the system stands for
 abbrev pub Whichever : System → (SystemState → Type 0) → Type 0
-Whichever system P = (s : SystemState) → Stands system s → P s
+Whichever system holds = (s : SystemState) → Stands system s → holds s
 
 -- the two stand for the same states
 abbrev pub StandAlike : System → System → Type 0
 StandAlike system other = (s : SystemState) → Stands system s ↔ Stands other s
 
--- the event was allowed in this state, and the system stands for the one that it leads to; its actions were added
-pub record HasStepped (program : Program) (s : SystemState) (e : Event) (system : System) (old new : List Action) : Type 0 where
+-- a system that is not spent stands for some state
+abbrev pub IsReady : System → Type 0
+IsReady system = system.spent ≡ false → (s : SystemState) × Stands system s
+
+-- the event was allowed, and the system stands for the state that its step leads to; its actions were added
+pub record HasStepped (step : Option AfterEvent) (system : System) (old new : List Action) : Type 0 where
   pub after : AfterEvent
-  pub step : sys_step program s e ≡ Some after
+  pub is : step ≡ Some after
   pub stands : Stands system after.state
   pub added : new ≡ old ++ after.actions
 
--- each process of a program has a number of 16 bits
-abbrev pub IsNumbered : Program → Type 0
-IsNumbered program = length program.procs < 2 ^ 16
+-- the event was allowed, and a front of its actions was added
+pub record HasBegun (step : Option AfterEvent) (old new : List Action) : Type 0 where
+  pub after : AfterEvent
+  pub is : step ≡ Some after
+  pub front : IsFront old new after.actions
 
--- the system stands for some state, and can make steps
-pub record IsReady (system : System) : Type 0 where
-  pub stands : (s : SystemState) × Stands system s
-  pub few : IsNumbered (program_of system)
-  pub prints : PrintsOnly (program_of system)
-  pub each : length system.processes ≡ length (program_of system).procs
-
--- process p of these, which is of the class, has the move from the start
-pub record CanStart (program : Program) (ps : List Process) (p : ℕ) (class : Class) (start : Start) : Type 0 where
-  pub early : start.turns ≤ 1
-  pub some : 0 < p
-  pub inside : p - 1 < length ps
-  pub known : class_of program p ≡ Some class
-  pub step : sys_step program (state_in program ps) (Move p) ≡ stepped (state_in program ps) p (Some (move_at class (opening_data program p) start))
+-- what a system that is not spent answers to an event with this step, and what it leaves
+abbrev pub Answers : (SystemState → Option AfterEvent) → System → Result (Unit {0}) StepFault → System → List Action → List Action → Type 0
+Answers step system (Ok done) left old new = Whichever system (λ s. HasStepped (step s) left old new)
+Answers step system (Err Forbidden) left old new = Whichever system (λ s. step s ≡ None) × StandAlike system left × (new ≡ old)
+Answers step system (Err Memory) left old new = (is_spent left ≡ true) × Whichever system (λ s. HasBegun (step s) old new)
+Answers step system (Err Spent) left old new = ⊥

@@ -120,13 +120,3 @@ sys_step program s (event.Lose p q i) = lose s p q i
 sys_step program s (event.Repeat p q i) = repeat s p q i
 sys_step program s (event.Show p) = show program s p
 sys_step program s (event.Stat p) = stat program s p
-
--- the event was allowed, led to this state, and its actions were added
-pub record Steps (program : Program) (s : SystemState) (e : Event) (s' : SystemState) (old new : List Action) : Type 0 where
-  pub actions : List Action
-  pub is : sys_step program s e ≡ Some (record { state = s'; actions = actions })
-  pub added : new ≡ old ++ actions
-
--- the event was allowed, changed nothing, and told this
-abbrev pub Tells : Program → SystemState → Event → List Action → Type 0
-Tells program s e actions = sys_step program s e ≡ Some (record { state = s; actions = actions })

@@ -1,84 +1,108 @@
 //! The processes of a program, and their steps.
+ghost use Rattle.da_core.specs.Compiled.{IsCompiled, program_of as compiled_program};
+ghost use Rattle.da_core.specs.RunsNow.{RunsNow};
 ghost use Rattle.da_lang.specs.Accepted.{IsAccepted};
-ghost use Rattle.da_lang.specs.World.{class_of as class_of_lem, at_number as numbered_lem};
-ghost use Rattle.da_system.specs.Printing.{PrintsOnly};
+ghost use Rattle.da_lang.specs.Steps.{move_step};
+ghost use Rattle.da_lang.specs.World.{at_number};
+ghost use Rattle.da_lang.specs.declared.event.Action.{Action as ActionOf};
 ghost use Rattle.da_system.specs.SoundState.{IsSoundState, StaysSound};
-ghost use Rattle.da_system.specs.State.{CanStart, HasStepped, IsNumbered, IsReady, StandAlike, Stands, Whichever, program_of, state_of};
-ghost use Rattle.da_system.specs.SystemStep.{SystemState, start, sys_step, Steps, Tells};
-ghost use Rattle.std.specs.Prelude.{◌≡◌, ◌↔◌, [], None, IfOk, IsErrOf, IsSome, IsTrue, MatchOption, OnOk, is_some, option_copied};
+ghost use Rattle.da_system.specs.State.{Answers, HasBegun, HasStepped, IsReady, StandAlike, Stands, Whichever, is_spent, program_of};
+ghost use Rattle.da_system.specs.SystemStep.{process_step, show, start, stat, sys_step};
+ghost use Rattle.std.specs.Prelude.{◌≡◌, ◌↔◌, ◌+◌, ◌<◌, List as ListOf, MatchOption, None, IfOk, IsErrOf, IsSome, IsTrue, OnOk, false, is_some, length, option_copied, true};
 
-use crate::machine::{Start, move_from, start_in};
-use crate::process::Process;
-use da_lang::{Action, Class, Event, Program};
+use da_core::{Compiled, Core, StepFault};
+use da_lang::{Action, Event};
 use da_values::{List, NoMemory};
 use std::alloc::Global;
-use thiserror::Error;
 
-/// Why a step was not made.
-#[derive(Clone, Copy, Debug, PartialEq, Eq, Error)]
-pub enum StepFault {
-    /// The event is not allowed. Nothing has changed.
-    #[error("the event is not allowed")]
-    Forbidden,
-    /// Memory was refused. Nothing is known of the system but that it can be dropped.
-    #[error("no memory is left")]
-    Memory,
-}
-
-impl From<NoMemory> for StepFault {
-    ghost use Rattle.da_system.specs.declared.system.StepFault.TheVariants.{Memory};
-    ghost use Rattle.std.specs.Prelude.{◌≡◌};
-
-    ghost from_gives = { λ _ fault. fault ≡ Memory };
-
-    fn from(_: NoMemory) -> StepFault {
-        StepFault::Memory
-    }
-}
-
-/// The processes of a program, which run by the events of a schedule. Contracts see the states that they stand for, by
-/// `Stands`.
+/// The processes of a compiled program, which run by the events of a schedule. Contracts see the states that they stand
+/// for, by `Stands`.
 #[derive(Debug, Drop)]
-pub struct System<'p> {
-    alloc: Global,
-    program: &'p Program,
-    processes: List<Process>,
+pub struct System<'c> {
+    compiled: &'c Compiled,
+    cores: Vec<Core<'c>>,
+    spent: bool,
 }
 
-impl<'p> System<'p> {
-    /// The system before any event. The program has fewer than 65,536 processes, and does no more than print: that much
-    /// is asked until the machine for all statements is there.
-    #[tactic(auto, using(crate::proofs::StandLemmas::stands_itself))]
-    pub fn new(alloc: Global, program: &'p Program) -> Result<System<'p>, NoMemory>
-        requires few { IsNumbered program.now }
-        requires prints { PrintsOnly program.now }
+impl<'c> System<'c> {
+    /// The system before any event. The program is one of those that run as yet.
+    pub fn new(alloc: Global, compiled: &'c Compiled) -> Result<System<'c>, NoMemory>
+        requires compiled { IsCompiled compiled.now }
+        requires runs { RunsNow (compiled_program compiled.now) }
         ensures ready { IfOk result IsReady }
-        ensures program { IfOk result (λ system. program_of system ≡ program.now) }
-        ensures start { IfOk result (λ system. Stands system (start program.now)) }
+        ensures program { IfOk result (λ system.
+            program_of system ≡ compiled_program compiled.now) }
+        ensures start { IfOk result (λ system.
+            Stands system (start (compiled_program compiled.now))) }
 
-        // Of an accepted program that state is sound.
-        ensures sound { IsAccepted program.now → IsSoundState program.now (start program.now) }
+        // That state is sound.
+        ensures sound { let p = compiled_program compiled.now in IsSoundState p (start p) }
     {
-        let mut processes = List::new(alloc);
-        for _place in 0..program.procs.len() {
-            processes.push(Process::New)?;
+        let mut cores = Vec::new(alloc);
+        for place in 0..compiled.program().procs.len() {
+            let core = Core::start(alloc, compiled, place as u16 + 1)?;
+            if cores.push(core).is_err() {
+                return Err(NoMemory);
+            }
         }
         Ok(System {
-            alloc,
-            program,
-            processes,
+            compiled,
+            cores,
+            spent: false,
         })
     }
 
-    /// Whether the event is allowed.
-    #[tactic(auto, using(crate::proofs::StandLemmas::enabled_whichever))]
+    /// Whether the event is allowed. On a spent system none is. It takes no memory.
     pub fn enabled(&self, e: &Event) -> bool
-        requires { IsReady self.now }
-        ensures { Whichever self.now (λ s. IsTrue result ↔ IsSome (sys_step (program_of self.now) s e.now)) }
+        ensures spent { is_spent self.now ≡ true → result ≡ false }
+        ensures allowed { Whichever self.now (λ s.
+            IsTrue result ↔ IsSome (sys_step (program_of self.now) s e.now)) }
+    {
+        !self.spent && self.may_step(e)
+    }
+
+    /// Makes the step of the event, and adds its actions to `out`. `Spent` comes exactly where an earlier step found no
+    /// memory, and else `Forbidden` exactly where the event is not allowed; nothing has changed then. `Memory` leaves a
+    /// spent system, and `out` has a front of the actions of the step besides.
+    pub fn step(&mut self, e: &Event, out: &mut List<Action>) -> Result<(), StepFault>
+        requires { IsReady self.old }
+        ensures ready { IsReady self.new }
+        ensures program { program_of self.new ≡ program_of self.old }
+        ensures steps { OnOk result (Whichever self.old (λ s.
+            HasStepped (sys_step (program_of self.old) s e.now) self.new out.old out.new)) }
+        ensures spent { is_spent self.old ≡ true → IsErrOf result StepFault.Spent }
+        ensures only_spent { IsErrOf result StepFault.Spent
+            → (is_spent self.old ≡ true) × (self.new ≡ self.old) × (out.new ≡ out.old) }
+        ensures forbidden { IsErrOf result StepFault.Forbidden → Whichever self.old (λ s.
+            sys_step (program_of self.old) s e.now ≡ None) }
+        ensures allowed { Whichever self.old (λ s.
+            sys_step (program_of self.old) s e.now ≡ None → IsErrOf result StepFault.Forbidden) }
+        ensures same { IsErrOf result StepFault.Forbidden
+            → StandAlike self.old self.new × (out.new ≡ out.old) }
+        ensures memory { IsErrOf result StepFault.Memory → is_spent self.new ≡ true }
+        ensures front { IsErrOf result StepFault.Memory → Whichever self.old (λ s.
+            HasBegun (sys_step (program_of self.old) s e.now) out.old out.new) }
+
+        // Of an accepted program each state stays sound: where the event is allowed, it leads to a sound one.
+        ensures sound { IsAccepted (program_of self.old)
+            → Whichever self.old (λ s. StaysSound (program_of self.old) s e.now) }
+    {
+        if self.spent {
+            return Err(StepFault::Spent);
+        }
+        self.carry_out(e, out)
+    }
+}
+
+impl System<'_> {
+    // Whether the event is allowed, where the system is not spent.
+    fn may_step(&self, e: &Event) -> bool
+        ensures { Whichever self.now (λ s.
+            IsTrue result ↔ IsSome (sys_step (program_of self.now) s e.now)) }
     {
         match e {
-            Event::Move { p } => self.start_of(*p).is_some(),
-            Event::Take { .. } => false,
+            Event::Move { p } => self.may_move(*p, 0),
+            Event::Take { p, k } => *k > 0 && self.may_move(*p, *k),
             Event::Deliver { .. } => false,
             Event::Lose { .. } => false,
             Event::Repeat { .. } => false,
@@ -87,25 +111,17 @@ impl<'p> System<'p> {
         }
     }
 
-    /// Makes the step of the event, and adds its actions to `out`. No earlier step on this system has answered
-    /// `Memory`.
-    #[tactic(auto, using(crate::proofs::StandLemmas::forbidden_whichever, crate::proofs::StandLemmas::none_kept, crate::proofs::StandLemmas::steps_whichever, crate::proofs::StandLemmas::alike, crate::proofs::AcceptedStates::stays_sound))]
-    pub fn step(&mut self, e: &Event, out: &mut List<Action>) -> Result<(), StepFault>
-        requires { IsReady self.old }
-        ensures ready { OnOk result (IsReady self.new) }
-        ensures still_ready { IsErrOf result StepFault.Forbidden → IsReady self.new }
+    // Makes the step of the event, where the system is not spent.
+    fn carry_out(&mut self, e: &Event, out: &mut List<Action>) -> Result<(), StepFault>
+        requires ready { IsReady self.old }
+        requires unspent { is_spent self.old ≡ false }
         ensures program { program_of self.new ≡ program_of self.old }
-        ensures steps { OnOk result (Whichever self.old (λ s. HasStepped (program_of self.old) s e.now self.new out.old out.new)) }
-        ensures forbidden { IsErrOf result StepFault.Forbidden → Whichever self.old (λ s. sys_step (program_of self.old) s e.now ≡ None) }
-        ensures allowed { (s : SystemState) → Stands self.old s → sys_step (program_of self.old) s e.now ≡ None → IsErrOf result StepFault.Forbidden }
-        ensures same { IsErrOf result StepFault.Forbidden → StandAlike self.old self.new × (out.new ≡ out.old) }
-
-        // Of an accepted program each state stays sound: where the event is allowed, it leads to a sound one.
-        ensures sound { IsAccepted (program_of self.old) → Whichever self.old (λ s. StaysSound (program_of self.old) s e.now) }
+        ensures answers { Answers (λ s. sys_step (program_of self.old) s e.now)
+            self.old result self.new out.old out.new }
     {
         match e {
-            Event::Move { p } => self.make_move(*p, out),
-            Event::Take { .. } => Err(StepFault::Forbidden),
+            Event::Move { p } => self.make_move(*p, 0, out),
+            Event::Take { p, k } => self.take(*p, *k, out),
             Event::Deliver { .. } => Err(StepFault::Forbidden),
             Event::Lose { .. } => Err(StepFault::Forbidden),
             Event::Repeat { .. } => Err(StepFault::Forbidden),
@@ -113,53 +129,87 @@ impl<'p> System<'p> {
             Event::Stat { p } => self.stat(*p, out),
         }
     }
-}
 
-impl System<'_> {
+    // The place of process `p` among the cores, or `None` where there is no such process.
+    fn place_of(&self, p: u32) -> Option<usize>
+        ensures { MatchOption result (at_number self.now.cores.items p ≡ None)
+            (λ place. (p ≡ place + 1) × (place < length self.now.cores.items)) }
+    {
+        let place = (p as usize).checked_sub(1)?;
+        if place < self.cores.len() {
+            Some(place)
+        } else {
+            None
+        }
+    }
+
+    // The core of process `p`, or `None` where there is no such process.
+    fn core(&self, p: u32) -> Option<&Core<'_>>
+        ensures { option_copied result ≡ at_number self.now.cores.items p }
+    {
+        let place = (p as usize).checked_sub(1)?;
+        self.cores.get(place)
+    }
+
     // Whether there is a process of this number.
     fn has_process(&self, p: u32) -> bool
-        ensures { result ≡ is_some (numbered_lem (state_of self.now).worlds p) }
+        ensures { result ≡ is_some (at_number self.now.cores.items p) }
     {
-        numbered(&self.processes, p).is_some()
+        self.core(p).is_some()
     }
 
-    // The class of process `p` and where its move begins, or `None` where it is not allowed.
-    fn start_of(&self, p: u32) -> Option<(&Class, Start)>
-        requires { IsReady self.now }
-        ensures { MatchOption result (sys_step (program_of self.now) (state_of self.now) (Event.Move p) ≡ None) (λ found. CanStart (program_of self.now) self.now.processes p found.0.now found.1) }
+    // Whether process `p` may make the move of number `k`.
+    fn may_move(&self, p: u32, k: u32) -> bool
+        ensures { Whichever self.now (λ s.
+            IsTrue result ↔ IsSome (process_step (program_of self.now) s p (move_step k))) }
     {
-        let process = numbered(&self.processes, p)?;
-        let class = class_of(self.program, p)?;
-        let start = start_in(class, process)?;
-        Some((class, start))
+        match self.core(p) {
+            Some(core) => core.can_move(k),
+            None => false,
+        }
     }
 
-    // The move of process `p`.
-    #[tactic(auto, using(crate::proofs::StandLemmas::some_stands))]
-    fn make_move(&mut self, p: u32, out: &mut List<Action>) -> Result<(), StepFault>
-        requires { IsReady self.old }
-        ensures ready { OnOk result (IsReady self.new) }
-        ensures still_ready { IsErrOf result StepFault.Forbidden → IsReady self.new }
+    // The move of number `k` of process `p`.
+    fn make_move(&mut self, p: u32, k: u32, out: &mut List<Action>) -> Result<(), StepFault>
+        requires ready { IsReady self.old }
+        requires unspent { is_spent self.old ≡ false }
         ensures program { program_of self.new ≡ program_of self.old }
-        ensures steps { OnOk result (Steps (program_of self.old) (state_of self.old) (Event.Move p) (state_of self.new) out.old out.new) }
-        ensures forbidden { IsErrOf result StepFault.Forbidden → sys_step (program_of self.old) (state_of self.old) (Event.Move p) ≡ None }
-        ensures allowed { sys_step (program_of self.old) (state_of self.old) (Event.Move p) ≡ None → IsErrOf result StepFault.Forbidden }
-        ensures same { IsErrOf result StepFault.Forbidden → (state_of self.new ≡ state_of self.old) × (out.new ≡ out.old) }
+        ensures answers { Answers (λ s. process_step (program_of self.old) s p (move_step k))
+            self.old result self.new out.old out.new }
     {
-        let Some((class, start)) = self.start_of(p) else {
+        let Some(place) = self.place_of(p) else {
             return Err(StepFault::Forbidden);
         };
-        let process = move_from(self.alloc, class, p as u16, start, out)?;
-        self.processes.set(p as usize - 1, process);
-        Ok(())
+        let core = &mut self.cores[place];
+        match core.make_move(k, out) {
+            Ok(_) => Ok(()),
+            Err(StepFault::Memory) => {
+                self.spent = true;
+                Err(StepFault::Memory)
+            }
+            Err(StepFault::Forbidden) => Err(StepFault::Forbidden),
+            Err(StepFault::Spent) => Err(StepFault::Spent),
+        }
+    }
+
+    // The move of process `p` by alternative `k`. Alternatives are numbered from 1.
+    fn take(&mut self, p: u32, k: u32, out: &mut List<Action>) -> Result<(), StepFault>
+        requires ready { IsReady self.old }
+        requires unspent { is_spent self.old ≡ false }
+        ensures program { program_of self.new ≡ program_of self.old }
+        ensures answers { Answers (λ s. sys_step (program_of self.old) s (Event.Take p k))
+            self.old result self.new out.old out.new }
+    {
+        if k == 0 {
+            return Err(StepFault::Forbidden);
+        }
+        self.make_move(p, k, out)
     }
 
     // Tells the answers of process `p`: none, since its class has no queries.
     fn show(&self, p: u32) -> Result<(), StepFault>
-        requires { IsReady self.now }
-        ensures tells { OnOk result (Tells (program_of self.now) (state_of self.now) (Event.Show p) []) }
-        ensures forbidden { IsErrOf result StepFault.Forbidden → sys_step (program_of self.now) (state_of self.now) (Event.Show p) ≡ None }
-        ensures allowed { sys_step (program_of self.now) (state_of self.now) (Event.Show p) ≡ None → IsErrOf result StepFault.Forbidden }
+        ensures { (out : ListOf ActionOf)
+            → Answers (λ s. show (program_of self.now) s p) self.now result self.now out out }
     {
         if self.has_process(p) {
             Ok(())
@@ -169,33 +219,20 @@ impl System<'_> {
     }
 
     // Tells how many rows process `p` keeps: none, since its class has no queries.
-    fn stat(&self, p: u32, out: &mut List<Action>) -> Result<(), StepFault>
-        requires { IsReady self.now }
-        ensures steps { OnOk result (Steps (program_of self.now) (state_of self.now) (Event.Stat p) (state_of self.now) out.old out.new) }
-        ensures forbidden { IsErrOf result StepFault.Forbidden → sys_step (program_of self.now) (state_of self.now) (Event.Stat p) ≡ None }
-        ensures allowed { sys_step (program_of self.now) (state_of self.now) (Event.Stat p) ≡ None → IsErrOf result StepFault.Forbidden }
-        ensures same { IsErrOf result StepFault.Forbidden → out.new ≡ out.old }
+    fn stat(&mut self, p: u32, out: &mut List<Action>) -> Result<(), StepFault>
+        requires ready { IsReady self.old }
+        requires unspent { is_spent self.old ≡ false }
+        ensures program { program_of self.new ≡ program_of self.old }
+        ensures answers { Answers (λ s. stat (program_of self.old) s p)
+            self.old result self.new out.old out.new }
     {
         if !self.has_process(p) {
             return Err(StepFault::Forbidden);
         }
-        out.push(Action::Kept { p: p as u16, n: 0 })?;
+        if out.push(Action::Kept { p: p as u16, n: 0 }).is_err() {
+            self.spent = true;
+            return Err(StepFault::Memory);
+        }
         Ok(())
     }
-}
-
-// The member of this number, counted from 1.
-fn numbered<T>(members: &List<T>, number: u32) -> Option<&T>
-    ensures { option_copied result ≡ numbered_lem members.now number }
-{
-    let place = (number as usize).checked_sub(1)?;
-    members.get(place)
-}
-
-// The class of the process of this number.
-fn class_of(program: &Program, me: u32) -> Option<&Class>
-    ensures { option_copied result ≡ class_of_lem program.now me }
-{
-    let decl = numbered(&program.procs, me)?;
-    program.classes.get(decl.class as usize)
 }

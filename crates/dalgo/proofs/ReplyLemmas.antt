@@ -1,12 +1,14 @@
 -- The replies of the commands.
 use Rattle.std.proofs.Common.{◌≡◌, refl, sym, ◌∙◌, ap, subst, Bool, true, false, ℕ, ◌+◌, ◌<◌, ◌≤◌, inl, inr, ◌⊎◌, List, [], take, length, arith}
-use Rattle.std.specs.Prelude.{◌&&◌, Option, Some, None, Result, Ok, Err, IfErr, IfOk, IsErrOf}
+use Rattle.std.specs.Prelude.{◌↔◌, Option, Some, None, Result, Ok, Err, IfErr, IfOk, IsErrOf, IsTrue}
+use Rattle.std.proofs.lemmas.Bool.{false≢true}
 use Rattle.da_lang.specs.declared.event.Event.{Event}
 use Rattle.da_lang.specs.declared.program.Program.{Program}
 use Rattle.da_lang.specs.declared.tree.Tree.{Tree}
 use Rattle.da_lang.specs.Limits.{Resolves}
 use Rattle.da_lang.specs.Typing.{Typed}
 use Rattle.da_outside.specs.Outside.{Appends, AppendsFront, IsWhole, Rose}
+use Rattle.da_core.specs.RunsNow.{RunsNow}
 use Rattle.da_system.specs.declared.system.System.{System}
 use Rattle.da_system.specs.SourceRun.{src_run}
 use Rattle.da_system.specs.State.{Stands, Whichever}
@@ -23,9 +25,8 @@ use Rattle.dalgo.specs.declared.status.Status.{Status}
 use Rattle.dalgo.specs.declared.status.Status.TheVariants.{BadSchedule, Done, Forbidden, Refused, ReadFault, WriteFault, Memory, Words}
 use Rattle.dalgo.specs.declared.endings.Ending.{Ending}
 use Rattle.dalgo.specs.declared.endings.Ending.TheVariants as ending
-use Rattle.dalgo.specs.FirstForm.{only_run, program_prints}
 use Rattle.dalgo.specs.Lines.{accepted_text}
-use Rattle.dalgo.specs.Replies.{CheckReply, accepted, declined, IsAccepted, IsAnswer, IsCheck, IsRead, IsRefused, IsReplay, IsReply, MayRead, ReadCause, ReplayRefuses, ReplayReply, refused, answered, RunReply, bad_schedule, ran, RunsToday, RunsWhole, ended_by, run_status, run_text}
+use Rattle.dalgo.specs.Replies.{CheckReply, accepted, declined, IsAccepted, IsAnswer, IsCheck, IsRefused, IsReplay, IsReply, MayRead, ReadCause, ReplayRefuses, ReplayReply, refused, answered, RunReply, bad_schedule, ran, RunsToday, RunsWhole, ended_by, run_status, run_text}
 use Rattle.dalgo.specs.Told.{Gains, OfTold}
 use Rattle.dalgo.specs.Top.{status_after}
 use Rattle.dalgo.specs.Verdict.{Accepts, HasTree, IsRefusedAs, Refuses, program_limit}
@@ -37,21 +38,19 @@ use Rattle.sched_text.proofs.ScheduleLaws.{not_bad, one_schedule}
 -- WHAT WAS READ
 
 -- a program that was read
-pub is_read : (t : List ℕ) (tree : Tree) (p q : Program) (only : Bool) → HasTree t tree → Resolves tree p → Typed p q → only ≡ only_run tree → IsRead t q only
-is_read t tree p q only has resolves typed is = record { accepts = record { tree = tree; has = has; resolved = p; resolves = resolves; typed = typed }; says = is }
+pub accepts_read : (t : List ℕ) (tree : Tree) (p q : Program) → HasTree t tree → Resolves tree p → Typed p q → Accepts t q
+accepts_read t tree p q has resolves typed = record { tree = tree; has = has; resolved = p; resolves = resolves; typed = typed }
 
--- the form of a program that was read
-pub runs_read : (t : List ℕ) (program : Program) (only r : Bool) → IsRead t program only → r ≡ (only && program_prints program) → r ≡ true → RunsToday t program
-runs_read t program only r read says is =
-    record { accepts = read.accepts; today = ap (λ o. o && program_prints program) (sym read.says) ∙ sym says ∙ is }
+-- whether it runs as yet
+pub runs_read : (t : List ℕ) (program : Program) (r : Bool) → Accepts t program → (IsTrue r ↔ RunsNow program) → r ≡ true → RunsToday t program
+runs_read t program r accepts says is = record { accepts = accepts; today = says.0 is }
 
-pub runs_not : (t : List ℕ) (program : Program) (only r : Bool) → IsRead t program only → r ≡ (only && program_prints program) → r ≡ false → ReplayRefuses t kind_is.NotYet 0
-runs_not t program only r read says is =
-    inr (refl, refl, record { program = program; accepts = read.accepts; later = ap (λ o. o && program_prints program) (sym read.says) ∙ sym says ∙ is })
+pub runs_not : (t : List ℕ) (program : Program) (r : Bool) → Accepts t program → (IsTrue r ↔ RunsNow program) → r ≡ false → ReplayRefuses t kind_is.NotYet 0
+runs_not t program r accepts says is = inr (refl, refl, record { program = program; accepts = accepts; later = λ runs. false≢true (sym is ∙ says.1 runs) })
 
 -- a text that was read whole, and gives a program
-pub read_within : (text t : List ℕ) (program : Program) (only : Bool) → text ≡ take (program_limit + 1) t → length text ≤ program_limit → IsRead text program only → IsRead t program only
-read_within text t program only is few read = subst (λ x. IsRead x program only) (take_within program_limit text t is few) read
+pub read_within : (text t : List ℕ) (program : Program) → text ≡ take (program_limit + 1) t → length text ≤ program_limit → Accepts text program → Accepts t program
+read_within text t program is few accepts = subst (λ x. Accepts x program) (take_within program_limit text t is few) accepts
 
 -- a text that was read whole, and is refused
 pub refuses_within : (text t : List ℕ) (e : ProgramFault) (kind : RefusedKind) (line : ℕ) → text ≡ take (program_limit + 1) t → length text ≤ program_limit → e ≡ fault.Refused kind line → IsRefusedAs text e → Refuses t kind line

@@ -1,5 +1,5 @@
 -- A text is accepted or refused, and gives one program.
-use Rattle.std.proofs.Common.{◌≡◌, refl, sym, ◌∙◌, ap, subst, true≢false, ℕ, ◌≤◌, inl, inr, List, [], length, arith}
+use Rattle.std.proofs.Common.{◌≡◌, refl, sym, ◌∙◌, ap, subst, ℕ, ◌≤◌, inl, inr, List, [], length, arith}
 use Rattle.std.specs.Prelude.{Option, Some, None, Result, Ok, Err}
 use Rattle.da_values.specs.declared.token.Token.{Token}
 use Rattle.da_values.specs.Marks.{toks}
@@ -19,7 +19,7 @@ use Rattle.da_lang.specs.Typing.{Typed, filled, least, type_breaks}
 use Rattle.da_parse.specs.declared.whole.ParseFault.{ParseFault}
 use Rattle.da_parse.proofs.WholePrograms.{Spells_unique, SpellsWithin_spells}
 use Rattle.dalgo.specs.declared.status.RefusedKind.{RefusedKind}
-use Rattle.dalgo.specs.FirstForm.{runs_today}
+use Rattle.da_core.specs.RunsNow.{RunsNow}
 use Rattle.dalgo.specs.Replies.{IsNotYet, IsRefused, ReplayRefuses, RunsToday}
 use Rattle.dalgo.specs.Verdict.{Accepts, HasNoTree, HasTree, IsMisnamed, IsMistyped, IsTooLarge, Refuses, too_long, not_cut, no_program, too_deep, misnamed, too_large, mistyped}
 
@@ -86,10 +86,7 @@ accepts_one t program other accepts also =
 
 -- a text that runs is not refused
 both_forms : (t : List ℕ) (program : Program) → RunsToday t program → IsNotYet t → ⊥
-both_forms t program runs later =
-    let same_tree = one_tree t later.accepts.tree runs.accepts.tree later.accepts.has runs.accepts.has in
-    let same = accepts_one t program later.program runs.accepts later.accepts in
-    true≢false (sym runs.today ∙ sym (ap (λ tree. runs_today tree program) same_tree) ∙ sym (ap (runs_today later.accepts.tree) same) ∙ later.later)
+both_forms t program runs later = later.later (subst RunsNow (sym (accepts_one t program later.program runs.accepts later.accepts)) runs.today)
 
 pub not_refused : (t : List ℕ) (program : Program) → RunsToday t program → IsRefused t → ⊥
 not_refused t program runs refusal = either refusal.refuses

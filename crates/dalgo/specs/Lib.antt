@@ -1,6 +1,5 @@
 pub mod ExitCode
 pub mod Faults
-pub mod FirstForm
 pub mod Lines
 pub mod Replies
 pub mod Told

@@ -1,36 +1,31 @@
 -- What the program answers to the text of a program and that of a schedule.
-use Rattle.std.specs.Prelude.{◌≡◌, ℕ, ◌⊎◌, Bool, true, false, List, [], ◌∷◌, length, codes, Option, Some, None}
+use Rattle.std.specs.Prelude.{◌≡◌, ℕ, ◌⊎◌, List, [], ◌∷◌, length, codes, Option, Some, None}
 use Rattle.da_lang.specs.declared.event.Event.{Event}
 use Rattle.da_lang.specs.declared.program.Program.{Program}
+use Rattle.da_core.specs.RunsNow.{RunsNow}
 use Rattle.da_system.specs.SourceRun.{src_run}
 use Rattle.dalgo.specs.declared.status.RefusedKind.{RefusedKind}
 use Rattle.dalgo.specs.declared.status.RefusedKind.TheVariants.{NotYet}
 use Rattle.dalgo.specs.declared.status.Status.{Status}
 use Rattle.dalgo.specs.declared.status.Status.TheVariants.{Done, Refused, Forbidden, BadSchedule, ReadFault, WriteFault, Memory, Words}
-use Rattle.dalgo.specs.FirstForm.{only_run, runs_today}
 use Rattle.dalgo.specs.Lines.{accepted_text, badline_text, refused_text}
 use Rattle.da_outside.specs.Outside.{Appends, Rose}
 use Rattle.dalgo.specs.Verdict.{Accepts, Refuses}
 use Rattle.sched_text.specs.ActionText.{action_text}
 use Rattle.sched_text.specs.ScheduleText.{IsBadSchedule, SpellsSchedule}
 
--- the text gives this program, and it is of the form that runs today
+-- the text gives this program, and it is one of those that run as yet
 pub record RunsToday (text : List ℕ) (program : Program) : Type 0 where
   pub accepts : Accepts text program
-  pub today : runs_today accepts.tree program ≡ true
+  pub today : RunsNow program
 
--- the text gives a program of another form
+-- the text gives a program that is none of them
 pub record IsNotYet (text : List ℕ) : Type 0 where
   pub program : Program
   pub accepts : Accepts text program
-  pub later : runs_today accepts.tree program ≡ false
+  pub later : RunsNow program → ⊥
 
--- the text gives this program, and this says whether each of its classes has `run` alone and `main` no line of `setup`
-pub record IsRead (text : List ℕ) (program : Program) (only : Bool) : Type 0 where
-  pub accepts : Accepts text program
-  pub says : only ≡ only_run accepts.tree
-
--- `replay` refuses what `check` refuses, and last a program of a form that does not run yet
+-- `replay` refuses what `check` refuses, and last a program that does not run yet
 abbrev pub ReplayRefuses : List ℕ → RefusedKind → ℕ → Type 0
 ReplayRefuses text kind line = Refuses text kind line ⊎ ((kind ≡ NotYet) × (line ≡ 0) × IsNotYet text)
 

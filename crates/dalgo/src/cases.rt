@@ -1,5 +1,5 @@
 //! Worked cases: what the program answers to words, and to texts in memory. What the front of the compiler says of
-//! programs is shown by the cases of `front_cases`.
+//! programs is shown by the cases of `front_cases`, and what replays write by those of `run_cases`.
 use crate::status::{RefusedKind, Status};
 use crate::top::dalgo;
 use da_outside::{Files, MemFiles, MemSink, Sink};
@@ -13,9 +13,6 @@ const ENDING: &[u8] = b"def main():\n    a = new(P)\n";
 
 const ONE: &[u8] =
     b"class P extends process:\n    def run():\n        output(7)\ndef main():\n    a = new(P)\n";
-
-const THREE: &[u8] =
-    b"class P extends process:\n    def run():\n        output(7)\n        output(7)\n        output(7)\ndef main():\n    a = new(P)\n";
 
 const RAN: &[u8] = b"took 1 0\nout 1 7\nend 1\n";
 
@@ -104,35 +101,8 @@ fn replays(
 }
 
 // Programs, schedules, and what comes of them.
-const REPLAYS: [(&[u8], &[u8], Status, &[u8]); 24] = [
-    (ONE, b"move 1\n", Status::Done, RAN),
+const REPLAYS: [(&[u8], &[u8], Status, &[u8]); 7] = [
     (ONE, b"move 1", Status::Done, RAN),
-    (ONE, b"", Status::Done, b""),
-    (
-        ONE,
-        b"move 1\nmove 1\n",
-        Status::Forbidden { event: 2 },
-        b"took 1 0\nout 1 7\nend 1\nstop 2\n",
-    ),
-    (
-        THREE,
-        b"move 1\n",
-        Status::Done,
-        b"took 1 0\nout 1 7\nout 1 7\nout 1 7\nend 1\n",
-    ),
-    (
-        ONE,
-        b"move 1\nmove 01\n",
-        Status::BadSchedule { line: 2 },
-        b"badline 2\n",
-    ),
-    (
-        ONE,
-        b"move 1\nmove 1\nmove 1 ",
-        Status::BadSchedule { line: 3 },
-        b"badline 3\n",
-    ),
-    (ONE, b"\n", Status::Done, b""),
     (
         ONE,
         b"# twice\r\n\nmove 1\r\n\nmove 1",
@@ -141,33 +111,9 @@ const REPLAYS: [(&[u8], &[u8], Status, &[u8]); 24] = [
     ),
     (
         ONE,
-        b"move 2\n",
-        Status::Forbidden { event: 1 },
-        b"stop 1\n",
-    ),
-    (
-        ONE,
-        b"stat 1\nshow 1\nmove 1 1\n",
-        Status::Forbidden { event: 3 },
-        b"kept 1 0\nstop 3\n",
-    ),
-    (
-        ONE,
-        b"deliver 1 1 1\n",
-        Status::Forbidden { event: 1 },
-        b"stop 1\n",
-    ),
-    (
-        ONE,
-        b"move 1\nmove 1 0\n",
+        b"move 1\nmove 01\n",
         Status::BadSchedule { line: 2 },
         b"badline 2\n",
-    ),
-    (
-        b"class P extends process:\n    def run():\n        output(9223372036854775807)\n        output(0)\ndef main():\n    a = new(P)\n",
-        b"move 1\n",
-        Status::Done,
-        b"took 1 0\nout 1 9223372036854775807\nout 1 0\nend 1\n",
     ),
     (
         b"class P extends process:\r\n    def run():\r\n        output(7)\r\ndef main():\r\n    a = new(P)\r\n",
@@ -176,46 +122,10 @@ const REPLAYS: [(&[u8], &[u8], Status, &[u8]); 24] = [
         RAN,
     ),
     (
-        b"channel fifo reliable # a comment\n\nclass Q extends process:\n  def run():\n    output((7)) # another\ndef main():\n  a = new(Q)",
-        b"move 1\n",
+        b"class P extends process:\n    var x: int\n    def run():\n        await x == 0:\n            output(1)\n        or x < 1:\n            output(2)\ndef main():\n    a = new(P)\n",
+        b"move 1\nmove 1 2\n",
         Status::Done,
-        RAN,
-    ),
-    (
-        b"class P extends process:\n    def run():\n        output(-7)\ndef main():\n    a = new(P)\n",
-        b"move 1\n",
-        Status::Done,
-        b"took 1 0\nout 1 -7\nend 1\n",
-    ),
-    (
-        b"class P extends process:\n    def run():\n        output(1 + 2)\ndef main():\n    a = new(P)\n",
-        b"move 1\n",
-        NOT_YET,
-        b"refused notyet 0\n",
-    ),
-    (
-        b"message m(int)\nclass Q extends process:\n    def run():\n        output(8)\nclass P extends process:\n    def run():\n        output(7)\ndef main():\n    a = new(P, 1)\n",
-        b"move 1\n",
-        Status::Done,
-        RAN,
-    ),
-    (
-        b"class P extends process:\n    var x: int\n    def run():\n        output(7)\ndef main():\n    a = new(P)\n",
-        b"move 1\n",
-        NOT_YET,
-        b"refused notyet 0\n",
-    ),
-    (
-        b"class P extends process:\n    def run():\n        output(7)\ndef main():\n    a = new(P)\n    ps = new(P, 0)\n    setup(ps)\n",
-        b"move 1\n",
-        NOT_YET,
-        b"refused notyet 0\n",
-    ),
-    (
-        b"class P extends process:\n    def run():\n        output(7)\n    def f():\n        pass\ndef main():\n    a = new(P)\n",
-        b"move 1\n",
-        NOT_YET,
-        b"refused notyet 0\n",
+        b"took 1 0\ntook 1 2\nout 1 2\nend 1\n",
     ),
     (
         b"class P extends process:\n    def run():\n        output(7)\ndef main():\n    a = new(P, 2)\n",

@@ -6,7 +6,6 @@ mod cases;
 mod checking;
 mod endings;
 mod exit;
-mod first_form;
 mod lines;
 mod program;
 mod replaying;

@@ -1,11 +1,9 @@
 //! Programs, from their texts.
 ghost use Rattle.da_lang.specs.Limits.{Resolves};
 ghost use Rattle.da_values.specs.declared.token.LexKind.TheVariants as lex;
-ghost use Rattle.dalgo.specs.Replies.{IsRead};
-ghost use Rattle.dalgo.specs.Verdict.{HasTree, IsRefusedAs, kind_after, kind_of_limit, kind_of_name};
+ghost use Rattle.dalgo.specs.Verdict.{Accepts, HasTree, IsRefusedAs, kind_after, kind_of_limit, kind_of_name};
 ghost use Rattle.std.specs.Prelude.{◌≡◌, ◌≤◌, IfErr, IfOk, length};
 
-use crate::first_form::has_only_run;
 use crate::status::RefusedKind;
 use da_lang::{LimitKind, ScopeKind, Tree};
 use da_lex::{LexFault, LexKind, lex};
@@ -67,31 +65,18 @@ impl From<TypeFault> for ProgramFault {
     }
 }
 
-/// A program that was read.
-#[derive(Drop)]
-pub struct Read {
-    /// The program, with the type of every slot.
-    pub typed: Typed,
-    /// Whether in its text each class has `run` and no other member, and `main` no line of `setup`.
-    pub only_run: bool,
-}
-
 /// The program of a text of at most 1,048,576 bytes: its tokens are cut, the tree that they spell is read, the names of
 /// the tree are resolved within the limits, and its types are checked, in this order. The first of these that fails
 /// gives the refusal.
 #[tactic(auto, using(crate::proofs::ProgramLemmas::not_resolved, crate::proofs::ProgramLemmas::not_typed))]
-pub fn read_program(alloc: Global, text: &[u8]) -> Result<Read, ProgramFault>
+pub fn read_program(alloc: Global, text: &[u8]) -> Result<Typed, ProgramFault>
     requires { length text.now ≤ 1048576 }
-    ensures read { IfOk result (λ read. IsRead text.now read.typed read.only_run) }
+    ensures read { IfOk result (λ typed. Accepts text.now typed) }
     ensures refused { IfErr result (IsRefusedAs text.now) }
 {
     let tree = read_tree(alloc, text)?;
     let program = resolve(alloc, &tree)?;
-    let typed = check_types(alloc, program)?;
-    Ok(Read {
-        typed,
-        only_run: has_only_run(&tree),
-    })
+    Ok(check_types(alloc, program)?)
 }
 
 // The tree of a text.

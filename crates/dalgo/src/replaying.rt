@@ -1,17 +1,16 @@
 //! The command `replay`.
-ghost use Rattle.da_lang.specs.declared.program.Program.{Program};
-ghost use Rattle.da_system.specs.Printing.{PrintsOnly};
-ghost use Rattle.da_system.specs.State.{IsNumbered};
+ghost use Rattle.da_core.specs.Compiled.{IsCompiled, program_of};
+ghost use Rattle.da_core.specs.RunsNow.{RunsNow};
 ghost use Rattle.da_outside.specs.Outside.{Appends, AppendsFront, Rose};
 ghost use Rattle.dalgo.specs.Replies.{IsRefused, IsReply, ReadCause, ReplayReply, RunReply, run_status, run_text};
 ghost use Rattle.dalgo.specs.Told.{Begins, Gains, OfTold};
 ghost use Rattle.std.specs.Prelude.{ℕ, ◌≡◌, ◌+◌, ◌<◌, ◌≤◌, List, take, IfErr, IfOk, IsErrOf};
 
 use crate::endings::{Ending, refuse, refuse_schedule};
-use crate::first_form::runs_today;
 use crate::program::{PROGRAM_LIMIT, ProgramFault, read_program};
 use crate::status::{RefusedKind, Status};
-use da_lang::{Event, Program};
+use da_core::{Compiled, compile, runs_now};
+use da_lang::Event;
 use da_outside::{Files, Sink, Trouble, read_all};
 use da_system::System;
 use replay_run::Outcome;
@@ -75,17 +74,17 @@ fn answer_program<F: Files, K: Sink>(
     if text.len() > PROGRAM_LIMIT {
         return refuse(alloc, out, RefusedKind::Size, 0);
     }
-    let read = match read_program(alloc, text) {
-        Ok(read) => read,
+    let typed = match read_program(alloc, text) {
+        Ok(typed) => typed,
         Err(ProgramFault::Refused { kind, line }) => return refuse(alloc, out, kind, line),
         Err(ProgramFault::Memory) => return Err(Ending::Memory),
     };
-    let program = read.typed.program();
-    if !runs_today(read.only_run, program) {
+    if !runs_now(typed.program()) {
         return refuse(alloc, out, RefusedKind::NotYet, 0);
     }
+    let compiled = compile(alloc, typed)?;
     match read_all(alloc, files, name, SCHEDULE_LIMIT) {
-        Ok(schedule) => answer_schedule(alloc, program, schedule.as_slice(), out),
+        Ok(schedule) => answer_schedule(alloc, &compiled, schedule.as_slice(), out),
         Err(Trouble::Failed) => Err(Ending::Read),
         Err(Trouble::Memory) => Err(Ending::Memory),
     }
@@ -95,14 +94,14 @@ fn answer_program<F: Files, K: Sink>(
 #[tactic(auto, using(crate::proofs::ToldLemmas::begins_nothing))]
 fn answer_schedule<K: Sink>(
     alloc: Global,
-    program: &Program,
+    compiled: &Compiled,
     text: &[u8],
     out: &mut K,
 ) -> Result<Status, Ending>
-    requires few { IsNumbered program.now }
-    requires prints { PrintsOnly program.now }
-    ensures answers { (whole : List ℕ) → text.now ≡ take (SCHEDULE_LIMIT + 1) whole → IfOk result (λ status. Gains (RunReply program.now whole) status (K.taken out.old) (K.taken out.new)) }
-    ensures begun { (whole : List ℕ) → text.now ≡ take (SCHEDULE_LIMIT + 1) whole → IfErr result (λ _. Begins (RunReply program.now whole) (K.taken out.old) (K.taken out.new)) }
+    requires compiled { IsCompiled compiled.now }
+    requires runs { RunsNow (program_of compiled.now) }
+    ensures answers { (whole : List ℕ) → text.now ≡ take (SCHEDULE_LIMIT + 1) whole → IfOk result (λ status. Gains (RunReply (program_of compiled.now) whole) status (K.taken out.old) (K.taken out.new)) }
+    ensures begun { (whole : List ℕ) → text.now ≡ take (SCHEDULE_LIMIT + 1) whole → IfErr result (λ _. Begins (RunReply (program_of compiled.now) whole) (K.taken out.old) (K.taken out.new)) }
     ensures status { IfOk result IsReply }
     ensures write { IsErrOf result Ending.Write → Rose (K.faults out.old) (K.faults out.new) }
     ensures read { IsErrOf result Ending.Read → ⊥ }
@@ -110,7 +109,7 @@ fn answer_schedule<K: Sink>(
     ensures failed { K.faults out.old < K.faults out.new → IsErrOf result Ending.Write }
 {
     match read_schedule(alloc, text) {
-        Ok(events) => answer_events(alloc, program, events.as_slice(), out),
+        Ok(events) => answer_events(alloc, compiled, events.as_slice(), out),
         Err(SchedFault::BadLine(line)) => refuse_schedule(alloc, out, line),
         Err(SchedFault::Memory) => Err(Ending::Memory),
     }
@@ -120,21 +119,21 @@ fn answer_schedule<K: Sink>(
 #[tactic(auto, using(da_outside::proofs::OutsideLemmas::front_none))]
 fn answer_events<K: Sink>(
     alloc: Global,
-    program: &Program,
+    compiled: &Compiled,
     events: &[Event],
     out: &mut K,
 ) -> Result<Status, Ending>
-    requires few { IsNumbered program.now }
-    requires prints { PrintsOnly program.now }
-    ensures ran { IfOk result (λ status. (status ≡ run_status program.now events.now) × Appends (K.taken out.old) (K.taken out.new) (run_text program.now events.now)) }
-    ensures front { IfErr result (λ _. AppendsFront (K.taken out.old) (K.taken out.new) (run_text program.now events.now)) }
+    requires compiled { IsCompiled compiled.now }
+    requires runs { RunsNow (program_of compiled.now) }
+    ensures ran { IfOk result (λ status. (status ≡ run_status (program_of compiled.now) events.now) × Appends (K.taken out.old) (K.taken out.new) (run_text (program_of compiled.now) events.now)) }
+    ensures front { IfErr result (λ _. AppendsFront (K.taken out.old) (K.taken out.new) (run_text (program_of compiled.now) events.now)) }
     ensures status { IfOk result IsReply }
     ensures write { IsErrOf result Ending.Write → Rose (K.faults out.old) (K.faults out.new) }
     ensures read { IsErrOf result Ending.Read → ⊥ }
     ensures writes { K.faults out.old ≤ K.faults out.new }
     ensures failed { K.faults out.old < K.faults out.new → IsErrOf result Ending.Write }
 {
-    let mut system = System::new(alloc, program)?;
+    let mut system = System::new(alloc, compiled)?;
     match replay_run::replay(alloc, &mut system, events, out) {
         Outcome::Done => Ok(Status::Done),
         Outcome::Forbidden(event) => Ok(Status::Forbidden { event }),

@@ -152,14 +152,14 @@ stops_exactly program s events outcome system before after ran i = (
 
 -- AN EVENT THAT THE SYSTEM HAS CARRIED OUT
 
-module _ (program : Program) (e : Event) (system other : System) (told actions : List Action) (stepped : Whichever system (λ s. HasStepped program s e other [] told)) (same : actions ≡ told) (before after : Option (List ℕ)) where
+module _ (program : Program) (e : Event) (system other : System) (told actions : List Action) (stepped : Whichever system (λ s. HasStepped (sys_step program s e) other [] told)) (same : actions ≡ told) (before after : Option (List ℕ)) where
   pub is_done : Appends before after (action_text actions) → Whichever system (λ s. IsDone program s e other before after)
   is_done written = λ s stands.
       let step = stepped s stands in
-      record { then' = step.after; is = step.step; stands = step.stands; written = subst (λ xs. Appends before after (action_text xs)) (same ∙ step.added) written }
+      record { then' = step.after; is = step.is; stands = step.stands; written = subst (λ xs. Appends before after (action_text xs)) (same ∙ step.added) written }
 
   pub some_done : AppendsFront before after (action_text actions) → Whichever system (λ s. AppendsFront before after (step_text program s e))
   some_done front = λ s stands.
       let step = stepped s stands in
-      let text : step_text program s e ≡ action_text step.after.actions = ap text_of step.step in
+      let text : step_text program s e ≡ action_text step.after.actions = ap text_of step.is in
       subst (AppendsFront before after) (sym text) (subst (λ xs. AppendsFront before after (action_text xs)) (same ∙ step.added) front)

@@ -3,8 +3,6 @@
 
 mod outcome;
 mod run;
-#[cfg(test)]
-mod tests;
 
 pub use outcome::Outcome;
 pub use run::replay;

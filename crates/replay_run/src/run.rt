@@ -93,7 +93,7 @@ fn try_event<K: Sink>(
     match system.step(event, &mut actions) {
         Ok(()) => {}
         Err(StepFault::Forbidden) => return Ok(false),
-        Err(StepFault::Memory) => return Err(Trouble::Memory),
+        Err(StepFault::Memory | StepFault::Spent) => return Err(Trouble::Memory),
     }
     write_actions(alloc, actions.as_slice(), sink)?;
     Ok(true)

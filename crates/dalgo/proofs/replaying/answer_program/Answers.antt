@@ -1,9 +1,10 @@
-use Rattle.std.proofs.Common.{inl, ◌∙◌, ℕ}
+use Rattle.std.proofs.Common.{inl, subst, sym, ◌∙◌, ℕ}
+use Rattle.da_core.specs.Compiled.{program_of}
 use Rattle.dalgo.specs.declared.status.RefusedKind.{RefusedKind}
 use Rattle.dalgo.specs.declared.status.RefusedKind.TheVariants.{Size, NotYet}
 use Rattle.dalgo.specs.declared.status.Status.TheVariants.{Refused}
 use Rattle.dalgo.specs.Lines.{refused_text}
-use Rattle.dalgo.specs.Replies.{ReplayReply, RunReply, answered, refused}
+use Rattle.dalgo.specs.Replies.{ReplayReply, RunReply, RunsToday, answered, refused}
 use Rattle.dalgo.specs.Told.{Begins, Gains}
 use Rattle.dalgo.specs.Verdict.{program_limit, too_long}
 use Rattle.sched_text.specs.ScheduleText.{schedule_limit}
@@ -36,31 +37,33 @@ returns-in-Err-Refused-clause-begun g c = λ t is.
     let line = c.in-Err-Refused.line in
     begins_any _ (λ s. ReplayReply t s) (Refused kind line) (refused_text kind line) c.refuse-in-Err-Refused.result _ _ (λ s. refused kind line (inl (refuses_within _ t _ _ _ is c.if-text-gt-PROGRAM_LIMIT.false c.in-Err-Refused.field-0-is c.in-Err-Refused.ensures.refused))) c.refuse-in-Err-Refused.ensures.front
 
-pub returns-then-not-runs_today-clause-replies : goal.returns-then-not-runs_today-clause-replies
-returns-then-not-runs_today-clause-replies g c = λ t is.
+pub returns-then-not-runs_now-clause-replies : goal.returns-then-not-runs_now-clause-replies
+returns-then-not-runs_now-clause-replies g c = λ t is.
     let kind : RefusedKind = NotYet in
     let line : ℕ = 0 in
-    gains_any _ (λ s. ReplayReply t s) (Refused kind line) (refused_text kind line) _ _ _ (λ s. refused kind line (runs_not t c.program-program.result.now _ _ (read_within _ t _ _ is c.if-text-gt-PROGRAM_LIMIT.false (rw c.program-program.ensures.same c.in-Ok.ensures.read)) c.runs_today.ensures.says c.if-not-runs_today.true)) c.refuse-then-not-runs_today.ensures.said
+    gains_any _ (λ s. ReplayReply t s) (Refused kind line) (refused_text kind line) _ _ _ (λ s. refused kind line (runs_not t c.program.result.now _ (read_within _ t _ is c.if-text-gt-PROGRAM_LIMIT.false (rw c.program.ensures.same c.in-Ok.ensures.read)) c.runs_now.ensures c.if-not-runs_now.true)) c.refuse-then-not-runs_now.ensures.said
 
-pub returns-then-not-runs_today-clause-begun : goal.returns-then-not-runs_today-clause-begun
-returns-then-not-runs_today-clause-begun g c = λ t is.
+pub returns-then-not-runs_now-clause-begun : goal.returns-then-not-runs_now-clause-begun
+returns-then-not-runs_now-clause-begun g c = λ t is.
     let kind : RefusedKind = NotYet in
     let line : ℕ = 0 in
-    begins_any _ (λ s. ReplayReply t s) (Refused kind line) (refused_text kind line) c.refuse-then-not-runs_today.result _ _ (λ s. refused kind line (runs_not t c.program-program.result.now _ _ (read_within _ t _ _ is c.if-text-gt-PROGRAM_LIMIT.false (rw c.program-program.ensures.same c.in-Ok.ensures.read)) c.runs_today.ensures.says c.if-not-runs_today.true)) c.refuse-then-not-runs_today.ensures.front
+    begins_any _ (λ s. ReplayReply t s) (Refused kind line) (refused_text kind line) c.refuse-then-not-runs_now.result _ _ (λ s. refused kind line (runs_not t c.program.result.now _ (read_within _ t _ is c.if-text-gt-PROGRAM_LIMIT.false (rw c.program.ensures.same c.in-Ok.ensures.read)) c.runs_now.ensures c.if-not-runs_now.true)) c.refuse-then-not-runs_now.ensures.front
 
 pub returns-in-Ok-read_all-clause-replies : goal.returns-in-Ok-read_all-clause-replies
 returns-in-Ok-read_all-clause-replies g c = λ t is.
-    let runs = (runs_read t c.program-program.result.now _ _ (read_within _ t _ _ is c.if-text-gt-PROGRAM_LIMIT.false (rw c.program-program.ensures.same c.in-Ok.ensures.read)) c.runs_today.ensures.says c.if-not-runs_today.false) in
+    let here = runs_read t c.program.result.now _ (read_within _ t _ is c.if-text-gt-PROGRAM_LIMIT.false (rw c.program.ensures.same c.in-Ok.ensures.read)) c.runs_now.ensures c.if-not-runs_now.false in
+    let runs : RunsToday t (program_of c.in_ok-compiled.compiled) = subst (RunsToday t) (c.program.ensures.same ∙ sym c.in_ok-compiled.ensures.program) here in
     ok_of_read (g.F.Files.told c.args.files.now c.args.name.now) (λ s status. Gains (ReplayReply t s) status (g.K.Sink.taken c.args.out.now) (g.K.Sink.taken c.answer_schedule.new.out)) schedule_limit c.in-Ok-read_all.schedule c.answer_schedule.result c.in-Ok-read_all.ensures.whole
     (λ s read.
-    gains_as (RunReply c.program-program.result.now s) (ReplayReply t s) c.answer_schedule.result _ _ (answered c.program-program.result.now runs) (c.answer_schedule.ensures.answers s (c.as_slice.ensures ∙ read)))
+    gains_as (RunReply (program_of c.in_ok-compiled.compiled) s) (ReplayReply t s) c.answer_schedule.result _ _ (answered (program_of c.in_ok-compiled.compiled) runs) (c.answer_schedule.ensures.answers s (c.as_slice.ensures ∙ read)))
 
 pub returns-in-Ok-read_all-clause-begun : goal.returns-in-Ok-read_all-clause-begun
 returns-in-Ok-read_all-clause-begun g c = λ t is.
-    let runs = (runs_read t c.program-program.result.now _ _ (read_within _ t _ _ is c.if-text-gt-PROGRAM_LIMIT.false (rw c.program-program.ensures.same c.in-Ok.ensures.read)) c.runs_today.ensures.says c.if-not-runs_today.false) in
+    let here = runs_read t c.program.result.now _ (read_within _ t _ is c.if-text-gt-PROGRAM_LIMIT.false (rw c.program.ensures.same c.in-Ok.ensures.read)) c.runs_now.ensures c.if-not-runs_now.false in
+    let runs : RunsToday t (program_of c.in_ok-compiled.compiled) = subst (RunsToday t) (c.program.ensures.same ∙ sym c.in_ok-compiled.ensures.program) here in
     err_of_read (g.F.Files.told c.args.files.now c.args.name.now) (λ s. Begins (ReplayReply t s) (g.K.Sink.taken c.args.out.now) (g.K.Sink.taken c.answer_schedule.new.out)) schedule_limit c.in-Ok-read_all.schedule c.answer_schedule.result c.in-Ok-read_all.ensures.whole
     (λ s read.
-    begins_as (RunReply c.program-program.result.now s) (ReplayReply t s) c.answer_schedule.result _ _ (answered c.program-program.result.now runs) (c.answer_schedule.ensures.begun s (c.as_slice.ensures ∙ read)))
+    begins_as (RunReply (program_of c.in_ok-compiled.compiled) s) (ReplayReply t s) c.answer_schedule.result _ _ (answered (program_of c.in_ok-compiled.compiled) runs) (c.answer_schedule.ensures.begun s (c.as_slice.ensures ∙ read)))
 
 pub returns-in-Err-Failed-clause-refused : goal.returns-in-Err-Failed-clause-refused
-returns-in-Err-Failed-clause-refused g c = λ t is failed. not_refused t c.program-program.result.now (runs_read t c.program-program.result.now _ _ (read_within _ t _ _ is c.if-text-gt-PROGRAM_LIMIT.false (rw c.program-program.ensures.same c.in-Ok.ensures.read)) c.runs_today.ensures.says c.if-not-runs_today.false)
+returns-in-Err-Failed-clause-refused g c = λ t is failed. not_refused t c.program.result.now (runs_read t c.program.result.now _ (read_within _ t _ is c.if-text-gt-PROGRAM_LIMIT.false (rw c.program.ensures.same c.in-Ok.ensures.read)) c.runs_now.ensures c.if-not-runs_now.false)

@@ -1,6 +1,7 @@
 use Rattle.std.proofs.Common.{subst, sym}
 use Rattle.std.specs.Prelude.{Err}
 use Rattle.dalgo.specs.declared.status.Status.TheVariants.{BadSchedule}
+use Rattle.da_core.specs.Compiled.{program_of}
 use Rattle.dalgo.specs.Lines.{badline_text}
 use Rattle.dalgo.specs.Replies.{RunReply, bad_schedule, ran, run_status, run_text}
 use Rattle.sched_text.specs.Reading.{IsRead}
@@ -12,13 +13,13 @@ use Rattle.dalgo.proofs.replaying.answer_schedule.Goals as goal
 pub returns-in-Ok-clause-answers : goal.returns-in-Ok-clause-answers
 returns-in-Ok-clause-answers g c = λ whole is.
     let events = c.as_slice.result.now in
-    gains_said (RunReply c.args.program.now whole) (run_status c.args.program.now events) (run_text c.args.program.now events) _ _ _
+    gains_said (RunReply (program_of c.args.compiled.now) whole) (run_status (program_of c.args.compiled.now) events) (run_text (program_of c.args.compiled.now) events) _ _ _
     (ran events (schedule_within _ whole _ is (subst (SpellsSchedule c.args.text.now) (sym c.as_slice.ensures) c.in-Ok.ensures.read))) c.answer_events.ensures.ran
 
 pub returns-in-Ok-clause-begun : goal.returns-in-Ok-clause-begun
 returns-in-Ok-clause-begun g c = λ whole is.
     let events = c.as_slice.result.now in
-    begins_by (RunReply c.args.program.now whole) c.answer_events.result (run_status c.args.program.now events) (run_text c.args.program.now events) _ _
+    begins_by (RunReply (program_of c.args.compiled.now) whole) c.answer_events.result (run_status (program_of c.args.compiled.now) events) (run_text (program_of c.args.compiled.now) events) _ _
     (ran events (schedule_within _ whole _ is (subst (SpellsSchedule c.args.text.now) (sym c.as_slice.ensures) c.in-Ok.ensures.read))) c.answer_events.ensures.front
 
 pub returns-in-Err-BadLine-clause-answers : goal.returns-in-Err-BadLine-clause-answers
@@ -26,11 +27,11 @@ returns-in-Err-BadLine-clause-answers g c = λ whole is.
     let read : IsRead c.args.text.now (Err c.in-Err-BadLine.field-0) = c.in-Err-BadLine.ensures.read in
     let line = c.in-Err-BadLine.line in
     let wrong : IsBadSchedule whole line = bad_within _ whole _ is (subst (λ e. IsRead c.args.text.now (Err e)) c.in-Err-BadLine.field-0-is read) in
-    gains_said (RunReply c.args.program.now whole) (BadSchedule line) (badline_text line) _ _ _ (bad_schedule line wrong) c.refuse_schedule.ensures.said
+    gains_said (RunReply (program_of c.args.compiled.now) whole) (BadSchedule line) (badline_text line) _ _ _ (bad_schedule line wrong) c.refuse_schedule.ensures.said
 
 pub returns-in-Err-BadLine-clause-begun : goal.returns-in-Err-BadLine-clause-begun
 returns-in-Err-BadLine-clause-begun g c = λ whole is.
     let read : IsRead c.args.text.now (Err c.in-Err-BadLine.field-0) = c.in-Err-BadLine.ensures.read in
     let line = c.in-Err-BadLine.line in
     let wrong : IsBadSchedule whole line = bad_within _ whole _ is (subst (λ e. IsRead c.args.text.now (Err e)) c.in-Err-BadLine.field-0-is read) in
-    begins_by (RunReply c.args.program.now whole) c.refuse_schedule.result (BadSchedule line) (badline_text line) _ _ (bad_schedule line wrong) c.refuse_schedule.ensures.front
+    begins_by (RunReply (program_of c.args.compiled.now) whole) c.refuse_schedule.result (BadSchedule line) (badline_text line) _ _ (bad_schedule line wrong) c.refuse_schedule.ensures.front

@@ -1,9 +1,12 @@
-use Rattle.std.proofs.Common.{rules}
+use Rattle.std.proofs.Common.{refl, rules}
 use Rattle.da_outside.specs.Outside.{AppendsFront}
 use Rattle.da_system.specs.State.{Whichever, program_of}
 use Rattle.replay_run.specs.Replay.{run_text}
 use Rattle.replay_run.proofs.RunLemmas.{came_first, came_on, fails_here, ran_all, stop_fails, stops_here}
 use Rattle.replay_run.proofs.run.run_events.Goals as goal
+
+pub loop-place-init : goal.loop-place-init
+loop-place-init g c = record { ready = c.requires; program = refl; came = λ s stands. came_first _ _ _ _ _ stands; faults = refl }
 
 pub returns-in_err-try_event-clause-front : goal.returns-in_err-try_event-clause-front
 returns-in_err-try_event-clause-front g c =

@@ -1,6 +1,44 @@
-use Rattle.std.proofs.Common.{refl}
-use Rattle.da_system.proofs.StepLemmas.{made}
+use Rattle.std.proofs.Common.{refl, rules, sym, ◌∙◌}
+use Rattle.std.proofs.lemmas.Bool.{false≢true}
+use Rattle.da_lang.specs.Steps.{move_step}
+use Rattle.da_system.proofs.AnswerLemmas.{alike}
+use Rattle.da_system.proofs.StandLemmas.{numbered_at, numbered_put, set_same}
+use Rattle.da_system.proofs.StepLemmas.{core_begins, core_forbids, core_moves, core_stands, no_core}
 use Rattle.da_system.proofs.system.System.make_move.Goals as goal
 
-pub returns-clause-steps : goal.returns-clause-steps
-returns-clause-steps c = made _ _ _ _ _ _ _ _ _ c.requires.prints c.in-Some.ensures (c.in_ok-process.ensures _ refl) c.set.ensures
+pub returns-in_default-clause-answers : goal.returns-in_default-clause-answers
+returns-in_default-clause-answers c = (λ s stands. no_core c.args.self.now s stands c.args.p (move_step c.args.k) c.in_default.ensures, λ s. (λ x. x, λ x. x), refl)
+
+pub make_move-requires : goal.make_move-requires
+make_move-requires c = λ unspent.
+    let there = numbered_at c.args.self.now.cores.items c.args.p c.in-Some.place c.index_mut-core.result.now c.in-Some.ensures.0 c.in-Some.ensures.1 c.index_mut-core.ensures.value in
+    let (s, stands) = c.requires.ready c.requires.unspent in
+    core_stands c.args.self.now s stands c.args.p c.args.k c.index_mut-core.result.now there
+
+pub returns-in-Ok-clause-answers : goal.returns-in-Ok-clause-answers
+returns-in-Ok-clause-answers c = λ s stands.
+    let there = numbered_at c.args.self.now.cores.items c.args.p c.in-Some.place c.index_mut-core.result.now c.in-Some.ensures.0 c.in-Some.ensures.1 c.index_mut-core.ensures.value in
+    let put = numbered_put c.args.self.now.cores.items c.args.p c.in-Some.place c.make_move.new.self c.in-Some.ensures.0 in
+    core_moves c.args.self.now s stands c.args.p c.args.k c.index_mut-core.result.now there _ c.make_move.new.self c.in-Ok.field-0 c.args.out.now c.make_move.new.out c.requires.unspent refl put c.make_move.ensures.program c.in-Ok.ensures.moves
+
+pub returns-in-Err-Memory-clause-answers : goal.returns-in-Err-Memory-clause-answers
+returns-in-Err-Memory-clause-answers c =
+    let there = numbered_at c.args.self.now.cores.items c.args.p c.in-Some.place c.index_mut-core.result.now c.in-Some.ensures.0 c.in-Some.ensures.1 c.index_mut-core.ensures.value in
+    (refl, λ s stands. core_begins c.args.self.now s stands c.args.p c.args.k c.index_mut-core.result.now there c.args.out.now c.make_move.new.out (c.in-Err-Memory.ensures.front (search rules)))
+
+pub returns-in-Err-Forbidden-clause-answers : goal.returns-in-Err-Forbidden-clause-answers
+returns-in-Err-Forbidden-clause-answers c =
+    let there = numbered_at c.args.self.now.cores.items c.args.p c.in-Some.place c.index_mut-core.result.now c.in-Some.ensures.0 c.in-Some.ensures.1 c.index_mut-core.ensures.value in
+    let same = c.in-Err-Forbidden.ensures.same (search rules) in
+    let none = c.in-Err-Forbidden.ensures.forbidden (search rules) in (
+      λ s stands. core_forbids c.args.self.now s stands c.args.p c.args.k c.index_mut-core.result.now there none,
+      alike c.args.self.now _ refl refl (set_same c.args.self.now.cores.items c.in-Some.place c.index_mut-core.result.now c.make_move.new.self same.0 c.index_mut-core.ensures.value),
+      same.1,
+    )
+
+pub returns-in-Err-Spent-clause-answers : goal.returns-in-Err-Spent-clause-answers
+returns-in-Err-Spent-clause-answers c =
+    let there = numbered_at c.args.self.now.cores.items c.args.p c.in-Some.place c.index_mut-core.result.now c.in-Some.ensures.0 c.in-Some.ensures.1 c.index_mut-core.ensures.value in
+    let (s, stands) = c.requires.ready c.requires.unspent in
+    let (w, at) = core_stands c.args.self.now s stands c.args.p c.args.k c.index_mut-core.result.now there in
+    false≢true (sym at.unspent ∙ (c.in-Err-Spent.ensures.only_spent (search rules)).0)

@@ -1,29 +1,37 @@
-use Rattle.std.proofs.Common.{◌≡◌, ap, arith, length, List}
-use Rattle.std.proofs.lemmas.List.{length-replicate}
-use Rattle.da_lang.specs.World.{World}
-use Rattle.da_system.specs.Channels.{no_letters}
-use Rattle.da_system.specs.SystemStep.{SystemState}
+use Rattle.std.proofs.Common.{◌≡◌, ◌+◌, ◌∙◌, ◌∷◌, ◌++◌, [], ap, arith, length, map, refl, subst, sym}
+use Rattle.std.specs.List.{range_with_len}
+use Rattle.da_lang.specs.declared.program.Program.{Program}
+use Rattle.da_lang.specs.World.{opening}
+use Rattle.da_core.specs.Compiled.{program_of}
+use Rattle.da_system.specs.State.{StandFrom}
+use Rattle.da_system.specs.SystemStep.{start}
 use Rattle.da_system.proofs.AcceptedStates.{sound_start}
-use Rattle.da_system.proofs.StandLemmas.{some_stands, stands_itself}
-use Rattle.da_system.proofs.WorldLemmas.{opened}
+use Rattle.da_system.proofs.AnswerLemmas.{chosen_ok}
+use Rattle.da_system.proofs.StandLemmas.{opened_more, opened_stands}
 use Rattle.da_system.proofs.system.System.new.Goals as goal
 
+pub returns-in_err-core-clause-sound : goal.returns-in_err-core-clause-sound
+returns-in_err-core-clause-sound c = sound_start (program_of c.args.compiled.now) c.requires.compiled.accepted
+
+pub returns-then-is_err-clause-sound : goal.returns-then-is_err-clause-sound
+returns-then-is_err-clause-sound c = sound_start (program_of c.args.compiled.now) c.requires.compiled.accepted
+
+pub loop-place-preserved : goal.loop-place-preserved
+loop-place-preserved c =
+    let p = program_of c.args.compiled.now in
+    let pushed : c.push.new.self.items ≡ c.loop-place.cores.items ++ c.in_ok-core.core ∷ [] = c.push.ensures.items ∙ chosen_ok c.push.result c.is_err.result c.is_err.ensures.value _ _ c.if-is_err.false in
+    subst (λ xs. StandFrom p 1 xs (map (opening p) (range_with_len 1 (c.loop-place.place + 1)))) (sym pushed)
+    (opened_more p c.loop-place.place (c.loop-place.place + 1) c.loop-place.cores.items c.in_ok-core.core refl c.in_ok-core.ensures.program c.in_ok-core.ensures.stands c.loop-place.invariant)
+
 pub returns-clause-ready : goal.returns-clause-ready
-returns-clause-ready c = record {
-  stands = some_stands _;
-  few = c.requires.few;
-  prints = c.requires.prints;
-  each = rw c.loop-place.invariant (rw length-replicate (omega (arith, c.len-place-end.ensures)));
-}
+returns-clause-ready c =
+    let all : c.loop-place.place ≡ length c.program.result.now.procs = omega (arith, c.len-place-end.ensures) in
+    λ unspent. (start (program_of c.args.compiled.now), opened_stands _ c.loop-place.place refl c.requires.compiled c.requires.runs (all ∙ ap (λ (p : Program). length p.procs) c.program.ensures) c.loop-place.invariant)
 
 pub returns-clause-start : goal.returns-clause-start
 returns-clause-start c =
-    let all : c.loop-place._place ≡ length c.args.program.now.procs = omega (arith, c.len-place-end.ensures) in
-    stands_itself _ _ (ap (λ (ws : List World). let s : SystemState = record { kind = c.args.program.now.kind; worlds = ws; channels = no_letters (length c.args.program.now.procs) } in s)
-    (opened c.args.program.now _ _ c.loop-place.invariant all))
-
-pub returns-in_err-push-clause-sound : goal.returns-in_err-push-clause-sound
-returns-in_err-push-clause-sound c = sound_start c.args.program.now
+    let all : c.loop-place.place ≡ length c.program.result.now.procs = omega (arith, c.len-place-end.ensures) in
+    opened_stands _ c.loop-place.place refl c.requires.compiled c.requires.runs (all ∙ ap (λ (p : Program). length p.procs) c.program.ensures) c.loop-place.invariant
 
 pub returns-clause-sound : goal.returns-clause-sound
-returns-clause-sound c = sound_start c.args.program.now
+returns-clause-sound c = sound_start (program_of c.args.compiled.now) c.requires.compiled.accepted

@@ -1,18 +1,32 @@
-use Rattle.std.proofs.Common.{◌<◌, ◌≤◌, ◌∷◌, [], arith, length, sym}
+use Rattle.std.proofs.Common.{◌≡◌, ◌∷◌, ◌++◌, [], refl, sym}
 use Rattle.da_lang.specs.declared.event.Action.TheVariants.{Kept}
-use Rattle.da_system.proofs.StepLemmas.{stats}
-use Rattle.da_system.proofs.WorldLemmas.{within}
+use Rattle.da_core.proofs.Fronts.{front_same}
+use Rattle.da_system.proofs.AnswerLemmas.{when_err, when_ok}
+use Rattle.da_system.proofs.StepLemmas.{keeps_none, none_keeps}
 use Rattle.da_system.proofs.system.System.stat.Goals as goal
 
-pub overflow_cast-p : goal.overflow_cast-p
-overflow_cast-p c =
-    let inside : c.args.p ≤ length c.args.self.now.processes = within c.args.self.now.program.now c.args.self.now.processes c.args.p (sym c.if-not-has_process.ensures) in
-    let few : length c.args.self.now.program.now.procs < 65536 = c.requires.few in
-    omega (arith, c.requires.each)
+pub returns-then-not-has_process-clause-answers : goal.returns-then-not-has_process-clause-answers
+returns-then-not-has_process-clause-answers c = (
+  λ s stands. none_keeps c.args.self.now s stands c.args.p c.has_process.result (sym c.has_process.ensures) c.if-not-has_process.true,
+  λ s. (λ x. x, λ x. x),
+  refl,
+)
 
-pub returns-clause-steps : goal.returns-clause-steps
-returns-clause-steps c = record {
-  actions = Kept c.args.p 0 ∷ [];
-  is = stats c.args.self.now.program.now c.args.self.now.processes c.args.p c.requires.prints (sym c.if-not-has_process.ensures);
-  added = c.in_ok-push.ensures.ok;
+pub returns-then-is_err-clause-answers : goal.returns-then-is_err-clause-answers
+returns-then-is_err-clause-answers c = (
+  refl,
+  λ s stands. record {
+    after = record { state = s; actions = Kept c.args.p 0 ∷ [] };
+    is = keeps_none c.args.self.now s stands c.args.p c.has_process.result (sym c.has_process.ensures) c.if-not-has_process.false;
+    front = front_same c.args.out.now c.push.new.self (Kept c.args.p 0 ∷ [])
+        (when_err c.push.result c.is_err.result c.is_err.ensures.value (c.push.new.self ≡ c.args.out.now) c.if-is_err.true c.push.ensures.err);
+  },
+)
+
+pub returns-clause-answers : goal.returns-clause-answers
+returns-clause-answers c = λ s stands. record {
+  after = record { state = s; actions = Kept c.args.p 0 ∷ [] };
+  is = keeps_none c.args.self.now s stands c.args.p c.has_process.result (sym c.has_process.ensures) c.if-not-has_process.false;
+  stands = stands;
+  added = when_ok c.push.result c.is_err.result c.is_err.ensures.value (c.push.new.self ≡ c.args.out.now ++ Kept c.args.p 0 ∷ []) c.if-is_err.false c.push.ensures.ok;
 }

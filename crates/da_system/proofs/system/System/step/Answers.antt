@@ -1,18 +1,29 @@
-use Rattle.da_system.proofs.StandLemmas.{forbidden_by, tells_by}
-use Rattle.da_system.proofs.StepLemmas.{deliver_forbidden, lose_forbidden, repeat_forbidden, take_forbidden}
+use Rattle.da_system.specs.State.{program_of}
+use Rattle.da_system.specs.SystemStep.{sys_step}
+use Rattle.da_system.proofs.AcceptedStates.{stays_sound}
+use Rattle.da_system.proofs.AnswerLemmas.{allowed_after, forbidden_after, memory_after, ready_after, steps_after}
 use Rattle.da_system.proofs.system.System.step.Goals as goal
 
-pub returns-in-Take-clause-forbidden : goal.returns-in-Take-clause-forbidden
-returns-in-Take-clause-forbidden c = λ err. forbidden_by c.args.self.now.program.now c.args.self.now _ _ c.in-Take.is (take_forbidden c.args.self.now.program.now c.args.self.now.processes c.in-Take.p c.in-Take.k c.requires.prints)
+pub returns-clause-ready : goal.returns-clause-ready
+returns-clause-ready c = ready_after (λ s. sys_step (program_of c.args.self.now) s c.args.e.now) c.args.self.now c.carry_out.new.self c.args.out.now c.carry_out.new.out c.carry_out.result c.requires c.if-self.false c.carry_out.ensures.answers
 
-pub returns-in-Deliver-clause-forbidden : goal.returns-in-Deliver-clause-forbidden
-returns-in-Deliver-clause-forbidden c = λ err. forbidden_by c.args.self.now.program.now c.args.self.now _ _ c.in-Deliver.is (deliver_forbidden c.args.self.now.program.now c.args.self.now.processes c.in-Deliver.p c.in-Deliver.q c.in-Deliver.i)
+pub returns-clause-steps : goal.returns-clause-steps
+returns-clause-steps c = steps_after (λ s. sys_step (program_of c.args.self.now) s c.args.e.now) c.args.self.now c.carry_out.new.self c.args.out.now c.carry_out.new.out c.carry_out.result c.carry_out.ensures.answers
 
-pub returns-in-Lose-clause-forbidden : goal.returns-in-Lose-clause-forbidden
-returns-in-Lose-clause-forbidden c = λ err. forbidden_by c.args.self.now.program.now c.args.self.now _ _ c.in-Lose.is (lose_forbidden c.args.self.now.program.now c.args.self.now.processes c.in-Lose.p c.in-Lose.q c.in-Lose.i)
+pub returns-clause-forbidden : goal.returns-clause-forbidden
+returns-clause-forbidden c = λ is. (forbidden_after (λ s. sys_step (program_of c.args.self.now) s c.args.e.now) c.args.self.now c.carry_out.new.self c.args.out.now c.carry_out.new.out c.carry_out.result c.carry_out.ensures.answers is).0
 
-pub returns-in-Repeat-clause-forbidden : goal.returns-in-Repeat-clause-forbidden
-returns-in-Repeat-clause-forbidden c = λ err. forbidden_by c.args.self.now.program.now c.args.self.now _ _ c.in-Repeat.is (repeat_forbidden c.args.self.now.program.now c.args.self.now.processes c.in-Repeat.p c.in-Repeat.q c.in-Repeat.i)
+pub returns-clause-allowed : goal.returns-clause-allowed
+returns-clause-allowed c = allowed_after (λ s. sys_step (program_of c.args.self.now) s c.args.e.now) c.args.self.now c.carry_out.new.self c.args.out.now c.carry_out.new.out c.carry_out.result c.carry_out.ensures.answers
 
-pub returns-in-Show-clause-steps : goal.returns-in-Show-clause-steps
-returns-in-Show-clause-steps c = tells_by c.args.self.now.program.now c.args.self.now _ _ c.in-Show.is c.show.result c.args.out.now c.show.ensures.tells
+pub returns-clause-same : goal.returns-clause-same
+returns-clause-same c = λ is. (let told = forbidden_after (λ s. sys_step (program_of c.args.self.now) s c.args.e.now) c.args.self.now c.carry_out.new.self c.args.out.now c.carry_out.new.out c.carry_out.result c.carry_out.ensures.answers is in (told.1, told.2))
+
+pub returns-clause-memory : goal.returns-clause-memory
+returns-clause-memory c = λ is. (memory_after (λ s. sys_step (program_of c.args.self.now) s c.args.e.now) c.args.self.now c.carry_out.new.self c.args.out.now c.carry_out.new.out c.carry_out.result c.carry_out.ensures.answers is).0
+
+pub returns-clause-front : goal.returns-clause-front
+returns-clause-front c = λ is. (memory_after (λ s. sys_step (program_of c.args.self.now) s c.args.e.now) c.args.self.now c.carry_out.new.self c.args.out.now c.carry_out.new.out c.carry_out.result c.carry_out.ensures.answers is).1
+
+pub returns-clause-sound : goal.returns-clause-sound
+returns-clause-sound c = stays_sound (program_of c.args.self.now) c.args.self.now c.args.e.now

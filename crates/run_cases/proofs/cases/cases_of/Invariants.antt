@@ -1,0 +1,10 @@
+use denote.Text.{Utf8}
+use denote.Shadow.{shadow}
+use Rattle.run_cases.proofs.cases.cases_of.Given as goal
+
+-- the program is text
+abbrev pub invariant-loop-part : goal.invariant-loop-part
+invariant-loop-part l =
+    (goal.iterator-loop-part).can_next l.part-iterator ×
+    (goal.iterator-loop-part).is_finite l.part-iterator ×
+    shadow (Utf8 l.program)

@@ -1,0 +1,71 @@
+//! Replays in memory.
+ghost use Rattle.da_core.specs.RunsNow.{RunsNow};
+ghost use Rattle.da_lang.specs.Accepted.{IsWritten};
+ghost use Rattle.std.specs.Prelude.{IfOk};
+
+use anyhow::anyhow;
+use da_core::{compile, runs_now};
+use da_lang::{Event, Tree};
+use da_lex::lex;
+use da_outside::MemSink;
+use da_parse::parse;
+use da_scope::resolve;
+use da_system::System;
+use da_types::{Typed, check_types};
+use da_values::{List, NoMemory};
+use replay_run::{Outcome, replay};
+use sched_text::{SchedFault, read_schedule};
+use std::alloc::Global;
+use std::str;
+
+/// The most bytes of a program's text.
+const MOST_BYTES: usize = 1_048_576;
+
+/// What the replay of a schedule writes, with the status on a line behind it where that is not 0.
+pub fn reply(alloc: Global, program: &[u8], schedule: &[u8]) -> anyhow::Result<String> {
+    let typed = typed_of(alloc, program)?;
+    if !runs_now(typed.program()) {
+        return Ok(format!(in alloc; "refused notyet 0\nstatus 1\n")?);
+    }
+    match read_schedule(alloc, schedule) {
+        Ok(events) => run(alloc, typed, events.as_slice()),
+        Err(SchedFault::BadLine(line)) => Ok(format!(in alloc; "badline {line}\nstatus 4\n")?),
+        Err(SchedFault::Memory) => Err(NoMemory.into()),
+    }
+}
+
+// The program of a text.
+fn typed_of(alloc: Global, text: &[u8]) -> anyhow::Result<Typed> {
+    let tree = tree_of(alloc, text)?;
+    let program = resolve(alloc, &tree)?;
+    Ok(check_types(alloc, program)?)
+}
+
+// The tree of a text.
+#[tactic(auto, using(da_parse::proofs::WrittenTrees::written_tree))]
+fn tree_of(alloc: Global, text: &[u8]) -> anyhow::Result<Tree>
+    ensures { IfOk result IsWritten }
+{
+    if text.len() > MOST_BYTES {
+        return Err(anyhow!("the text of a program is too long"));
+    }
+    let tokens = lex(alloc, text)?;
+    Ok(parse(alloc, &tokens)?)
+}
+
+// Runs the events over the processes of a program.
+fn run(alloc: Global, typed: Typed, events: &[Event]) -> anyhow::Result<String>
+    requires { RunsNow typed }
+{
+    let compiled = compile(alloc, typed)?;
+    let mut system = System::new(alloc, &compiled)?;
+    let mut sink = MemSink::new(alloc, usize::MAX, List::new(alloc));
+    let outcome = replay(alloc, &mut system, events, &mut sink);
+    let text = str::from_utf8(sink.bytes())?;
+    Ok(match outcome {
+        Outcome::Done => format!(in alloc; "{text}")?,
+        Outcome::Forbidden(_) => format!(in alloc; "{text}status 3\n")?,
+        Outcome::WriteFault => format!(in alloc; "{text}status 6\n")?,
+        Outcome::Memory => format!(in alloc; "{text}status 7\n")?,
+    })
+}
