@@ -12,8 +12,10 @@ use Rattle.da_machine.specs.Points.{class_points}
 use Rattle.da_types.specs.KeepsShaped.{EndsWithoutYield}
 use Rattle.code_gen.specs.ClassCode.{IsCodeOf}
 use Rattle.code_gen.specs.Made.{block_points}
+use Rattle.code_gen.specs.Short.{AreShortSetups, IsShortClass}
 use Rattle.code_gen.proofs.FewPoints.{few_points}
 use Rattle.code_gen.proofs.NoPoints.{none_in}
+use Rattle.code_gen.proofs.short.AcceptedShort.{classes_short, setups_short}
 
 -- it is one of the classes
 is_one : (classes : List Class) (k : ℕ) (c : Class) → k < length classes → c ≡ get_or classes k c → Has classes c
@@ -30,6 +32,12 @@ module _ (p q : Program) (number : ℕ) (its : Class) (same : q ≡ p) (inside :
 
   pub points_few : IsAccepted p → length (class_points its) < 2 ^ 32
   points_few accepted = few_points p its accepted its_own
+
+  pub class_is_short : IsAccepted p → IsShortClass its
+  class_is_short accepted = classes_short p accepted its its_own
+
+  pub args_are_short : IsAccepted p → AreShortSetups q.procs
+  args_are_short accepted = subst (λ (z : Program). AreShortSetups z.procs) (sym same) (setups_short p accepted)
 
   code_of_class : (code : Code) → IsCodeOf q number its code → (c : Class) → slice_get p.classes number ≡ Some c → IsCodeOf p number c code
   code_of_class code stands c there =

@@ -11,3 +11,4 @@ pub mod NoPoints
 pub mod PointCode
 pub mod PointLaws
 pub mod WorkCode
+pub mod short

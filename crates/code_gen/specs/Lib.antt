@@ -1,3 +1,4 @@
 pub mod ClassCode
 pub mod Made
 pub mod Open
+pub mod Short

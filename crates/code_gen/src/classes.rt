@@ -2,8 +2,11 @@
 ghost use Rattle.code_gen.specs.ClassCode.{IsCodeOf};
 ghost use Rattle.code_gen.specs.Made.{MadeHandlers, MadeSetup, MadeSetups, block_points, end_of};
 ghost use Rattle.code_gen.specs.Open.{own_setups};
+ghost use Rattle.code_gen.specs.Short.{AreShort, AreShortSetups, IsShortClass, block_widths, exprs_widths};
 ghost use Rattle.da_lang.specs.declared.program.Class.{Class};
+ghost use Rattle.da_lang.specs.declared.program.SetupCall.{SetupCall as SetupCallOf};
 ghost use Rattle.da_machine.specs.Points.{class_points};
+ghost use Rattle.std.specs.List.{AllByRecursion};
 ghost use Rattle.std.specs.Prelude.{◌≡◌, ◌<◌, ◌^◌, ◌∷◌, [], IfOk, List, OnOk, Some, length, slice_get};
 
 use crate::emit::{fill_jumps, here, put};
@@ -16,13 +19,11 @@ use da_values::{List, NoMemory};
 use std::alloc::Global;
 
 /// The code of the class at a place among the classes of a program, counted from 0. Each process of the class begins at
-/// its start, and each handler at its entry. `NoMemory` comes only where memory was refused, or for a tuple of more than
-/// 65,535 written parts or a set of 2^32 written elements, which no accepted program has. Time and memory are in step with
-/// the statements of the class, and with the line and the statements of `setup` for each of its processes.
+/// its start, and each handler at its entry. `NoMemory` comes only where memory was refused. Time and memory are in step
+/// with the statements of the class, and with the line and the statements of `setup` for each of its processes.
 pub fn generate(alloc: Global, t: &Typed, class: usize) -> Result<Code, NoMemory>
     requires exists { class < length t.now.classes }
-    ensures { IfOk result (λ code. (c : Class) → slice_get t.now.classes class ≡ Some c
-        → IsCodeOf t.now class c code) }
+    ensures { IfOk result (λ code. (c : Class) → slice_get t.now.classes class ≡ Some c → IsCodeOf t.now class c code) }
 {
     let program = t.program();
     let its = &program.classes.as_slice()[class];
@@ -38,6 +39,8 @@ fn class_code(
 ) -> Result<Code, NoMemory>
     requires few { length (class_points class.now) < 2 ^ 32 }
     requires setup { block_points class.now.setup ≡ [] }
+    requires short { IsShortClass class.now }
+    requires args { AreShortSetups program.now.procs }
     ensures { IfOk result (λ code. IsCodeOf program.now number class.now code) }
 {
     let mut code = Code {
@@ -72,9 +75,10 @@ fn emit_setups(
 ) -> Result<List<usize>, NoMemory>
     requires few { length (class_points class.now) < 2 ^ 32 }
     requires setup { block_points class.now.setup ≡ [] }
+    requires short { IsShortClass class.now }
+    requires args { AreShortSetups procs.now }
     requires starts { starts.old ≡ [] }
-    ensures { IfOk result (λ leaves.
-        MadeSetups code.old code.new class.now (own_setups number procs.now) starts.new leaves) }
+    ensures { IfOk result (λ leaves. MadeSetups code.old code.new class.now (own_setups number procs.now) starts.new leaves) }
 {
     let mut leaves = List::new(alloc);
     'openings: for proc in procs {
@@ -99,6 +103,8 @@ fn emit_setup(
 ) -> Result<(), NoMemory>
     requires few { length (class_points class.now) < 2 ^ 32 }
     requires setup { block_points class.now.setup ≡ [] }
+    requires short { IsShortClass class.now }
+    requires args { (call : SetupCallOf) → setup.now ≡ Some call → AreShort (exprs_widths call.args) }
     ensures { OnOk result (MadeSetup code.old code.new class.now setup.now) }
 {
     match setup {
@@ -119,6 +125,7 @@ fn emit_handlers(
     handlers: &[Handler],
     code: &mut Code,
 ) -> Result<List<u64>, NoMemory>
+    requires short { AllByRecursion (λ h. AreShort (block_widths h.body)) handlers.now }
     ensures { IfOk result (λ entries. MadeHandlers code.old code.new handlers.now entries) }
 {
     let mut entries = List::new(alloc);

@@ -1,11 +1,12 @@
 //! The code of expressions.
 ghost use Rattle.code_gen.specs.Made.{MadeDoing, MadeExpr, MadeExprs, MadeParts, MadeStores, deciding};
+ghost use Rattle.code_gen.specs.Short.{AreShort, all, exprs_widths, part_widths, widths};
 ghost use Rattle.da_lang.specs.Turns.{slot_of_arg, value_of_arg};
 ghost use Rattle.da_values.specs.Order.{val_cmp};
 ghost use Rattle.da_values.specs.Sets.{set_image};
 ghost use Rattle.da_values.specs.Value.{val_of};
 ghost use Rattle.da_values.specs.declared.val.Val.TheVariants as val;
-ghost use Rattle.std.specs.Prelude.{◌≡◌, IfOk, OnOk, length, map};
+ghost use Rattle.std.specs.Prelude.{◌≡◌, ◌<◌, ◌^◌, IfOk, OnOk, length, map};
 
 use crate::emit::{fill_tests, here, patch, put};
 use da_lang::{BindArg, ChainPart, Instr, RExpr};
@@ -15,8 +16,9 @@ use std::alloc::Global;
 
 /// Adds the code of an expression.
 #[cycle(exprs)]
-#[tactic(auto, using(crate::proofs::ExprCode::made_rules))]
+#[tactic(auto, using(crate::proofs::ExprCode::made_rules, crate::proofs::short::ShortParts::expr_parts))]
 pub fn emit_expr(alloc: Global, e: &RExpr, code: &mut Code) -> Result<(), NoMemory>
+    requires short { AreShort (widths e.now) }
     ensures { OnOk result (MadeExpr code.old code.new e.now) }
 {
     match e {
@@ -36,11 +38,11 @@ pub fn emit_expr(alloc: Global, e: &RExpr, code: &mut Code) -> Result<(), NoMemo
         }
         RExpr::Tuple(parts) => {
             emit_exprs(alloc, parts.as_slice(), code)?;
-            put(code, Instr::Pack(few_parts(parts.len())?))
+            put(code, Instr::Pack(few_parts(parts.len())))
         }
         RExpr::SetOf(elements) => {
             emit_exprs(alloc, elements.as_slice(), code)?;
-            put(code, Instr::Collect(few_elements(elements.len())?))
+            put(code, Instr::Collect(few_elements(elements.len())))
         }
         RExpr::Or(operands) => emit_tests(alloc, operands.as_slice(), true, code),
         RExpr::And(operands) => emit_tests(alloc, operands.as_slice(), false, code),
@@ -67,8 +69,9 @@ pub fn emit_expr(alloc: Global, e: &RExpr, code: &mut Code) -> Result<(), NoMemo
 
 /// Adds the code of expressions, one after the other.
 #[cycle(exprs)]
-#[tactic(auto, using(crate::proofs::ExprCode::made_no_expr, crate::proofs::ExprCode::made_exprs_next))]
+#[tactic(auto, using(crate::proofs::ExprCode::made_no_expr, crate::proofs::ExprCode::made_exprs_next, crate::proofs::short::ShortParts::expr_at))]
 pub fn emit_exprs(alloc: Global, es: &[RExpr], code: &mut Code) -> Result<(), NoMemory>
+    requires short { AreShort (exprs_widths es.now) }
     ensures { OnOk result (MadeExprs code.old code.new es.now) }
 {
     'exprs: for e in es {
@@ -79,8 +82,9 @@ pub fn emit_exprs(alloc: Global, es: &[RExpr], code: &mut Code) -> Result<(), No
 
 // Adds the code of the further parts of a chain.
 #[cycle(exprs)]
-#[tactic(auto, using(crate::proofs::ExprCode::made_no_part, crate::proofs::ExprCode::made_parts_next))]
+#[tactic(auto, using(crate::proofs::ExprCode::made_no_part, crate::proofs::ExprCode::made_parts_next, crate::proofs::short::ShortParts::part_at))]
 fn emit_parts(alloc: Global, parts: &[ChainPart], code: &mut Code) -> Result<(), NoMemory>
+    requires short { AreShort (all (map part_widths parts.now)) }
     ensures { OnOk result (MadeParts code.old code.new parts.now) }
 {
     'parts: for part in parts {
@@ -93,12 +97,14 @@ fn emit_parts(alloc: Global, parts: &[ChainPart], code: &mut Code) -> Result<(),
 // Adds the code of operands each of which decides where it has the given value. The tests have one target, behind the
 // operands, so they are written when that is known.
 #[cycle(exprs)]
+#[tactic(auto, using(crate::proofs::short::ShortParts::expr_at))]
 fn emit_tests(
     alloc: Global,
     operands: &[RExpr],
     decides: bool,
     code: &mut Code,
 ) -> Result<(), NoMemory>
+    requires short { AreShort (exprs_widths operands.now) }
     ensures { OnOk result (MadeExpr code.old code.new (deciding decides operands.now)) }
 {
     let mut holes = List::new(alloc);
@@ -127,6 +133,7 @@ pub fn emit_doing(
     does: Instr,
     code: &mut Code,
 ) -> Result<(), NoMemory>
+    requires short { AreShort (widths e.now) }
     ensures { OnOk result (MadeDoing code.old code.new line e.now does) }
 {
     put(code, Instr::Turn(line))?;
@@ -137,6 +144,7 @@ pub fn emit_doing(
 /// Adds the code of the values of arguments.
 #[tactic(auto, using(crate::proofs::ExprCode::made_no_expr, crate::proofs::ExprCode::made_values_next))]
 pub fn emit_values(alloc: Global, args: &[BindArg], code: &mut Code) -> Result<(), NoMemory>
+    requires short { AreShort (exprs_widths (map value_of_arg args.now)) }
     ensures { OnOk result (MadeExprs code.old code.new (map value_of_arg args.now)) }
 {
     'values: for arg in args {
@@ -171,24 +179,20 @@ pub fn emit_stored(slots: &[u16], code: &mut Code) -> Result<(), NoMemory>
     Ok(())
 }
 
-// How many parts a tuple has. Accepted programs have none of more than 255.
-fn few_parts(parts: usize) -> Result<u16, NoMemory>
-    ensures { IfOk result (λ few. few ≡ parts) }
+// How many parts a tuple has.
+fn few_parts(parts: usize) -> u16
+    requires few { parts < 2 ^ 16 }
+    ensures { result ≡ parts }
 {
-    match u16::try_from(parts) {
-        Ok(few) => Ok(few),
-        Err(_) => Err(NoMemory),
-    }
+    parts as u16
 }
 
-// How many elements a set is written with. They are fewer than the tokens of a text.
-fn few_elements(elements: usize) -> Result<u32, NoMemory>
-    ensures { IfOk result (λ few. few ≡ elements) }
+// How many elements a set is written with.
+fn few_elements(elements: usize) -> u32
+    requires few { elements < 2 ^ 32 }
+    ensures { result ≡ elements }
 {
-    match u32::try_from(elements) {
-        Ok(few) => Ok(few),
-        Err(_) => Err(NoMemory),
-    }
+    elements as u32
 }
 
 // The set of some processes.

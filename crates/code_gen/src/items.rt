@@ -1,5 +1,6 @@
 //! The code of statements.
 ghost use Rattle.code_gen.specs.Made.{MadeAwait, MadeBlock, MadeBranches, MadeItem, MadeLabel, MadeLoop, MadeWhile};
+ghost use Rattle.code_gen.specs.Short.{AreShort, all, alt_widths, block_widths, branch_widths, item_widths, widths};
 ghost use Rattle.da_lang.specs.Turns.{slot_of_arg, value_of_arg};
 ghost use Rattle.std.specs.Prelude.{◌≡◌, ◌∷◌, [], IfOk, List, OnOk, length, map};
 
@@ -12,8 +13,9 @@ use std::alloc::Global;
 
 /// Adds the code of statements, one after the other.
 #[cycle(items)]
-#[tactic(auto, using(crate::proofs::ItemCode::made_no_item, crate::proofs::ItemCode::made_items_next))]
+#[tactic(auto, using(crate::proofs::ItemCode::made_no_item, crate::proofs::ItemCode::made_items_next, crate::proofs::short::ShortParts::item_at))]
 pub fn emit_block(alloc: Global, items: &[Item], code: &mut Code) -> Result<(), NoMemory>
+    requires short { AreShort (block_widths items.now) }
     ensures { OnOk result (MadeBlock code.old code.new items.now) }
 {
     'statements: for item in items {
@@ -24,8 +26,9 @@ pub fn emit_block(alloc: Global, items: &[Item], code: &mut Code) -> Result<(), 
 
 // Adds the code of a statement.
 #[cycle(items)]
-#[tactic(auto, using(crate::proofs::WorkCode::work_rules))]
+#[tactic(auto, using(crate::proofs::WorkCode::work_rules, crate::proofs::short::ShortParts::item_parts))]
 fn emit_item(alloc: Global, item: &Item, code: &mut Code) -> Result<(), NoMemory>
+    requires short { AreShort (item_widths item.now) }
     ensures { OnOk result (MadeItem code.old code.new item.now) }
 {
     let line = item.line;
@@ -74,6 +77,8 @@ fn emit_while(
     line: u32,
     code: &mut Code,
 ) -> Result<(), NoMemory>
+    requires cond { AreShort (widths e.now) }
+    requires body { AreShort (block_widths body.now) }
     ensures { OnOk result (MadeWhile code.old code.new e.now body.now line) }
 {
     let start = here(code);
@@ -97,6 +102,7 @@ fn emit_loop(
     line: u32,
     code: &mut Code,
 ) -> Result<(), NoMemory>
+    requires short { AreShort (block_widths body.now) }
     ensures { OnOk result (MadeLoop code.old code.new slot body.now line) }
 {
     let start = here(code);
@@ -112,11 +118,13 @@ fn emit_loop(
 
 // Adds the code of branches. Each ends with a hole for the jump behind the last one, and their places are told.
 #[cycle(items)]
+#[tactic(auto, using(crate::proofs::short::ShortParts::branch_at))]
 fn emit_branches(
     alloc: Global,
     branches: &[RBranch],
     code: &mut Code,
 ) -> Result<List<usize>, NoMemory>
+    requires short { AreShort (all (map branch_widths branches.now)) }
     ensures { IfOk result (λ leaves. MadeBranches code.old code.new branches.now leaves) }
 {
     let mut leaves = List::new(alloc);
@@ -128,7 +136,9 @@ fn emit_branches(
 
 // Adds the code of a branch, and tells the place of the hole where it ends.
 #[cycle(items)]
+#[tactic(auto, using(crate::proofs::short::ShortParts::branch_body))]
 fn emit_branch(alloc: Global, branch: &RBranch, code: &mut Code) -> Result<usize, NoMemory>
+    requires short { AreShort (branch_widths branch.now) }
     ensures { IfOk result (λ leave. MadeBranches code.old code.new (branch.now ∷ []) (leave ∷ [])) }
 {
     emit_expr(alloc, branch.cond.get(), code)?;
@@ -146,7 +156,9 @@ fn emit_branch(alloc: Global, branch: &RBranch, code: &mut Code) -> Result<usize
 // Adds the code of an `await`: its yield point, and the blocks of its alternatives, which are entered by moves alone. The
 // yield point comes before those in the blocks, so it is reserved, and its entries are written when they are known.
 #[cycle(items)]
+#[tactic(auto, using(crate::proofs::short::ShortParts::alt_at))]
 fn emit_await(alloc: Global, alts: &[Alt], code: &mut Code) -> Result<(), NoMemory>
+    requires short { AreShort (all (map alt_widths alts.now)) }
     ensures { OnOk result (MadeAwait code.old code.new alts.now) }
 {
     let at = code.yields.len();

@@ -1,5 +1,6 @@
 use Rattle.std.proofs.Common.{◌∙◌, sym}
 use Rattle.code_gen.proofs.ClassCode.{made_no_setup, setups_next, setups_pass, setups_whole}
+use Rattle.code_gen.proofs.short.ShortParts.{setup_at}
 use Rattle.code_gen.proofs.classes.emit_setups.Goals as goal
 
 pub openings-init : goal.openings-init
@@ -16,3 +17,6 @@ openings-preserved c =
 
 pub returns : goal.returns
 returns c = setups_whole _ _ _ c.args.procs.now c.args.number c.openings.proc-index _ _ c.openings-test.false c.openings.invariant
+
+pub emit_setup-requires-clause-args : goal.emit_setup-requires-clause-args
+emit_setup-requires-clause-args c = setup_at c.args.procs.now c.openings.proc-index c.proc-item.result c.openings-test.true c.proc-item.is c.requires.args

@@ -1,5 +1,5 @@
 use Rattle.std.proofs.Common.{◌≡◌, ◌∙◌, ◌<◌, ap, get_or, length, subst, sym}
-use Rattle.code_gen.proofs.Generated.{code_answered, points_few, setup_none}
+use Rattle.code_gen.proofs.Generated.{args_are_short, class_is_short, code_answered, points_few, setup_none}
 use Rattle.code_gen.proofs.classes.generate.Goals as goal
 
 pub class_code-requires-clause-few : goal.class_code-requires-clause-few
@@ -15,6 +15,20 @@ class_code-requires-clause-setup c =
     let inside = subst (λ p. c.args.class < length p.classes) (sym c.program-program.ensures.same) c.requires.exists in
     let is = c.index-as_slice-class.is ∙ ap (λ classes. get_or classes c.args.class its) c.as_slice.ensures in
     setup_none c.args.t.now c.program-program.result.now c.args.class its c.program-program.ensures.same inside is c.program-program.ensures.ends
+
+pub class_code-requires-clause-short : goal.class_code-requires-clause-short
+class_code-requires-clause-short c =
+    let its = c.index-as_slice-class.result in
+    let inside = subst (λ p. c.args.class < length p.classes) (sym c.program-program.ensures.same) c.requires.exists in
+    let is = c.index-as_slice-class.is ∙ ap (λ classes. get_or classes c.args.class its) c.as_slice.ensures in
+    class_is_short c.args.t.now c.program-program.result.now c.args.class its c.program-program.ensures.same inside is c.program-program.ensures.accepted
+
+pub class_code-requires-clause-args : goal.class_code-requires-clause-args
+class_code-requires-clause-args c =
+    let its = c.index-as_slice-class.result in
+    let inside = subst (λ p. c.args.class < length p.classes) (sym c.program-program.ensures.same) c.requires.exists in
+    let is = c.index-as_slice-class.is ∙ ap (λ classes. get_or classes c.args.class its) c.as_slice.ensures in
+    args_are_short c.args.t.now c.program-program.result.now c.args.class its c.program-program.ensures.same inside is c.program-program.ensures.accepted
 
 pub returns : goal.returns
 returns c =

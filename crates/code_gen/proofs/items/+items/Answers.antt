@@ -6,6 +6,7 @@ use Rattle.code_gen.specs.Made.{MadeBlock, MadeBranches, MadeExpr, MadeExprs, Ma
 use Rattle.code_gen.proofs.ItemCode.{alts_whole, branches_whole, made_alts_next, made_branch, made_branches_next, made_items_next, made_no_alt, made_no_branch}
 use Rattle.code_gen.proofs.PointCode.{made_await}
 use Rattle.code_gen.proofs.WorkCode.{made_call, made_if, made_loop, made_pass, made_send, made_while}
+use Rattle.code_gen.proofs.short.ShortParts.{add_value, assign_value, branch_cond, call_args, del_value, for_set, output_value, send_message, send_to}
 use Rattle.code_gen.proofs.items.+items.Goals as goal
 
 pub emit_while-returns : goal.emit_while-returns
@@ -70,3 +71,30 @@ emit_item-returns-in_ok-emit_bound-in-Call t c =
 pub emit_item-returns-in-Pass : goal.emit_item-returns-in-Pass
 emit_item-returns-in-Pass t c =
     on_ok_weaker _ (made_pass _ _ c.args.item.now c.in-Pass.is) c.put-in-Pass.ensures
+
+pub emit_branch-emit_expr-requires : goal.emit_branch-emit_expr-requires
+emit_branch-emit_expr-requires t c = record { short = branch_cond c.args.branch.now _ c.get.ensures c.requires.short }
+
+pub emit_item-emit_doing-requires : goal.emit_item-emit_doing-requires
+emit_item-emit_doing-requires t c = record { short = assign_value c.args.item.now _ _ _ c.in-Assign.is c.get.ensures c.requires.short }
+
+pub emit_item-emit_doing-requires-in-Add : goal.emit_item-emit_doing-requires-in-Add
+emit_item-emit_doing-requires-in-Add t c = record { short = add_value c.args.item.now _ _ _ c.in-Add.is c.get-in-Add.ensures c.requires.short }
+
+pub emit_item-emit_doing-requires-in-Del : goal.emit_item-emit_doing-requires-in-Del
+emit_item-emit_doing-requires-in-Del t c = record { short = del_value c.args.item.now _ _ _ c.in-Del.is c.get-in-Del.ensures c.requires.short }
+
+pub emit_item-emit_expr-requires : goal.emit_item-emit_expr-requires
+emit_item-emit_expr-requires t c = record { short = send_message c.args.item.now _ _ _ c.in-Send.is c.get-in-Send.ensures c.requires.short }
+
+pub emit_item-emit_expr-requires-in-Send : goal.emit_item-emit_expr-requires-in-Send
+emit_item-emit_expr-requires-in-Send t c = record { short = send_to c.args.item.now _ _ _ c.in-Send.is c.get-in-Send-2.ensures c.requires.short }
+
+pub emit_item-emit_doing-requires-in-Output : goal.emit_item-emit_doing-requires-in-Output
+emit_item-emit_doing-requires-in-Output t c = record { short = output_value c.args.item.now _ _ c.in-Output.is c.get-in-Output.ensures c.requires.short }
+
+pub emit_item-emit_doing-requires-in-For : goal.emit_item-emit_doing-requires-in-For
+emit_item-emit_doing-requires-in-For t c = record { short = for_set c.args.item.now _ _ _ _ c.in-For.is c.get-in-For.ensures c.requires.short }
+
+pub emit_item-emit_values-requires : goal.emit_item-emit_values-requires
+emit_item-emit_values-requires t c = record { short = call_args c.args.item.now _ _ _ c.in-Call.is c.as_slice-in-Call.ensures c.requires.short }

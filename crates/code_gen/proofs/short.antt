@@ -1,0 +1,9 @@
+pub mod AcceptedShort
+pub mod ExprSets
+pub mod ExprsShort
+pub mod SetsAt
+pub mod ShortParts
+pub mod StatementsShort
+pub mod StmtSets
+pub mod TreeSets
+pub mod WidthsAt
