@@ -1,8 +1,15 @@
+pub mod AsksAt
 pub mod BoundLaws
 pub mod ClassLaw
+pub mod CountSteps
 pub mod GrowthLaws
+pub mod MetAt
+pub mod NodeSteps
 pub mod NormLaw
 pub mod PlaceLaws
+pub mod PlanSteps
 pub mod QueryLaw
+pub mod QuerySteps
 pub mod RangeLaws
 pub mod RenameLaws
+pub mod RenameSteps

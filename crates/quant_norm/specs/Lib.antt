@@ -1,1 +1,2 @@
 pub mod GoodPlaces
+pub mod Making

@@ -1,2 +1,14 @@
-//! Plans of classes: the law that ties the nodes of a plan to the queries and conditions of its class.
+//! Plans of classes: from conditions and queries to nodes.
 #![tactic(auto)]
+
+mod classes;
+mod conditions;
+mod counts;
+mod generators;
+mod nodes;
+mod place;
+mod queries;
+mod rename;
+mod top;
+
+pub use top::{MOST_NODES, PlanFault, normalise};
