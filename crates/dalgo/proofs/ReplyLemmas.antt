@@ -1,5 +1,5 @@
 -- The replies of the commands.
-use Rattle.std.proofs.Common.{◌≡◌, refl, sym, ◌∙◌, ap, subst, Bool, true, false, ℕ, ◌+◌, ◌<◌, ◌≤◌, inl, inr, ◌⊎◌, List, [], take, length, arith}
+use Rattle.std.proofs.Common.{◌≡◌, refl, sym, ◌∙◌, ap, subst, Bool, true, false, ℕ, ◌+◌, ◌≤◌, inl, inr, ◌⊎◌, List, take, length, arith}
 use Rattle.std.specs.Prelude.{◌↔◌, Option, Some, None, Result, Ok, Err, IfErr, IfOk, IsErrOf, IsTrue}
 use Rattle.std.proofs.lemmas.Bool.{false≢true}
 use Rattle.da_lang.specs.declared.event.Event.{Event}

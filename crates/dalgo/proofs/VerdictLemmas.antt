@@ -1,5 +1,5 @@
 -- A text is accepted or refused, and gives one program.
-use Rattle.std.proofs.Common.{◌≡◌, refl, sym, ◌∙◌, ap, subst, ℕ, ◌≤◌, inl, inr, List, [], length, arith}
+use Rattle.std.proofs.Common.{◌≡◌, sym, ◌∙◌, ap, subst, ℕ, inl, inr, List, [], arith}
 use Rattle.std.specs.Prelude.{Option, Some, None, Result, Ok, Err}
 use Rattle.da_values.specs.declared.token.Token.{Token}
 use Rattle.da_values.specs.Marks.{toks}
@@ -9,9 +9,9 @@ use Rattle.da_lang.specs.declared.refusal.LimitKind.{LimitKind}
 use Rattle.da_lang.specs.declared.refusal.ScopeKind.{ScopeKind}
 use Rattle.da_lang.specs.declared.tree.Tree.{Tree}
 use Rattle.da_lang.specs.Grammar.{SpellsWithin}
-use Rattle.da_lang.specs.Limits.{Resolves, limit_fault, limit_refusals}
+use Rattle.da_lang.specs.Limits.{Resolves, limit_refusals}
 use Rattle.da_lang.specs.Limits as limits
-use Rattle.da_lang.specs.NameRules.{name_fault, name_refusals}
+use Rattle.da_lang.specs.NameRules.{name_refusals}
 use Rattle.da_lang.specs.NameRules as names
 use Rattle.da_lang.specs.Resolution.{resolved}
 use Rattle.da_lang.specs.Scopes as scopes
