@@ -1,11 +1,9 @@
 -- A program that runs as yet asks nothing of histories: a process has no answers to tell, and keeps no rows.
-use Rattle.std.specs.Prelude.{◌≡◌, refl, ℕ, Bool, true, false, ◌&&◌, ◌==◌, List, [], ◌∷◌, ◌++◌, length, map, sum, Option, Some, None}
+use Rattle.std.specs.Prelude.{◌≡◌, refl, ℕ, Bool, true, ◌&&◌, ◌==◌, List, [], ◌∷◌, ◌++◌, length, map, sum, Option, Some, None}
 use Rattle.std.specs.List.{AllByRecursion, filter, flat_map, list_all}
 use Rattle.std.proofs.Common.{◌∙◌, ap, sym, append-nil}
 use Rattle.std.proofs.lemmas.Bool.{false≢true, and_parts}
-use Rattle.da_values.specs.Sets.{Has}
 use Rattle.da_values.proofs.Members.{each_from_all}
-use Rattle.da_lang.specs.declared.event.Action.{Action}
 use Rattle.da_lang.specs.declared.event.Action.TheVariants.{Answer, Kept}
 use Rattle.da_lang.specs.declared.program.Alt.{Alt}
 use Rattle.da_lang.specs.declared.program.Class.{Class}
@@ -32,7 +30,7 @@ use Rattle.da_lang.proofs.ItemInduction.{ItemCases, items_induction}
 use Rattle.da_lang.proofs.LiveLaws.{alt_gens, branch_gens, kind_gens, operand_gens, signed_gens, gens-Truth, gens-Cmp, gens-Not, gens-And, gens-Or, gens-Term, gens-Chain, gens_of_signed, gens_of_item, gens_of_alt, gens_of_branch, gens-If, gens-While, gens-For, gens-Call, gens-Await, gens-Label, gens-Pass, gens-Output, gens-Send, gens-Assign, gens-Add, gens-Del}
 use Rattle.da_types.proofs.totality.Worlds.{class_has}
 use Rattle.da_core.specs.Plain.{is_plain, is_plain_operand, is_plain_part}
-use Rattle.da_core.specs.RunsNow.{ClassRuns, RunsNow, alt_all, branch_all, class_all, item_all, items_all, kind_all}
+use Rattle.da_core.specs.RunsNow.{RunsNow, alt_all, branch_all, class_all, item_all, items_all, kind_all}
 use Rattle.da_core.proofs.PlainForms.{plain-Cmp, plain-Not, plain-And, plain-Or, plain-Quant, plain-Chain, plain-Agg}
 use Rattle.da_core.proofs.RunForms.{run-If, run-While, run-For, run-Call, run-Await}
 use Rattle.da_core.proofs.RunLaws.{runs_class}

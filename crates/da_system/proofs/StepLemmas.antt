@@ -1,17 +1,14 @@
 -- The steps of a system in code, by the cores of its processes.
-use Rattle.std.proofs.Common.{◌≡◌, refl, sym, ◌∙◌, ap, subst, ℕ, zero, suc, Bool, true, false, cond, List, [], ◌∷◌, ◌++◌, length, append-nil}
-use Rattle.std.specs.Prelude.{◌↔◌, Option, Some, None, Result, Ok, Err, IsErrOf, IsSome, IsTrue, OnOk, is_some}
+use Rattle.std.proofs.Common.{◌≡◌, refl, sym, ◌∙◌, ap, subst, ℕ, Bool, true, false, cond, List, [], ◌∷◌, length}
+use Rattle.std.specs.Prelude.{◌↔◌, Option, Some, None, IsSome, IsTrue, is_some}
 use Rattle.std.proofs.lemmas.Bool.{false≢true}
 use Rattle.da_lang.specs.declared.event.Action.{Action}
 use Rattle.da_lang.specs.declared.event.Action.TheVariants.{Kept}
-use Rattle.da_lang.specs.declared.event.Event.{Event}
 use Rattle.da_lang.specs.declared.event.Event.TheVariants as event
 use Rattle.da_lang.specs.declared.program.Program.{Program}
 use Rattle.da_lang.specs.Steps.{Step, Stepped, Take, move_step, proc_step}
 use Rattle.da_lang.specs.World.{Data, World, at_number, class_of}
 use Rattle.da_core.specs.declared.compiled.Compiled.{Compiled}
-use Rattle.da_core.specs.declared.place.StepFault.{StepFault}
-use Rattle.da_core.specs.declared.place.StepFault.TheVariants.{Forbidden, Memory, Spent}
 use Rattle.da_core.specs.declared.place.Stopped.{Stopped}
 use Rattle.da_core.specs.declared.process.Core.{Core}
 use Rattle.da_core.specs.Compiled.{IsCompiled}
@@ -21,8 +18,8 @@ use Rattle.da_core.specs.RunsNow.{RunsNow}
 use Rattle.da_core.specs.StandsFor as process
 use Rattle.da_system.specs.declared.system.System.{System}
 use Rattle.da_system.specs.Channels.{after_actions, channel, may_arrive, may_lose, may_repeat, no_letters, put_numbered}
-use Rattle.da_system.specs.State.{Answers, HasBegun, HasStepped, IsReady, StandFrom, Stands, StandsAt, Whichever, is_spent, program_of}
-use Rattle.da_system.specs.SystemStep.{AfterEvent, SystemState, answers_of, arrive, copy_letter, deliver, drop_letter, kept_of, lose, process_step, repeat, show, stat, step_of, stepped, sys_step, told}
+use Rattle.da_system.specs.State.{HasBegun, HasStepped, StandFrom, Stands, StandsAt, program_of}
+use Rattle.da_system.specs.SystemStep.{SystemState, arrive, copy_letter, deliver, drop_letter, lose, process_step, repeat, show, stat, step_of, stepped, sys_step, told}
 use Rattle.da_system.proofs.AcceptedStates.{never_steps}
 use Rattle.da_system.proofs.NoRows.{none_answered, none_kept}
 use Rattle.da_system.proofs.QuietMoves.{move_quiet, unsent}

@@ -1,6 +1,6 @@
 -- Members of lists by their numbers, and channels without letters.
 use Rattle.std.proofs.Common.{◌≡◌, refl, ◌∙◌, ap, ℕ, zero, suc, List, [], ◌∷◌, replicate}
-use Rattle.std.specs.Prelude.{Option, Some, None, IfSome, slice_get}
+use Rattle.std.specs.Prelude.{None, IfSome, slice_get}
 use Rattle.std.specs.List.{AllByRecursion}
 use Rattle.da_lang.specs.World.{at_number}
 use Rattle.da_system.specs.Channels.{Letter, channel, no_letters, or_empty}

@@ -100,8 +100,12 @@ fn answer_schedule<K: Sink>(
 ) -> Result<Status, Ending>
     requires compiled { IsCompiled compiled.now }
     requires runs { RunsNow (program_of compiled.now) }
-    ensures answers { (whole : List ℕ) → text.now ≡ take (SCHEDULE_LIMIT + 1) whole → IfOk result (λ status. Gains (RunReply (program_of compiled.now) whole) status (K.taken out.old) (K.taken out.new)) }
-    ensures begun { (whole : List ℕ) → text.now ≡ take (SCHEDULE_LIMIT + 1) whole → IfErr result (λ _. Begins (RunReply (program_of compiled.now) whole) (K.taken out.old) (K.taken out.new)) }
+    ensures answers { (whole : List ℕ) → text.now ≡ take (SCHEDULE_LIMIT + 1) whole
+        → IfOk result (λ status. Gains (RunReply (program_of compiled.now) whole) status
+        (K.taken out.old) (K.taken out.new)) }
+    ensures begun { (whole : List ℕ) → text.now ≡ take (SCHEDULE_LIMIT + 1) whole
+        → IfErr result (λ _. Begins (RunReply (program_of compiled.now) whole)
+        (K.taken out.old) (K.taken out.new)) }
     ensures status { IfOk result IsReply }
     ensures write { IsErrOf result Ending.Write → Rose (K.faults out.old) (K.faults out.new) }
     ensures read { IsErrOf result Ending.Read → ⊥ }
@@ -125,8 +129,11 @@ fn answer_events<K: Sink>(
 ) -> Result<Status, Ending>
     requires compiled { IsCompiled compiled.now }
     requires runs { RunsNow (program_of compiled.now) }
-    ensures ran { IfOk result (λ status. (status ≡ run_status (program_of compiled.now) events.now) × Appends (K.taken out.old) (K.taken out.new) (run_text (program_of compiled.now) events.now)) }
-    ensures front { IfErr result (λ _. AppendsFront (K.taken out.old) (K.taken out.new) (run_text (program_of compiled.now) events.now)) }
+    ensures ran { IfOk result (λ status. (status ≡ run_status (program_of compiled.now) events.now)
+        × Appends (K.taken out.old) (K.taken out.new)
+        (run_text (program_of compiled.now) events.now)) }
+    ensures front { IfErr result (λ _. AppendsFront (K.taken out.old) (K.taken out.new)
+        (run_text (program_of compiled.now) events.now)) }
     ensures status { IfOk result IsReply }
     ensures write { IsErrOf result Ending.Write → Rose (K.faults out.old) (K.faults out.new) }
     ensures read { IsErrOf result Ending.Read → ⊥ }

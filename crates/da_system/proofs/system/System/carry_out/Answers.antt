@@ -1,7 +1,5 @@
-use Rattle.std.proofs.Common.{refl}
 use Rattle.da_system.specs.State.{program_of}
 use Rattle.da_system.proofs.AnswerLemmas.{answers_by}
-use Rattle.da_system.proofs.StepLemmas.{none_arrives, none_doubled, none_lost}
 use Rattle.da_system.proofs.system.System.carry_out.Goals as goal
 
 pub returns-in-Show-clause-answers : goal.returns-in-Show-clause-answers
