@@ -1,10 +1,11 @@
 //! Replays in memory.
+ghost use Rattle.da_core.specs.Compiled.{IsCompiled, program_of};
 ghost use Rattle.da_core.specs.RunsNow.{RunsNow};
 ghost use Rattle.da_lang.specs.Accepted.{IsWritten};
 ghost use Rattle.std.specs.Prelude.{IfOk};
 
 use anyhow::anyhow;
-use da_core::{compile, runs_now};
+use da_core::{Compiled, compile, runs_now};
 use da_lang::{Event, Tree};
 use da_lex::lex;
 use da_outside::MemSink;
@@ -53,7 +54,8 @@ fn tree_of(alloc: Global, text: &[u8]) -> anyhow::Result<Tree>
     Ok(parse(alloc, &tokens)?)
 }
 
-// Runs the events over the processes of a program.
+// Runs the events over the processes of a program. What runs to its end is run once more in two parts, over one system
+// and into a sink that takes 4 bytes at a time.
 fn run(alloc: Global, typed: Typed, events: &[Event]) -> anyhow::Result<String>
     requires { RunsNow typed }
 {
@@ -62,10 +64,36 @@ fn run(alloc: Global, typed: Typed, events: &[Event]) -> anyhow::Result<String>
     let mut sink = MemSink::new(alloc, usize::MAX, List::new(alloc));
     let outcome = replay(alloc, &mut system, events, &mut sink);
     let text = str::from_utf8(sink.bytes())?;
+    let whole = outcome != Outcome::Done || goes_on(alloc, &compiled, events, sink.bytes())?;
+    if !whole {
+        return Err(anyhow!("a system that ran does not go on as it should"));
+    }
     Ok(match outcome {
         Outcome::Done => format!(in alloc; "{text}")?,
         Outcome::Forbidden(_) => format!(in alloc; "{text}status 3\n")?,
         Outcome::WriteFault => format!(in alloc; "{text}status 6\n")?,
         Outcome::Memory => format!(in alloc; "{text}status 7\n")?,
     })
+}
+
+// Whether two halves of the events write this one after the other.
+fn goes_on(
+    alloc: Global,
+    compiled: &Compiled,
+    events: &[Event],
+    text: &[u8],
+) -> Result<bool, NoMemory>
+    requires compiled { IsCompiled compiled.now }
+    requires runs { RunsNow (program_of compiled.now) }
+{
+    let mut system = System::new(alloc, compiled)?;
+    let mut sink = MemSink::new(alloc, 4, List::new(alloc));
+    let half = events.len() / 2;
+    let Outcome::Done = replay(alloc, &mut system, &events[..half], &mut sink) else {
+        return Ok(false);
+    };
+    let Outcome::Done = replay(alloc, &mut system, &events[half..], &mut sink) else {
+        return Ok(false);
+    };
+    Ok(sink.bytes() == text)
 }
