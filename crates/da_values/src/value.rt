@@ -1,7 +1,7 @@
 //! Values as code keeps them.
 ghost use Rattle.da_values.specs.Value.{val_of, vals};
 ghost use Rattle.std.specs.Option.{option_copied, option_map};
-ghost use Rattle.std.specs.Prelude.{◌≡◌, [], ◌∷◌, ◌++◌, length, slice_get, None, IfSome, OnOk, OnErr};
+ghost use Rattle.std.specs.Prelude.{◌≡◌, [], ◌∷◌, ◌++◌, ◌<◌, length, slice_get, slice_set, None, Some, IfSome, OnOk, OnErr};
 
 use crate::list::{List, NoMemory};
 use crate::read::ascends;
@@ -125,6 +125,15 @@ impl Row {
         ensures { vals result.now ≡ self.now }
     {
         self.parts.as_slice()
+    }
+
+    /// Puts a part in the place of one that is there, which is handed out. It takes no memory.
+    pub fn replace(&mut self, at: usize, part: Value) -> Value
+        requires { at < length self.old }
+        ensures value { slice_get self.old at ≡ Some (val_of result) }
+        ensures put { self.new ≡ slice_set self.old at (val_of part) }
+    {
+        self.parts.replace(at, part)
     }
 
     /// Adds a part at the end. Where memory is refused the part is dropped, and the row is as it was.
