@@ -1,6 +1,6 @@
 -- What a process knows, where code keeps it.
 use Rattle.std.specs.Prelude.{◌≡◌, List, [], map}
-use Rattle.da_values.specs.Value.{val_of, vals}
+use Rattle.da_values.specs.Value.{val_of}
 use Rattle.da_lang.specs.declared.program.Class.{Class}
 use Rattle.da_lang.specs.declared.program.Program.{Program}
 use Rattle.da_lang.specs.World.{Data, Entry}
@@ -13,7 +13,7 @@ entry_of past = record { message = val_of past.message; peer = past.peer; time =
 abbrev pub data_of : Known → Data
 data_of known = record {
   me = known.me;
-  slots = vals known.slots.items;
+  slots = known.slots;
   sent = map entry_of known.sent;
   received = map entry_of known.received;
   clock = known.clock;

@@ -1,7 +1,8 @@
+pub mod Arrivals
 pub mod Begins
 pub mod Compiled
 pub mod Known
-pub mod Moved
+pub mod Made
 pub mod Plain
 pub mod RunsNow
 pub mod StandsFor

@@ -1,9 +1,10 @@
--- Which programs run as yet: those of one process, whose classes send and receive nothing, have no numbered query, and wait
--- for conditions without `some`, `each` and aggregates.
-use Rattle.std.specs.Prelude.{◌≡◌, Bool, true, false, ◌&&◌, ◌==◌, List, [], length}
+-- Which programs run as yet: those whose classes have no numbered query, and wait for conditions without `some`, `each` and
+-- aggregates.
+use Rattle.std.specs.Prelude.{◌≡◌, Bool, true, ◌&&◌, ◌==◌, List, [], length}
 use Rattle.std.specs.List.{list_all}
 use Rattle.da_lang.specs.declared.program.Alt.{Alt}
 use Rattle.da_lang.specs.declared.program.Class.{Class}
+use Rattle.da_lang.specs.declared.program.Handler.{Handler}
 use Rattle.da_lang.specs.declared.program.Item.{Item}
 use Rattle.da_lang.specs.declared.program.ItemKind.{ItemKind}
 use Rattle.da_lang.specs.declared.program.ItemKind.TheFolds.{fold-ItemKind}
@@ -18,9 +19,8 @@ use Rattle.da_core.specs.Plain.{is_plain}
 abbrev pub all : List Bool → Bool
 all = list_all (λ b. b)
 
--- no `send`, and no `await` of another condition, in a statement and in its blocks
+-- no `await` of another condition, in a statement and in its blocks
 abbrev pub kind_step : ItemKind-F Bool Bool Bool Bool → Bool
-kind_step (ItemKind-F.Send m e) = false
 kind_step (ItemKind-F.If branches other) = all branches && all other
 kind_step (ItemKind-F.While e body) = all body
 kind_step (ItemKind-F.For s e body) = all body
@@ -52,23 +52,23 @@ alt_all a = is_plain (out-Alt a).cond && items_all (out-Alt a).body
 abbrev pub branch_all : RBranch → Bool
 branch_all b = items_all (out-RBranch b).body
 
--- no query and no handler, and such statements
-abbrev pub class_all : Class → Bool
-class_all class = (length class.queries == 0) && (length class.handlers == 0) && items_all class.setup && items_all class.run
+abbrev pub handler_all : Handler → Bool
+handler_all h = items_all h.body
 
-pub record RunsNow (p : Program) : Type 0 where
-  pub one_process : length p.procs ≡ 1
-  pub classes : list_all class_all p.classes ≡ true
+-- no query, and such statements
+abbrev pub class_all : Class → Bool
+class_all class = (length class.queries == 0) && items_all class.setup && items_all class.run && list_all handler_all class.handlers
+
+abbrev pub RunsNow : Program → Type 0
+RunsNow p = list_all class_all p.classes ≡ true
 
 -- WHAT THIS TELLS OF A CLASS
 
--- the statement is no `send`, and no `await` of another condition
+-- the statement is no `await` of another condition
 abbrev pub kind_runs : ItemKind-F ItemKind Alt Item RBranch → Bool
-kind_runs (ItemKind-F.Send m e) = false
 kind_runs (ItemKind-F.Await alts) = list_all (λ a. is_plain (out-Alt a).cond) alts
 kind_runs _ = true
 
 pub record ClassRuns (class : Class) : Type 0 where
   pub no_queries : class.queries ≡ []
-  pub no_handlers : class.handlers ≡ []
   pub statements : (i : Item) → IsItemOf class i → kind_runs (kind_of i) ≡ true

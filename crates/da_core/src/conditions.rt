@@ -5,7 +5,7 @@ ghost use Rattle.da_core.specs.Known.{data_of};
 ghost use Rattle.da_core.specs.Plain.{ArePlain, ArePlainSigned, is_plain, is_plain_operand};
 ghost use Rattle.da_lang.specs.Matching.{term_value as term_lem};
 ghost use Rattle.da_lang.specs.Queries.{compares as compares_lem, holds as holds_lem, operand_value as operand_lem, signed_value as signed_lem, total};
-ghost use Rattle.da_values.specs.Value.{val_of, vals};
+ghost use Rattle.da_values.specs.Value.{val_of};
 ghost use Rattle.da_values.specs.Views.{int_of as int_lem, truth_of};
 ghost use Rattle.std.specs.List.{list_all, list_any};
 ghost use Rattle.std.specs.Prelude.{◌≡◌, [], ◌+ℤ◌, IfOk, map, neg_ℤ, true, if◌then◌else◌};
@@ -127,12 +127,12 @@ fn added(sum: i128, minus: bool, number: i128) -> Result<i128, NoMemory>
 #[cycle(terms)]
 #[tactic(auto, using(crate::proofs::PlainForms::term_rules))]
 fn term_value(term: &Term, known: &Known) -> Result<Value, NoMemory>
-    ensures { IfOk result (λ v. val_of v ≡ term_lem known.now.me (vals known.now.slots.items) [] term.now) }
+    ensures { IfOk result (λ v. val_of v ≡ term_lem known.now.me known.now.slots [] term.now) }
 {
     match term {
         Term::Const(v) => copy_value(known.alloc, v),
         Term::Me => Ok(Value::Proc(known.me)),
-        Term::Slot(s) => match in_slot(known.slots.as_slice(), *s) {
+        Term::Slot(s) => match in_slot(&known.slots, *s) {
             Some(v) => copy_value(known.alloc, v),
             None => Ok(Value::Proc(0)),
         },
@@ -145,7 +145,7 @@ fn term_value(term: &Term, known: &Known) -> Result<Value, NoMemory>
 /// The values of terms.
 #[cycle(terms)]
 fn term_values(terms: &[Term], known: &Known) -> Result<Row, NoMemory>
-    ensures { IfOk result (λ row. row ≡ map (term_lem known.now.me (vals known.now.slots.items) []) terms.now) }
+    ensures { IfOk result (λ row. row ≡ map (term_lem known.now.me known.now.slots []) terms.now) }
 {
     let mut row = Row::new(known.alloc);
     for term in terms {

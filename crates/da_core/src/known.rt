@@ -1,6 +1,7 @@
 //! What a process knows, as code keeps it.
 ghost use Rattle.da_core.specs.Known.{Knows, data_of, entry_of};
 ghost use Rattle.da_lang.specs.Queries.{least_row, query_value};
+ghost use Rattle.da_lang.specs.Steps.{received_at};
 ghost use Rattle.da_lang.specs.Turns.{later, sending, sent_at, sent_to};
 ghost use Rattle.da_lang.specs.World.{at_number, or_nothing, value_in, with_slot};
 ghost use Rattle.da_lang.specs.declared.event.Action.{Action};
@@ -17,7 +18,6 @@ use da_lang::Action;
 use da_machine::Store;
 use da_values::{List, NoMemory, Row, SetVal, Value, copy_value, set_insert, set_remove};
 use std::alloc::Global;
-use std::mem;
 
 /// The greatest time of a clock.
 const LAST_TIME: u64 = 9_223_372_036_854_775_807;
@@ -36,13 +36,36 @@ pub struct Known {
     pub alloc: Global,
     pub me: u16,
     pub clock: u64,
-    pub slots: Vec<Value>,
+    pub slots: Row,
     pub sent: List<Past>,
     pub received: List<Past>,
     pub actions: List<Action>,
 }
 
 impl Known {
+    /// Takes in a message: the clock rises above its own time and the carried one, the message joins the history, and it is
+    /// told.
+    #[tactic(auto, using(crate::proofs::Fronts::no_front))]
+    pub fn receive(&mut self, m: &Value, from: u16, time: u64) -> Result<(), NoMemory>
+        ensures known { OnOk result (data_of self.new ≡ received_at (val_of m.now) from time (data_of self.old)) }
+        ensures actions { OnOk result (self.new.actions ≡ self.old.actions ++ action.Got self.old.me from time m.now ∷ []) }
+        ensures front { OnErr result (IsFront self.old.actions self.new.actions (action.Got self.old.me from time m.now ∷ [])) }
+    {
+        self.received.push(Past {
+            message: copy_value(self.alloc, m)?,
+            peer: from,
+            time,
+        })?;
+        self.actions.push(Action::Got {
+            q: self.me,
+            p: from,
+            t: time,
+            v: copy_value(self.alloc, m)?,
+        })?;
+        self.clock = later_time(self.clock.max(time));
+        Ok(())
+    }
+
     // Sends a message to one process.
     #[tactic(auto, using(crate::proofs::Fronts::no_front))]
     fn send_one(&mut self, m: &Value, to: u16) -> Result<(), NoMemory>
@@ -73,7 +96,7 @@ impl Store for Known {
     ghost actions = { λ known. known.actions };
 
     fn slot(&self, s: u16) -> Result<Value, NoMemory> {
-        match in_slot(self.slots.as_slice(), s) {
+        match in_slot(&self.slots, s) {
             Some(v) => copy_value(self.alloc, v),
             None => Ok(Value::Proc(0)),
         }
@@ -101,21 +124,21 @@ impl Store for Known {
     }
 
     fn set_slot(&mut self, s: u16, v: Value) -> Result<(), NoMemory> {
-        put(self.slots.as_mut_slice(), s, v);
+        put(&mut self.slots, s, v);
         Ok(())
     }
 
     fn add(&mut self, s: u16, v: Value) -> Result<(), NoMemory> {
-        let mut set = take_set(self.alloc, self.slots.as_mut_slice(), s);
+        let mut set = take_set(self.alloc, &mut self.slots, s);
         let _ = set_insert(&mut set, v)?;
-        put(self.slots.as_mut_slice(), s, Value::Set(set));
+        put(&mut self.slots, s, Value::Set(set));
         Ok(())
     }
 
     fn del(&mut self, s: u16, v: &Value) -> Result<(), NoMemory> {
-        let mut set = take_set(self.alloc, self.slots.as_mut_slice(), s);
+        let mut set = take_set(self.alloc, &mut self.slots, s);
         let _ = set_remove(&mut set, v);
-        put(self.slots.as_mut_slice(), s, Value::Set(set));
+        put(&mut self.slots, s, Value::Set(set));
         Ok(())
     }
 
@@ -158,29 +181,29 @@ fn number_of(v: &Value) -> u16
 
 /// The value in a slot, or `None` where there is no such slot.
 #[tactic(auto, using(crate::proofs::SlotLaws::slot_there))]
-pub fn in_slot(slots: &[Value], s: u16) -> Option<&Value>
-    ensures { option_map val_of (option_copied result) ≡ at_number (vals slots.now) s }
+pub fn in_slot(slots: &Row, s: u16) -> Option<&Value>
+    ensures { option_map val_of (option_copied result) ≡ at_number slots.now s }
 {
     let place = usize::from(s).checked_sub(1)?;
     slots.get(place)
 }
 
-// Puts a value into a slot, if there is one.
+/// Puts a value into a slot, if there is one.
 #[tactic(auto, using(crate::proofs::SlotLaws::slot_put))]
-fn put(slots: &mut [Value], s: u16, v: Value)
-    ensures { vals slots.new ≡ with_slot (vals slots.old) s (val_of v) }
+pub fn put(slots: &mut Row, s: u16, v: Value)
+    ensures { slots.new ≡ with_slot slots.old s (val_of v) }
 {
     if let Some(place) = usize::from(s).checked_sub(1) {
         if place < slots.len() {
-            slots[place] = v;
+            slots.replace(place, v);
         }
     }
 }
 
 // Takes the set out of a slot, which the next value that is put into the slot replaces.
-fn take_set(alloc: Global, slots: &mut [Value], s: u16) -> SetVal
-    ensures set { result ≡ elements_of (value_in (vals slots.old) s) }
-    ensures others { (x : Val) → with_slot (vals slots.new) s x ≡ with_slot (vals slots.old) s x }
+fn take_set(alloc: Global, slots: &mut Row, s: u16) -> SetVal
+    ensures set { result ≡ elements_of (value_in slots.old s) }
+    ensures others { (x : Val) → with_slot slots.new s x ≡ with_slot slots.old s x }
 {
     let found = take(slots, s);
     set_of(alloc, found)
@@ -188,13 +211,13 @@ fn take_set(alloc: Global, slots: &mut [Value], s: u16) -> SetVal
 
 // Takes the value out of a slot, or answers `None` where there is no such slot.
 #[tactic(auto, using(crate::proofs::SlotLaws::slot_there, crate::proofs::SlotLaws::slot_taken, crate::proofs::SlotLaws::no_slot))]
-fn take(slots: &mut [Value], s: u16) -> Option<Value>
-    ensures value { option_map val_of result ≡ at_number (vals slots.old) s }
-    ensures others { (x : Val) → with_slot (vals slots.new) s x ≡ with_slot (vals slots.old) s x }
+fn take(slots: &mut Row, s: u16) -> Option<Value>
+    ensures value { option_map val_of result ≡ at_number slots.old s }
+    ensures others { (x : Val) → with_slot slots.new s x ≡ with_slot slots.old s x }
 {
     let place = usize::from(s).checked_sub(1)?;
     if place < slots.len() {
-        Some(mem::replace(&mut slots[place], Value::Proc(0)))
+        Some(slots.replace(place, Value::Proc(0)))
     } else {
         None
     }

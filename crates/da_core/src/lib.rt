@@ -1,8 +1,10 @@
-//! One process in code: what it knows, where it stands in the code of its class, and its moves.
+//! One process in code: what it knows, where it stands in the code of its class, its moves, and the messages
+//! that arrive.
 #![tactic(auto)]
 
 mod compiled;
 mod conditions;
+mod deliveries;
 mod known;
 mod moves;
 mod opening;

@@ -117,8 +117,8 @@ pub fn run_from(
     }
 }
 
-// How a process stands whose code stopped so. The end and a fault are told.
-fn stand(code: &ClassCode, stop: Stop, known: &mut Known) -> Result<Standing, NoMemory>
+/// How a process stands whose code stopped so. The end and a fault are told.
+pub fn stand(code: &ClassCode, stop: Stop, known: &mut Known) -> Result<Standing, NoMemory>
     requires { MayStop code.now stop }
     ensures stops { IfOk result (λ s. HasStopped code.now known.old known.new stop s) }
     ensures same { OnErr result (known.new.actions ≡ known.old.actions) }

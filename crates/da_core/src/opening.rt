@@ -1,6 +1,6 @@
 //! The values with which slots begin.
 ghost use Rattle.da_lang.specs.World.{default as default_lem, first_value as first_lem};
-ghost use Rattle.da_values.specs.Value.{val_of, vals};
+ghost use Rattle.da_values.specs.Value.{val_of};
 ghost use Rattle.std.specs.Prelude.{◌≡◌, [], IfOk, map};
 
 use da_lang::Ty;
@@ -8,15 +8,12 @@ use da_values::{NoMemory, Row, SetVal, Str, Value};
 use std::alloc::Global;
 
 /// The values with which slots of these types begin in process `me`.
-pub fn first_values(alloc: Global, me: u16, slots: &[Option<Ty>]) -> Result<Vec<Value>, NoMemory>
-    ensures { IfOk result (λ values. vals values.items ≡ map (first_lem me) slots.now) }
+pub fn first_values(alloc: Global, me: u16, slots: &[Option<Ty>]) -> Result<Row, NoMemory>
+    ensures { IfOk result (λ values. values ≡ map (first_lem me) slots.now) }
 {
-    let mut values = Vec::new(alloc);
+    let mut values = Row::new(alloc);
     for slot in slots {
-        let value = first_value(alloc, me, slot)?;
-        if values.push(value).is_err() {
-            return Err(NoMemory);
-        }
+        values.push(first_value(alloc, me, slot)?)?;
     }
     Ok(values)
 }

@@ -1,22 +1,24 @@
-//! A process in code.
+//! A process in code, its moves and deliveries.
+ghost use Rattle.da_core.specs.Arrivals.{MayArrive, arrival};
 ghost use Rattle.da_core.specs.Begins.{CanMove};
 ghost use Rattle.da_core.specs.Compiled.{IsCompiled, program_of as compiled_program};
-ghost use Rattle.da_core.specs.Moved.{HasBegun, HasMoved, phase_at, stopped_at as stopped_lem};
+ghost use Rattle.da_core.specs.Made.{HasBegun, HasMade, phase_at, stopped_at as stopped_lem};
 ghost use Rattle.da_core.specs.RunsNow.{RunsNow};
 ghost use Rattle.da_core.specs.StandsFor.{IsPlace, IsReady, StandsFor, Whichever, flags_of, is_spent, program_of};
 ghost use Rattle.da_lang.specs.Shaped.{IsProcess};
 ghost use Rattle.da_lang.specs.Steps.{move_step, proc_step};
-ghost use Rattle.da_lang.specs.World.{opening};
+ghost use Rattle.da_lang.specs.World.{Waiting, opening};
 ghost use Rattle.std.specs.Prelude.{◌≡◌, ◌↔◌, IfOk, IsErrOf, IsSome, IsTrue, MatchOption, None, true, false};
 
 use crate::compiled::{ClassCode, Compiled};
+use crate::deliveries::{Delivery, take_in};
 use crate::known::Known;
 use crate::moves::{Begin, begin_in, run_from};
 use crate::opening::first_values;
 use crate::place::{Place, StepFault, Stopped};
 use da_lang::Action;
 use da_machine::Machine;
-use da_values::{List, NoMemory};
+use da_values::{List, NoMemory, Value};
 use std::alloc::Global;
 use std::mem;
 
@@ -104,7 +106,7 @@ impl<'c> Core<'c> {
         ensures ready { IsReady self.new }
         ensures program { program_of self.new ≡ program_of self.old }
         ensures moves { IfOk result (λ stopped. Whichever self.old (λ w.
-            HasMoved self.old w k self.new stopped out.old out.new)) }
+            HasMade self.old w (move_step k) self.new stopped out.old out.new)) }
         ensures spent { is_spent self.old ≡ true → IsErrOf result StepFault.Spent }
         ensures only_spent { IsErrOf result StepFault.Spent
             → (is_spent self.old ≡ true) × (self.new ≡ self.old) × (out.new ≡ out.old) }
@@ -117,7 +119,7 @@ impl<'c> Core<'c> {
             → (self.new ≡ self.old) × (out.new ≡ out.old) }
         ensures memory { IsErrOf result StepFault.Memory → is_spent self.new ≡ true }
         ensures front { IsErrOf result StepFault.Memory → Whichever self.old (λ w.
-            HasBegun self.old w k out.old out.new) }
+            HasBegun self.old w (move_step k) out.old out.new) }
     {
         if self.spent {
             return Err(StepFault::Spent);
@@ -142,6 +144,75 @@ impl<'c> Core<'c> {
         self.flags = standing.flags;
         self.spent = false;
         Ok(stopped)
+    }
+
+    /// Takes in a message that process `from` sent at this time, and adds the actions of the delivery to `out`: the message
+    /// joins the history first, and then the handlers are tried in text order. `Spent` comes exactly where an earlier event
+    /// found no memory, and else `Forbidden` exactly where the process does not wait at a label or an `await`; nothing has
+    /// changed then. `Memory` leaves a spent core, and `out` has a front of the actions of the delivery besides.
+    pub fn deliver(
+        &mut self,
+        from: u16,
+        time: u64,
+        m: &Value,
+        out: &mut List<Action>,
+    ) -> Result<Stopped, StepFault>
+        requires ready { IsReady self.old }
+        requires arrives { MayArrive (program_of self.old) m.now from time }
+        ensures ready { IsReady self.new }
+        ensures program { program_of self.new ≡ program_of self.old }
+        ensures delivers { IfOk result (λ stopped. Whichever self.old (λ w.
+            HasMade self.old w (arrival m.now from time) self.new stopped out.old out.new)) }
+        ensures spent { is_spent self.old ≡ true → IsErrOf result StepFault.Spent }
+        ensures only_spent { IsErrOf result StepFault.Spent
+            → (is_spent self.old ≡ true) × (self.new ≡ self.old) × (out.new ≡ out.old) }
+        ensures forbidden { IsErrOf result StepFault.Forbidden → Whichever self.old (λ w.
+            proc_step (program_of self.old) w (arrival m.now from time) ≡ None) }
+        ensures allowed { Whichever self.old (λ w.
+            proc_step (program_of self.old) w (arrival m.now from time) ≡ None
+            → IsErrOf result StepFault.Forbidden) }
+        ensures same { IsErrOf result StepFault.Forbidden
+            → (self.new ≡ self.old) × (out.new ≡ out.old) }
+        ensures memory { IsErrOf result StepFault.Memory → is_spent self.new ≡ true }
+        ensures front { IsErrOf result StepFault.Memory → Whichever self.old (λ w.
+            HasBegun self.old w (arrival m.now from time) out.old out.new) }
+    {
+        if self.spent {
+            return Err(StepFault::Spent);
+        }
+        if !self.is_waiting() {
+            return Err(StepFault::Forbidden);
+        }
+        let compiled = self.compiled;
+        let (Some(class), Some(code)) = (
+            compiled.class_of(self.known.me),
+            compiled.code_of(self.known.me),
+        ) else {
+            unreachable!()
+        };
+        let delivery = Delivery {
+            class,
+            code,
+            message: m,
+            from,
+        };
+        self.spent = true;
+        self.known.actions = mem::replace(out, List::new(self.alloc));
+        let run = take_in(&delivery, time, self.machine.place, &mut self.known);
+        *out = mem::replace(&mut self.known.actions, List::new(self.alloc));
+        let standing = run?;
+        let stopped = stopped_at(standing.place);
+        self.place = standing.place;
+        self.flags = standing.flags;
+        self.spent = false;
+        Ok(stopped)
+    }
+
+    // Whether the process waits at a label or an `await`.
+    fn is_waiting(&self) -> bool
+        ensures { Whichever self.now (λ w. IsTrue result ↔ (w.phase ≡ Waiting)) }
+    {
+        matches!(self.place, Place::Label | Place::Await(_))
     }
 
     // The code of the process, and where the move of this number goes on in it, or `None` where it is not allowed.

@@ -1,35 +1,37 @@
 //! Which programs run as yet.
 ghost use Rattle.da_core.specs.Plain.{is_plain as plain_lem, is_plain_operand as plain_operand_lem, is_plain_part};
-ghost use Rattle.da_core.specs.RunsNow.{RunsNow, alt_all, branch_all, class_all, items_all, kind_all};
+ghost use Rattle.da_core.specs.RunsNow.{RunsNow, alt_all, branch_all, class_all, handler_all, items_all, kind_all};
 ghost use Rattle.std.specs.List.{list_all};
 ghost use Rattle.std.specs.Prelude.{◌≡◌, ◌↔◌, IsTrue};
 
-use da_lang::{Alt, Class, Cond, Item, ItemKind, Operand, Program, RBranch, SignedOperand};
+use da_lang::{
+    Alt, Class, Cond, Handler, Item, ItemKind, Operand, Program, RBranch, SignedOperand,
+};
 
-/// Whether a program is one of those that run as yet: of one process, whose classes send and receive nothing, have no
-/// numbered query, and wait for conditions without `some`, `each` and aggregates. It takes no memory.
+/// Whether a program is one of those that run as yet: whose classes have no numbered query, and wait for conditions without
+/// `some`, `each` and aggregates. It takes no memory.
 pub fn runs_now(program: &Program) -> bool
     ensures { IsTrue result ↔ RunsNow program.now }
 {
-    program.procs.len() == 1 && classes_run(program.classes.as_slice())
-}
-
-fn classes_run(classes: &[Class]) -> bool
-    ensures { result ≡ list_all class_all classes.now }
-{
-    classes.iter().all(class_runs)
+    program.classes.as_slice().iter().all(class_runs)
 }
 
 fn class_runs(class: &Class) -> bool
     ensures { result ≡ class_all class.now }
 {
     class.queries.len() == 0
-        && class.handlers.len() == 0
         && items_run(class.setup.as_slice())
         && items_run(class.run.as_slice())
+        && class.handlers.as_slice().iter().all(handler_runs)
 }
 
-/// Whether statements send nothing and wait for such conditions.
+fn handler_runs(handler: &Handler) -> bool
+    ensures { result ≡ handler_all handler.now }
+{
+    items_run(handler.body.as_slice())
+}
+
+/// Whether statements wait for such conditions.
 #[cycle(runs)]
 #[tactic(auto, using(crate::proofs::RunForms::run_rules))]
 fn items_run(items: &[Item]) -> bool
@@ -50,7 +52,6 @@ fn kind_runs(kind: &ItemKind) -> bool
     ensures { result ≡ kind_all kind.now }
 {
     match kind {
-        ItemKind::Send(_, _) => false,
         ItemKind::If(branches, other) => {
             branches_run(branches.as_slice()) && items_run(other.as_slice())
         }
@@ -61,6 +62,7 @@ fn kind_runs(kind: &ItemKind) -> bool
         ItemKind::Assign(_, _)
         | ItemKind::Add(_, _)
         | ItemKind::Del(_, _)
+        | ItemKind::Send(_, _)
         | ItemKind::Output(_)
         | ItemKind::Label
         | ItemKind::Pass => true,

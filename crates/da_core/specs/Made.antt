@@ -1,7 +1,7 @@
--- What a move does to a process in code.
-use Rattle.std.specs.Prelude.{◌≡◌, ℕ, List, ◌++◌, Some}
+-- What a step does to a process in code.
+use Rattle.std.specs.Prelude.{◌≡◌, List, ◌++◌, Some}
 use Rattle.da_lang.specs.declared.event.Action.{Action}
-use Rattle.da_lang.specs.Steps.{Stepped, move_step, proc_step}
+use Rattle.da_lang.specs.Steps.{Step, Stepped, proc_step}
 use Rattle.da_lang.specs.World.{World, Phase, New, Waiting, Ended, Faulted}
 use Rattle.da_machine.specs.RunsTo.{IsFront}
 use Rattle.da_core.specs.declared.process.Core.{Core}
@@ -30,18 +30,18 @@ stopped_at place.Ended = stopped.Ended
 stopped_at place.Faulted = stopped.Faulted
 stopped_at _ = stopped.AtYield
 
--- The move of this number was allowed in the world, and the core stands for the one to which it led, which is one of the
--- same process; its actions were added.
-pub record HasMoved (core : Core) (w : World) (k : ℕ) (new : Core) (answer : Stopped) (old_out new_out : List Action) : Type 0 where
+-- The step was allowed in the world, and the core stands for the one to which it led, which is one of the same process; its
+-- actions were added.
+pub record HasMade (core : Core) (w : World) (step : Step) (new : Core) (answer : Stopped) (old_out new_out : List Action) : Type 0 where
   pub after : Stepped
-  pub step : proc_step (program_of core) w (move_step k) ≡ Some after
+  pub leads : proc_step (program_of core) w step ≡ Some after
   pub stands : StandsFor new after.world
   pub same : after.world.data'.me ≡ w.data'.me
   pub stopped : phase_of answer ≡ after.world.phase
   pub added : new_out ≡ old_out ++ after.actions
 
--- the move was allowed, and a front of its actions was added
-pub record HasBegun (core : Core) (w : World) (k : ℕ) (old_out new_out : List Action) : Type 0 where
+-- the step was allowed, and a front of its actions was added
+pub record HasBegun (core : Core) (w : World) (step : Step) (old_out new_out : List Action) : Type 0 where
   pub after : Stepped
-  pub step : proc_step (program_of core) w (move_step k) ≡ Some after
+  pub leads : proc_step (program_of core) w step ≡ Some after
   pub front : IsFront old_out new_out after.actions
