@@ -13,7 +13,8 @@ use Rattle.da_core.specs.RunsNow.{RunsNow}
 use Rattle.da_core.specs.StandsFor.{StandsFor}
 use Rattle.da_core.specs.StandsFor as process
 use Rattle.da_system.specs.declared.system.System.{System}
-use Rattle.da_system.specs.Channels.{no_letters}
+use Rattle.da_system.specs.Queues as queues
+use Rattle.da_system.specs.SoundState.{IsSoundState}
 use Rattle.da_system.specs.SystemStep.{AfterEvent, SystemState}
 
 abbrev pub program_of : System → Program
@@ -35,16 +36,17 @@ StandFrom program first [] [] = Unit {0}
 StandFrom program first (core ∷ cores) (w ∷ ws) = StandsAt program first core w × StandFrom program (first + 1) cores ws
 StandFrom program first _ _ = ⊥
 
--- The system stands for this state of a compiled program: it is not spent, each of its cores stands for the world of its
--- process, and nothing is under way, since no program that runs as yet sends anything.
+-- The system stands for this state of a compiled program, which is sound: it is not spent, each of its cores stands for the
+-- world of its process, and each of its queues for the channel of two processes.
 pub record Stands (system : System) (s : SystemState) : Type 0 where
   pub unspent : system.spent ≡ false
   pub compiled : IsCompiled system.compiled.now
   pub runs : RunsNow (program_of system)
-  pub kind : s.kind ≡ (program_of system).kind
+  pub sound : IsSoundState (program_of system) s
   pub each : length system.cores.items ≡ length (program_of system).procs
   pub cores : StandFrom (program_of system) 1 system.cores.items s.worlds
-  pub channels : s.channels ≡ no_letters (length (program_of system).procs)
+  pub count : queues.count_of system.channels ≡ length (program_of system).procs
+  pub channels : queues.StandsFor system.channels s.channels
 
 -- it holds of each state that the system stands for
 abbrev pub Whichever : System → (SystemState → Type 0) → Type 0

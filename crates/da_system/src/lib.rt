@@ -1,6 +1,8 @@
 //! A program's processes as one system, and its steps.
 #![tactic(auto)]
 
+mod channels;
+mod queue;
 mod system;
 
 pub use da_core::StepFault;

@@ -7,20 +7,25 @@ ghost use Rattle.da_lang.specs.World.{at_number};
 ghost use Rattle.da_lang.specs.declared.event.Action.{Action as ActionOf};
 ghost use Rattle.da_system.specs.SoundState.{IsSoundState, StaysSound};
 ghost use Rattle.da_system.specs.State.{Answers, HasBegun, HasStepped, IsReady, StandAlike, Stands, Whichever, is_spent, program_of};
-ghost use Rattle.da_system.specs.SystemStep.{process_step, show, start, stat, sys_step};
+ghost use Rattle.da_system.specs.Channels.{channel};
+ghost use Rattle.da_system.specs.SystemStep.{deliver, lose, process_step, repeat, show, start, stat, sys_step};
 ghost use Rattle.std.specs.Prelude.{◌≡◌, ◌↔◌, ◌+◌, ◌<◌, List as ListOf, MatchOption, None, IfOk, IsErrOf, IsSome, IsTrue, OnOk, false, is_some, length, option_copied, true};
 
-use da_core::{Compiled, Core, StepFault};
-use da_lang::{Action, Event};
-use da_values::{List, NoMemory};
+use crate::channels::{Channels, may_arrive, may_lose, may_repeat};
+use crate::queue::InFlight;
+use da_core::{Compiled, Core, Place, StepFault};
+use da_lang::{Action, ChannelKind, Event};
+use da_values::{List, NoMemory, copy_value};
 use std::alloc::Global;
 
 /// The processes of a compiled program, which run by the events of a schedule. Contracts see the states that they stand
 /// for, by `Stands`.
 #[derive(Debug, Drop)]
 pub struct System<'c> {
+    alloc: Global,
     compiled: &'c Compiled,
     cores: Vec<Core<'c>>,
+    channels: Channels,
     spent: bool,
 }
 
@@ -38,16 +43,20 @@ impl<'c> System<'c> {
         // That state is sound.
         ensures sound { let p = compiled_program compiled.now in IsSoundState p (start p) }
     {
+        let count = compiled.program().procs.len();
         let mut cores = Vec::new(alloc);
-        for place in 0..compiled.program().procs.len() {
+        for place in 0..count {
             let core = Core::start(alloc, compiled, place as u16 + 1)?;
             if cores.push(core).is_err() {
                 return Err(NoMemory);
             }
         }
+        let channels = Channels::new(alloc, count)?;
         Ok(System {
+            alloc,
             compiled,
             cores,
+            channels,
             spent: false,
         })
     }
@@ -103,9 +112,9 @@ impl System<'_> {
         match e {
             Event::Move { p } => self.may_move(*p, 0),
             Event::Take { p, k } => *k > 0 && self.may_move(*p, *k),
-            Event::Deliver { .. } => false,
-            Event::Lose { .. } => false,
-            Event::Repeat { .. } => false,
+            Event::Deliver { p, q, i } => self.may_deliver(*p, *q, *i),
+            Event::Lose { p, q, i } => may_lose(self.kind()) && self.has_letter(*p, *q, *i),
+            Event::Repeat { p, q, i } => may_repeat(self.kind()) && self.has_letter(*p, *q, *i),
             Event::Show { p } => self.has_process(*p),
             Event::Stat { p } => self.has_process(*p),
         }
@@ -122,9 +131,9 @@ impl System<'_> {
         match e {
             Event::Move { p } => self.make_move(*p, 0, out),
             Event::Take { p, k } => self.take(*p, *k, out),
-            Event::Deliver { .. } => Err(StepFault::Forbidden),
-            Event::Lose { .. } => Err(StepFault::Forbidden),
-            Event::Repeat { .. } => Err(StepFault::Forbidden),
+            Event::Deliver { p, q, i } => self.deliver(*p, *q, *i, out),
+            Event::Lose { p, q, i } => self.lose(*p, *q, *i, out),
+            Event::Repeat { p, q, i } => self.repeat(*p, *q, *i, out),
             Event::Show { p } => self.show(*p),
             Event::Stat { p } => self.stat(*p, out),
         }
@@ -180,9 +189,10 @@ impl System<'_> {
         let Some(place) = self.place_of(p) else {
             return Err(StepFault::Forbidden);
         };
+        let told = out.len();
         let core = &mut self.cores[place];
         match core.make_move(k, out) {
-            Ok(_) => Ok(()),
+            Ok(_) => self.post(told, out),
             Err(StepFault::Memory) => {
                 self.spent = true;
                 Err(StepFault::Memory)
@@ -190,6 +200,148 @@ impl System<'_> {
             Err(StepFault::Forbidden) => Err(StepFault::Forbidden),
             Err(StepFault::Spent) => Err(StepFault::Spent),
         }
+    }
+
+    // Puts what the actions behind the first `told` ones send into the channels.
+    fn post(&mut self, told: usize, out: &List<Action>) -> Result<(), StepFault> {
+        if self.channels.post(&out.as_slice()[told..]).is_err() {
+            self.spent = true;
+            return Err(StepFault::Memory);
+        }
+        Ok(())
+    }
+
+    // The kind of the channels.
+    fn kind(&self) -> ChannelKind
+        ensures { result ≡ (program_of self.now).kind }
+    {
+        self.compiled.program().kind
+    }
+
+    // Whether the channel from `p` to `q` has a message `i`.
+    fn has_letter(&self, p: u32, q: u32, i: u32) -> bool
+        ensures { Whichever self.now (λ s. result ≡ is_some (at_number (channel s.channels p q) i)) }
+    {
+        self.channels.letter(p, q, i).is_some()
+    }
+
+    // Whether message `i` of the channel from `p` to `q` may arrive.
+    fn may_deliver(&self, p: u32, q: u32, i: u32) -> bool
+        ensures { Whichever self.now (λ s.
+            IsTrue result ↔ IsSome (deliver (program_of self.now) s p q i)) }
+    {
+        let waits = match self.core(q) {
+            Some(core) => matches!(core.place(), Place::Label | Place::Await(_)),
+            None => false,
+        };
+        waits && may_arrive(self.kind(), i) && self.has_letter(p, q, i)
+    }
+
+    // The delivery of message `i` of the channel from `p` to `q`.
+    fn deliver(
+        &mut self,
+        p: u32,
+        q: u32,
+        i: u32,
+        out: &mut List<Action>,
+    ) -> Result<(), StepFault>
+        requires ready { IsReady self.old }
+        requires unspent { is_spent self.old ≡ false }
+        ensures program { program_of self.new ≡ program_of self.old }
+        ensures answers { Answers (λ s. deliver (program_of self.old) s p q i)
+            self.old result self.new out.old out.new }
+    {
+        if !may_arrive(self.kind(), i) {
+            return Err(StepFault::Forbidden);
+        }
+        let (Some(place), Some(letter)) = (self.place_of(q), self.channels.letter(p, q, i)) else {
+            return Err(StepFault::Forbidden);
+        };
+        let told = out.len();
+        let core = &mut self.cores[place];
+        match core.deliver(p as u16, letter.time, &letter.value, out) {
+            Ok(_) => {
+                self.channels.remove(p, q, i);
+                self.post(told, out)
+            }
+            Err(StepFault::Memory) => {
+                self.spent = true;
+                Err(StepFault::Memory)
+            }
+            Err(StepFault::Forbidden) => Err(StepFault::Forbidden),
+            Err(StepFault::Spent) => Err(StepFault::Spent),
+        }
+    }
+
+    // The loss of message `i` of the channel from `p` to `q`.
+    fn lose(
+        &mut self,
+        p: u32,
+        q: u32,
+        i: u32,
+        out: &mut List<Action>,
+    ) -> Result<(), StepFault>
+        requires ready { IsReady self.old }
+        requires unspent { is_spent self.old ≡ false }
+        ensures program { program_of self.new ≡ program_of self.old }
+        ensures answers { Answers (λ s. lose s p q i) self.old result self.new out.old out.new }
+    {
+        if !may_lose(self.kind()) {
+            return Err(StepFault::Forbidden);
+        }
+        let Some(letter) = self.channels.letter(p, q, i) else {
+            return Err(StepFault::Forbidden);
+        };
+        let lost = Action::Lost {
+            p: p as u16,
+            q: q as u16,
+            t: letter.time,
+        };
+        if out.push(lost).is_err() {
+            self.spent = true;
+            return Err(StepFault::Memory);
+        }
+        self.channels.remove(p, q, i);
+        Ok(())
+    }
+
+    // The repetition of message `i` of the channel from `p` to `q`: a copy goes to the end.
+    fn repeat(
+        &mut self,
+        p: u32,
+        q: u32,
+        i: u32,
+        out: &mut List<Action>,
+    ) -> Result<(), StepFault>
+        requires ready { IsReady self.old }
+        requires unspent { is_spent self.old ≡ false }
+        ensures program { program_of self.new ≡ program_of self.old }
+        ensures answers { Answers (λ s. repeat s p q i) self.old result self.new out.old out.new }
+    {
+        if !may_repeat(self.kind()) {
+            return Err(StepFault::Forbidden);
+        }
+        let Some(letter) = self.channels.letter(p, q, i) else {
+            return Err(StepFault::Forbidden);
+        };
+        let time = letter.time;
+        let copied = match copy_value(self.alloc, &letter.value) {
+            Ok(value) => self.channels.push(p, q, InFlight { value, time }),
+            Err(e) => Err(e),
+        };
+        let told = match copied {
+            Ok(()) => out.push(Action::Again {
+                p: p as u16,
+                q: q as u16,
+                t: time,
+            }),
+            Err(e) => Err(e),
+        };
+        if told.is_err() {
+            self.spent = true;
+            return Err(StepFault::Memory);
+        }
+        Ok(())
     }
 
     // The move of process `p` by alternative `k`. Alternatives are numbered from 1.

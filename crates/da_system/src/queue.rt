@@ -1,0 +1,71 @@
+//! One channel.
+ghost use Rattle.std.specs.Option.{option_copied};
+ghost use Rattle.std.specs.Prelude.{◌≡◌, [], ◌∷◌, ◌++◌, OnErr, OnOk, remove, slice_get};
+
+use da_values::{NoMemory, Value};
+use std::alloc::Global;
+use std::collections::VecDeque;
+use std::marker::Model;
+
+/// A message that is under way, with the time of its sending.
+#[derive(Debug, Drop)]
+pub struct InFlight {
+    pub value: Value,
+    pub time: u64,
+}
+
+/// The messages that are under way in one channel, the eldest first, which is all that a contract sees.
+#[derive(Debug, Drop)]
+pub struct Queue {
+    letters: VecDeque<InFlight>,
+}
+
+impl Model for Queue {
+    ghost use Rattle.da_system.specs.declared.queue.InFlight.{InFlight};
+    ghost use Rattle.std.specs.Prelude.{List};
+
+    ghost Value = { List InFlight };
+
+    ghost view = { λ queue. queue.letters.items };
+
+    ghost use Rattle.std.specs.Coded.{coded_list};
+
+    ghost coded = { coded_list InFlight.code };
+}
+
+impl Queue {
+    /// An empty channel. It takes no memory.
+    pub fn new(alloc: Global) -> Queue
+        ensures { result ≡ [] }
+    {
+        Queue {
+            letters: VecDeque::new(alloc),
+        }
+    }
+
+    /// The message at a place, counted from 0, or `None` where there is none. It takes no memory.
+    pub fn get(&self, at: usize) -> Option<&InFlight>
+        ensures { option_copied result ≡ slice_get self.now at }
+    {
+        self.letters.get(at)
+    }
+
+    /// The message at a place, counted from 0, leaves the channel, if it is there. It takes no memory, and time in step with
+    /// the distance from the nearer end.
+    pub fn remove(&mut self, at: usize)
+        ensures { self.new ≡ remove self.old at }
+    {
+        let _ = self.letters.remove(at);
+    }
+
+    /// A message goes to the end of the channel. Where memory is refused it is dropped, and the channel is as it was.
+    pub fn push(&mut self, letter: InFlight) -> Result<(), NoMemory>
+        ensures ok { OnOk result (self.new ≡ self.old ++ letter ∷ []) }
+        ensures err { OnErr result (self.new ≡ self.old) }
+    {
+        match self.letters.push_back(letter) {
+            Ok(()) => Ok(()),
+            Err(_) => Err(NoMemory),
+        }
+    }
+}
