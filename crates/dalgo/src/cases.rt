@@ -128,7 +128,7 @@ const REPLAYS: [(&[u8], &[u8], Status, &[u8]); 7] = [
         b"took 1 0\ntook 1 2\nout 1 2\nend 1\n",
     ),
     (
-        b"class P extends process:\n    def run():\n        output(7)\ndef main():\n    a = new(P, 2)\n",
+        b"class P extends process:\n    var s: set[int]\n    def run():\n        await some x in s\ndef main():\n    a = new(P)\n",
         b"move 1\n",
         NOT_YET,
         b"refused notyet 0\n",
