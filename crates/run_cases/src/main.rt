@@ -11,7 +11,7 @@ use replays::reply;
 use std::{fs, rt};
 
 /// The files of cases, in the order of the answers.
-const FILES: [&str; 8] = [
+const FILES: [&str; 12] = [
     "operators",
     "statements",
     "turns",
@@ -20,6 +20,10 @@ const FILES: [&str; 8] = [
     "awaits",
     "notyet",
     "layouts",
+    "channels",
+    "handlers",
+    "clocks",
+    "sends",
 ];
 
 fn main(rt: HostRuntime) -> anyhow::Result<()> {
