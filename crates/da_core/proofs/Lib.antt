@@ -1,5 +1,7 @@
+pub mod Arriving
 pub mod Carrying
 pub mod DefaultForms
+pub mod Delivering
 pub mod Entering
 pub mod Fronts
 pub mod Laws
@@ -11,5 +13,6 @@ pub mod Sending
 pub mod SlotLaws
 pub mod Starting
 pub mod Stopping
+pub mod Taking
 pub mod Tasks
 pub mod WaitForms

@@ -22,7 +22,7 @@ use Rattle.da_core.specs.declared.place.Place.TheVariants as place
 use Rattle.da_core.specs.declared.place.Stopped.{Stopped}
 use Rattle.da_core.specs.Begins.{CanMove, HasRun, IsBehind, MayRun, move_actions}
 use Rattle.da_core.specs.Compiled.{code_of}
-use Rattle.da_core.specs.Moved.{HasBegun, HasMoved, phase_at, phase_of, stopped_at}
+use Rattle.da_core.specs.Made.{HasBegun, HasMade, phase_at, phase_of, stopped_at}
 use Rattle.da_core.specs.StandsFor.{IsAt, IsPlace, StandsFor, program_of}
 
 -- where the actions are others
@@ -73,7 +73,7 @@ stands_in_phase core w s = phase_is w.data' w.todo core.flags core.place w.phase
 pub stands_at : (core : Core) (w : World) → StandsFor core w → IsPlace w.data' w.todo core.flags core.place w.phase
 stands_at core w s = s.place
 
-stops_so : (d : Data) (todo : List Task) (s : Standing) (place : Place) (halt : Halt) → IsPlace d todo s.flags place (phase_after halt) → phase_of (stopped_at place) ≡ phase_after halt
+pub stops_so : (d : Data) (todo : List Task) (s : Standing) (place : Place) (halt : Halt) → IsPlace d todo s.flags place (phase_after halt) → phase_of (stopped_at place) ≡ phase_after halt
 stops_so d todo s place.Label AtYield is = refl
 stops_so d todo s (place.Await count) AtYield is = refl
 stops_so d todo s place.Ended UsedUp is = refl
@@ -106,14 +106,11 @@ module _ (core : Core) (w : World) (s : StandsFor core w) (k : ℕ) (code : Clas
   -- the process before the move with the actions of the caller; the process, the machine and its standing behind the move,
   -- where the actions are given back
   module _ (own : List Action) (known : Known) (m : Machine) (stands : Standing) (run : HasRun can.class code d.me k ran (record core.known { actions = own }) known m stands) where
-    module _ (empty : List Action) (none : empty ≡ []) where
-      abbrev pub new : Core
-      new = record core { known = record known { actions = empty }; machine = m; place = stands.place; flags = stands.flags; spent = false }
-
+    module _ (empty : List Action) (none : empty ≡ []) (new : Core) (is_new : new ≡ record core { known = record known { actions = empty }; machine = m; place = stands.place; flags = stands.flags; spent = false }) where
       pub stands_after : StandsFor new after
       stands_after =
           let left = leaves (program_of core) can.class code core.known core.machine begin d can.todo can.may in
-          record {
+          subst (λ z. StandsFor z after) (sym is_new) (record {
             unspent = refl;
             compiled = s.compiled;
             runs = s.runs;
@@ -126,21 +123,21 @@ module _ (core : Core) (w : World) (s : StandsFor core w) (k : ℕ) (code : Clas
             no_actions = none;
             place = run.place;
             at = at_behind (program_of core) can.class code m after ran.halt run.behind;
-          }
+          })
 
-      pub has_moved : (out given : List Action) → own ≡ out → given ≡ known.actions → (answer : Stopped) → answer ≡ stopped_at stands.place → HasMoved core w k new answer out given
-      has_moved out given from back answer is = record {
+      pub has_made : (out given : List Action) → own ≡ out → given ≡ known.actions → (answer : Stopped) → answer ≡ stopped_at stands.place → HasMade core w (move_step k) new answer out given
+      has_made out given from back answer is = record {
         after = moved d.me k ran;
-        step = can.step;
+        leads = can.step;
         stands = stands_after;
         same = (leaves (program_of core) can.class code core.known core.machine begin d can.todo can.may).same;
         stopped = ap phase_of is ∙ stops_so ran.data' ran.todo stands stands.place ran.halt run.place;
         added = back ∙ run.actions ∙ ap (λ xs. xs ++ move_actions d.me k ran) from;
       }
 
-  pub has_begun : (own out given left : List Action) → own ≡ out → given ≡ left → IsFront own left (move_actions d.me k ran) → HasBegun core w k out given
+  pub has_begun : (own out given left : List Action) → own ≡ out → given ≡ left → IsFront own left (move_actions d.me k ran) → HasBegun core w (move_step k) out given
   has_begun own out given left from back (more, is) = record {
     after = moved d.me k ran;
-    step = can.step;
+    leads = can.step;
     front = (more, ap (λ xs. xs ++ more) back ∙ is ∙ ap (λ xs. xs ++ move_actions d.me k ran) from);
   }

@@ -63,7 +63,6 @@ branch_layer b = branch_out b ∙ all_items (out-RBranch b).body
 
 -- a statement by the forms of its parts
 abbrev pub all_in : ItemKind-F ItemKind Alt Item RBranch → Bool
-all_in (ItemKind-F.Send m e) = false
 all_in (ItemKind-F.If branches other) = list_all branch_all branches && items_all other
 all_in (ItemKind-F.While e body) = items_all body
 all_in (ItemKind-F.For s e body) = items_all body
@@ -120,7 +119,7 @@ run-Add s e = by_form (it.Add s e) (ItemKind-F.Add s e) (it.rolls-Add s e)
 pub run-Del : (s : ℕ) (e : RExpr) → kind_all (it.Del s e) ≡ true
 run-Del s e = by_form (it.Del s e) (ItemKind-F.Del s e) (it.rolls-Del s e)
 
-pub run-Send : (m e : RExpr) → kind_all (it.Send m e) ≡ false
+pub run-Send : (m e : RExpr) → kind_all (it.Send m e) ≡ true
 run-Send m e = by_form (it.Send m e) (ItemKind-F.Send m e) (it.rolls-Send m e)
 
 pub run-Output : (e : RExpr) → kind_all (it.Output e) ≡ true

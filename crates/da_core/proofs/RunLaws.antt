@@ -18,7 +18,7 @@ use Rattle.da_lang.specs.Limits.{item_lists}
 use Rattle.da_lang.specs.Shaped.{Within, here, deeper, blocks_in}
 use Rattle.da_lang.specs.Turns.{kind_of}
 use Rattle.da_core.specs.Plain.{is_plain}
-use Rattle.da_core.specs.RunsNow.{ClassRuns, RunsNow, alt_all, branch_all, class_all, item_all, items_all, kind_runs}
+use Rattle.da_core.specs.RunsNow.{ClassRuns, RunsNow, alt_all, branch_all, class_all, handler_all, item_all, items_all, kind_runs}
 use Rattle.da_core.proofs.RunForms.{all_in, item_is}
 
 both_left : (a b : Bool) → (a && b) ≡ true → a ≡ true
@@ -67,7 +67,6 @@ plain_alts (a ∷ rest) runs =
     ∙ plain_alts rest (both_right (alt_all a) (list_all alt_all rest) runs)
 
 here_runs : (k : ItemKind-F ItemKind Alt Item RBranch) → all_in k ≡ true → kind_runs k ≡ true
-here_runs (ItemKind-F.Send m e) runs = runs
 here_runs (ItemKind-F.Await alts) runs = plain_alts alts runs
 here_runs (ItemKind-F.If branches other) runs = refl
 here_runs (ItemKind-F.While e body) runs = refl
@@ -76,6 +75,7 @@ here_runs (ItemKind-F.Call args body) runs = refl
 here_runs (ItemKind-F.Assign s e) runs = refl
 here_runs (ItemKind-F.Add s e) runs = refl
 here_runs (ItemKind-F.Del s e) runs = refl
+here_runs (ItemKind-F.Send m e) runs = refl
 here_runs (ItemKind-F.Output e) runs = refl
 here_runs ItemKind-F.Label runs = refl
 here_runs ItemKind-F.Pass runs = refl
@@ -90,33 +90,39 @@ no_length [] is = refl
 no_length (x ∷ xs) is = absurd (omega (arith, eqb-true (length (x ∷ xs)) 0 is))
 
 module _ (class : Class) (passes : class_all class ≡ true) where
-  queries : (length class.queries == 0) ≡ true
-  queries = both_left (length class.queries == 0) (length class.handlers == 0) (both_left ((length class.queries == 0) && (length class.handlers == 0)) (items_all class.setup) (both_left ((length class.queries == 0) && (length class.handlers == 0) && items_all class.setup) (items_all class.run) passes))
+  abbrev quiet : Bool
+  quiet = length class.queries == 0
 
-  handlers : (length class.handlers == 0) ≡ true
-  handlers = both_right (length class.queries == 0) (length class.handlers == 0) (both_left ((length class.queries == 0) && (length class.handlers == 0)) (items_all class.setup) (both_left ((length class.queries == 0) && (length class.handlers == 0) && items_all class.setup) (items_all class.run) passes))
+  abbrev set_up : Bool
+  set_up = items_all class.setup
 
-  setup : items_all class.setup ≡ true
-  setup = both_right ((length class.queries == 0) && (length class.handlers == 0)) (items_all class.setup) (both_left ((length class.queries == 0) && (length class.handlers == 0) && items_all class.setup) (items_all class.run) passes)
+  abbrev runs : Bool
+  runs = items_all class.run
 
-  run : items_all class.run ≡ true
-  run = both_right ((length class.queries == 0) && (length class.handlers == 0) && items_all class.setup) (items_all class.run) passes
+  but_handlers : (quiet && set_up && runs) ≡ true
+  but_handlers = both_left (quiet && set_up && runs) (list_all handler_all class.handlers) passes
 
-  none_there : (handlers : List Handler) → handlers ≡ [] → (items : List Item) → Has (map (λ (h : Handler). h.body) handlers) items → items_all items ≡ true
-  none_there [] is items has = absurd has
-  none_there (h ∷ hs) is items has = absurd (let e : ◌≡◌ {A = List Handler} (h ∷ hs) [] = is in cc)
+  before_run : (quiet && set_up) ≡ true
+  before_run = both_left (quiet && set_up) runs but_handlers
+
+  handlers : list_all handler_all class.handlers ≡ true
+  handlers = both_right (quiet && set_up && runs) (list_all handler_all class.handlers) passes
+
+  in_handlers : (items : List Item) → Has (map (λ (h : Handler). h.body) class.handlers) items → items_all items ≡ true
+  in_handlers items has =
+      let (h, among, is) = of_map (λ (h : Handler). h.body) class.handlers items has in
+      ap items_all is ∙ each_from_all handler_all class.handlers h handlers among
 
   pub runs_class : ClassRuns class
   runs_class = record {
-    no_queries = no_length class.queries queries;
-    no_handlers = no_length class.handlers handlers;
+    no_queries = no_length class.queries (both_left quiet set_up before_run);
     statements = λ i of_class. by_list i of_class.0 of_class.1 of_class.2;
   }
     where
       by_list : (i : Item) (items : List Item) → Has (item_lists class) items → Within i items → kind_runs (kind_of i) ≡ true
-      by_list i items (inl is) within = runs_within i items within (subst (λ xs. items_all xs ≡ true) (sym is) setup)
-      by_list i items (inr (inl is)) within = runs_within i items within (subst (λ xs. items_all xs ≡ true) (sym is) run)
-      by_list i items (inr (inr has)) within = runs_within i items within (none_there class.handlers (no_length class.handlers handlers) items has)
+      by_list i items (inl is) within = runs_within i items within (subst (λ xs. items_all xs ≡ true) (sym is) (both_right quiet set_up before_run))
+      by_list i items (inr (inl is)) within = runs_within i items within (subst (λ xs. items_all xs ≡ true) (sym is) (both_right (quiet && set_up) runs but_handlers))
+      by_list i items (inr (inr has)) within = runs_within i items within (in_handlers items has)
 
 pub class_of_runs : (p : Program) → RunsNow p → (class : Class) → Has p.classes class → ClassRuns class
-class_of_runs p runs class has = runs_class class (each_from_all class_all p.classes class runs.classes has)
+class_of_runs p runs class has = runs_class class (each_from_all class_all p.classes class runs has)

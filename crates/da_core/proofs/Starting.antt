@@ -3,7 +3,6 @@ use Rattle.std.proofs.Common.{◌≡◌, ℕ, zero, suc, ◌+◌, ◌-◌, ◌<�
 use Rattle.std.specs.Prelude.{Bool, true, false, nat_eq, ◌==◌, slice_get}
 use Rattle.std.proofs.lemmas.Bool.{eqb-true, eqb-false, eq-eqb, false≢true}
 use Rattle.std.proofs.lemmas.List.Elements.{All-nil}
-use Rattle.da_values.specs.Value.{vals}
 use Rattle.da_lang.specs.declared.program.Class.{Class}
 use Rattle.da_lang.specs.declared.program.ProcDecl.{ProcDecl}
 use Rattle.da_lang.specs.declared.program.Program.{Program}
@@ -154,7 +153,7 @@ module _ (c : Compiled) (me : ℕ) (is : IsCompiled c) where
 
   -- where its parts are those of the opening
   pub starts_with : IsProcess p me → RunsNow p → (class : Class) → class_of p me ≡ Some class → (core : Core) → core.compiled.now ≡ c → core.spent ≡ false → core.place ≡ place.New
-      → core.known.actions ≡ [] → core.known.me ≡ me → core.known.clock ≡ 0 → vals core.known.slots.items ≡ map (first_value me) class.slots → core.known.sent ≡ [] → core.known.received ≡ []
+      → core.known.actions ≡ [] → core.known.me ≡ me → core.known.clock ≡ 0 → core.known.slots ≡ map (first_value me) class.slots → core.known.sent ≡ [] → core.known.received ≡ []
       → core.machine.loops ≡ [] → start_in p (code_of c me) me ≡ Some core.machine.place → StandsFor core (opening p me)
   starts_with there runs class classed core of_c unspent new no_actions mine early slots sent received loops entry =
       let same : data_of core.known ≡ opening_data p me = rw (mine, early, slots, sent, received, classed) refl in

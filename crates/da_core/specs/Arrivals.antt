@@ -16,7 +16,9 @@ use Rattle.da_lang.specs.Runs.{Halt, AtYield, Faults, Ran, behind}
 use Rattle.da_lang.specs.Shaped.{IsEntry, ShapedData, ShapedTasks}
 use Rattle.da_lang.specs.Steps.{Step, Deliver, closing, handle, phase_after, received_at, try_handler}
 use Rattle.da_lang.specs.World.{Data, Entry, Task}
-use Rattle.da_machine.specs.CodeFor.{Has as HasInstr}
+use Rattle.da_machine.specs.declared.machine.Stop.{Stop}
+use Rattle.da_machine.specs.declared.machine.Stop.TheVariants as stop
+use Rattle.da_machine.specs.CodeFor.{CodeFor, Has as HasInstr}
 use Rattle.da_machine.specs.Entries.{IsPoint}
 use Rattle.da_machine.specs.Forward.{IsForward}
 use Rattle.code_gen.specs.ClassCode.{IsEntered, handler_tasks}
@@ -59,6 +61,11 @@ pub record MayHandle (p : Program) (class : Class) (code : ClassCode) (m : Value
 abbrev pub CanHandle : Delivery → Known → Type 0
 CanHandle x known = (p : Program) × MayHandle p x.class.now x.code.now x.message.now x.from known
 
+-- the handler is one of the class, and the code at the entry stands for its body
+pub record HasEntry (x : Delivery) (h : Handler) (entry : ℕ) : Type 0 where
+  pub among : Has x.class.now.handlers h
+  pub code_for : CodeFor x.code.now.code x.class.now entry [] (handler_tasks h)
+
 -- the row that the patterns of a handler take of the message, where they match
 abbrev pub row_for : Delivery → Handler → Data → Option Row
 row_for x h d = matched_entry d h.message h.from (val_of x.message.now) x.from []
@@ -76,8 +83,15 @@ abbrev pub halt_of : Handled → Halt
 halt_of (handled.Through turns) = AtYield
 halt_of (handled.Fault kind line) = Faults kind line
 
+-- how a handler leaves the next ones whose body stopped so, when so many turns were taken
+abbrev pub handled_as : Stop → ℕ → Handled
+handled_as (stop.Yield number) turns = handled.Through turns
+handled_as stop.Ended turns = handled.Through turns
+handled_as (stop.Fault kind line) turns = handled.Fault kind line
+
 -- the handlers were run: the process knows what they leave, and their actions were added
 pub record HasHandled (ran : Ran) (old new : Known) (answer : Handled) : Type 0 where
+  pub mine : new.me ≡ old.me
   pub same : ran.data' ≡ data_of new
   pub actions : new.actions ≡ old.actions ++ ran.actions
   pub halt : ran.halt ≡ halt_of answer
@@ -95,6 +109,7 @@ goes_on (handled.Fault kind line) actions d go = record { data' = d; todo = []; 
 
 -- a handler was tried in turn n: whatever comes behind it, the run is this one
 pub record HasTried (x : Delivery) (h : Handler) (n : ℕ) (old new : Known) (answer : Handled) : Type 0 where
+  pub mine : new.me ≡ old.me
   pub actions : List Action
   pub added : new.actions ≡ old.actions ++ actions
   pub run : (go : ℕ → Data → Ran) → IsAlike (tried x h n (data_of old) go) (goes_on answer actions (data_of new) go)
@@ -108,6 +123,11 @@ delivery_actions x time me ran = action.Got me x.from time x.message.now ∷ ran
 -- what the process knows when the message has joined the history
 abbrev pub received : Delivery → ℕ → Known → Data
 received x time known = received_at (val_of x.message.now) x.from time (data_of known)
+
+-- how the process stops behind the handlers that waits at this yield point
+abbrev pub stop_of : Handled → ℕ → Stop
+stop_of (handled.Through turns) number = stop.Yield number
+stop_of (handled.Fault kind line) number = stop.Fault kind line
 
 -- the process that waits with this to do may take in the message: it stands in front of a yield point of its class
 pub record MayTakeIn (x : Delivery) (time at : ℕ) (known : Known) (todo : List Task) : Type 0 where

@@ -119,6 +119,10 @@ HasStopped code old new (stop.Yield number) s = (new ≡ old) × StandsAt code o
 HasStopped code old new stop.Ended s = (new ≡ with_action old (action.End old.me)) × (s.place ≡ place.Ended)
 HasStopped code old new (stop.Fault kind line) s = (new ≡ with_action old (action.Fault old.me kind line)) × (s.place ≡ place.Faulted)
 
+-- the process stands so behind an event
+abbrev pub settled : Core → Standing → Core
+settled core s = record core { place = s.place; flags = s.flags; spent = false }
+
 -- the actions of a move
 abbrev pub move_actions : ℕ → ℕ → Ran → List Action
 move_actions me k ran = action.Took me k ∷ ran.actions ++ closing me ran.halt

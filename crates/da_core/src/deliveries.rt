@@ -1,16 +1,16 @@
 //! The arrival of a message: the history first, then the handlers in text order.
-ghost use Rattle.da_core.specs.Arrivals.{CanHandle, HasHandled, HasTakenIn, HasTried, MayTakeIn, all_handled, delivery_actions, received, tried};
+ghost use Rattle.da_core.specs.Arrivals.{CanHandle, HasEntry, HasHandled, HasTakenIn, HasTried, MayTakeIn, all_handled, delivery_actions, handled_as, received, row_for as row_lem, stop_of, tried};
 ghost use Rattle.da_core.specs.Known.{data_of};
 ghost use Rattle.da_lang.specs.Matching.{matched_entry};
 ghost use Rattle.da_lang.specs.Runs.{Ran, max_turns};
 ghost use Rattle.da_lang.specs.Turns.{bind_all};
 ghost use Rattle.da_lang.specs.World.{Data, Task};
 ghost use Rattle.da_lang.specs.declared.code.Instr.TheVariants as op;
-ghost use Rattle.da_lang.specs.declared.program.Handler.{Handler as HandlerOf};
+ghost use Rattle.da_machine.specs.CodeFor.{Has};
 ghost use Rattle.da_machine.specs.declared.machine.Stop.TheVariants as stop;
 ghost use Rattle.da_machine.specs.RunsTo.{IsFront};
 ghost use Rattle.da_values.specs.Value.{val_of};
-ghost use Rattle.std.specs.Prelude.{◌≡◌, ◌≤◌, [], ℕ, IfOk, List, OnErr, OnOk, Some, slice_get};
+ghost use Rattle.std.specs.Prelude.{◌≡◌, ◌≤◌, [], ℕ, IfOk, List, OnErr, OnOk, Some};
 
 use crate::compiled::ClassCode;
 use crate::known::{Known, put};
@@ -54,17 +54,29 @@ pub fn take_in(
         IsFront known.old.actions known.new.actions (delivery_actions delivery.now time known.old.me ran)) }
 {
     known.receive(delivery.message, delivery.from, time)?;
-    let stop = match handle_all(delivery, known)? {
-        Handled::Through(_) => waiting_at(&delivery.code.code, at),
+    let answer = handle_all(delivery, known)?;
+    let stop = stop_behind(answer, &delivery.code.code, at);
+    match stand(delivery.code, stop, known) {
+        Ok(standing) => Ok(standing),
+        Err(e) => Err(e),
+    }
+}
+
+// How the process stops behind the handlers that waits at the yield point at a place.
+fn stop_behind(answer: Handled, code: &Code, at: u64) -> Stop
+    requires { (number : ℕ) × Has code.now at (op.Yield number) }
+    ensures { (number : ℕ) → Has code.now at (op.Yield number) → result ≡ stop_of answer number }
+{
+    match answer {
+        Handled::Through(_) => waiting_at(code, at),
         Handled::Fault { kind, line } => Stop::Fault { kind, line },
-    };
-    stand(delivery.code, stop, known)
+    }
 }
 
 // The stop at the yield point at a place.
 fn waiting_at(code: &Code, at: u64) -> Stop
-    requires { (number : ℕ) × (slice_get code.now.instrs at ≡ Some (op.Yield number)) }
-    ensures { (number : ℕ) → slice_get code.now.instrs at ≡ Some (op.Yield number) → result ≡ stop.Yield number }
+    requires { (number : ℕ) × Has code.now at (op.Yield number) }
+    ensures { (number : ℕ) → Has code.now at (op.Yield number) → result ≡ stop.Yield number }
 {
     match code.instrs.get(at as usize) {
         Some(Instr::Yield(number)) => Stop::Yield(*number),
@@ -82,14 +94,16 @@ fn handle_all(delivery: &Delivery<'_>, known: &mut Known) -> Result<Handled, NoM
 {
     let mut turns = 0;
     let handlers = delivery.class.handlers.as_slice();
-    'handlers: for place in 0..handlers.len() {
+    let entries = delivery.code.code.handlers.as_slice();
+    'handlers: for (handler, entry) in handlers.iter().zip(entries) {
         if turns >= MOST_TURNS {
             return Ok(Handled::Fault {
                 kind: FaultKind::TooLong,
-                line: handlers[place].line,
+                line: handler.line,
             });
         }
-        match try_handler(delivery, place, turns + 1, known)? {
+        let answer = try_handler(delivery, handler, *entry, turns + 1, known)?;
+        match answer {
             Handled::Through(further) => turns = further,
             Handled::Fault { kind, line } => return Ok(Handled::Fault { kind, line }),
         }
@@ -97,39 +111,62 @@ fn handle_all(delivery: &Delivery<'_>, known: &mut Known) -> Result<Handled, NoM
     Ok(Handled::Through(turns))
 }
 
-// Tries the handler at this place, by which so many turns are taken: where its patterns match, its variables are bound and
-// its body runs.
+// Tries a handler whose code begins at this entry, by which so many turns are taken: where its patterns match, it is run.
 fn try_handler(
     delivery: &Delivery<'_>,
-    place: usize,
+    handler: &Handler,
+    entry: u64,
     turns: u32,
     known: &mut Known,
 ) -> Result<Handled, NoMemory>
     requires can { CanHandle delivery.now known.old }
-    requires there { (h : HandlerOf) × (slice_get delivery.now.class.now.handlers place ≡ Some h) }
+    requires there { HasEntry delivery.now handler.now entry }
     requires early { turns ≤ max_turns }
-    ensures tried { IfOk result (λ answer. (h : HandlerOf) → slice_get delivery.now.class.now.handlers place ≡ Some h
-        → HasTried delivery.now h turns known.old known.new answer) }
+    ensures tried { IfOk result (λ answer. HasTried delivery.now handler.now turns known.old known.new answer) }
     ensures can { OnOk result (CanHandle delivery.now known.new) }
-    ensures part { OnErr result ((h : HandlerOf) → slice_get delivery.now.class.now.handlers place ≡ Some h → (go : ℕ → Data → Ran)
-        → IsFront known.old.actions known.new.actions (tried delivery.now h turns (data_of known.old) go).actions) }
+    ensures part { OnErr result ((go : ℕ → Data → Ran)
+        → IsFront known.old.actions known.new.actions (tried delivery.now handler.now turns (data_of known.old) go).actions) }
 {
-    let (Some(handler), Some(entry)) = (
-        delivery.class.handlers.get(place),
-        delivery.code.code.handlers.get(place),
-    ) else {
-        unreachable!()
-    };
-    let Some(row) = row_for(handler, delivery.message, delivery.from, known)? else {
-        return Ok(Handled::Through(turns));
-    };
-    bind(handler.binds.as_slice(), &row, known)?;
-    let mut machine = Machine::new(known.alloc, *entry);
+    let row = row_for(handler, delivery.message, delivery.from, known)?;
+    match row {
+        None => Ok(Handled::Through(turns)),
+        Some(row) => run_handler(delivery, handler, entry, &row, turns, known),
+    }
+}
+
+// Binds the variables of a handler to the parts of the row that its patterns took, and runs its body.
+fn run_handler(
+    delivery: &Delivery<'_>,
+    handler: &Handler,
+    entry: u64,
+    row: &Row,
+    turns: u32,
+    known: &mut Known,
+) -> Result<Handled, NoMemory>
+    requires can { CanHandle delivery.now known.old }
+    requires there { HasEntry delivery.now handler.now entry }
+    requires matches { row_lem delivery.now handler.now (data_of known.old) ≡ Some row.now }
+    requires early { turns ≤ max_turns }
+    ensures tried { IfOk result (λ answer. HasTried delivery.now handler.now turns known.old known.new answer) }
+    ensures can { OnOk result (CanHandle delivery.now known.new) }
+    ensures part { OnErr result ((go : ℕ → Data → Ran)
+        → IsFront known.old.actions known.new.actions (tried delivery.now handler.now turns (data_of known.old) go).actions) }
+{
+    bind(handler.binds.as_slice(), row, known)?;
+    let mut machine = Machine::new(known.alloc, entry);
     machine.turns = turns;
-    match run_code(known.alloc, &delivery.code.code, &mut machine, known)? {
-        Stop::Fault { kind, line } => Ok(Handled::Fault { kind, line }),
-        Stop::Ended => Ok(Handled::Through(machine.turns)),
-        Stop::Yield(_) => Ok(Handled::Through(machine.turns)),
+    let stop = run_code(known.alloc, &delivery.code.code, &mut machine, known)?;
+    Ok(handled_by(stop, machine.turns))
+}
+
+// How a handler leaves the next ones whose body stopped so, when so many turns were taken.
+fn handled_by(stop: Stop, turns: u32) -> Handled
+    ensures { result ≡ handled_as stop turns }
+{
+    match stop {
+        Stop::Yield(_) => Handled::Through(turns),
+        Stop::Ended => Handled::Through(turns),
+        Stop::Fault { kind, line } => Handled::Fault { kind, line },
     }
 }
 

@@ -1,6 +1,6 @@
 //! A process in code, its moves and deliveries.
 ghost use Rattle.da_core.specs.Arrivals.{MayArrive, arrival};
-ghost use Rattle.da_core.specs.Begins.{CanMove};
+ghost use Rattle.da_core.specs.Begins.{CanMove, settled};
 ghost use Rattle.da_core.specs.Compiled.{IsCompiled, program_of as compiled_program};
 ghost use Rattle.da_core.specs.Made.{HasBegun, HasMade, phase_at, stopped_at as stopped_lem};
 ghost use Rattle.da_core.specs.RunsNow.{RunsNow};
@@ -13,7 +13,7 @@ ghost use Rattle.std.specs.Prelude.{◌≡◌, ◌↔◌, IfOk, IsErrOf, IsSome,
 use crate::compiled::{ClassCode, Compiled};
 use crate::deliveries::{Delivery, take_in};
 use crate::known::Known;
-use crate::moves::{Begin, begin_in, run_from};
+use crate::moves::{Begin, Standing, begin_in, run_from};
 use crate::opening::first_values;
 use crate::place::{Place, StepFault, Stopped};
 use da_lang::Action;
@@ -139,11 +139,7 @@ impl<'c> Core<'c> {
         );
         *out = mem::replace(&mut self.known.actions, List::new(self.alloc));
         let standing = run?;
-        let stopped = stopped_at(standing.place);
-        self.place = standing.place;
-        self.flags = standing.flags;
-        self.spent = false;
-        Ok(stopped)
+        Ok(self.settle(standing))
     }
 
     /// Takes in a message that process `from` sent at this time, and adds the actions of the delivery to `out`: the message
@@ -201,11 +197,19 @@ impl<'c> Core<'c> {
         let run = take_in(&delivery, time, self.machine.place, &mut self.known);
         *out = mem::replace(&mut self.known.actions, List::new(self.alloc));
         let standing = run?;
+        Ok(self.settle(standing))
+    }
+
+    // Stands so behind an event, and tells how the process has stopped.
+    fn settle(&mut self, standing: Standing) -> Stopped
+        ensures stopped { result ≡ stopped_lem standing.place }
+        ensures settled { self.new ≡ settled self.old standing }
+    {
         let stopped = stopped_at(standing.place);
         self.place = standing.place;
         self.flags = standing.flags;
         self.spent = false;
-        Ok(stopped)
+        stopped
     }
 
     // Whether the process waits at a label or an `await`.

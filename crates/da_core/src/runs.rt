@@ -13,7 +13,13 @@ use da_lang::{
 pub fn runs_now(program: &Program) -> bool
     ensures { IsTrue result ↔ RunsNow program.now }
 {
-    program.classes.as_slice().iter().all(class_runs)
+    classes_run(program.classes.as_slice())
+}
+
+fn classes_run(classes: &[Class]) -> bool
+    ensures { result ≡ list_all class_all classes.now }
+{
+    classes.iter().all(class_runs)
 }
 
 fn class_runs(class: &Class) -> bool
@@ -22,7 +28,13 @@ fn class_runs(class: &Class) -> bool
     class.queries.len() == 0
         && items_run(class.setup.as_slice())
         && items_run(class.run.as_slice())
-        && class.handlers.as_slice().iter().all(handler_runs)
+        && handlers_run(class.handlers.as_slice())
+}
+
+fn handlers_run(handlers: &[Handler]) -> bool
+    ensures { result ≡ list_all handler_all handlers.now }
+{
+    handlers.iter().all(handler_runs)
 }
 
 fn handler_runs(handler: &Handler) -> bool

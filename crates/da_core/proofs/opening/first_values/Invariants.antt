@@ -1,7 +1,6 @@
 use Rattle.std.proofs.Common.{◌≡◌, take, map}
-use Rattle.da_values.specs.Value.{vals}
 use Rattle.da_lang.specs.World.{first_value}
 use Rattle.da_core.proofs.opening.first_values.Given as goal
 
 abbrev pub invariant-loop-slot : goal.invariant-loop-slot
-invariant-loop-slot l = vals l.values.items ≡ map (first_value l.me) (take l.slot-index l.slots)
+invariant-loop-slot l = l.values ≡ map (first_value l.me) (take l.slot-index l.slots)

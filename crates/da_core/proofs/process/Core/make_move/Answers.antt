@@ -1,6 +1,6 @@
 use Rattle.std.proofs.Common.{◌∙◌}
 use Rattle.da_core.specs.StandsFor.{program_of}
-use Rattle.da_core.proofs.Moving.{has_begun, has_moved, may_with, stands_after}
+use Rattle.da_core.proofs.Moving.{has_begun, has_made, may_with, stands_after}
 use Rattle.da_core.proofs.process.Core.make_move.Goals as goal
 
 pub returns-in_err-standing-clause-front : goal.returns-in_err-standing-clause-front
@@ -22,7 +22,7 @@ returns-clause-ready c = λ unspent.
     let can = c.in-Some.ensures w s in
     let may = may_with (program_of core) can.class code core.known core.machine begin w.data' can.todo c.replace.result can.may in
     let run = c.in_ok-standing.ensures.runs (program_of core) can.class w.data' can.todo may in
-    (_, stands_after core w s c.args.k code begin can c.replace.result c.run_from-run.new.known c.run_from-run.new.machine c.in_ok-standing.standing run c.replace-2.new.dest (c.replace-2.ensures.after ∙ c.new-2.ensures))
+    (_, stands_after core w s c.args.k code begin can c.replace.result c.run_from-run.new.known c.run_from-run.new.machine c.in_ok-standing.standing run c.replace-2.new.dest (c.replace-2.ensures.after ∙ c.new-2.ensures) c.settle.new.self c.settle.ensures.settled)
 
 pub returns-clause-moves : goal.returns-clause-moves
 returns-clause-moves c = λ w s.
@@ -32,5 +32,5 @@ returns-clause-moves c = λ w s.
     let can = c.in-Some.ensures w s in
     let may = may_with (program_of core) can.class code core.known core.machine begin w.data' can.todo c.replace.result can.may in
     let run = c.in_ok-standing.ensures.runs (program_of core) can.class w.data' can.todo may in
-    has_moved core w s c.args.k code begin can c.replace.result c.run_from-run.new.known c.run_from-run.new.machine c.in_ok-standing.standing run c.replace-2.new.dest (c.replace-2.ensures.after ∙ c.new-2.ensures)
-    c.args.out.now c.replace-2.result c.replace.ensures.value c.replace-2.ensures.value c.stopped_at-stopped.result c.stopped_at-stopped.ensures
+    has_made core w s c.args.k code begin can c.replace.result c.run_from-run.new.known c.run_from-run.new.machine c.in_ok-standing.standing run c.replace-2.new.dest (c.replace-2.ensures.after ∙ c.new-2.ensures) c.settle.new.self c.settle.ensures.settled
+    c.args.out.now c.replace-2.result c.replace.ensures.value c.replace-2.ensures.value c.settle.result c.settle.ensures.stopped

@@ -1,0 +1,196 @@
+-- What a core stands for behind a delivery.
+use Rattle.std.proofs.Common.{◌≡◌, ◌↔◌, ℕ, List, [], ◌∷◌, ◌++◌, Option, Some, None, refl, sym, ap, ◌∙◌, subst}
+use Rattle.std.specs.Prelude.{Bool, true, false, IsTrue}
+use Rattle.std.proofs.lemmas.Bool.{false≢true}
+use Rattle.da_values.specs.declared.val.Val.{Val}
+use Rattle.da_values.specs.Sets.{Has}
+use Rattle.da_values.specs.Layer.{value_of-val_of}
+use Rattle.da_values.specs.Value.{val_of}
+use Rattle.da_lang.specs.declared.event.Action.{Action}
+use Rattle.da_lang.specs.declared.event.Action.TheVariants as action
+use Rattle.da_lang.specs.declared.program.Class.{Class}
+use Rattle.da_lang.specs.declared.program.Program.{Program}
+use Rattle.da_lang.specs.Runs.{Halt, AtYield, UsedUp, Faults, Ran}
+use Rattle.da_lang.specs.Shaped.{Shaped, ShapedData, ShapedTasks}
+use Rattle.da_lang.specs.Steps.{Deliver, Stepped, closing, handle, handled, phase_after, proc_step, received_at}
+use Rattle.da_lang.specs.World.{Data, Task, World, Phase, New, Waiting, Ended, Faulted, class_of}
+use Rattle.da_types.specs.KeepsShaped.{StepsShaped}
+use Rattle.da_machine.specs.declared.machine.Machine.{Machine}
+use Rattle.da_machine.specs.RunsTo.{IsFront}
+use Rattle.da_machine.proofs.EntryLaws.{at_point}
+use Rattle.da_core.specs.declared.compiled.ClassCode.{ClassCode}
+use Rattle.da_core.specs.declared.process.Core.{Core}
+use Rattle.da_core.specs.declared.deliveries.Delivery.{Delivery}
+use Rattle.da_core.specs.declared.known.Known.{Known}
+use Rattle.da_core.specs.declared.moves.Standing.{Standing}
+use Rattle.da_core.specs.declared.place.Stopped.{Stopped}
+use Rattle.da_core.specs.Arrivals.{CanHandle, HasTakenIn, MayArrive, MayTakeIn, all_handled, arrival, delivery_actions, received}
+use Rattle.da_core.specs.Compiled.{IsCodeFor, code_of}
+use Rattle.da_core.specs.Known.{data_of}
+use Rattle.da_core.specs.Made.{HasBegun, HasMade, phase_of, stopped_at}
+use Rattle.da_core.specs.StandsFor.{IsAt, IsWaiting, StandsFor, program_of}
+use Rattle.da_core.proofs.Entering.{is_code}
+use Rattle.da_core.proofs.Laws.{class_has, keeps_shaped}
+use Rattle.da_core.proofs.Moving.{stops_so}
+use Rattle.da_core.proofs.RunLaws.{class_of_runs}
+
+-- the machine stays where it stands, and the process waits there where no handler faults
+at_behind : (p : Program) (class : Class) (code : ClassCode) (m : Machine) (w : World) (halt : Halt) → IsWaiting class code.code m w.todo → IsAt p class code.code m w (phase_after halt)
+at_behind p class code m w AtYield is = is
+at_behind p class code m w UsedUp is = tt
+at_behind p class code m w (Faults kind line) is = tt
+
+pub no_truth : (b : Bool) → b ≡ false → IsTrue b → ⊥
+no_truth b is true' = false≢true (sym is ∙ true')
+
+-- where the process does not wait no message arrives
+module _ (core : Core) (w : World) (s : StandsFor core w) (m : Val) (from time : ℕ) where
+  by_phase : (phase : Phase) → w.phase ≡ phase → (phase ≡ Waiting → ⊥) → proc_step (program_of core) w (Deliver m from time) ≡ None
+  by_phase New is other = rw (s.knows.is_class, is) refl
+  by_phase Waiting is other = absurd (other refl)
+  by_phase Ended is other = rw (s.knows.is_class, is) refl
+  by_phase Faulted is other = rw (s.knows.is_class, is) refl
+
+  pub arrives_nowhere : (w.phase ≡ Waiting → ⊥) → proc_step (program_of core) w (Deliver m from time) ≡ None
+  arrives_nowhere other = by_phase w.phase refl other
+
+-- the message, with the class of the process and its code, as they were found
+module _ (core : Core) (w : World) (s : StandsFor core w) (waits : w.phase ≡ Waiting) (x : Delivery) (time : ℕ)
+    (classed : Some x.class.now ≡ class_of (program_of core) core.known.me) (coded : Some x.code.now ≡ code_of core.compiled.now core.known.me)
+    (arrives : MayArrive (program_of core) x.message.now x.from time) where
+  abbrev p : Program
+  p = program_of core
+
+  abbrev d : Data
+  d = w.data'
+
+  abbrev class : Class
+  class = x.class.now
+
+  abbrev code : ClassCode
+  code = x.code.now
+
+  is_class : class_of p d.me ≡ Some class
+  is_class = ap (λ (y : Data). class_of p y.me) s.same ∙ sym classed
+
+  is_coded : code_of core.compiled.now d.me ≡ Some code
+  is_coded = ap (λ (y : Data). code_of core.compiled.now y.me) s.same ∙ sym coded
+
+  same_class : s.class ≡ class
+  same_class = let both : ◌≡◌ {A = Option Class} (Some s.class) (Some class) = sym s.knows.is_class ∙ is_class in cc
+
+  same_code : s.code ≡ code
+  same_code = let both : ◌≡◌ {A = Option ClassCode} (Some s.code) (Some code) = sym s.code_is ∙ is_coded in cc
+
+  its_code : (place : ℕ) × IsCodeFor p place class code
+  its_code = is_code core.compiled.now class code s.compiled d.me is_class is_coded
+
+  knows : ShapedData p class d
+  knows = subst (λ c. ShapedData p c d) same_class s.knows
+
+  tasks : ShapedTasks p class d.me w.todo
+  tasks = subst (λ c. ShapedTasks p c d.me w.todo) same_class s.tasks
+
+  waiting : IsWaiting class code.code core.machine w.todo
+  waiting =
+      let there : IsWaiting s.class s.code.code core.machine w.todo = subst (IsAt p s.class s.code.code core.machine w) waits s.at in
+      subst (λ (z : ClassCode). IsWaiting class z.code core.machine w.todo) same_code (subst (λ c. IsWaiting c s.code.code core.machine w.todo) same_class there)
+
+  -- the process before the delivery, with the actions of the caller
+  module _ (own : List Action) where
+    abbrev old : Known
+    old = record core.known { actions = own }
+
+    among : Has p.classes class
+    among = class_has p d.me class is_class
+
+    can : CanHandle x old
+    can = (
+      p,
+      record {
+        accepted = s.compiled.accepted;
+        runs = class_of_runs p s.runs class among;
+        among = among;
+        forward = its_code.1.code.forward;
+        enters = its_code.1.code.handlers;
+        arrives = record { proper = arrives.proper; typed = arrives.typed; peer = arrives.peer };
+        knows = subst (ShapedData p class) s.same knows;
+      },
+    )
+
+    pub may_take_in : MayTakeIn x time core.machine.place old w.todo
+    may_take_in = record {
+      can = can;
+      tasks = (p, subst (λ (y : Data). ShapedTasks p class y.me w.todo) s.same tasks);
+      waits = its_code.1.waits;
+      number = waiting.number;
+      there = waiting.there;
+      point = (core.machine.loops, at_point code.code class core.machine.place core.machine.loops w.todo waiting.code_for waiting.number waiting.there);
+    }
+
+    abbrev ran : Ran
+    ran = all_handled x (received x time old)
+
+    abbrev after : Stepped
+    after = handled w.todo d.me (val_of x.message.now) x.from time ran
+
+    leads : proc_step p w (arrival x.message.now x.from time) ≡ Some after
+    leads =
+        rw (is_class, waits) refl
+        ∙ ap (λ (y : Data). Some (handled w.todo d.me (val_of x.message.now) x.from time (all_handled x (received_at (val_of x.message.now) x.from time y)))) s.same
+
+    told : after.actions ≡ delivery_actions x time core.known.me ran
+    told =
+        ap (λ m. action.Got d.me x.from time m ∷ ran.actions ++ closing d.me ran.halt) (value_of-val_of x.message.now)
+        ∙ ap (λ (y : Data). action.Got y.me x.from time x.message.now ∷ ran.actions ++ closing y.me ran.halt) s.same
+
+    shaped : StepsShaped p d.me after
+    shaped = (keeps_shaped p s.compiled.accepted).steps w (arrival x.message.now x.from time) after (record { class = class; knows = knows; todo = tasks }) arrives leads
+
+    class_stays : shaped.shaped.class ≡ class
+    class_stays =
+        let both : ◌≡◌ {A = Option Class} (Some shaped.shaped.class) (Some class) = sym shaped.shaped.knows.is_class ∙ ap (class_of p) shaped.same ∙ is_class in
+        cc
+
+    -- what the process knows behind the delivery and how it stands, where the actions are given back
+    module _ (known : Known) (stands : Standing) (taken : HasTakenIn x time w.todo old known stands) where
+      module _ (empty : List Action) (none : empty ≡ []) (new : Core) (is_new : new ≡ record core { known = record known { actions = empty }; place = stands.place; flags = stands.flags; spent = false }) where
+        pub stands_after : StandsFor new after.world
+        stands_after = subst (λ z. StandsFor z after.world) (sym is_new) (record {
+          unspent = refl;
+          compiled = s.compiled;
+          runs = s.runs;
+          class = class;
+          code = code;
+          code_is = ap (code_of core.compiled.now) shaped.same ∙ is_coded;
+          knows = subst (λ c. ShapedData p c ran.data') class_stays shaped.shaped.knows;
+          tasks = subst (λ c. ShapedTasks p c ran.data'.me w.todo) class_stays shaped.shaped.todo;
+          same = taken.same;
+          no_actions = none;
+          place = taken.place;
+          at = at_behind p class code core.machine after.world ran.halt waiting;
+        })
+
+        pub has_made : (out given : List Action) → own ≡ out → given ≡ known.actions → (answer : Stopped) → answer ≡ stopped_at stands.place
+            → HasMade core w (arrival x.message.now x.from time) new answer out given
+        has_made out given from back answer is = record {
+          after = after;
+          leads = leads;
+          stands = stands_after;
+          same = shaped.same;
+          stopped = ap phase_of is ∙ stops_so ran.data' w.todo stands stands.place ran.halt taken.place;
+          added = back ∙ taken.actions ∙ ap (λ xs. own ++ xs) (sym told) ∙ ap (λ xs. xs ++ after.actions) from;
+        }
+
+    pub has_begun : (out given left : List Action) → own ≡ out → given ≡ left → IsFront own left (delivery_actions x time core.known.me ran)
+        → HasBegun core w (arrival x.message.now x.from time) out given
+    has_begun out given left from back (more, is) = record {
+      after = after;
+      leads = leads;
+      front = (more, ap (λ xs. xs ++ more) back ∙ is ∙ ap (λ xs. own ++ xs) (sym told) ∙ ap (λ xs. xs ++ after.actions) from);
+    }
+
+  pub may_arrive : proc_step p w (arrival x.message.now x.from time) ≡ None → ⊥
+  may_arrive none =
+      let both : ◌≡◌ {A = Option Stepped} None (Some (after [])) = sym none ∙ leads [] in
+      cc
