@@ -1,9 +1,8 @@
 -- The run of the handlers, one after the other.
-use Rattle.std.proofs.Common.{◌≡◌, ◌⊎◌, ℕ, zero, suc, ◌+◌, ◌<◌, ◌≤◌, List, [], ◌∷◌, ◌++◌, length, Option, Some, None, refl, sym, ap, ◌∙◌, subst, inl, inr, append_assoc, append-nil, arith}
-use Rattle.std.specs.Prelude.{true, false, Bool, nat_lt, if◌then◌else◌, slice_get}
+use Rattle.std.proofs.Common.{◌≡◌, ◌⊎◌, ℕ, suc, ◌+◌, ◌<◌, ◌≤◌, List, [], ◌∷◌, ◌++◌, length, Some, None, refl, sym, ap, ◌∙◌, subst, inl, inr, append_assoc, append-nil, arith}
+use Rattle.std.specs.Prelude.{nat_lt, if◌then◌else◌, slice_get}
 use Rattle.std.proofs.lemmas.Bool.{le-ltb, lt-ltb}
 use Rattle.std.proofs.lemmas.List.Elements.{All-nil}
-use Rattle.da_values.specs.declared.val.Val.{Val}
 use Rattle.da_values.specs.declared.value.Value.{Value}
 use Rattle.da_values.specs.Value.{val_of, vals}
 use Rattle.da_lang.specs.declared.event.Action.{Action}
@@ -30,12 +29,11 @@ use Rattle.da_machine.specs.declared.machine.Stop.{Stop}
 use Rattle.da_machine.specs.CodeFor.{CodeFor}
 use Rattle.da_machine.specs.RunsTo.{IsFront}
 use Rattle.da_machine.specs.Stops.{IsReady, IsRun, IsStop}
-use Rattle.da_core.specs.declared.compiled.ClassCode.{ClassCode}
 use Rattle.da_core.specs.declared.deliveries.Delivery.{Delivery}
 use Rattle.da_core.specs.declared.deliveries.Handled.{Handled}
 use Rattle.da_core.specs.declared.deliveries.Handled.TheVariants as handled
 use Rattle.da_core.specs.declared.known.Known.{Known}
-use Rattle.da_core.specs.Arrivals.{CanHandle, HasEntry, HasHandled, HasTried, IsAlike, all_handled, goes_on, halt_of, handled_as, row_for, tried}
+use Rattle.da_core.specs.Arrivals.{CanHandle, HasEntry, HasHandled, HasTried, IsAlike, all_handled, goes_on, handled_as, row_for, tried}
 use Rattle.da_core.specs.Known.{Knows, data_of}
 use Rattle.da_core.proofs.Laws.{keeps_shaped}
 use Rattle.da_core.proofs.Tasks.{has_at}

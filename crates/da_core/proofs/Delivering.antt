@@ -1,6 +1,6 @@
 -- What a core stands for behind a delivery.
-use Rattle.std.proofs.Common.{◌≡◌, ◌↔◌, ℕ, List, [], ◌∷◌, ◌++◌, Option, Some, None, refl, sym, ap, ◌∙◌, subst}
-use Rattle.std.specs.Prelude.{Bool, true, false, IsTrue}
+use Rattle.std.proofs.Common.{◌≡◌, ℕ, List, [], ◌∷◌, ◌++◌, Option, Some, None, refl, sym, ap, ◌∙◌, subst}
+use Rattle.std.specs.Prelude.{Bool, false, IsTrue}
 use Rattle.std.proofs.lemmas.Bool.{false≢true}
 use Rattle.da_values.specs.declared.val.Val.{Val}
 use Rattle.da_values.specs.Sets.{Has}
@@ -11,9 +11,9 @@ use Rattle.da_lang.specs.declared.event.Action.TheVariants as action
 use Rattle.da_lang.specs.declared.program.Class.{Class}
 use Rattle.da_lang.specs.declared.program.Program.{Program}
 use Rattle.da_lang.specs.Runs.{Halt, AtYield, UsedUp, Faults, Ran}
-use Rattle.da_lang.specs.Shaped.{Shaped, ShapedData, ShapedTasks}
-use Rattle.da_lang.specs.Steps.{Deliver, Stepped, closing, handle, handled, phase_after, proc_step, received_at}
-use Rattle.da_lang.specs.World.{Data, Task, World, Phase, New, Waiting, Ended, Faulted, class_of}
+use Rattle.da_lang.specs.Shaped.{ShapedData, ShapedTasks}
+use Rattle.da_lang.specs.Steps.{Deliver, Stepped, closing, handled, phase_after, proc_step, received_at}
+use Rattle.da_lang.specs.World.{Data, World, Phase, New, Waiting, Ended, Faulted, class_of}
 use Rattle.da_types.specs.KeepsShaped.{StepsShaped}
 use Rattle.da_machine.specs.declared.machine.Machine.{Machine}
 use Rattle.da_machine.specs.RunsTo.{IsFront}
@@ -26,7 +26,6 @@ use Rattle.da_core.specs.declared.moves.Standing.{Standing}
 use Rattle.da_core.specs.declared.place.Stopped.{Stopped}
 use Rattle.da_core.specs.Arrivals.{CanHandle, HasTakenIn, MayArrive, MayTakeIn, all_handled, arrival, delivery_actions, received}
 use Rattle.da_core.specs.Compiled.{IsCodeFor, code_of}
-use Rattle.da_core.specs.Known.{data_of}
 use Rattle.da_core.specs.Made.{HasBegun, HasMade, phase_of, stopped_at}
 use Rattle.da_core.specs.StandsFor.{IsAt, IsWaiting, StandsFor, program_of}
 use Rattle.da_core.proofs.Entering.{is_code}

@@ -16,7 +16,7 @@ use Rattle.da_lang.specs.declared.query.Cond.TheOpen.{Cond-F, Operand-F}
 use Rattle.da_lang.specs.declared.query.Operand.{Operand, roll-Operand}
 use Rattle.da_lang.specs.declared.query.Operand.TheVariants as operand
 use Rattle.da_lang.specs.declared.query.RGen.{RGen}
-use Rattle.da_lang.specs.declared.query.SignedOperand.{SignedOperand, out-SignedOperand, roll-out-SignedOperand}
+use Rattle.da_lang.specs.declared.query.SignedOperand.{SignedOperand, out-SignedOperand}
 use Rattle.da_lang.specs.declared.query.Term.{Term}
 use Rattle.da_lang.specs.declared.query.Term.TheVariants as term
 use Rattle.da_lang.specs.declared.tree.CmpOp.{CmpOp}
@@ -25,7 +25,7 @@ use Rattle.da_lang.specs.Queries.{Test, RowMeaning, Number, agg_step, cond_step,
 use Rattle.da_lang.specs.World.{Data, nothing}
 use Rattle.da_lang.proofs.MatchingLaws.{term-Const, term-Me, term-Slot, term-Part, term-Tuple, term-Foreign}
 use Rattle.da_lang.proofs.QueryLaws.{holds-Truth, holds-Cmp, holds-Not, holds-And, holds-Or, operand-Term, operand-Chain, signed-made}
-use Rattle.da_core.specs.Plain.{ArePlainSigned, is_plain, is_plain_operand, is_plain_part, plain_agg_step, plain_cond_step, plain_operand_step, plain_signed_step}
+use Rattle.da_core.specs.Plain.{is_plain, is_plain_operand, is_plain_part, plain_agg_step, plain_cond_step, plain_operand_step, plain_signed_step}
 
 plain_agg : Agg → Bool
 plain_agg = fold-Agg Bool Bool Bool Bool plain_cond_step plain_operand_step plain_agg_step plain_signed_step

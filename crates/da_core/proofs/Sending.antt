@@ -1,5 +1,5 @@
 -- A message to each of some processes, one after the other.
-use Rattle.std.proofs.Common.{◌≡◌, ℕ, ◌+◌, ◌<◌, List, [], ◌∷◌, ◌++◌, drop, get_or, length, map, refl, sym, ap, ◌∙◌, subst, append_assoc, append-nil}
+use Rattle.std.proofs.Common.{◌≡◌, ℕ, ◌+◌, ◌<◌, List, [], ◌∷◌, ◌++◌, drop, get_or, length, map, sym, ap, ◌∙◌, subst, append_assoc, append-nil}
 use Rattle.std.proofs.lemmas.List.{at_drop_more}
 use Rattle.da_values.specs.declared.val.Val.{Val}
 use Rattle.da_values.specs.declared.value.Value.{Value}
@@ -14,7 +14,6 @@ use Rattle.da_machine.specs.Conditions.{EachProcess}
 use Rattle.da_machine.specs.RunsTo.{IsFront}
 use Rattle.da_core.specs.declared.known.Known.{Known}
 use Rattle.da_core.specs.Known.{Knows, data_of}
-use Rattle.da_core.proofs.Fronts.{front_then}
 
 -- these processes are left of those to which the message goes
 pub record Sends (m : Val) (ps left : List ℕ) (first now : Known) : Type 0 where

@@ -7,7 +7,7 @@ use Rattle.da_lang.specs.declared.program.Class.{Class}
 use Rattle.da_lang.specs.declared.program.Program.{Program}
 use Rattle.da_lang.specs.Runs.{Halt, AtYield, Faults, Ran}
 use Rattle.da_lang.specs.Shaped.{ShapedData}
-use Rattle.da_lang.specs.Steps.{closing, phase_after, received_at}
+use Rattle.da_lang.specs.Steps.{closing, phase_after}
 use Rattle.da_lang.specs.World.{Data, Task}
 use Rattle.da_types.proofs.shaped.DataKept.{received_shaped}
 use Rattle.da_machine.specs.RunsTo.{IsFront}
@@ -17,7 +17,6 @@ use Rattle.da_core.specs.declared.deliveries.Handled.{Handled}
 use Rattle.da_core.specs.declared.deliveries.Handled.TheVariants as handled
 use Rattle.da_core.specs.declared.known.Known.{Known}
 use Rattle.da_core.specs.declared.moves.Standing.{Standing}
-use Rattle.da_core.specs.declared.place.Place.TheVariants as place
 use Rattle.da_core.specs.Arrivals.{CanHandle, HasHandled, HasTakenIn, MayTakeIn, all_handled, delivery_actions, halt_of, received, stop_of}
 use Rattle.da_core.specs.Begins.{HasStopped, MayStop}
 use Rattle.da_core.specs.Known.{data_of}

@@ -2,18 +2,18 @@
 use Rattle.std.specs.Prelude.{◌≡◌, ℕ, ◌≤◌, List, [], ◌∷◌, ◌++◌, length, map, flat_map, refl, OnOk}
 use Rattle.std.proofs.Common.{◌∙◌, ap, sym, subst, append_assoc, append-nil, drop, Result, Ok, Err}
 use Rattle.std.proofs.lemmas.List.{at_drop_all, map-append}
-use Rattle.da_lang.specs.declared.program.Alt.{Alt, out-Alt, roll-out-Alt}
+use Rattle.da_lang.specs.declared.program.Alt.{Alt, out-Alt}
 use Rattle.da_lang.specs.declared.program.BindArg.{BindArg}
 use Rattle.da_lang.specs.declared.program.Class.{Class}
 use Rattle.da_lang.specs.declared.program.Handler.{Handler}
-use Rattle.da_lang.specs.declared.program.Item.{Item, out-Item, roll-out-Item}
+use Rattle.da_lang.specs.declared.program.Item.{Item, out-Item}
 use Rattle.da_lang.specs.declared.program.ItemKind.{ItemKind, roll-ItemKind}
 use Rattle.da_lang.specs.declared.program.ItemKind.TheVariants as it
 use Rattle.da_lang.specs.declared.program.ItemKind.TheOpen.{ItemKind-F}
 use Rattle.da_lang.specs.declared.program.ItemKind.TheFolds.{fold-Alt, fold-RBranch, fold-roll-ItemKind, fold_out-Alt, fold_out-Item, fold_out-RBranch, map-ItemKind}
 use Rattle.da_lang.specs.declared.program.RBranch.{RBranch, out-RBranch}
 use Rattle.da_lang.specs.declared.program.RExpr.{RExpr}
-use Rattle.da_machine.specs.Points.{AtLabel, AtAwait, AltPoints, Point, Points, alt_points_step, branch_points_step, class_points, condition_of, conditions_of, item_points_step, kind_points_step, points_in, points_of}
+use Rattle.da_machine.specs.Points.{AltPoints, Points, alt_points_step, branch_points_step, condition_of, conditions_of, item_points_step, kind_points_step, points_in, points_of}
 use Rattle.da_core.specs.Waits.{Waits, alts_wait, branches_wait, handlers_wait, item_waits, items_wait, kind_points, kind_waits, waits_at, waits_of}
 
 alt_points : Alt → AltPoints

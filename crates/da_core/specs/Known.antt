@@ -1,5 +1,5 @@
 -- What a process knows, where code keeps it.
-use Rattle.std.specs.Prelude.{◌≡◌, List, [], map}
+use Rattle.std.specs.Prelude.{◌≡◌, [], map}
 use Rattle.da_values.specs.Value.{val_of}
 use Rattle.da_lang.specs.declared.program.Class.{Class}
 use Rattle.da_lang.specs.declared.program.Program.{Program}
