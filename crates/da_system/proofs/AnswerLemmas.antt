@@ -1,20 +1,17 @@
 -- What the answer to an event tells, by its kind.
 use Rattle.std.proofs.Common.{◌≡◌, refl, sym, ◌∙◌, ap, subst, Bool, true, false, List, length}
-use Rattle.std.specs.Prelude.{◌↔◌, if◌then◌else◌, Option, Some, None, Result, Ok, Err, IsErrOf, IsSome, IsTrue, OnErr, OnOk, is_err, is_ok}
+use Rattle.std.specs.Prelude.{◌↔◌, Option, Some, None, Result, Ok, Err, IfErr, IsErrOf, IsSome, IsTrue, OnOk}
 use Rattle.std.proofs.lemmas.Bool.{false≢true}
 use Rattle.da_lang.specs.declared.event.Action.{Action}
 use Rattle.da_lang.specs.declared.event.Event.{Event}
 use Rattle.da_lang.specs.declared.program.Program.{Program}
 use Rattle.da_core.specs.declared.place.StepFault.{StepFault}
 use Rattle.da_core.specs.declared.place.StepFault.TheVariants.{Forbidden, Memory, Spent}
-use Rattle.da_core.specs.declared.compiled.Compiled.{Compiled}
-use Rattle.da_core.specs.Compiled.{IsCompiled}
-use Rattle.da_core.specs.Compiled as compiled
-use Rattle.da_core.specs.RunsNow.{RunsNow}
 use Rattle.da_system.specs.declared.system.System.{System}
-use Rattle.da_system.specs.Channels.{no_letters}
-use Rattle.da_system.specs.State.{Answers, HasBegun, HasStepped, IsReady, StandAlike, StandFrom, Stands, Whichever, is_spent, program_of}
+use Rattle.da_system.specs.Queues as queues
+use Rattle.da_system.specs.State.{Answers, HasBegun, HasPosted, HasStepped, IsReady, StandAlike, StandFrom, Stands, Whichever, is_spent, program_of}
 use Rattle.da_system.specs.SystemStep.{AfterEvent, SystemState, sys_step}
+use Rattle.da_system.proofs.StandLemmas.{stands_on}
 
 abbrev Answer : Type 0
 Answer = Result (Unit {0}) StepFault
@@ -68,40 +65,21 @@ pub none_spent : (system : System) (s : SystemState) → is_spent system ≡ tru
 none_spent system s spent stands = false≢true (sym stands.unspent ∙ spent)
 
 -- what stands beside the flag and the cores is the same
-stands_as : (system left : System) (s : SystemState) → left.spent ≡ system.spent → left.compiled.now ≡ system.compiled.now → left.cores.items ≡ system.cores.items → Stands system s → Stands left s
-stands_as system left s spent same cores stands = record {
-  unspent = spent ∙ stands.unspent;
-  compiled = subst IsCompiled (sym same) stands.compiled;
-  runs = subst (λ (c : Compiled). RunsNow (compiled.program_of c)) (sym same) stands.runs;
-  kind = stands.kind ∙ ap (λ (c : Compiled). (compiled.program_of c).kind) (sym same);
-  each = ap length cores ∙ stands.each ∙ ap (λ (c : Compiled). length (compiled.program_of c).procs) (sym same);
-  cores = subst (λ xs. StandFrom (program_of left) 1 xs s.worlds) (sym cores) (subst (λ (c : Compiled). StandFrom (compiled.program_of c) 1 system.cores.items s.worlds) (sym same) stands.cores);
-  channels = stands.channels ∙ ap (λ (c : Compiled). no_letters (length (compiled.program_of c).procs)) (sym same);
-}
+stands_as : (system left : System) (s : SystemState) → left.spent ≡ system.spent → left.compiled.now ≡ system.compiled.now → left.cores.items ≡ system.cores.items → left.channels ≡ system.channels → Stands system s → Stands left s
+stands_as system left s spent same cores channels stands =
+    stands_on system left s s stands (spent ∙ stands.unspent) same stands.sound (ap length cores) (subst (λ xs. StandFrom (program_of system) 1 xs s.worlds) (sym cores) stands.cores)
+    (ap queues.count_of channels) (subst (λ c. queues.StandsFor c s.channels) (sym channels) stands.channels)
 
-pub alike : (system left : System) → left.spent ≡ system.spent → left.compiled.now ≡ system.compiled.now → left.cores.items ≡ system.cores.items → StandAlike system left
-alike system left spent same cores = λ s. (stands_as system left s spent same cores, stands_as left system s (sym spent) (sym same) (sym cores))
+pub alike : (system left : System) → left.spent ≡ system.spent → left.compiled.now ≡ system.compiled.now → left.cores.items ≡ system.cores.items → left.channels ≡ system.channels → StandAlike system left
+alike system left spent same cores channels = λ s. (stands_as system left s spent same cores channels, stands_as left system s (sym spent) (sym same) (sym cores) (sym channels))
 
--- WHAT AN ANSWER THAT WAS TESTED TELLS
+-- WHERE MESSAGES WERE POSTED LAST
 
-module _ {T E : Type 0} (r : Result T E) (b : Bool) (is : b ≡ is_err r) where
-  pub when_ok : (P : Type 0) → b ≡ false → OnOk r P → P
-  when_ok P never holds = by r is holds
-    where
-      by : (x : Result T E) → b ≡ is_err x → OnOk x P → P
-      by (Ok x) same here = here
-      by (Err e) same here = absurd (false≢true (sym never ∙ same))
-
-  pub when_err : (P : Type 0) → b ≡ true → OnErr r P → P
-  when_err P failed holds = by r is holds
-    where
-      by : (x : Result T E) → b ≡ is_err x → OnErr x P → P
-      by (Ok x) same here = absurd (false≢true (sym same ∙ failed))
-      by (Err e) same here = here
-
-  pub chosen_ok : {A : Type 0} (x y : A) → b ≡ false → (if is_ok r then x else y) ≡ x
-  chosen_ok x y never = by r is
-    where
-      by : (z : Result T E) → b ≡ is_err z → (if is_ok z then x else y) ≡ x
-      by (Ok z) same = refl
-      by (Err e) same = absurd (false≢true (sym never ∙ same))
+-- the answer is that of posting: where there was memory, the event was done
+pub posted_answers : (step : SystemState → Option AfterEvent) (system mid left : System) (old new sent : List Action) (r : Answer)
+    → OnOk r (HasPosted mid sent left) → IfErr r (λ fault. (fault ≡ Memory) × (is_spent left ≡ true))
+    → Whichever system (λ s. HasBegun (step s) old new) → (HasPosted mid sent left → Whichever system (λ s. HasStepped (step s) left old new)) → Answers step system r left old new
+posted_answers step system mid left old new sent (Ok done) posted failed begun stepped = stepped posted
+posted_answers step system mid left old new sent (Err Memory) posted failed begun stepped = (failed.1, begun)
+posted_answers step system mid left old new sent (Err Forbidden) posted failed begun stepped = absurd (let clash : ◌≡◌ {A = StepFault} Forbidden Memory = failed.0 in cc)
+posted_answers step system mid left old new sent (Err Spent) posted failed begun stepped = absurd (let clash : ◌≡◌ {A = StepFault} Spent Memory = failed.0 in cc)

@@ -1,12 +1,16 @@
 pub mod AcceptedStates
 pub mod AnswerLemmas
 pub mod FlatLemmas
+pub mod LetterLemmas
+pub mod MadeLemmas
 pub mod NoRows
-pub mod QuietMoves
+pub mod PlaceLemmas
+pub mod QueueLaws
 pub mod SoundLaws
 pub mod StandLemmas
 pub mod StepLemmas
 pub mod StopLaws
 pub mod SystemExamples
 pub mod SystemLaws
+pub mod Tested
 pub mod WorldLemmas

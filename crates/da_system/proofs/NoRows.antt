@@ -1,12 +1,13 @@
 -- A program that runs as yet asks nothing of histories: a process has no answers to tell, and keeps no rows.
 use Rattle.std.specs.Prelude.{◌≡◌, refl, ℕ, Bool, true, ◌&&◌, ◌==◌, List, [], ◌∷◌, ◌++◌, length, map, sum, Option, Some, None}
 use Rattle.std.specs.List.{AllByRecursion, filter, flat_map, list_all}
-use Rattle.std.proofs.Common.{◌∙◌, ap, sym, append-nil}
+use Rattle.std.proofs.Common.{◌∙◌, ap, sym}
 use Rattle.std.proofs.lemmas.Bool.{false≢true, and_parts}
 use Rattle.da_values.proofs.Members.{each_from_all}
 use Rattle.da_lang.specs.declared.event.Action.TheVariants.{Answer, Kept}
 use Rattle.da_lang.specs.declared.program.Alt.{Alt}
 use Rattle.da_lang.specs.declared.program.Class.{Class}
+use Rattle.da_lang.specs.declared.program.Handler.{Handler}
 use Rattle.da_lang.specs.declared.program.Item.{Item}
 use Rattle.da_lang.specs.declared.program.ItemKind.{ItemKind}
 use Rattle.da_lang.specs.declared.program.ItemKind.TheOpen.{Alt-F, Item-F, RBranch-F}
@@ -30,7 +31,7 @@ use Rattle.da_lang.proofs.ItemInduction.{ItemCases, items_induction}
 use Rattle.da_lang.proofs.LiveLaws.{alt_gens, branch_gens, kind_gens, operand_gens, signed_gens, gens-Truth, gens-Cmp, gens-Not, gens-And, gens-Or, gens-Term, gens-Chain, gens_of_signed, gens_of_item, gens_of_alt, gens_of_branch, gens-If, gens-While, gens-For, gens-Call, gens-Await, gens-Label, gens-Pass, gens-Output, gens-Send, gens-Assign, gens-Add, gens-Del}
 use Rattle.da_types.proofs.totality.Worlds.{class_has}
 use Rattle.da_core.specs.Plain.{is_plain, is_plain_operand, is_plain_part}
-use Rattle.da_core.specs.RunsNow.{RunsNow, alt_all, branch_all, class_all, item_all, items_all, kind_all}
+use Rattle.da_core.specs.RunsNow.{RunsNow, alt_all, branch_all, class_all, handler_all, item_all, items_all, kind_all}
 use Rattle.da_core.proofs.PlainForms.{plain-Cmp, plain-Not, plain-And, plain-Or, plain-Quant, plain-Chain, plain-Agg}
 use Rattle.da_core.proofs.RunForms.{run-If, run-While, run-For, run-Call, run-Await}
 use Rattle.da_core.proofs.RunLaws.{runs_class}
@@ -114,16 +115,24 @@ item_cases = record {
 
 -- A CLASS
 
+handlers_none : (hs : List Handler) → list_all handler_all hs ≡ true → flat_map (λ (h : Handler). flat_map item_gens h.body) hs ≡ []
+unfolding item_cases
+handlers_none [] all = refl
+handlers_none (h ∷ hs) all =
+    let both = and_parts (handler_all h) (list_all handler_all hs) all in
+    ap (λ (g : Gens). g ++ flat_map (λ (x : Handler). flat_map item_gens x.body) hs) (none_in h.body (items_induction item_cases h.body) both.0) ∙ handlers_none hs both.1
+
 class_none : (class : Class) → class_all class ≡ true → class_gens class ≡ []
 unfolding item_cases
 class_none class passes =
     let its = runs_class class passes in
-    let run = (and_parts ((length class.queries == 0) && (length class.handlers == 0) && items_all class.setup) (items_all class.run) passes).1 in
-    rw (its.no_queries, its.no_handlers) (append-nil (flat_map item_gens class.run) ∙ none_in class.run (items_induction item_cases class.run) run)
+    let last = and_parts ((length class.queries == 0) && items_all class.setup && items_all class.run) (list_all handler_all class.handlers) passes in
+    let run = (and_parts ((length class.queries == 0) && items_all class.setup) (items_all class.run) last.0).1 in
+    rw its.no_queries (ap (λ (g : Gens). g ++ flat_map (λ (h : Handler). flat_map item_gens h.body) class.handlers) (none_in class.run (items_induction item_cases class.run) run) ∙ handlers_none class.handlers last.1)
 
 module _ (p : Program) (runs : RunsNow p) (me : ℕ) (d : Data) where
   passes : (class : Class) → class_of p me ≡ Some class → class_all class ≡ true
-  passes class is = each_from_all class_all p.classes class runs.classes (class_has p me class is)
+  passes class is = each_from_all class_all p.classes class runs (class_has p me class is)
 
   kept_by : (found : Option Class) → class_of p me ≡ found → kept_of found d ≡ 0
   kept_by None is = refl

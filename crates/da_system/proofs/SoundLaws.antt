@@ -128,7 +128,7 @@ module _ (program : Program) (law : StaysShaped program) where
 
   -- CHANNELS
 
-  letters_in : (channels : Channels) (p q : ℕ) → AllLetters program channels → Letters (channel channels p q)
+  pub letters_in : (channels : Channels) (p q : ℕ) → AllLetters program channels → Letters (channel channels p q)
   letters_in channels p q all =
       let row : Row (or_empty (at_number channels p)) = all_or_empty Letters (at_number channels p) (all_numbered Row channels p all) in
       all_or_empty (IsLetter program) (at_number (or_empty (at_number channels p)) q) (all_numbered Letters (or_empty (at_number channels p)) q row)

@@ -1,6 +1,6 @@
 -- Cores and the worlds that they stand for, by their numbers.
-use Rattle.std.proofs.Common.{◌≡◌, refl, sym, subst, ℕ, zero, suc, ◌+◌, ◌<◌, ◌≤◌, true, false, List, [], ◌∷◌, ◌++◌, length, map, arith, ap, ◌∙◌}
-use Rattle.std.specs.Prelude.{Option, Some, None, is_some, slice_get, slice_index_or, slice_set}
+use Rattle.std.proofs.Common.{◌≡◌, refl, sym, subst, ℕ, zero, suc, ◌+◌, ◌≤◌, true, false, List, [], ◌∷◌, ◌++◌, length, map, arith, ap, ◌∙◌}
+use Rattle.std.specs.Prelude.{Option, Some, None, is_some, slice_get, slice_set}
 use Rattle.std.specs.List.{range_with_len}
 use Rattle.std.proofs.lemmas.Bool.{false≢true}
 use Rattle.std.proofs.lemmas.Option.{slice_get_within}
@@ -9,12 +9,17 @@ use Rattle.da_lang.specs.World.{World, at_number, opening}
 use Rattle.da_core.specs.declared.process.Core.{Core}
 use Rattle.da_core.specs.StandsFor.{StandsFor}
 use Rattle.da_core.specs.StandsFor as process
-use Rattle.da_system.specs.Channels.{put_numbered}
+use Rattle.da_core.specs.declared.compiled.Compiled.{Compiled}
 use Rattle.da_core.specs.Compiled.{IsCompiled}
+use Rattle.da_core.specs.Compiled as compiled
 use Rattle.da_core.specs.RunsNow.{RunsNow}
 use Rattle.da_system.specs.declared.system.System.{System}
+use Rattle.da_system.specs.Channels.{no_letters, put_numbered}
+use Rattle.da_system.specs.Queues as queues
+use Rattle.da_system.specs.SoundState.{IsSoundState}
 use Rattle.da_system.specs.State.{StandFrom, Stands, StandsAt, program_of}
-use Rattle.da_system.specs.SystemStep.{start}
+use Rattle.da_system.specs.SystemStep.{SystemState, start}
+use Rattle.da_system.proofs.AcceptedStates.{sound_start}
 use Rattle.da_system.proofs.SystemLaws.{length-opened}
 
 module _ (program : Program) where
@@ -95,21 +100,38 @@ module _ (program : Program) where
       subst (λ k. StandFrom program 1 (cores ++ core ∷ []) (map (opening program) (range_with_len 1 k))) (let next : suc n ≡ n + 1 = omega arith in next)
       (opened_from 1 n cores core stand (subst (λ k. StandsAt program k core (opening program k)) here at))
 
--- a system of so many new processes stands for the state before any event
+-- a system stands for the state before any event, where each core is that of a new process and nothing is under way
 pub opened_stands : (system : System) (n : ℕ) → system.spent ≡ false → IsCompiled system.compiled.now → RunsNow (program_of system) → n ≡ length (program_of system).procs
-    → StandFrom (program_of system) 1 system.cores.items (map (opening (program_of system)) (range_with_len 1 n)) → Stands system (start (program_of system))
-opened_stands system n unspent compiled runs all stand =
+    → StandFrom (program_of system) 1 system.cores.items (map (opening (program_of system)) (range_with_len 1 n))
+    → queues.count_of system.channels ≡ length (program_of system).procs → queues.StandsFor system.channels (no_letters (length (program_of system).procs)) → Stands system (start (program_of system))
+opened_stands system n unspent compiled runs all stand count channels =
     let here : StandFrom (program_of system) 1 system.cores.items (map (opening (program_of system)) (range_with_len 1 (length (program_of system).procs))) =
     subst (λ k. StandFrom (program_of system) 1 system.cores.items (map (opening (program_of system)) (range_with_len 1 k))) all stand in
     record {
       unspent = unspent;
       compiled = compiled;
       runs = runs;
-      kind = refl;
+      sound = sound_start (program_of system) compiled.accepted;
       each = stand_length (program_of system) 1 system.cores.items _ here ∙ length-opened (program_of system) 1 (length (program_of system).procs);
       cores = here;
-      channels = refl;
+      count = count;
+      channels = channels;
     }
+
+-- what stands beside the flag, the cores and the channels is the same
+pub stands_on : (system left : System) (s next : SystemState) → Stands system s → left.spent ≡ false → left.compiled.now ≡ system.compiled.now → IsSoundState (program_of system) next
+    → length left.cores.items ≡ length system.cores.items → StandFrom (program_of system) 1 left.cores.items next.worlds
+    → queues.count_of left.channels ≡ queues.count_of system.channels → queues.StandsFor left.channels next.channels → Stands left next
+stands_on system left s next stands unspent same sound many cores count channels = record {
+  unspent = unspent;
+  compiled = subst IsCompiled (sym same) stands.compiled;
+  runs = subst (λ (c : Compiled). RunsNow (compiled.program_of c)) (sym same) stands.runs;
+  sound = subst (λ (c : Compiled). IsSoundState (compiled.program_of c) next) (sym same) sound;
+  each = many ∙ stands.each ∙ ap (λ (c : Compiled). length (compiled.program_of c).procs) (sym same);
+  cores = subst (λ (c : Compiled). StandFrom (compiled.program_of c) 1 left.cores.items next.worlds) (sym same) cores;
+  count = count ∙ stands.count ∙ ap (λ (c : Compiled). length (compiled.program_of c).procs) (sym same);
+  channels = channels;
+}
 
 -- the number of a core that is there is not greater than the number of cores
 pub within : (cores : List Core) (p : ℕ) → is_some (at_number cores p) ≡ true → p ≤ length cores
@@ -119,23 +141,3 @@ within cores (suc place) there = of (slice_get cores place) refl there
     of : (found : Option Core) → slice_get cores place ≡ found → is_some found ≡ true → suc place ≤ length cores
     of None is some = absurd (false≢true some)
     of (Some core) is some = omega (arith, slice_get_within cores place core is)
-
--- A MEMBER BY ITS PLACE AND BY ITS NUMBER
-
-get_is : {A : Type 0} (xs : List A) (place : ℕ) (d : A) → place < length xs → slice_get xs place ≡ Some (slice_index_or xs place d)
-get_is [] place d inside = absurd (omega (arith, inside))
-get_is (x ∷ xs) zero d inside = refl
-get_is (x ∷ xs) (suc place) d inside = get_is xs place d (omega (arith, inside))
-
-pub numbered_at : {A : Type 0} (xs : List A) (p place : ℕ) (x : A) → p ≡ place + 1 → place < length xs → x ≡ slice_index_or xs place x → at_number xs p ≡ Some x
-numbered_at xs zero place x is inside same = absurd (omega (arith, is))
-numbered_at xs (suc k) place x is inside same = ap (slice_get xs) (let here : k ≡ place = omega (arith, is) in here) ∙ get_is xs place x inside ∙ ap Some (sym same)
-
-pub numbered_put : {A : Type 0} (xs : List A) (p place : ℕ) (x : A) → p ≡ place + 1 → slice_set xs place x ≡ put_numbered xs p x
-numbered_put xs zero place x is = absurd (omega (arith, is))
-numbered_put xs (suc k) place x is = ap (λ n. slice_set xs n x) (let here : place ≡ k = omega (arith, is) in here)
-
-pub set_same : {A : Type 0} (xs : List A) (place : ℕ) (x y : A) → y ≡ x → x ≡ slice_index_or xs place x → slice_set xs place y ≡ xs
-set_same [] place x y same is = refl
-set_same (z ∷ zs) zero x y same is = ap (λ h. h ∷ zs) (same ∙ is)
-set_same (z ∷ zs) (suc place) x y same is = ap (λ t. z ∷ t) (set_same zs place x y same is)

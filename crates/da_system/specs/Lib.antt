@@ -1,5 +1,6 @@
 pub mod Channels
 pub mod FlatChannels
+pub mod Queued
 pub mod Queues
 pub mod SoundState
 pub mod SourceRun

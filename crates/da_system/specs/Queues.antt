@@ -20,7 +20,7 @@ count_of queues = queues.count
 -- There is a queue for each channel, in one list, with the same messages and times in their order.
 pub record StandsFor (queues : Queues) (channels : Channels) : Type 0 where
   pub square : IsSquare queues.count channels
-  pub same : map (map letter_of) queues.queues.items ≡ flat channels
+  pub same : map (map letter_of) queues.queues ≡ flat channels
 
 -- it holds of whatever channels they stand for
 abbrev pub Each : Queues → (Channels → Type 0) → Type 0
@@ -29,6 +29,13 @@ Each queues holds = (channels : Channels) → StandsFor queues channels → hold
 -- one of so many processes
 abbrev pub IsAmong : ℕ → ℕ → Type 0
 IsAmong count p = (0 < p) × (p ≤ count)
+
+abbrev pub IsNoPair : ℕ → ℕ → ℕ → Type 0
+IsNoPair count p q = IsAmong count p → IsAmong count q → ⊥
+
+-- there may be a message of this number, counted from 1, from one of so many processes to another
+abbrev pub HasPlace : ℕ → ℕ → ℕ → ℕ → Type 0
+HasPlace count p q i = IsAmong count p × IsAmong count q × (0 < i)
 
 -- what an action sends goes from one of so many processes to one of them
 abbrev pub IsSent : ℕ → Action → Type 0

@@ -2,7 +2,7 @@
 use Rattle.std.specs.Prelude.{◌≡◌, ◌↔◌, ℕ, ◌+◌, Bool, true, false, List, [], ◌∷◌, ◌++◌, length, Option, Some, None, Result, Ok, Err}
 use Rattle.da_lang.specs.declared.event.Action.{Action}
 use Rattle.da_lang.specs.declared.program.Program.{Program}
-use Rattle.da_lang.specs.World.{World}
+use Rattle.da_lang.specs.World.{Phase, Waiting, World}
 use Rattle.da_machine.specs.RunsTo.{IsFront}
 use Rattle.da_core.specs.declared.place.StepFault.{StepFault}
 use Rattle.da_core.specs.declared.place.StepFault.TheVariants.{Forbidden, Memory, Spent}
@@ -13,6 +13,7 @@ use Rattle.da_core.specs.RunsNow.{RunsNow}
 use Rattle.da_core.specs.StandsFor.{StandsFor}
 use Rattle.da_core.specs.StandsFor as process
 use Rattle.da_system.specs.declared.system.System.{System}
+use Rattle.da_system.specs.Channels.{after_actions}
 use Rattle.da_system.specs.Queues as queues
 use Rattle.da_system.specs.SoundState.{IsSoundState}
 use Rattle.da_system.specs.SystemStep.{AfterEvent, SystemState}
@@ -79,3 +80,21 @@ Answers step system (Ok done) left old new = Whichever system (λ s. HasStepped 
 Answers step system (Err Forbidden) left old new = Whichever system (λ s. step s ≡ None) × StandAlike system left × (new ≡ old)
 Answers step system (Err Memory) left old new = (is_spent left ≡ true) × Whichever system (λ s. HasBegun (step s) old new)
 Answers step system (Err Spent) left old new = ⊥
+
+-- the messages of these actions were posted, and nothing else has changed
+pub record HasPosted (system : System) (actions : List Action) (left : System) : Type 0 where
+  pub spent : left.spent ≡ system.spent
+  pub compiled : left.compiled.now ≡ system.compiled.now
+  pub cores : left.cores.items ≡ system.cores.items
+  pub count : queues.count_of left.channels ≡ queues.count_of system.channels
+  pub channels : queues.Each system.channels (λ channels. queues.StandsFor left.channels (after_actions channels actions))
+
+-- a process in this phase waits at a label or an `await`
+abbrev pub waits_in : Phase → Bool
+waits_in Waiting = true
+waits_in _ = false
+
+-- the process of this world, if it is there, waits
+abbrev pub waits_at : Option World → Bool
+waits_at None = false
+waits_at (Some w) = waits_in w.phase

@@ -1,19 +1,20 @@
 //! The messages that are under way.
-ghost use Rattle.da_lang.specs.declared.event.Action.{Action as ActionOf};
-ghost use Rattle.da_system.specs.Channels.{after_actions, channel, may_arrive as arrive_lem, may_lose as lose_lem, may_repeat as repeat_lem, no_letters, with_letter, without_letter};
-ghost use Rattle.da_system.specs.Queues.{AreSent, Each, IsAmong, StandsFor, count_of, letter_of};
 ghost use Rattle.da_lang.specs.World.{at_number};
+ghost use Rattle.da_system.specs.Channels.{after_action, after_actions, channel, may_arrive as arrive_lem, may_lose as lose_lem, may_repeat as repeat_lem, no_letters, with_letter, without_letter};
+ghost use Rattle.da_system.specs.FlatChannels.{place_of as place_lem};
+ghost use Rattle.da_system.specs.Queues.{AreSent, Each, HasPlace, IsAmong, IsNoPair, IsSent, StandsFor, count_of, letter_of};
 ghost use Rattle.std.specs.Option.{option_copied, option_map};
-ghost use Rattle.std.specs.Prelude.{◌≡◌, IfOk, OnOk, is_some, true};
+ghost use Rattle.std.specs.Prelude.{◌≡◌, ◌<◌, ◌^◌, IfOk, IfSome, MatchOption, OnOk, OnSome, length};
 
 use crate::queue::{InFlight, Queue};
 use da_lang::{Action, ChannelKind};
 use da_values::{NoMemory, copy_value};
 use std::alloc::Global;
+use std::marker::Model;
 
 /// The channels of so many processes: for each two of them, a process with itself included, the messages that are under
-/// way from the one to the other. Those of the first sender come first, in the order of the recipients. Contracts see the
-/// channels that they stand for, by `StandsFor`.
+/// way from the one to the other. Those of the first sender come first, in the order of the recipients. Contracts see how
+/// many processes there are and the queues, and the channels that they stand for, by `StandsFor`.
 #[derive(Debug, Drop)]
 pub struct Channels {
     alloc: Global,
@@ -21,10 +22,28 @@ pub struct Channels {
     queues: Vec<Queue>,
 }
 
+impl Model for Channels {
+    ghost use Rattle.da_system.specs.Queued.{Queued};
+    ghost use Rattle.da_system.specs.contracts.queue.InFlight as letter;
+    ghost use Rattle.std.specs.Coded.{codes};
+    ghost use Rattle.std.specs.Prelude.{◌≡◌, ◌*◌, ◌<◌, ◌^◌, vec_len};
+
+    ghost Value = { Queued };
+
+    ghost coded = { Prim.hlevel (codes, letter.the_row.coded) };
+
+    ghost view = { λ channels. record { count = channels.count; queues = channels.queues.items } };
+
+    ghost invariant = { λ channels. (channels.count < 2 ^ 16)
+        × (vec_len channels.queues ≡ channels.count * channels.count) };
+}
+
 impl Channels {
     /// The channels of so many processes, with nothing under way.
     pub fn new(alloc: Global, count: usize) -> Result<Channels, NoMemory>
-        ensures { IfOk result (λ channels. (count_of channels ≡ count) × StandsFor channels (no_letters count)) }
+        requires { count < 2 ^ 16 }
+        ensures count { IfOk result (λ channels. count_of channels ≡ count) }
+        ensures stands { IfOk result (λ channels. StandsFor channels (no_letters count)) }
     {
         let mut queues = Vec::new(alloc);
         for _place in 0..count * count {
@@ -42,23 +61,30 @@ impl Channels {
     /// Message `i` of the channel from `p` to `q`, counted from 1, or `None` where there is no such message. It takes no
     /// memory.
     pub fn letter(&self, p: u32, q: u32, i: u32) -> Option<&InFlight>
-        ensures { Each self.now (λ channels.
+        ensures value { Each self.now (λ channels.
             option_map letter_of (option_copied result) ≡ at_number (channel channels p q) i) }
+        ensures there { OnSome result (HasPlace (count_of self.now) p q i) }
+        ensures numbers { OnSome result ((p < 2 ^ 16) × (q < 2 ^ 16)) }
     {
         let place = self.place_of(p, q)?;
         let at = (i as usize).checked_sub(1)?;
         self.queues.get(place)?.get(at)
     }
 
-    /// Message `i` of the channel from `p` to `q`, if it is there, leaves the channel. It takes no memory.
-    pub fn remove(&mut self, p: u32, q: u32, i: u32)
+    /// Message `i` of the channel from `p` to `q`, if it is there, leaves the channel. The two processes are there, and
+    /// messages are counted from 1. It takes no memory.
+    pub fn remove(&mut self, p: u32, q: u32, i: u32) -> Option<InFlight>
+        requires { HasPlace (count_of self.old) p q i }
         ensures count { count_of self.new ≡ count_of self.old }
-        ensures stands { Each self.old (λ channels. StandsFor self.new (without_letter channels p q i)) }
+        ensures value { Each self.old (λ channels.
+            option_map letter_of result ≡ at_number (channel channels p q) i) }
+        ensures stands { Each self.old (λ channels.
+            StandsFor self.new (without_letter channels p q i)) }
     {
-        let (Some(place), Some(at)) = (self.place_of(p, q), (i as usize).checked_sub(1)) else {
-            return;
+        let Some(place) = self.place_of(p, q) else {
+            unreachable!()
         };
-        self.queues[place].remove(at);
+        self.queues[place].remove(i as usize - 1)
     }
 
     /// A message goes to the end of the channel from `p` to `q`, which are there.
@@ -83,19 +109,49 @@ impl Channels {
             StandsFor self.new (after_actions channels actions.now))) }
     {
         for action in actions {
-            if let Action::Sent { p, q, t, v } = action {
-                let letter = InFlight {
-                    value: copy_value(self.alloc, v)?,
-                    time: *t,
-                };
-                self.push(u32::from(*p), u32::from(*q), letter)?;
-            }
+            self.post_one(action)?;
         }
         Ok(())
     }
 
+    // The message that this action sends, if it sends one, goes into its channel.
+    fn post_one(&mut self, action: &Action) -> Result<(), NoMemory>
+        requires { IsSent (count_of self.old) action.now }
+        ensures count { count_of self.new ≡ count_of self.old }
+        ensures stands { OnOk result (Each self.old (λ channels.
+            StandsFor self.new (after_action channels action.now))) }
+    {
+        match action {
+            Action::Sent { p, q, t, v } => {
+                let value = copy_value(self.alloc, v)?;
+                self.push(u32::from(*p), u32::from(*q), InFlight { value, time: *t })
+            }
+            _ => Ok(()),
+        }
+    }
+
+    /// A copy of message `i` of the channel from `p` to `q`, if it is there, goes to the end of the channel.
+    pub fn repeat(&mut self, p: u32, q: u32, i: u32) -> Result<(), NoMemory>
+        ensures count { count_of self.new ≡ count_of self.old }
+        ensures stands { OnOk result (Each self.old (λ channels.
+            IfSome (at_number (channel channels p q) i) (λ letter.
+            StandsFor self.new (with_letter channels p q letter)))) }
+    {
+        let Some(letter) = self.letter(p, q, i) else {
+            return Ok(());
+        };
+        let copy = InFlight {
+            value: copy_value(self.alloc, &letter.value)?,
+            time: letter.time,
+        };
+        self.push(p, q, copy)
+    }
+
     // The place of the channel from `p` to `q`, or `None` where one of them is not there.
     fn place_of(&self, p: u32, q: u32) -> Option<usize>
+        ensures { MatchOption result (IsNoPair (count_of self.now) p q)
+            (λ place. IsAmong (count_of self.now) p × IsAmong (count_of self.now) q
+            × (place ≡ place_lem (count_of self.now) p q) × (place < length self.now.queues)) }
     {
         let from = (p as usize).checked_sub(1)?;
         let to = (q as usize).checked_sub(1)?;
@@ -133,8 +189,7 @@ pub fn may_repeat(kind: ChannelKind) -> bool
 {
     match kind {
         ChannelKind::UnorderedUnreliable => true,
-        ChannelKind::FifoReliable
-        | ChannelKind::FifoUnreliable
-        | ChannelKind::UnorderedReliable => false,
+        ChannelKind::FifoReliable | ChannelKind::FifoUnreliable | ChannelKind::UnorderedReliable =>
+            false,
     }
 }

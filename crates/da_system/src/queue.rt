@@ -21,16 +21,16 @@ pub struct Queue {
 }
 
 impl Model for Queue {
+    ghost use Rattle.da_system.specs.contracts.queue.InFlight as letter;
     ghost use Rattle.da_system.specs.declared.queue.InFlight.{InFlight};
+    ghost use Rattle.std.specs.Coded.{coded_list};
     ghost use Rattle.std.specs.Prelude.{List};
 
     ghost Value = { List InFlight };
 
+    ghost coded = { coded_list letter.the_row.coded };
+
     ghost view = { λ queue. queue.letters.items };
-
-    ghost use Rattle.std.specs.Coded.{coded_list};
-
-    ghost coded = { coded_list InFlight.code };
 }
 
 impl Queue {
@@ -50,12 +50,13 @@ impl Queue {
         self.letters.get(at)
     }
 
-    /// The message at a place, counted from 0, leaves the channel, if it is there. It takes no memory, and time in step with
-    /// the distance from the nearer end.
-    pub fn remove(&mut self, at: usize)
-        ensures { self.new ≡ remove self.old at }
+    /// The message at a place, counted from 0, leaves the channel, or `None` where there is none. It takes no memory, and
+    /// time in step with the distance from the nearer end.
+    pub fn remove(&mut self, at: usize) -> Option<InFlight>
+        ensures value { result ≡ slice_get self.old at }
+        ensures items { self.new ≡ remove self.old at }
     {
-        let _ = self.letters.remove(at);
+        self.letters.remove(at)
     }
 
     /// A message goes to the end of the channel. Where memory is refused it is dropped, and the channel is as it was.

@@ -1,21 +1,22 @@
 //! The processes of a program, and their steps.
 ghost use Rattle.da_core.specs.Compiled.{IsCompiled, program_of as compiled_program};
+ghost use Rattle.da_core.specs.Made.{phase_at};
 ghost use Rattle.da_core.specs.RunsNow.{RunsNow};
 ghost use Rattle.da_lang.specs.Accepted.{IsAccepted};
 ghost use Rattle.da_lang.specs.Steps.{move_step};
 ghost use Rattle.da_lang.specs.World.{at_number};
 ghost use Rattle.da_lang.specs.declared.event.Action.{Action as ActionOf};
-ghost use Rattle.da_system.specs.SoundState.{IsSoundState, StaysSound};
-ghost use Rattle.da_system.specs.State.{Answers, HasBegun, HasStepped, IsReady, StandAlike, Stands, Whichever, is_spent, program_of};
 ghost use Rattle.da_system.specs.Channels.{channel};
+ghost use Rattle.da_system.specs.Queues.{AreSent, count_of};
+ghost use Rattle.da_system.specs.SoundState.{IsSoundState, StaysSound};
+ghost use Rattle.da_system.specs.State.{Answers, HasBegun, HasPosted, HasStepped, IsReady, StandAlike, Stands, Whichever, is_spent, program_of, waits_at, waits_in as waits_lem};
 ghost use Rattle.da_system.specs.SystemStep.{deliver, lose, process_step, repeat, show, start, stat, sys_step};
-ghost use Rattle.std.specs.Prelude.{◌≡◌, ◌↔◌, ◌+◌, ◌<◌, List as ListOf, MatchOption, None, IfOk, IsErrOf, IsSome, IsTrue, OnOk, false, is_some, length, option_copied, true};
+ghost use Rattle.std.specs.Prelude.{◌≡◌, ◌↔◌, ◌+◌, ◌<◌, ◌≤◌, List as ListOf, MatchOption, None, IfErr, IfOk, IsErrOf, IsSome, IsTrue, OnOk, drop, false, is_some, length, option_copied, true};
 
 use crate::channels::{Channels, may_arrive, may_lose, may_repeat};
-use crate::queue::InFlight;
 use da_core::{Compiled, Core, Place, StepFault};
 use da_lang::{Action, ChannelKind, Event};
-use da_values::{List, NoMemory, copy_value};
+use da_values::{List, NoMemory};
 use std::alloc::Global;
 
 /// The processes of a compiled program, which run by the events of a schedule. Contracts see the states that they stand
@@ -113,8 +114,8 @@ impl System<'_> {
             Event::Move { p } => self.may_move(*p, 0),
             Event::Take { p, k } => *k > 0 && self.may_move(*p, *k),
             Event::Deliver { p, q, i } => self.may_deliver(*p, *q, *i),
-            Event::Lose { p, q, i } => may_lose(self.kind()) && self.has_letter(*p, *q, *i),
-            Event::Repeat { p, q, i } => may_repeat(self.kind()) && self.has_letter(*p, *q, *i),
+            Event::Lose { p, q, i } => self.can_lose(*p, *q, *i),
+            Event::Repeat { p, q, i } => self.can_repeat(*p, *q, *i),
             Event::Show { p } => self.has_process(*p),
             Event::Stat { p } => self.has_process(*p),
         }
@@ -202,8 +203,15 @@ impl System<'_> {
         }
     }
 
-    // Puts what the actions behind the first `told` ones send into the channels.
-    fn post(&mut self, told: usize, out: &List<Action>) -> Result<(), StepFault> {
+    // The messages that the actions behind the first `told` ones send go into their channels.
+    fn post(&mut self, told: usize, out: &List<Action>) -> Result<(), StepFault>
+        requires told { told ≤ length out.now }
+        requires sent { AreSent (count_of self.old.channels) (drop told out.now) }
+        ensures program { program_of self.new ≡ program_of self.old }
+        ensures posted { OnOk result (HasPosted self.old (drop told out.now) self.new) }
+        ensures memory { IfErr result (λ fault.
+            (fault ≡ StepFault.Memory) × (is_spent self.new ≡ true)) }
+    {
         if self.channels.post(&out.as_slice()[told..]).is_err() {
             self.spent = true;
             return Err(StepFault::Memory);
@@ -225,45 +233,59 @@ impl System<'_> {
         self.channels.letter(p, q, i).is_some()
     }
 
+    // Whether process `q` waits at a label or an `await`.
+    fn waits(&self, q: u32) -> bool
+        ensures { Whichever self.now (λ s. result ≡ waits_at (at_number s.worlds q)) }
+    {
+        match self.core(q) {
+            Some(core) => is_waiting(core.place()),
+            None => false,
+        }
+    }
+
     // Whether message `i` of the channel from `p` to `q` may arrive.
     fn may_deliver(&self, p: u32, q: u32, i: u32) -> bool
         ensures { Whichever self.now (λ s.
             IsTrue result ↔ IsSome (deliver (program_of self.now) s p q i)) }
     {
-        let waits = match self.core(q) {
-            Some(core) => matches!(core.place(), Place::Label | Place::Await(_)),
-            None => false,
-        };
-        waits && may_arrive(self.kind(), i) && self.has_letter(p, q, i)
+        self.waits(q) && may_arrive(self.kind(), i) && self.has_letter(p, q, i)
+    }
+
+    // Whether message `i` of the channel from `p` to `q` may be lost.
+    fn can_lose(&self, p: u32, q: u32, i: u32) -> bool
+        ensures { Whichever self.now (λ s. IsTrue result ↔ IsSome (lose s p q i)) }
+    {
+        may_lose(self.kind()) && self.has_letter(p, q, i)
+    }
+
+    // Whether message `i` of the channel from `p` to `q` may be doubled.
+    fn can_repeat(&self, p: u32, q: u32, i: u32) -> bool
+        ensures { Whichever self.now (λ s. IsTrue result ↔ IsSome (repeat s p q i)) }
+    {
+        may_repeat(self.kind()) && self.has_letter(p, q, i)
     }
 
     // The delivery of message `i` of the channel from `p` to `q`.
-    fn deliver(
-        &mut self,
-        p: u32,
-        q: u32,
-        i: u32,
-        out: &mut List<Action>,
-    ) -> Result<(), StepFault>
+    fn deliver(&mut self, p: u32, q: u32, i: u32, out: &mut List<Action>) -> Result<(), StepFault>
         requires ready { IsReady self.old }
         requires unspent { is_spent self.old ≡ false }
         ensures program { program_of self.new ≡ program_of self.old }
         ensures answers { Answers (λ s. deliver (program_of self.old) s p q i)
             self.old result self.new out.old out.new }
     {
-        if !may_arrive(self.kind(), i) {
+        if !self.may_deliver(p, q, i) {
             return Err(StepFault::Forbidden);
         }
-        let (Some(place), Some(letter)) = (self.place_of(q), self.channels.letter(p, q, i)) else {
-            return Err(StepFault::Forbidden);
+        let Some(place) = self.place_of(q) else {
+            unreachable!()
+        };
+        let Some(letter) = self.channels.remove(p, q, i) else {
+            unreachable!()
         };
         let told = out.len();
         let core = &mut self.cores[place];
         match core.deliver(p as u16, letter.time, &letter.value, out) {
-            Ok(_) => {
-                self.channels.remove(p, q, i);
-                self.post(told, out)
-            }
+            Ok(_) => self.post(told, out),
             Err(StepFault::Memory) => {
                 self.spent = true;
                 Err(StepFault::Memory)
@@ -274,13 +296,7 @@ impl System<'_> {
     }
 
     // The loss of message `i` of the channel from `p` to `q`.
-    fn lose(
-        &mut self,
-        p: u32,
-        q: u32,
-        i: u32,
-        out: &mut List<Action>,
-    ) -> Result<(), StepFault>
+    fn lose(&mut self, p: u32, q: u32, i: u32, out: &mut List<Action>) -> Result<(), StepFault>
         requires ready { IsReady self.old }
         requires unspent { is_spent self.old ≡ false }
         ensures program { program_of self.new ≡ program_of self.old }
@@ -306,13 +322,7 @@ impl System<'_> {
     }
 
     // The repetition of message `i` of the channel from `p` to `q`: a copy goes to the end.
-    fn repeat(
-        &mut self,
-        p: u32,
-        q: u32,
-        i: u32,
-        out: &mut List<Action>,
-    ) -> Result<(), StepFault>
+    fn repeat(&mut self, p: u32, q: u32, i: u32, out: &mut List<Action>) -> Result<(), StepFault>
         requires ready { IsReady self.old }
         requires unspent { is_spent self.old ≡ false }
         ensures program { program_of self.new ≡ program_of self.old }
@@ -324,20 +334,12 @@ impl System<'_> {
         let Some(letter) = self.channels.letter(p, q, i) else {
             return Err(StepFault::Forbidden);
         };
-        let time = letter.time;
-        let copied = match copy_value(self.alloc, &letter.value) {
-            Ok(value) => self.channels.push(p, q, InFlight { value, time }),
-            Err(e) => Err(e),
+        let doubled = Action::Again {
+            p: p as u16,
+            q: q as u16,
+            t: letter.time,
         };
-        let told = match copied {
-            Ok(()) => out.push(Action::Again {
-                p: p as u16,
-                q: q as u16,
-                t: time,
-            }),
-            Err(e) => Err(e),
-        };
-        if told.is_err() {
+        if out.push(doubled).is_err() || self.channels.repeat(p, q, i).is_err() {
             self.spent = true;
             return Err(StepFault::Memory);
         }
@@ -386,5 +388,15 @@ impl System<'_> {
             return Err(StepFault::Memory);
         }
         Ok(())
+    }
+}
+
+// Whether a process that stands there waits at a label or an `await`.
+fn is_waiting(place: Place) -> bool
+    ensures { result ≡ waits_lem (phase_at place) }
+{
+    match place {
+        Place::Label | Place::Await(_) => true,
+        Place::New | Place::Ended | Place::Faulted => false,
     }
 }

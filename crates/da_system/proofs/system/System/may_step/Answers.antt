@@ -1,17 +1,8 @@
 use Rattle.std.proofs.Common.{sym}
 use Rattle.da_system.specs.State.{program_of}
 use Rattle.da_system.proofs.AnswerLemmas.{enabled_by}
-use Rattle.da_system.proofs.StepLemmas.{keeps_as, none_arrives, none_doubled, none_lost, not_enabled, shows_as}
+use Rattle.da_system.proofs.StepLemmas.{keeps_as, shows_as}
 use Rattle.da_system.proofs.system.System.may_step.Goals as goal
-
-pub returns-in-Deliver : goal.returns-in-Deliver
-returns-in-Deliver c = enabled_by (program_of c.args.self.now) c.args.self.now _ _ c.in-Deliver.is _ (λ s stands. not_enabled (none_arrives c.args.self.now s stands c.in-Deliver.p c.in-Deliver.q c.in-Deliver.i))
-
-pub returns-in-Lose : goal.returns-in-Lose
-returns-in-Lose c = enabled_by (program_of c.args.self.now) c.args.self.now _ _ c.in-Lose.is _ (λ s stands. not_enabled (none_lost c.args.self.now s stands c.in-Lose.p c.in-Lose.q c.in-Lose.i))
-
-pub returns-in-Repeat : goal.returns-in-Repeat
-returns-in-Repeat c = enabled_by (program_of c.args.self.now) c.args.self.now _ _ c.in-Repeat.is _ (λ s stands. not_enabled (none_doubled c.args.self.now s stands c.in-Repeat.p c.in-Repeat.q c.in-Repeat.i))
 
 pub returns-in-Show : goal.returns-in-Show
 returns-in-Show c = enabled_by (program_of c.args.self.now) c.args.self.now _ _ c.in-Show.is _ (λ s stands. shows_as c.args.self.now s stands c.in-Show.p c.has_process.result (sym c.has_process.ensures))

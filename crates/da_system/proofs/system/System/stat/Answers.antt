@@ -1,9 +1,14 @@
-use Rattle.std.proofs.Common.{◌≡◌, ◌∷◌, ◌++◌, [], refl, sym}
+use Rattle.std.proofs.Common.{◌≡◌, ◌∷◌, ◌++◌, ◌∙◌, [], refl, sym}
 use Rattle.da_lang.specs.declared.event.Action.TheVariants.{Kept}
 use Rattle.da_core.proofs.Fronts.{front_same}
-use Rattle.da_system.proofs.AnswerLemmas.{when_err, when_ok}
-use Rattle.da_system.proofs.StepLemmas.{keeps_none, none_keeps}
+use Rattle.da_system.proofs.StepLemmas.{few_numbers, keeps_none, none_keeps}
+use Rattle.da_system.proofs.Tested.{when_err, when_ok}
 use Rattle.da_system.proofs.system.System.stat.Goals as goal
+
+pub overflow_cast-p : goal.overflow_cast-p
+overflow_cast-p c =
+    let (s, stands) = c.requires.ready c.requires.unspent in
+    record { fits = few_numbers c.args.self.now s stands c.args.p (sym c.has_process.ensures ∙ c.if-not-has_process.false) }
 
 pub returns-then-not-has_process-clause-answers : goal.returns-then-not-has_process-clause-answers
 returns-then-not-has_process-clause-answers c = (

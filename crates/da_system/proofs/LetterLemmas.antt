@@ -1,0 +1,213 @@
+-- The letters of a system, and the events that are about one.
+use Rattle.std.proofs.Common.{◌≡◌, ◌<◌, ◌^◌, arith, refl, sym, ◌∙◌, ap, subst, ℕ, Bool, true, false, cond, List, [], ◌∷◌, ◌++◌, length, append-nil, ◌≤◌}
+use Rattle.std.specs.Prelude.{◌&&◌, Option, Some, None, IfSome, IsSome, is_some}
+use Rattle.std.proofs.lemmas.Bool.{and_parts, false≢true}
+use Rattle.da_lang.specs.declared.event.Action.{Action}
+use Rattle.da_lang.specs.declared.event.Action.TheVariants.{Again, Lost}
+use Rattle.da_lang.specs.declared.event.Event.TheVariants as event
+use Rattle.da_lang.specs.declared.program.Class.{Class}
+use Rattle.da_lang.specs.declared.program.Program.{Program}
+use Rattle.da_lang.specs.declared.ty.ChannelKind.{ChannelKind}
+use Rattle.da_lang.specs.Shaped.{IsEntry, IsProcess}
+use Rattle.da_lang.specs.Steps.{Deliver, Stepped, class_step, proc_step, step_in}
+use Rattle.da_lang.specs.World.{World, at_number, class_of, Phase, New, Waiting, Ended, Faulted}
+use Rattle.da_types.proofs.sound.AcceptedLaws.{is_sound}
+use Rattle.da_core.proofs.Fronts.{front_same}
+use Rattle.da_system.specs.declared.system.System.{System}
+use Rattle.da_system.specs.Channels.{Letter, channel, may_arrive, may_lose, may_repeat, with_letter, without_letter}
+use Rattle.da_system.specs.Queues.{HasPlace, IsAmong}
+use Rattle.da_system.specs.Queues as queues
+use Rattle.da_system.specs.SoundState.{IsLetter, IsSoundState, IsSquare}
+use Rattle.da_system.specs.State.{HasBegun, HasStepped, StandFrom, Stands, program_of, waits_at, waits_in}
+use Rattle.da_system.specs.SystemStep.{AfterEvent, SystemState, arrive, copy_letter, deliver, drop_letter, lose, process_step, repeat, step_of, stepped}
+use Rattle.da_system.proofs.AcceptedStates.{stays_shaped}
+use Rattle.da_system.proofs.MadeLemmas.{sound_after}
+use Rattle.da_system.proofs.PlaceLemmas.{numbered_within, within_numbers}
+use Rattle.da_system.proofs.SoundLaws.{letters_in}
+use Rattle.da_system.proofs.StandLemmas.{stands_on, world_there}
+use Rattle.da_system.proofs.SystemLaws.{letter_there}
+use Rattle.da_system.proofs.WorldLemmas.{all_numbered}
+
+-- a message arrives exactly at a process that waits
+module _ (program : Program) (w : World) (message : Letter) (p : ℕ) where
+  at_phase : (class : Class) (phase : Phase) → is_some (class_step program class w (Deliver message.message p message.time) phase) ≡ waits_in phase
+  at_phase class New = refl
+  at_phase class Waiting = refl
+  at_phase class Ended = refl
+  at_phase class Faulted = refl
+
+  arrives_at : (class : Class) → class_of program w.data'.me ≡ Some class → is_some (proc_step program w (Deliver message.message p message.time)) ≡ waits_in w.phase
+  arrives_at class is = ap (λ (o : Option Class). is_some (step_in program w (Deliver message.message p message.time) o)) is ∙ at_phase class w.phase
+
+pub stepped_some : (s : SystemState) (p : ℕ) (step : Option Stepped) → is_some (stepped s p step) ≡ is_some step
+stepped_some s p None = refl
+stepped_some s p (Some step) = refl
+
+module _ (system : System) (s : SystemState) (stands : Stands system s) where
+  abbrev program : Program
+  program = program_of system
+
+  -- what the kind allows
+  pub kind_arrives : (b : Bool) (kind : ChannelKind) (i : ℕ) → kind ≡ program.kind → b ≡ may_arrive kind i → may_arrive s.kind i ≡ b
+  kind_arrives b kind i same is = ap (λ k. may_arrive k i) (stands.sound.kind ∙ sym same) ∙ sym is
+
+  pub kind_loses : (b : Bool) (kind : ChannelKind) → kind ≡ program.kind → b ≡ may_lose kind → may_lose s.kind ≡ b
+  kind_loses b kind same is = ap may_lose (stands.sound.kind ∙ sym same) ∙ sym is
+
+  pub kind_repeats : (b : Bool) (kind : ChannelKind) → kind ≡ program.kind → b ≡ may_repeat kind → may_repeat s.kind ≡ b
+  kind_repeats b kind same is = ap may_repeat (stands.sound.kind ∙ sym same) ∙ sym is
+
+  module _ (p q i : ℕ) where
+    abbrev found : Option Letter
+    found = at_number (channel s.channels p q) i
+
+    -- WHERE IT IS NOT ALLOWED
+
+    cond_none : {A : Type 0} (b : Bool) (o : Option A) → o ≡ None → cond b o None ≡ None
+    cond_none true o none = none
+    cond_none false o none = refl
+
+    pub none_lost : may_lose s.kind ≡ false → lose s p q i ≡ None
+    none_lost never = ap (λ b. cond b (drop_letter s p q i found) None) never
+
+    pub no_letter_lost : found ≡ None → lose s p q i ≡ None
+    no_letter_lost none = cond_none (may_lose s.kind) _ (ap (drop_letter s p q i) none)
+
+    pub none_doubled : may_repeat s.kind ≡ false → repeat s p q i ≡ None
+    none_doubled never = ap (λ b. cond b (copy_letter s p q found) None) never
+
+    pub no_letter_doubled : found ≡ None → repeat s p q i ≡ None
+    no_letter_doubled none = cond_none (may_repeat s.kind) _ (ap (copy_letter s p q) none)
+
+    -- WHERE IT IS ALLOWED
+
+    arrive_some : (l : Letter) (world : Option World) → at_number s.worlds q ≡ world
+        → is_some (step_of program (record s { channels = without_letter s.channels p q i }) q world (Deliver l.message p l.time)) ≡ waits_at world
+    arrive_some l None is = refl
+    arrive_some l (Some w) is =
+        let me : w.data'.me ≡ q = stands.sound.numbers q w is in
+        let within = numbered_within s.worlds q w is in
+        let is_there : IsProcess program w.data'.me = subst (IsProcess program) (sym me) (within.0, subst (λ n. q ≤ n) stands.sound.each within.1) in
+        let (class, known) = (is_sound program stands.compiled.accepted).placed w.data'.me is_there in
+        stepped_some (record s { channels = without_letter s.channels p q i }) q (proc_step program w (Deliver l.message p l.time)) ∙ arrives_at program w l p class known
+
+    deliver_some : (waits may : Bool) (o : Option Letter) → ((l : Letter) → is_some (arrive program s p q i (Some l)) ≡ waits)
+        → is_some (cond may (arrive program s p q i o) None) ≡ (waits && may && is_some o)
+    deliver_some true true None each = refl
+    deliver_some true true (Some l) each = each l
+    deliver_some true false o each = refl
+    deliver_some false true None each = refl
+    deliver_some false true (Some l) each = each l
+    deliver_some false false o each = refl
+
+    lose_some : (may : Bool) (o : Option Letter) → is_some (cond may (drop_letter s p q i o) None) ≡ (may && is_some o)
+    lose_some true None = refl
+    lose_some true (Some l) = refl
+    lose_some false o = refl
+
+    repeat_some : (may : Bool) (o : Option Letter) → is_some (cond may (copy_letter s p q o) None) ≡ (may && is_some o)
+    repeat_some true None = refl
+    repeat_some true (Some l) = refl
+    repeat_some false o = refl
+
+    pub delivers_as : is_some (deliver program s p q i) ≡ (waits_at (at_number s.worlds q) && may_arrive s.kind i && is_some found)
+    delivers_as = deliver_some (waits_at (at_number s.worlds q)) (may_arrive s.kind i) found (λ l. arrive_some l (at_number s.worlds q) refl)
+
+    pub loses_as : is_some (lose s p q i) ≡ (may_lose s.kind && is_some found)
+    loses_as = lose_some (may_lose s.kind) found
+
+    pub repeats_as : is_some (repeat s p q i) ≡ (may_repeat s.kind && is_some found)
+    repeats_as = repeat_some (may_repeat s.kind) found
+
+    -- WHAT THERE IS where it may arrive
+
+    module _ (some : IsSome (deliver program s p q i)) where
+      parts : ((waits_at (at_number s.worlds q) ≡ true) × (may_arrive s.kind i ≡ true)) × (is_some found ≡ true)
+      parts =
+          let both = and_parts (waits_at (at_number s.worlds q) && may_arrive s.kind i) (is_some found) (sym delivers_as ∙ some) in
+          (and_parts (waits_at (at_number s.worlds q)) (may_arrive s.kind i) both.0, both.1)
+
+      pub may_come : may_arrive s.kind i ≡ true
+      may_come = parts.0.1
+
+      waiting_there : (world : Option World) → waits_at world ≡ true → is_some world ≡ true
+      waiting_there None waits = waits
+      waiting_there (Some w) waits = refl
+
+      pub core_there : is_some (at_number system.cores.items q) ≡ true
+      core_there = sym (world_there program system.cores.items s.worlds q stands.cores) ∙ waiting_there (at_number s.worlds q) parts.0.0
+
+      -- there is the letter, and both processes
+      whose : (o : Option Letter) → found ≡ o → is_some o ≡ true → HasPlace (queues.count_of system.channels) p q i
+      whose None is none = absurd (false≢true none)
+      whose (Some letter) is there =
+          let both = letter_there s p q i letter (subst (λ n. IsSquare n s.channels) (sym stands.sound.each) stands.sound.square) is in
+          let all : length s.worlds ≡ queues.count_of system.channels = stands.sound.each ∙ sym stands.count in
+          let from = within_numbers s.worlds p both.0 in
+          let to = within_numbers s.worlds q both.1 in
+          ((from.0, subst (λ n. p ≤ n) all from.1), (to.0, subst (λ n. q ≤ n) all to.1), (within_numbers (channel s.channels p q) i (ap is_some is)).0)
+
+      pub both_there : HasPlace (queues.count_of system.channels) p q i
+      both_there = whose found refl parts.1
+
+      pub letter_found : found ≡ None → ⊥
+      letter_found none = false≢true (sym (ap is_some none) ∙ parts.1)
+
+      pub few_senders : p < 2 ^ 16
+      few_senders = omega (arith, both_there.0.1, stands.count, (is_sound program stands.compiled.accepted).few)
+
+    -- THE LETTER
+
+    module _ (letter : Letter) (there : found ≡ Some letter) where
+      is_letter : IsLetter program letter
+      is_letter = subst (λ (o : Option Letter). IfSome o (IsLetter program)) there
+          (all_numbered (IsLetter program) (channel s.channels p q) i (letters_in program (stays_shaped program stands.compiled.accepted) s.channels p q stands.sound.letters))
+
+      -- it may arrive
+      pub letter_may : IsAmong (queues.count_of system.channels) p → IsEntry program (record { message = letter.message; peer = p; time = letter.time })
+      letter_may among = record { proper = is_letter.proper; typed = is_letter.typed; peer = (among.0, subst (λ n. p ≤ n) stands.count among.1) }
+
+      pub arrives_is : may_arrive s.kind i ≡ true
+          → deliver program s p q i ≡ process_step program (record s { channels = without_letter s.channels p q i }) q (Deliver letter.message p letter.time)
+      arrives_is may = ap (λ b. cond b (arrive program s p q i found) None) may ∙ ap (arrive program s p q i) there
+
+      pub arrives_sound : (after : AfterEvent) → deliver program s p q i ≡ Some after → IsSoundState program after.state
+      arrives_sound after is = sound_after system s stands (event.Deliver p q i) after is
+
+      -- it is lost
+      lost_is : may_lose s.kind ≡ true → lose s p q i ≡ Some (record { state = record s { channels = without_letter s.channels p q i }; actions = Lost p q letter.time ∷ [] })
+      lost_is may = ap (λ b. cond b (drop_letter s p q i found) None) may ∙ ap (drop_letter s p q i) there
+
+      pub lost_begun : may_lose s.kind ≡ true → (old new : List Action) → new ≡ old → HasBegun (lose s p q i) old new
+      lost_begun may old new same = record { after = _; is = lost_is may; front = front_same old new (Lost p q letter.time ∷ []) same }
+
+      pub lost_stands : may_lose s.kind ≡ true → (left : System) (old new : List Action) → left.spent ≡ system.spent → left.compiled.now ≡ system.compiled.now → left.cores.items ≡ system.cores.items
+          → queues.count_of left.channels ≡ queues.count_of system.channels → queues.StandsFor left.channels (without_letter s.channels p q i) → new ≡ old ++ Lost p q letter.time ∷ [] → HasStepped (lose s p q i) left old new
+      lost_stands may left old new spent compiled cores count channels added = record {
+        after = _;
+        is = lost_is may;
+        stands = stands_on system left s _ stands (spent ∙ stands.unspent) compiled (sound_after system s stands (event.Lose p q i) _ (lost_is may)) (ap length cores)
+            (subst (λ xs. StandFrom program 1 xs s.worlds) (sym cores) stands.cores) count channels;
+        added = added;
+      }
+
+      -- it is doubled
+      doubled_is : may_repeat s.kind ≡ true → repeat s p q i ≡ Some (record { state = record s { channels = with_letter s.channels p q letter }; actions = Again p q letter.time ∷ [] })
+      doubled_is may = ap (λ b. cond b (copy_letter s p q found) None) may ∙ ap (copy_letter s p q) there
+
+      pub doubled_begun : may_repeat s.kind ≡ true → (old new : List Action) → new ≡ old → HasBegun (repeat s p q i) old new
+      doubled_begun may old new same = record { after = _; is = doubled_is may; front = front_same old new (Again p q letter.time ∷ []) same }
+
+      pub doubled_whole : may_repeat s.kind ≡ true → (old new : List Action) → new ≡ old ++ Again p q letter.time ∷ [] → HasBegun (repeat s p q i) old new
+      doubled_whole may old new added = record { after = _; is = doubled_is may; front = ([], ap (λ xs. xs ++ []) added ∙ append-nil (old ++ Again p q letter.time ∷ [])) }
+
+      pub doubled_stands : may_repeat s.kind ≡ true → (left : System) (old new : List Action) → left.spent ≡ system.spent → left.compiled.now ≡ system.compiled.now → left.cores.items ≡ system.cores.items
+          → queues.count_of left.channels ≡ queues.count_of system.channels → IfSome found (λ (l : Letter). queues.StandsFor left.channels (with_letter s.channels p q l)) → new ≡ old ++ Again p q letter.time ∷ [] → HasStepped (repeat s p q i) left old new
+      doubled_stands may left old new spent compiled cores count channels added = record {
+        after = _;
+        is = doubled_is may;
+        stands = stands_on system left s _ stands (spent ∙ stands.unspent) compiled (sound_after system s stands (event.Repeat p q i) _ (doubled_is may)) (ap length cores)
+            (subst (λ xs. StandFrom program 1 xs s.worlds) (sym cores) stands.cores) count
+            (subst (λ (o : Option Letter). IfSome o (λ (l : Letter). queues.StandsFor left.channels (with_letter s.channels p q l))) there channels);
+        added = added;
+      }
