@@ -1,8 +1,8 @@
 //! Cases, and how files hold them.
 //!
-//! A line `=== check`, `=== sizes`, `=== code` or `=== print`, behind which a remark may stand, begins a case. The lines
-//! behind it are its text, up to the next such line. In a text `@COUNT PART@` stands for so many copies of the part, in which `#`
-//! is the number of the copy, from 1 on, and `~` the next number.
+//! A line `=== check`, `=== sizes`, `=== code`, `=== plan` or `=== print`, behind which a remark may stand, begins a case. The
+//! lines behind it are its text, up to the next such line. In a text `@COUNT PART@` stands for so many copies of the part, in
+//! which `#` is the number of the copy, from 1 on, and `~` the next number.
 use std::alloc::{AllocError, Global};
 
 /// What is asked of a text.
@@ -14,6 +14,8 @@ pub enum Asked {
     Sizes,
     /// The code of its classes.
     Code,
+    /// The plans of its classes.
+    Plans,
     /// The text of its tree.
     Print,
 }
@@ -40,6 +42,7 @@ fn case_of(alloc: Global, part: &str) -> Result<Case, AllocError> {
     let asked = match what.split(' ').next() {
         Some("sizes") => Asked::Sizes,
         Some("code") => Asked::Code,
+        Some("plan") => Asked::Plans,
         Some("print") => Asked::Print,
         _ => Asked::Check,
     };

@@ -8,6 +8,7 @@ mod front;
 mod graphs;
 #[cfg(test)]
 mod parsing;
+mod plans;
 mod words;
 
 use anyhow::Context;
@@ -15,12 +16,13 @@ use cases::{Asked, Case, cases_of};
 use code::tell_code;
 use da_lang::Program;
 use front::{Refusal, print_text, typed_of};
+use plans::tell_plans;
 use std::{fs, rt, str};
 
 /// The files of cases, in the order of the answers.
-const FILES: [&str; 10] = [
+const FILES: [&str; 11] = [
     "scopes", "deeds", "limits", "accepted", "long", "copies", "grammar", "printing", "checks",
-    "code",
+    "code", "plans",
 ];
 
 fn main(rt: HostRuntime) -> anyhow::Result<()> {
@@ -53,6 +55,10 @@ fn answer<R: Print + AllocGlobal>(rt: &R, case: &Case) -> anyhow::Result<()> {
         },
         Asked::Code => match typed_of(rt.alloc(), text) {
             Ok(typed) => tell_code(rt, &typed),
+            Err(refusal) => tell_refusal(rt, refusal),
+        },
+        Asked::Plans => match typed_of(rt.alloc(), text) {
+            Ok(typed) => tell_plans(rt, &typed),
             Err(refusal) => tell_refusal(rt, refusal),
         },
         Asked::Sizes => match typed_of(rt.alloc(), text) {

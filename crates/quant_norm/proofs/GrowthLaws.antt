@@ -6,18 +6,20 @@ use Rattle.da_lang.specs.declared.query.Agg.{Agg, roll-Agg}
 use Rattle.da_lang.specs.declared.query.AggOp.{AggOp}
 use Rattle.da_lang.specs.declared.query.Cond.{Cond}
 use Rattle.da_lang.specs.declared.query.Cond.TheVariants as cond
-use Rattle.da_lang.specs.declared.query.Cond.TheOpen.{Cond-F}
+use Rattle.da_lang.specs.declared.query.Cond.TheOpen.{Cond-F, Operand-F, SignedOperand-F}
+use Rattle.da_lang.specs.declared.query.Cond.TheFolds.{ind-Operand, map-Operand, map-SignedOperand}
 use Rattle.da_lang.specs.declared.query.Node.{Node}
 use Rattle.da_lang.specs.declared.query.Node.TheVariants as node
-use Rattle.da_lang.specs.declared.query.Operand.{Operand}
+use Rattle.da_lang.specs.declared.query.Operand.{Operand, roll-Operand}
 use Rattle.da_lang.specs.declared.query.Operand.TheVariants as operand
 use Rattle.da_lang.specs.declared.query.Query.{Query}
 use Rattle.da_lang.specs.declared.query.Query.TheVariants as query
 use Rattle.da_lang.specs.declared.query.RGen.{RGen}
-use Rattle.da_lang.specs.declared.query.SignedOperand.{SignedOperand, roll-SignedOperand}
+use Rattle.da_lang.specs.declared.query.SignedOperand.{SignedOperand, roll-SignedOperand, out-SignedOperand, roll-out-SignedOperand}
 use Rattle.da_lang.specs.declared.query.Term.{Term}
 use Rattle.da_lang.specs.declared.tree.CmpOp.{CmpOp}
 use Rattle.da_lang.proofs.CondInduction.{Where, cond_induction, agg_induction, Cases}
+use Rattle.da_lang.proofs.TermInduction.{bare, all_of-bare}
 use Rattle.query_plan.specs.declared.plan.Plan.{Plan}
 use Rattle.query_plan.specs.Plans.{Place, Norm, Binding, placed, added, at_node, filter_on, semi_on, anti_on, behind, gen_node, gens_on, all_on, or_on, any_on, test_on, denied_on, some_on, each_on, all_bound, compared, cond_step, operand_step, agg_node, agg_step, signed_step, known, rename, norm, norm_if, operand_bound, agg_bound, signed_bound}
 use Rattle.query_plan.specs.Questions.{Met, Asked, Awaited, root, query_node, with_query, with_flag, with_asked, with_all, with_met}
@@ -51,13 +53,13 @@ gens_grow (g ∷ gs) at nodes =
     let first = added nodes (gen_node at g) in
     grown_on nodes first.0 (gens_on gs (behind at g first.1) first.0).0 (added_grows nodes (gen_node at g)) (gens_grow gs (behind at g first.1) first.0)
 
-all_grow : {A : Type 0} (f : A → Norm) (xs : List A) → AllByRecursion (λ x. Grows (f x)) xs → Grows (all_on (map f xs))
+pub all_grow : {A : Type 0} (f : A → Norm) (xs : List A) → AllByRecursion (λ x. Grows (f x)) xs → Grows (all_on (map f xs))
 all_grow f [] each at nodes = grown_itself nodes
 all_grow f (x ∷ xs) each at nodes =
     let first = f x at nodes in
     grown_on nodes first.0 (all_on (map f xs) (at_node at first.1) first.0).0 (each.0 at nodes) (all_grow f xs each.1 (at_node at first.1) first.0)
 
-or_grow : {A : Type 0} (f : A → Norm) (xs : List A) → AllByRecursion (λ x. Grows (f x)) xs → (at : Place) (left : List Node × ℕ) → Grown left.0 (or_on (map f xs) at left).0
+pub or_grow : {A : Type 0} (f : A → Norm) (xs : List A) → AllByRecursion (λ x. Grows (f x)) xs → (at : Place) (left : List Node × ℕ) → Grown left.0 (or_on (map f xs) at left).0
 or_grow f [] each at left = grown_itself left.0
 or_grow f (x ∷ xs) each at left =
     let right = f x at left.0 in
@@ -68,7 +70,7 @@ any_grow : {A : Type 0} (f : A → Norm) (xs : List A) → AllByRecursion (λ x.
 any_grow f [] each at nodes = added_grows nodes (node.Anti at.node at.node)
 any_grow f (x ∷ xs) each at nodes = let first = f x at nodes in grown_on nodes first.0 (or_on (map f xs) at first).0 (each.0 at nodes) (or_grow f xs each.1 at first)
 
-abbrev OfCond : Cond → Type 0
+abbrev pub OfCond : Cond → Type 0
 OfCond b = Grows (norm b)
 
 pub test_grows : (b : Option Cond) → Where OfCond b → Grows (test_on (norm_if b))
@@ -97,16 +99,16 @@ choice_grows false at last b nodes =
     let child = filter_on b last nodes in
     then_added nodes child.0 (node.Semi at.node child.1) (added_grows nodes (node.Filter last.node b))
 
-compared_grows : (at last : Place) (b : Cond) (nodes : List Node) → Grown nodes (compared at last b nodes).0
+pub compared_grows : (at last : Place) (b : Cond) (nodes : List Node) → Grown nodes (compared at last b nodes).0
 compared_grows at last b nodes = choice_grows (at.node == last.node) at last b nodes
 
-abbrev OfOperand : Operand → Type 0
+abbrev pub OfOperand : Operand → Type 0
 OfOperand a = BindGrows (operand_bound a)
 
 abbrev OfAgg : Agg → Type 0
 OfAgg a = BindGrows (agg_bound a)
 
-abbrev OfSigned : SignedOperand → Type 0
+abbrev pub OfSigned : SignedOperand → Type 0
 OfSigned s = BindGrows (signed_bound s)
 
 cmp_grows : (op : CmpOp) (a b : Operand) → OfOperand a → OfOperand b → Grows (cond_step (Cond-F.Cmp op (operand_bound a) (operand_bound b)))
@@ -160,6 +162,44 @@ norm_grows = cond_induction cases
 
 pub agg_grows : (a : Agg) → BindGrows (agg_bound a)
 agg_grows = agg_induction cases
+
+-- the same of operands, for which that of aggregates is known
+abbrev AtCond : Type 0
+AtCond = (b : Cond) × Unit {0}
+
+abbrev AtOperand : Type 0
+AtOperand = (a : Operand) × OfOperand a
+
+abbrev AtAgg : Type 0
+AtAgg = (a : Agg) × Unit {0}
+
+abbrev AtSigned : Type 0
+AtSigned = (s : SignedOperand) × OfSigned s
+
+operand_case : (y : Operand-F AtCond AtOperand AtAgg AtSigned) → OfOperand (roll-Operand (map-Operand AtCond AtOperand AtAgg AtSigned Cond Operand Agg SignedOperand (λ e. e.0) (λ e. e.0) (λ e. e.0) (λ e. e.0) y))
+operand_case (Operand-F.Term t) = subst OfOperand (sym (operand.rolls-Term t)) (cases.term t)
+operand_case (Operand-F.Agg a) = subst OfOperand (sym (operand.rolls-Agg a.0)) (cases.agg a.0 (agg_grows a.0))
+operand_case (Operand-F.Chain a more) = subst OfOperand (sym (operand.rolls-Chain a.0 (bare more))) (cases.chain a.0 (bare more) a.1 (all_of-bare OfSigned more))
+
+signed_case : (y : SignedOperand-F AtCond AtOperand AtAgg AtSigned) → OfSigned (roll-SignedOperand (map-SignedOperand AtCond AtOperand AtAgg AtSigned Cond Operand Agg SignedOperand (λ e. e.0) (λ e. e.0) (λ e. e.0) (λ e. e.0) y))
+signed_case y = cases.signed y.minus y.operand.0 y.operand.1
+
+pub operand_grows : (a : Operand) → BindGrows (operand_bound a)
+operand_grows = ind-Operand (λ b. Unit {0}) OfOperand (λ a. Unit {0}) OfSigned (λ x y is. tt) (λ x y is. subst (λ z. OfOperand (roll-Operand z)) is (operand_case y)) (λ x y is. tt) (λ x y is. subst (λ z. OfSigned (roll-SignedOperand z)) is (signed_case y))
+
+signed_grows : (s : SignedOperand) → OfSigned s
+signed_grows s = let v = out-SignedOperand s in subst OfSigned (roll-out-SignedOperand s) (cases.signed v.minus v.operand (operand_grows v.operand))
+
+each_signed : (ss : List SignedOperand) → AllByRecursion OfSigned ss
+each_signed [] = tt
+each_signed (s ∷ ss) = (signed_grows s, each_signed ss)
+
+pub others_grow : (ss : List SignedOperand) → BindGrows (all_bound (map signed_bound ss))
+others_grow ss = signs_grow ss (each_signed ss)
+
+pub each_grows : (bs : List Cond) → AllByRecursion (λ b. Grows (norm b)) bs
+each_grows [] = tt
+each_grows (b ∷ bs) = (norm_grows b, each_grows bs)
 
 pub guard_grows : (b : Option Cond) → Where OfCond b
 guard_grows None = tt

@@ -1,2 +1,17 @@
-//! Plans of classes: the law that ties the nodes of a plan to the queries and conditions of its class.
+//! Plans of classes: from conditions and queries to nodes.
 #![tactic(auto)]
+
+mod classes;
+mod conditions;
+mod counts;
+mod either;
+mod generators;
+mod limit;
+mod nodes;
+mod place;
+mod queries;
+mod rename;
+mod top;
+
+pub use limit::MOST_NODES;
+pub use top::{PlanFault, normalise};

@@ -1,0 +1,8 @@
+use Rattle.std.proofs.Common.{subst}
+use Rattle.query_plan.specs.Told.{IsPlanOf}
+use Rattle.quant_norm.proofs.ClassLaw.{class_law}
+use Rattle.quant_norm.proofs.TopSteps.{made_out}
+use Rattle.quant_norm.proofs.top.normal_form.Goals as goal
+
+pub returns-else-len-gt-MOST_NODES-clause-told : goal.returns-else-len-gt-MOST_NODES-clause-told
+returns-else-len-gt-MOST_NODES-clause-told c = subst (IsPlanOf c.args.class.now) (made_out _ _ _ c.in-Ok.is c.plan_of-made.ensures) (class_law c.args.class.now)

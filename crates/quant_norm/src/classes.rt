@@ -1,0 +1,244 @@
+//! The plan of a class, in the order of its inlined text.
+ghost use Rattle.quant_norm.specs.Making.{MakesPlan, Puts, alt_met, branch_met, handler_met, kind_met, made_with};
+ghost use Rattle.query_plan.specs.Questions.{item_met, norm_class, opening_plan, with_asked};
+ghost use Rattle.std.specs.Prelude.{◌≡◌, IfOk, drop, flat_map};
+
+use crate::counts::{asked_in, asked_in_args, asked_in_both, asked_in_cond};
+use crate::limit::Halt;
+use crate::queries::{put_flag, put_query};
+use da_lang::{Alt, Class, Handler, Item, ItemKind, Node, Query, RBranch};
+use da_values::{List, NoMemory};
+use query_plan::Plan;
+use std::alloc::Global;
+
+// Puts so many further queries into a plan, as far as there are any. Gives how many the plan has then.
+fn put_asked(
+    alloc: Global,
+    count: usize,
+    queries: &[Query],
+    taken: usize,
+    plan: &mut Plan,
+) -> Result<usize, Halt>
+    ensures { Puts (with_asked count (drop taken queries.now) plan.old)
+        (λ next. (plan.new, drop next queries.now)) result }
+{
+    let mut left = count;
+    let mut next = taken;
+    while left > 0 && next < queries.len() {
+        put_query(alloc, &queries[next], plan)?;
+        next += 1;
+        left -= 1;
+    }
+    Ok(next)
+}
+
+// Puts what is met in statements.
+#[cycle(items)]
+fn put_items(
+    alloc: Global,
+    items: &[Item],
+    queries: &[Query],
+    taken: usize,
+    plan: &mut Plan,
+) -> Result<usize, Halt>
+    ensures { Puts (made_with (flat_map item_met items.now) (plan.old, drop taken queries.now))
+        (λ next. (plan.new, drop next queries.now)) result }
+{
+    let mut next = taken;
+    for item in items {
+        let further = put_kind(alloc, &item.kind, queries, next, plan)?;
+        next = further;
+    }
+    Ok(next)
+}
+
+// Puts what is met in a statement.
+#[cycle(items)]
+fn put_kind(
+    alloc: Global,
+    kind: &ItemKind,
+    queries: &[Query],
+    taken: usize,
+    plan: &mut Plan,
+) -> Result<usize, Halt>
+    ensures { Puts (made_with (kind_met kind.now) (plan.old, drop taken queries.now))
+        (λ next. (plan.new, drop next queries.now)) result }
+{
+    match kind {
+        ItemKind::Assign(_, expr) => {
+            let count = asked_in(expr.get())?;
+            let next = put_asked(alloc, count, queries, taken, plan)?;
+            Ok(next)
+        }
+        ItemKind::Add(_, expr) => {
+            let count = asked_in(expr.get())?;
+            let next = put_asked(alloc, count, queries, taken, plan)?;
+            Ok(next)
+        }
+        ItemKind::Del(_, expr) => {
+            let count = asked_in(expr.get())?;
+            let next = put_asked(alloc, count, queries, taken, plan)?;
+            Ok(next)
+        }
+        ItemKind::Output(expr) => {
+            let count = asked_in(expr.get())?;
+            let next = put_asked(alloc, count, queries, taken, plan)?;
+            Ok(next)
+        }
+        ItemKind::Send(message, to) => {
+            let count = asked_in_both(message.get(), to.get())?;
+            let next = put_asked(alloc, count, queries, taken, plan)?;
+            Ok(next)
+        }
+        ItemKind::If(branches, otherwise) => {
+            let middle = put_branches(alloc, branches.as_slice(), queries, taken, plan)?;
+            let next = put_items(alloc, otherwise.as_slice(), queries, middle, plan)?;
+            Ok(next)
+        }
+        ItemKind::While(expr, body) => {
+            let count = asked_in(expr.get())?;
+            let middle = put_asked(alloc, count, queries, taken, plan)?;
+            let next = put_items(alloc, body.as_slice(), queries, middle, plan)?;
+            Ok(next)
+        }
+        ItemKind::For(_, expr, body) => {
+            let count = asked_in(expr.get())?;
+            let middle = put_asked(alloc, count, queries, taken, plan)?;
+            let next = put_items(alloc, body.as_slice(), queries, middle, plan)?;
+            Ok(next)
+        }
+        ItemKind::Call(args, body) => {
+            let count = asked_in_args(args.as_slice())?;
+            let middle = put_asked(alloc, count, queries, taken, plan)?;
+            let next = put_items(alloc, body.as_slice(), queries, middle, plan)?;
+            Ok(next)
+        }
+        ItemKind::Await(alts) => {
+            let next = put_alts(alloc, alts.as_slice(), queries, taken, plan)?;
+            Ok(next)
+        }
+        ItemKind::Label => Ok(taken),
+        ItemKind::Pass => Ok(taken),
+    }
+}
+
+// Puts what is met in the branches of an `if`.
+#[cycle(items)]
+fn put_branches(
+    alloc: Global,
+    branches: &[RBranch],
+    queries: &[Query],
+    taken: usize,
+    plan: &mut Plan,
+) -> Result<usize, Halt>
+    ensures { Puts (made_with (flat_map branch_met branches.now)
+        (plan.old, drop taken queries.now)) (λ next. (plan.new, drop next queries.now)) result }
+{
+    let mut next = taken;
+    for branch in branches {
+        let further = put_branch(alloc, branch, queries, next, plan)?;
+        next = further;
+    }
+    Ok(next)
+}
+
+#[cycle(items)]
+fn put_branch(
+    alloc: Global,
+    branch: &RBranch,
+    queries: &[Query],
+    taken: usize,
+    plan: &mut Plan,
+) -> Result<usize, Halt>
+    ensures { Puts (made_with (branch_met branch.now) (plan.old, drop taken queries.now))
+        (λ next. (plan.new, drop next queries.now)) result }
+{
+    let count = asked_in(branch.cond.get())?;
+    let middle = put_asked(alloc, count, queries, taken, plan)?;
+    let next = put_items(alloc, branch.body.as_slice(), queries, middle, plan)?;
+    Ok(next)
+}
+
+// Puts what is met in the alternatives of an `await`: of each first its numbered queries, and then its flag.
+#[cycle(items)]
+fn put_alts(
+    alloc: Global,
+    alts: &[Alt],
+    queries: &[Query],
+    taken: usize,
+    plan: &mut Plan,
+) -> Result<usize, Halt>
+    ensures { Puts (made_with (flat_map alt_met alts.now) (plan.old, drop taken queries.now))
+        (λ next. (plan.new, drop next queries.now)) result }
+{
+    let mut next = taken;
+    for alt in alts {
+        let further = put_alt(alloc, alt, queries, next, plan)?;
+        next = further;
+    }
+    Ok(next)
+}
+
+#[cycle(items)]
+fn put_alt(
+    alloc: Global,
+    alt: &Alt,
+    queries: &[Query],
+    taken: usize,
+    plan: &mut Plan,
+) -> Result<usize, Halt>
+    ensures { Puts (made_with (alt_met alt.now) (plan.old, drop taken queries.now))
+        (λ next. (plan.new, drop next queries.now)) result }
+{
+    let count = asked_in_cond(alt.cond.get())?;
+    let middle = put_asked(alloc, count, queries, taken, plan)?;
+    put_flag(alloc, alt.cond.get(), plan)?;
+    let next = put_items(alloc, alt.body.as_slice(), queries, middle, plan)?;
+    Ok(next)
+}
+
+// Puts what is met in handlers.
+fn put_handlers(
+    alloc: Global,
+    handlers: &[Handler],
+    queries: &[Query],
+    taken: usize,
+    plan: &mut Plan,
+) -> Result<usize, Halt>
+    ensures { Puts (made_with (flat_map handler_met handlers.now)
+        (plan.old, drop taken queries.now)) (λ next. (plan.new, drop next queries.now)) result }
+{
+    let mut next = taken;
+    for handler in handlers {
+        let further = put_items(alloc, handler.body.as_slice(), queries, next, plan)?;
+        next = further;
+    }
+    Ok(next)
+}
+
+// Node 0, the node of the one empty row.
+fn open(alloc: Global) -> Result<Plan, NoMemory>
+    ensures { IfOk result (λ plan. plan ≡ opening_plan) }
+{
+    let mut nodes = List::new(alloc);
+    nodes.push(Node::Root)?;
+    let queries = List::new(alloc);
+    let flags = List::new(alloc);
+    Ok(Plan {
+        nodes,
+        queries,
+        flags,
+    })
+}
+
+/// The plan of a class. It is full where it has more nodes than a plan may have.
+pub fn plan_of(alloc: Global, class: &Class) -> Result<Plan, Halt>
+    ensures { MakesPlan (norm_class class.now) (λ plan. plan) result }
+{
+    let mut plan = open(alloc)?;
+    let queries = class.queries.as_slice();
+    let ran = put_items(alloc, class.run.as_slice(), queries, 0, &mut plan)?;
+    let handled = put_handlers(alloc, class.handlers.as_slice(), queries, ran, &mut plan)?;
+    put_asked(alloc, queries.len(), queries, handled, &mut plan)?;
+    Ok(plan)
+}
