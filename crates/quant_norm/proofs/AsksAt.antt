@@ -1,5 +1,5 @@
 -- How many numbered queries stand in a part of the text, one equation for each form.
-use Rattle.std.specs.Prelude.{◌≡◌, ℕ, ◌+◌, Bool, List, map, sum, Option, Some, None}
+use Rattle.std.specs.Prelude.{◌≡◌, ℕ, ◌+◌, Bool, List, Option, Some, None}
 use Rattle.std.specs.List.{sum_by}
 use Rattle.std.proofs.Common.{ap, sym, ◌∙◌}
 use Rattle.std.proofs.lemmas.List.Sums.{sum-map}

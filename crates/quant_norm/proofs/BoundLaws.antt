@@ -1,16 +1,15 @@
 -- Aggregates that are bound: each row of the place has a longer one, over which what stands for the operand has its value.
-use Rattle.std.specs.Prelude.{◌≡◌, ◌⊎◌, ◌<◌, ◌≤◌, ◌+◌, ◌==◌, ℕ, zero, suc, Bool, true, false, cond, if◌then◌else◌, List, [], ◌∷◌, ◌++◌, map, length, slice_get, Option, Some, None, refl}
+use Rattle.std.specs.Prelude.{◌≡◌, ◌==◌, ℕ, suc, Bool, true, false, if◌then◌else◌, List, [], ◌∷◌, ◌++◌, map, length, slice_get, Option, Some, None, refl}
 use Rattle.std.specs.List.{filter}
-use Rattle.std.proofs.Common.{ap, sym, subst, ◌∙◌, inl, inr, arith, length-append, append_assoc, append-nil}
+use Rattle.std.proofs.Common.{ap, sym, subst, ◌∙◌, arith, append_assoc, append-nil}
 use Rattle.std.proofs.lemmas.Bool.{eqb-true}
 use Rattle.da_values.specs.declared.val.Val.{Val}
 use Rattle.da_values.specs.Order.{val_cmp}
-use Rattle.da_values.specs.Sets.{Has, IsAlike, canon}
+use Rattle.da_values.specs.Sets.{Has}
 use Rattle.da_values.proofs.Members.{Has-map, of_map, Has-filter, of_filter}
 use Rattle.da_values.proofs.OrderLaws.{val_order, same_from_val_cmp}
 use Rattle.da_values.proofs.SetLaws.{canon_alike}
 use Rattle.da_lang.specs.declared.query.AggOp.{AggOp}
-use Rattle.da_lang.specs.declared.query.Cond.{Cond}
 use Rattle.da_lang.specs.declared.query.Cond.TheVariants as condition
 use Rattle.da_lang.specs.declared.query.Node.{Node}
 use Rattle.da_lang.specs.declared.query.Node.TheVariants as node
@@ -19,18 +18,18 @@ use Rattle.da_lang.specs.declared.query.Operand.TheVariants as operand
 use Rattle.da_lang.specs.declared.query.Term.{Term}
 use Rattle.da_lang.specs.declared.query.Term.TheVariants as term
 use Rattle.da_lang.specs.declared.tree.CmpOp.{CmpOp}
-use Rattle.da_lang.specs.Matching.{Row, Extends, term_value}
+use Rattle.da_lang.specs.Matching.{Row, Extends}
 use Rattle.da_lang.specs.Queries.{holds, operand_value, value_at, other_value, term_set, aggregate, compares}
-use Rattle.da_lang.specs.World.{Data, or_nothing, at_number}
+use Rattle.da_lang.specs.World.{Data, or_nothing}
 use Rattle.da_lang.proofs.MatchingLaws.{term-Part}
 use Rattle.da_lang.proofs.QueryLaws.{holds-Cmp, operand-Term}
 use Rattle.da_lang.proofs.RowLaws.{extends_itself}
-use Rattle.query_plan.specs.Nodes.{extends, bound_part, node_rows, width_of, IsPlan}
-use Rattle.query_plan.specs.Plans.{Place, added, at_node, behind_agg, known, rename, rename_other, filter_on, semi_on, compared}
+use Rattle.query_plan.specs.Nodes.{extends, bound_part, node_rows}
+use Rattle.query_plan.specs.Plans.{Place, behind_agg, known, rename, rename_other, filter_on, semi_on, compared}
 use Rattle.query_plan.proofs.NodeLaws.{Extends-from_test, test_from_Extends}
 use Rattle.quant_norm.specs.GoodPlaces.{AllIn, Good}
-use Rattle.quant_norm.proofs.PlaceLaws.{Grown, grown_itself, grown_on, still_there, width_stays, good_on, Made, added_made, later, sooner, row_wide, Kept, kept_by, filter_kept, semi_kept}
-use Rattle.quant_norm.proofs.RangeLaws.{same_front, one_front, Ranged, of_longer, in_longer, whole_grown}
+use Rattle.quant_norm.proofs.PlaceLaws.{Grown, grown_itself, grown_on, width_stays, good_on, Made, later, sooner, row_wide, Kept, kept_by, filter_kept, semi_kept}
+use Rattle.quant_norm.proofs.RangeLaws.{one_front, Ranged, of_longer, in_longer, whole_grown}
 use Rattle.quant_norm.proofs.RenameLaws.{seen, wider, seen_front, get_behind, known_value}
 
 pub two_same : {A B : Type 0} (a b : A) (x y : B) → a ≡ b → x ≡ y → ◌≡◌ {A = A × B} (a, x) (b, y)

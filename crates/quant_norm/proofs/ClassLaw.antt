@@ -1,5 +1,5 @@
 -- The plan of a class tells each of its numbered queries and each condition of an `await`.
-use Rattle.std.specs.Prelude.{◌≡◌, ◌<◌, ℕ, zero, suc, List, [], ◌∷◌, ◌++◌, length, slice_get, Option, Some, None, refl}
+use Rattle.std.specs.Prelude.{◌≡◌, ◌<◌, ℕ, zero, suc, List, [], ◌∷◌, ◌++◌, length, refl}
 use Rattle.std.specs.List.{AllZip}
 use Rattle.std.proofs.Common.{ap, sym, subst, ◌∙◌, append_assoc, append-nil}
 use Rattle.std.proofs.lemmas.Slice.Zip.{all_zipped_more}
@@ -9,7 +9,6 @@ use Rattle.da_lang.specs.declared.query.Node.{Node}
 use Rattle.da_lang.specs.declared.query.Node.TheVariants as node
 use Rattle.da_lang.specs.declared.query.Query.{Query}
 use Rattle.da_lang.specs.declared.query.QueryNode.{QueryNode}
-use Rattle.da_lang.specs.Matching.{Row}
 use Rattle.da_lang.specs.World.{Data}
 use Rattle.query_plan.specs.declared.plan.Plan.{Plan}
 use Rattle.query_plan.specs.Nodes.{node_rows, ReadsBelow, IsEven, width_of, IsPlan}

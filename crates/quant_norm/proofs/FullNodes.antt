@@ -20,14 +20,14 @@ use Rattle.da_lang.specs.declared.query.Term.{Term}
 use Rattle.da_lang.specs.declared.query.Term.TheVariants as term
 use Rattle.da_lang.specs.declared.tree.CmpOp.{CmpOp}
 use Rattle.query_plan.specs.Nodes.{parts_added}
-use Rattle.query_plan.specs.Plans.{Place, placed, added, anti_on, semi_on, vars_behind, gen_node, gens_on, all_on, or_on, any_on, test_on, denied_on, all_bound, compared, cond_step, agg_node, agg_step, known, rename, rename_other, rename_gen, norm, norm_if, operand_bound, agg_bound, signed_bound}
+use Rattle.query_plan.specs.Plans.{Place, placed, added, vars_behind, gen_node, gens_on, all_on, or_on, test_on, denied_on, all_bound, compared, cond_step, known, rename, rename_other, rename_gen, norm, norm_if, operand_bound, agg_bound, signed_bound}
 use Rattle.query_plan.specs.Spelled.{same_node}
 use Rattle.query_plan.proofs.PlansAt.{norm-Cmp, norm-Quant, bound-Agg, bound-Chain, bound-agg}
 use Rattle.quant_norm.specs.declared.limit.Halt.{Halt}
 use Rattle.quant_norm.specs.declared.limit.Halt.TheVariants.{Full}
 use Rattle.quant_norm.specs.Either.{either_of, any_from}
 use Rattle.quant_norm.specs.Making.{Over, Makes, Binds, one_gen}
-use Rattle.quant_norm.proofs.GrowthLaws.{added_grows, then_added, longer_by, gens_grow, all_grow, or_grow, test_grows, denied_grows, compared_grows, norm_grows, operand_grows, others_grow, each_grows, guard_grows}
+use Rattle.quant_norm.proofs.GrowthLaws.{added_grows, then_added, longer_by, gens_grow, all_grow, or_grow, test_grows, denied_grows, compared_grows, operand_grows, others_grow, each_grows, guard_grows}
 use Rattle.quant_norm.proofs.PlaceLaws.{Grown, grown_itself, grown_on}
 use Rattle.quant_norm.proofs.NodeSteps.{compared_behind}
 use Rattle.quant_norm.proofs.PlanSteps.{End, EndAt, EndWith, dropped, with_bound, cmp_made, not_made, each_made, some_made, all_further, any_further, denied_none, denied_some, chain_made, signed_further, agg_made}

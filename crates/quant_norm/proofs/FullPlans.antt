@@ -1,6 +1,6 @@
 -- Where code halts since there are too many nodes, the plan that it was to make has too many: one lemma for each way out
 -- of a function that puts queries, flags and statements into a plan.
-use Rattle.std.specs.Prelude.{◌≡◌, ◌<◌, ◌-◌, ◌+◌, ℕ, zero, suc, Bool, true, false, List, [], ◌∷◌, ◌++◌, flat_map, length, get_or, Option, Result, Ok, Err, IsErrAnd, refl}
+use Rattle.std.specs.Prelude.{◌≡◌, ◌<◌, ◌-◌, ◌+◌, ℕ, Bool, true, false, List, [], ◌∷◌, flat_map, length, get_or, Option, Result, Ok, Err, IsErrAnd, refl}
 use Rattle.std.proofs.Common.{ap, sym, subst, ◌∙◌, drop}
 use Rattle.da_lang.specs.declared.program.Alt.{Alt}
 use Rattle.da_lang.specs.declared.program.BindArg.{BindArg}
@@ -17,7 +17,6 @@ use Rattle.da_lang.specs.declared.query.Cond.{Cond}
 use Rattle.da_lang.specs.declared.query.Node.{Node}
 use Rattle.da_lang.specs.declared.query.Query.{Query}
 use Rattle.da_lang.specs.declared.query.Query.TheVariants as query
-use Rattle.da_lang.specs.declared.query.QueryNode.{QueryNode}
 use Rattle.da_lang.specs.declared.query.RGen.{RGen}
 use Rattle.da_lang.specs.declared.query.Shape.TheVariants as shape
 use Rattle.da_lang.specs.declared.query.Term.{Term}

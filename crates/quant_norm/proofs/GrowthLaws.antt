@@ -1,8 +1,8 @@
 -- Nodes are only added, whatever is asked for, so a plan that has too many at some point has too many in the end.
-use Rattle.std.specs.Prelude.{◌≡◌, ◌≤◌, ◌+◌, ◌==◌, ℕ, zero, suc, Bool, true, false, if◌then◌else◌, List, [], ◌∷◌, ◌++◌, map, length, position, Option, Some, None, refl}
+use Rattle.std.specs.Prelude.{◌≡◌, ◌≤◌, ◌==◌, ℕ, zero, suc, Bool, true, false, if◌then◌else◌, List, [], ◌∷◌, map, length, position, Option, Some, None, refl}
 use Rattle.std.specs.List.{AllByRecursion}
-use Rattle.std.proofs.Common.{ap, sym, subst, ◌∙◌, arith, length-append, append_assoc, append-nil}
-use Rattle.da_lang.specs.declared.query.Agg.{Agg, roll-Agg}
+use Rattle.std.proofs.Common.{ap, sym, subst, ◌∙◌, arith, length-append}
+use Rattle.da_lang.specs.declared.query.Agg.{Agg}
 use Rattle.da_lang.specs.declared.query.AggOp.{AggOp}
 use Rattle.da_lang.specs.declared.query.Cond.{Cond}
 use Rattle.da_lang.specs.declared.query.Cond.TheVariants as cond
@@ -21,7 +21,7 @@ use Rattle.da_lang.specs.declared.tree.CmpOp.{CmpOp}
 use Rattle.da_lang.proofs.CondInduction.{Where, cond_induction, agg_induction, Cases}
 use Rattle.da_lang.proofs.TermInduction.{bare, all_of-bare}
 use Rattle.query_plan.specs.declared.plan.Plan.{Plan}
-use Rattle.query_plan.specs.Plans.{Place, Norm, Binding, placed, added, at_node, filter_on, semi_on, anti_on, behind, gen_node, gens_on, all_on, or_on, any_on, test_on, denied_on, some_on, each_on, all_bound, compared, cond_step, operand_step, agg_node, agg_step, signed_step, known, rename, norm, norm_if, operand_bound, agg_bound, signed_bound}
+use Rattle.query_plan.specs.Plans.{Place, Norm, Binding, placed, added, at_node, filter_on, semi_on, behind, gen_node, gens_on, all_on, or_on, any_on, test_on, denied_on, all_bound, compared, cond_step, agg_node, agg_step, known, rename, norm, norm_if, operand_bound, agg_bound, signed_bound}
 use Rattle.query_plan.specs.Questions.{Met, Asked, Awaited, root, query_node, with_query, with_flag, with_asked, with_all, with_met}
 use Rattle.query_plan.specs.Spelled.{same_node}
 use Rattle.query_plan.proofs.PlansAt.{norm-Truth, norm-Cmp, norm-Not, norm-And, norm-Or, norm-Quant, bound-Term, bound-Agg, bound-Chain, bound-agg, bound-signed}

@@ -1,20 +1,19 @@
 -- The node of a condition has the rows of the place for which the condition holds. This is so of every condition, also of
 -- one that keeps no rule of types.
-use Rattle.std.specs.Prelude.{◌≡◌, ◌⊎◌, ℕ, suc, ℤ, ◌+ℤ◌, neg_ℤ, Bool, true, false, not, ◌||◌, ◌&&◌, if◌then◌else◌, List, [], ◌∷◌, ◌++◌, map, Option, Some, None, refl}
+use Rattle.std.specs.Prelude.{◌≡◌, ◌⊎◌, ℕ, suc, ℤ, ◌+ℤ◌, neg_ℤ, Bool, true, false, not, ◌||◌, if◌then◌else◌, List, [], ◌∷◌, ◌++◌, map, Option, Some, None, refl}
 use Rattle.std.specs.List.{AllByRecursion, list_any, list_all, filter}
-use Rattle.std.proofs.Common.{ap, sym, subst, ◌∙◌, inl, inr, append-nil}
+use Rattle.std.proofs.Common.{ap, sym, subst, ◌∙◌, inl, inr}
 use Rattle.std.proofs.lemmas.Bool.{and_parts, and_from, or_cases, or_left, or_right}
 use Rattle.da_values.specs.declared.val.Val.{Val}
 use Rattle.da_values.specs.declared.val.Val.TheVariants as val
 use Rattle.da_values.specs.declared.value.Value.TheVariants as kept_value
-use Rattle.da_values.specs.Sets.{Has}
 use Rattle.da_values.specs.Views.{int_of, truth_of}
 use Rattle.da_values.proofs.ViewLaws.{truth_of-Bool}
 use Rattle.da_lang.specs.declared.query.Agg.{Agg, roll-Agg}
 use Rattle.da_lang.specs.declared.query.AggOp.{AggOp}
 use Rattle.da_lang.specs.declared.query.Cond.{Cond}
 use Rattle.da_lang.specs.declared.query.Cond.TheVariants as cond
-use Rattle.da_lang.specs.declared.query.Cond.TheOpen.{Cond-F, Operand-F, Agg-F, SignedOperand-F}
+use Rattle.da_lang.specs.declared.query.Cond.TheOpen.{Cond-F, Operand-F}
 use Rattle.query_plan.proofs.PlansAt.{norm-Truth, norm-Cmp, norm-Not, norm-And, norm-Or, norm-Quant, bound-Term, bound-Agg, bound-Chain, bound-agg, bound-signed}
 use Rattle.da_lang.specs.declared.query.Node.{Node}
 use Rattle.da_lang.specs.declared.query.Node.TheVariants as node
@@ -31,8 +30,7 @@ use Rattle.da_lang.specs.World.{Data}
 use Rattle.da_lang.proofs.CondInduction.{Where, cond_induction, agg_induction, Cases}
 use Rattle.da_lang.proofs.MatchingLaws.{term-Const}
 use Rattle.da_lang.proofs.QueryLaws.{holds-Truth, holds-Cmp, holds-Not, holds-And, holds-Or, holds-Some, holds-Each, operand-Term, operand-Agg, operand-Chain, signed-made, agg-made}
-use Rattle.query_plan.specs.Nodes.{node_rows}
-use Rattle.query_plan.specs.Plans.{Place, Norm, Binding, added, at_node, filter_on, semi_on, anti_on, gens_on, all_on, or_on, any_on, test_on, denied_on, some_on, each_on, all_bound, compared, cond_step, operand_step, agg_node, behind_agg, agg_step, signed_step, norm, operand_bound, agg_bound, signed_bound, norm_if, known, rename, rename_other}
+use Rattle.query_plan.specs.Plans.{Place, Norm, Binding, added, at_node, filter_on, anti_on, gens_on, all_on, or_on, any_on, test_on, denied_on, some_on, each_on, all_bound, compared, cond_step, operand_step, behind_agg, agg_step, signed_step, norm, operand_bound, agg_bound, signed_bound, norm_if, known, rename, rename_other}
 use Rattle.quant_norm.proofs.BoundLaws.{Bound, bound_none, bound_then, bound_by, compared_kept, agg_bound_law, term_behind}
 use Rattle.quant_norm.specs.GoodPlaces.{Good}
 use Rattle.quant_norm.proofs.PlaceLaws.{Grown, grown_on, still_there, good_on, added_made, Kept, kept_by, kept_then, kept_all, filter_kept, union_kept}

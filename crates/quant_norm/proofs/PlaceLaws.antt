@@ -1,6 +1,6 @@
 -- Nodes that are added, and the rows at places.
-use Rattle.std.specs.Prelude.{◌≡◌, ◌⊎◌, ◌<◌, ◌≤◌, ◌+◌, ◌==◌, ℕ, zero, suc, Bool, true, false, not, List, [], ◌∷◌, ◌++◌, map, length, position, get_or, slice_get, Option, Some, None, refl}
-use Rattle.std.specs.List.{AllByRecursion, list_any, list_all}
+use Rattle.std.specs.Prelude.{◌≡◌, ◌⊎◌, ◌<◌, ◌≤◌, ◌+◌, ℕ, true, List, [], ◌∷◌, ◌++◌, length, position, get_or, slice_get, Option, Some, None, refl}
+use Rattle.std.specs.List.{AllByRecursion}
 use Rattle.std.proofs.Common.{ap, sym, subst, ◌∙◌, inl, inr, arith, length-append, append_assoc, append-nil}
 use Rattle.std.proofs.lemmas.Bool.{cases_lt}
 use Rattle.std.proofs.lemmas.List.Quantifiers.{position-Some}
@@ -15,10 +15,10 @@ use Rattle.da_lang.specs.World.{Data}
 use Rattle.query_plan.specs.Nodes.{node_rows, width_step, width_of, reads, ReadsBelow, IsEven, IsPlan}
 use Rattle.query_plan.specs.Plans.{Place, placed, added, at_node, filter_on, semi_on, anti_on}
 use Rattle.query_plan.specs.Spelled.{same_node}
-use Rattle.query_plan.proofs.NodeLaws.{InNode, node_rows-front, node_rows-at, of_rows, in_rows, of_set, in_set, node_rows-last}
+use Rattle.query_plan.proofs.NodeLaws.{InNode, node_rows-front, of_rows, in_rows, of_set, in_set, node_rows-last}
 use Rattle.query_plan.proofs.SpelledLaws.{one_from_test}
 use Rattle.query_plan.proofs.WidthLaws.{width_of-front, width_of-last, width_of-at, rows_wide}
-use Rattle.quant_norm.specs.GoodPlaces.{AllIn, Good}
+use Rattle.quant_norm.specs.GoodPlaces.{Good}
 use Rattle.quant_norm.proofs.RenameLaws.{get_front}
 
 -- nodes that begin with others

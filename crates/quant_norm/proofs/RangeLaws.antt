@@ -1,21 +1,20 @@
 -- The rows of a chain of generators are the extensions of the rows that it stands on.
-use Rattle.std.specs.Prelude.{◌≡◌, ◌⊎◌, ◌<◌, ◌≤◌, ◌+◌, ℕ, zero, suc, Bool, true, false, not, List, [], ◌∷◌, ◌++◌, map, length, Option, Some, None, refl}
-use Rattle.std.specs.List.{list_any, list_all, filter_map, range_with_len}
-use Rattle.std.proofs.Common.{ap, sym, subst, ◌∙◌, inl, inr, arith, length-append, append_assoc, append-nil}
+use Rattle.std.specs.Prelude.{◌≡◌, ◌+◌, ℕ, suc, Bool, true, not, List, [], ◌∷◌, ◌++◌, length, Option, Some, None, refl}
+use Rattle.std.specs.List.{list_any, list_all, range_with_len}
+use Rattle.std.proofs.Common.{ap, sym, subst, ◌∙◌, inl, inr, arith, length-append, append-nil}
 use Rattle.std.proofs.lemmas.List.FromFn.{length-range_with_len}
 use Rattle.std.proofs.lemmas.Bool.{false≢true, not-true, not_from_false, false_from_ne_true, cases_Bool}
 use Rattle.da_values.specs.Sets.{Has}
 use Rattle.da_values.proofs.Members.{of_filter_map, Has-filter_map, of_flat_map, Has-flat_map, Has-from_any, any_from_has, each_from_all, all_from_each}
 use Rattle.da_lang.specs.declared.query.Node.{Node}
-use Rattle.da_lang.specs.declared.query.Node.TheVariants as node
 use Rattle.da_lang.specs.declared.query.RGen.{RGen}
 use Rattle.da_lang.specs.Matching.{Row, Extends, Candidate, matched_candidate}
 use Rattle.da_lang.specs.Queries.{candidates, step_rows, extensions}
 use Rattle.da_lang.specs.World.{Data}
 use Rattle.da_lang.proofs.LiveMatchLaws.{behind as behind_row}
 use Rattle.da_lang.proofs.RowLaws.{extends_itself, extends_further}
-use Rattle.query_plan.specs.Nodes.{node_rows, parts_added, IsPlan}
-use Rattle.query_plan.specs.Plans.{Place, Norm, added, at_node, behind, vars_behind, gen_node, known, rename_gen, rename_pattern, gens_on, semi_on, anti_on}
+use Rattle.query_plan.specs.Nodes.{node_rows, parts_added}
+use Rattle.query_plan.specs.Plans.{Place, Norm, added, behind, vars_behind, gen_node, known, rename_gen, gens_on, semi_on, anti_on}
 use Rattle.query_plan.proofs.WidthLaws.{candidate_of}
 use Rattle.quant_norm.specs.GoodPlaces.{AllIn, Good}
 use Rattle.quant_norm.proofs.PlaceLaws.{Grown, grown_itself, grown_on, Made, added_made, Kept, kept_by, semi_kept, anti_kept, row_wide}

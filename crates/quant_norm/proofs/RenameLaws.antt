@@ -1,26 +1,21 @@
 -- A renamed term or pattern finds in the rows of a node what the written one finds in the row of the variables.
-use Rattle.std.specs.Prelude.{◌≡◌, ◌⊎◌, ◌<◌, ◌≤◌, ◌+◌, ◌-◌, ℕ, zero, suc, Bool, true, false, List, [], ◌∷◌, ◌++◌, map, length, sum, if◌then◌else◌, slice_get, Option, Some, None, option_map, refl}
+use Rattle.std.specs.Prelude.{◌≡◌, ◌<◌, ◌≤◌, ◌+◌, ℕ, zero, suc, Bool, true, false, List, [], ◌∷◌, ◌++◌, map, length, sum, if◌then◌else◌, slice_get, Option, Some, None, option_map, refl}
 use Rattle.std.specs.List.{AllByRecursion, range_with_len}
-use Rattle.std.proofs.Common.{ap, sym, subst, ◌∙◌, inl, inr, arith, length-append, append_assoc, append-nil}
+use Rattle.std.proofs.Common.{ap, sym, subst, ◌∙◌, arith, length-append, append_assoc, append-nil}
 use Rattle.std.proofs.lemmas.Option.{slice_get-map, slice_get_past}
 use Rattle.std.proofs.lemmas.List.Sums.{sum_by-cons}
 use Rattle.da_values.specs.declared.val.Val.{Val, out-Val}
 use Rattle.da_values.specs.declared.val.Val.TheVariants as val
 use Rattle.da_values.specs.declared.val.Val.TheOpen as layer
 use Rattle.da_values.specs.declared.val.Val.TheOpen.{Val-F}
-use Rattle.da_values.specs.declared.value.Value.{Value}
 use Rattle.da_values.specs.Value.{val_of}
 use Rattle.da_lang.specs.declared.query.Pattern.{Pattern}
 use Rattle.da_lang.specs.declared.query.Pattern.TheVariants as pattern
-use Rattle.da_lang.specs.declared.query.Pattern.TheOpen as pattern_layer
-use Rattle.da_lang.specs.declared.query.Pattern.TheFolds.{fold-roll-Pattern}
 use Rattle.da_lang.specs.declared.query.RGen.{RGen}
 use Rattle.da_lang.specs.declared.query.Source.{Source}
 use Rattle.da_lang.specs.declared.query.Source.TheVariants as source
 use Rattle.da_lang.specs.declared.query.Term.{Term}
 use Rattle.da_lang.specs.declared.query.Term.TheVariants as term
-use Rattle.da_lang.specs.declared.query.Term.TheOpen as term_layer
-use Rattle.da_lang.specs.declared.query.Term.TheFolds.{fold-roll-Term}
 use Rattle.da_lang.specs.Live.{is_history}
 use Rattle.da_lang.specs.Matching.{Row, term_value, is_same, and_then, where_true, match_parts, match_tuple, matched, Candidate, Element, Message, matched_candidate}
 use Rattle.da_lang.specs.World.{Data, nothing, or_nothing, at_number}
@@ -30,7 +25,7 @@ use Rattle.da_lang.proofs.TermInduction.{term_induction, pattern_induction}
 use Rattle.quant_norm.specs.GoodPlaces.{IsIn, AllIn}
 use Rattle.query_plan.specs.Nodes.{binds, parts_added}
 use Rattle.query_plan.proofs.WidthLaws.{binds-Any, binds-Bind, binds-Const, binds-Me, binds-Equal, binds-Tuple, IsOf}
-use Rattle.query_plan.specs.Plans.{part_of, known, rename, rename_other, rename_pattern, rename_gen}
+use Rattle.query_plan.specs.Plans.{part_of, known, rename, rename_pattern, rename_gen}
 use Rattle.query_plan.proofs.PlansAt.{rename-Const, rename-Me, rename-Slot, rename-Part, rename-Tuple, rename-Foreign, renamed-Any, renamed-Bind, renamed-Const, renamed-Me, renamed-Equal, renamed-Tuple}
 
 -- the values of the variables that stand in these parts of a row

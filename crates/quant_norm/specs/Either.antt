@@ -1,8 +1,8 @@
 -- The nodes of an `or`, one part after the other.
-use Rattle.std.specs.Prelude.{ℕ, List, [], ◌∷◌, Option, Some, None}
+use Rattle.std.specs.Prelude.{ℕ, List, Option, Some, None}
 use Rattle.da_lang.specs.declared.query.Node.{Node}
 use Rattle.da_lang.specs.declared.query.Node.TheVariants as node
-use Rattle.query_plan.specs.Plans.{Place, Norm, added, any_on, or_on}
+use Rattle.query_plan.specs.Plans.{Norm, added, any_on, or_on}
 
 -- the node of what came so far, if anything did, and of one more
 abbrev pub either_of : List Node → Option ℕ → ℕ → List Node × ℕ

@@ -1,4 +1,4 @@
-use Rattle.std.proofs.Common.{inl, inr, arith}
+use Rattle.std.proofs.Common.{inr, arith}
 use Rattle.quant_norm.proofs.QuerySteps.{asked_further, asked_ends}
 use Rattle.quant_norm.proofs.FullPlans.{put_halted, asked_over}
 use Rattle.quant_norm.proofs.classes.put_asked.Goals as goal

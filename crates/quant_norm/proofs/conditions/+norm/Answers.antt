@@ -1,6 +1,6 @@
-use Rattle.quant_norm.proofs.PlanSteps.{truth_made, cmp_made, not_made, and_made, or_made, each_made, some_made, all_further, all_ended, any_further, any_ended, test_none, test_some, denied_none, denied_some, term_made, part_made, chain_made, signed_further, signed_ended, agg_made}
+use Rattle.quant_norm.proofs.PlanSteps.{truth_made, cmp_made, not_made, and_made, or_made, all_further, all_ended, any_further, any_ended, test_none, test_some, denied_none, denied_some, term_made, part_made, chain_made, signed_further, signed_ended, agg_made}
 use Rattle.std.specs.Prelude.{refl}
-use Rattle.quant_norm.proofs.FullNodes.{halted, bind_halted, over_as, cmp_over_left, cmp_over_right, not_over, quant_over, each_over, some_over, all_over, right_over, both_over, denied_over_none, denied_over_some, part_over, chain_over_first, chain_over_others, signed_over, agg_over_gens, agg_over_child, agg_over_node}
+use Rattle.quant_norm.proofs.FullNodes.{halted, bind_halted, over_as, cmp_over_left, cmp_over_right, not_over, quant_over, all_over, right_over, both_over, denied_over_none, denied_over_some, part_over, chain_over_first, chain_over_others, signed_over, agg_over_gens, agg_over_child, agg_over_node}
 use Rattle.quant_norm.proofs.conditions.+norm.Goals as goal
 
 pub norm_all-loop-cond-preserved : goal.norm_all-loop-cond-preserved

@@ -1,4 +1,3 @@
-use Rattle.quant_norm.proofs.QuerySteps.{query_put}
 use Rattle.quant_norm.proofs.FullPlans.{plan_halted}
 use Rattle.quant_norm.proofs.queries.put_query.Goals as goal
 

@@ -1,6 +1,5 @@
-use Rattle.quant_norm.proofs.QuerySteps.{each_asked, some_asked, comp_asked, agg_asked}
 use Rattle.quant_norm.proofs.FullNodes.{halted}
-use Rattle.quant_norm.proofs.FullPlans.{asked_over_gens, each_asked_over, some_asked_over, comp_over_gens, comp_over_node, agg_asked_over}
+use Rattle.quant_norm.proofs.FullPlans.{asked_over_gens, comp_over_gens, comp_over_node, agg_asked_over}
 use Rattle.quant_norm.proofs.queries.query_node.Goals as goal
 
 pub returns-in_err-last-in-Quant : goal.returns-in_err-last-in-Quant
