@@ -1,12 +1,16 @@
 pub mod AsksAt
+pub mod AwaitedLaws
 pub mod BoundLaws
 pub mod ClassLaw
 pub mod CountSteps
 pub mod FullNodes
 pub mod FullPlans
+pub mod GatherLaws
 pub mod GrowthLaws
+pub mod LiveLaw
 pub mod MetAt
 pub mod NodeSteps
+pub mod NormGathers
 pub mod NormLaw
 pub mod PlaceLaws
 pub mod PlanSteps
@@ -15,5 +19,8 @@ pub mod QuerySteps
 pub mod RangeLaws
 pub mod RenameLaws
 pub mod RenameSteps
+pub mod SumLaws
 pub mod TopSteps
+pub mod TypedLaws
 pub mod VarSteps
+pub mod VariesLaws

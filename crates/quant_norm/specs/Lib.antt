@@ -1,3 +1,4 @@
 pub mod Either
 pub mod GoodPlaces
+pub mod KeepsTypes
 pub mod Making

@@ -1,0 +1,4 @@
+pub mod FrontsAt
+pub mod LiveAt
+pub mod OnceAt
+pub mod ReadingAt

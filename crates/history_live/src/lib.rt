@@ -1,0 +1,9 @@
+//! Live patterns: what the queries and conditions of a class need of the messages of its histories.
+#![tactic(auto)]
+
+mod live;
+mod reading;
+mod term;
+
+pub use live::{Live, live_patterns};
+pub use reading::matches;
