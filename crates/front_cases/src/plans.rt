@@ -1,5 +1,7 @@
 //! The plans of classes, as text.
-use da_lang::{AggOp, CmpOp, Cond, Node, Operand, Pattern, QueryNode, RGen, Shape, SignedOperand, Source, Term};
+use da_lang::{
+    AggOp, CmpOp, Cond, Node, Operand, Pattern, QueryNode, RGen, Shape, SignedOperand, Source, Term,
+};
 use da_types::Typed;
 use da_values::{Buf, List, NoMemory, write_number, write_value};
 use quant_norm::{PlanFault, normalise};
