@@ -1,5 +1,6 @@
+mod examples
 pub mod NodeLaws
+pub mod PlainAt
 pub mod PlansAt
 pub mod SpelledLaws
 pub mod WidthLaws
-mod examples
