@@ -42,6 +42,7 @@ module _ (d : Data) where
       let same = same_rows nodes longer told.node grown tells.there in
       record {
         there = still_there nodes longer told.node grown tells.there;
+        rows = same ∙ tells.rows;
         value = ap (told_value d told.shape) same ∙ tells.value;
         shown = ap (told_shown d told.shape) same ∙ tells.shown;
         least = ap (told_least told.shape) same ∙ tells.least;

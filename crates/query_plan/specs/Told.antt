@@ -1,5 +1,5 @@
 -- What the rows of nodes tell of the numbered queries of a class, and of the alternatives of its `await`s.
-use Rattle.std.specs.Prelude.{◌≡◌, ◌<◌, ℕ, Bool, true, false, not, List, [], ◌∷◌, map, length, Option, None}
+use Rattle.std.specs.Prelude.{◌≡◌, ◌<◌, ℕ, Bool, true, false, not, if◌then◌else◌, List, [], ◌∷◌, map, length, Option, None}
 use Rattle.std.specs.List.{AllZip}
 use Rattle.da_values.specs.declared.val.Val.{Val}
 use Rattle.da_values.specs.declared.val.Val.TheVariants as val
@@ -7,11 +7,13 @@ use Rattle.da_lang.specs.declared.program.Class.{Class}
 use Rattle.da_lang.specs.declared.query.Cond.{Cond}
 use Rattle.da_lang.specs.declared.query.Node.{Node}
 use Rattle.da_lang.specs.declared.query.Query.{Query}
+use Rattle.da_lang.specs.declared.query.Query.TheVariants as query
 use Rattle.da_lang.specs.declared.query.QueryNode.{QueryNode}
 use Rattle.da_lang.specs.declared.query.Shape.{Shape}
 use Rattle.da_lang.specs.declared.query.Shape.TheVariants as shape
 use Rattle.da_lang.specs.Matching.{Row}
-use Rattle.da_lang.specs.Queries.{holds, term_set, first, value_of_query, shown_of_query, least_of_query}
+use Rattle.da_lang.specs.Queries as queries
+use Rattle.da_lang.specs.Queries.{agg_value, holds, term_set, first, value_of_query, shown_of_query, least_of_query}
 use Rattle.da_lang.specs.World.{Data, nothing}
 use Rattle.query_plan.specs.declared.plan.Plan.{Plan}
 use Rattle.query_plan.specs.Nodes.{node_rows, IsPlan}
@@ -43,9 +45,17 @@ abbrev pub told_least : Shape → List Row → Option Row
 told_least shape.Exists rows = first rows
 told_least _ rows = None
 
--- a node that is there tells all that a query gives
+-- the rows of a query: those that a `some` or a comprehension goes through, those that break an `each`, and the one of an
+-- aggregate
+abbrev pub rows_of_query : Data → Query → List Row
+rows_of_query d (query.Quant each gens b) = if each then queries.other_rows d gens b [] else queries.rows d gens b []
+rows_of_query d (query.Comp t gens b) = queries.rows d gens b []
+rows_of_query d (query.Agg a) = (agg_value d a [] ∷ []) ∷ []
+
+-- a node that is there has these rows, and tells all that a query gives
 pub record TellsQuery (d : Data) (nodes : List Node) (q : Query) (told : QueryNode) : Type 0 where
   pub there : told.node < length nodes
+  pub rows : node_rows d nodes told.node ≡ rows_of_query d q
   pub value : told_value d told.shape (node_rows d nodes told.node) ≡ value_of_query d q
   pub shown : told_shown d told.shape (node_rows d nodes told.node) ≡ shown_of_query d q
   pub least : told_least told.shape (node_rows d nodes told.node) ≡ least_of_query d q
