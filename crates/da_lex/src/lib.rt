@@ -8,8 +8,6 @@ mod fault;
 mod levels;
 mod pieces;
 mod scanner;
-#[cfg(test)]
-mod tests;
 mod tokens;
 
 pub use da_values::{LexKind, Token, TokenKind};

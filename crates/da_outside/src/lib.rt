@@ -6,8 +6,6 @@ mod memory;
 mod outside;
 mod real;
 mod script;
-#[cfg(test)]
-mod tests;
 mod transfer;
 
 pub use memory::{MemFiles, MemSink};

@@ -126,29 +126,29 @@ module _ (c : Cut) (h n : ℕ) (some : 1 ≤ c.most) (le : c.most ≤ h) (less :
   abbrev Parameter : Rule Param
   Parameter room = TypedParam room (suc n)
 
-  abbrev D0 : Type 0
-  D0 = 0 < c.most
+  abbrev RoomForOne : Type 0
+  RoomForOne = 0 < c.most
 
-  abbrev D1 : Type 0
-  D1 = 1 < c.most
+  abbrev RoomForTwo : Type 0
+  RoomForTwo = 1 < c.most
 
-  types_out : Whole c D0 (m.Int ∷ []) (types L c.most 1) (types c.wider h 1) (λ room. TypeIn room (suc n) 1)
+  types_out : Whole c RoomForOne (m.Int ∷ []) (types L c.most 1) (types c.wider h 1) (λ room. TypeIn room (suc n) 1)
   types_out = types-whole c c.most h (suc n) 1 (omega arith) le (omega (arith, less))
 
-  types_in : Whole c D1 (m.Int ∷ []) (types L (c.most - 1) 2) (types c.wider (h - 1) 2) (λ room. TypeIn room (suc n) 2)
+  types_in : Whole c RoomForTwo (m.Int ∷ []) (types L (c.most - 1) 2) (types c.wider (h - 1) 2) (λ room. TypeIn room (suc n) 2)
   types_in = types-whole c (c.most - 1) (h - 1) (suc n) 2 (omega (arith, some)) (omega (arith, le)) (omega (arith, less))
 
-  types_here : Whole c D0 (m.Int ∷ []) (type_in (L 1) (types L (c.most - 1) 2)) (type_in (c.wider 1) (types c.wider (h - 1) 2)) (λ room. TypeIn room (suc n) 1)
+  types_here : Whole c RoomForOne (m.Int ∷ []) (type_in (L 1) (types L (c.most - 1) 2)) (type_in (c.wider 1) (types c.wider (h - 1) 2)) (λ room. TypeIn room (suc n) 1)
   unfolding TypeIn
-  types_here = type_in-whole c D0 1 (types-whole c (c.most - 1) (h - 1) n 2 (omega (arith, some)) (omega (arith, le)) (omega (arith, some, less))) (types-strict L (c.most - 1) 2) (types-strict c.wider (h - 1) 2)
+  types_here = type_in-whole c RoomForOne 1 (types-whole c (c.most - 1) (h - 1) n 2 (omega (arith, some)) (omega (arith, le)) (omega (arith, some, less))) (types-strict L (c.most - 1) 2) (types-strict c.wider (h - 1) 2)
 
-  param_in : Whole c D1 (m.Name ∷ m.Colon ∷ m.Int ∷ []) (typed_param (types L (c.most - 1) 2)) (typed_param (types c.wider (h - 1) 2)) Parameter
-  param_in = typed_param-whole c D1 types_in
+  param_in : Whole c RoomForTwo (m.Name ∷ m.Colon ∷ m.Int ∷ []) (typed_param (types L (c.most - 1) 2)) (typed_param (types c.wider (h - 1) 2)) Parameter
+  param_in = typed_param-whole c RoomForTwo types_in
 
-  patterns_here : Whole c D0 (m.Name ∷ []) (pattern (Place1 L c.most some)) (pattern (Place1 c.wider h some1)) (λ room. IsPattern (room 1) (deeper room (suc n) 2))
-  patterns_here = subst (λ p. Whole c D0 (m.Name ∷ []) (pattern p) (pattern (Place1 c.wider h some1)) (λ room. IsPattern (room 1) (deeper room (suc n) 2))) (sym (by_parts L (c.most - 1) 1))
-      (subst (λ q. Whole c D0 (m.Name ∷ []) (pattern (place L (c.most - 1) 1)) (pattern q) (λ room. IsPattern (room 1) (deeper room (suc n) 2))) (sym (by_parts c.wider (h - 1) 1))
-      (levels c D0 (c.most - 1) (h - 1) (suc n) 1 (places c (c.most - 1) (h - 1) (suc n) 1 (omega (arith, some)) (omega (arith, le)) (omega (arith, less)))).pattern)
+  patterns_here : Whole c RoomForOne (m.Name ∷ []) (pattern (Place1 L c.most some)) (pattern (Place1 c.wider h some1)) (λ room. IsPattern (room 1) (deeper room (suc n) 2))
+  patterns_here = subst (λ p. Whole c RoomForOne (m.Name ∷ []) (pattern p) (pattern (Place1 c.wider h some1)) (λ room. IsPattern (room 1) (deeper room (suc n) 2))) (sym (by_parts L (c.most - 1) 1))
+      (subst (λ q. Whole c RoomForOne (m.Name ∷ []) (pattern (place L (c.most - 1) 1)) (pattern q) (λ room. IsPattern (room 1) (deeper room (suc n) 2))) (sym (by_parts c.wider (h - 1) 1))
+      (levels c RoomForOne (c.most - 1) (h - 1) (suc n) 1 (places c (c.most - 1) (h - 1) (suc n) 1 (omega (arith, some)) (omega (arith, le)) (omega (arith, less)))).pattern)
 
   abbrev block_marks : List Mark
   block_marks = m.Colon ∷ m.Newline ∷ m.Indent ∷ m.Pass ∷ m.Newline ∷ m.Dedent ∷ []
@@ -163,11 +163,11 @@ module _ (c : Cut) (h n : ℕ) (some : 1 ≤ c.most) (le : c.most ≤ h) (less :
   member2 : Strict (member (PartsOf c.wider h some1 (Place1 c.wider h some1)))
   member2 = subst (λ s. Strict (member s)) (sym (parts_are c.wider h some1)) (member-strict c.wider h some1)
 
-  members_in : Whole c D0 (m.Var ∷ m.Name ∷ m.Colon ∷ m.Int ∷ m.Newline ∷ m.Dedent ∷ []) (members (PartsOf L c.most some (Place1 L c.most some))) (members (PartsOf c.wider h some1 (Place1 c.wider h some1)))
+  members_in : Whole c RoomForOne (m.Var ∷ m.Name ∷ m.Colon ∷ m.Int ∷ m.Newline ∷ m.Dedent ∷ []) (members (PartsOf L c.most some (Place1 L c.most some))) (members (PartsOf c.wider h some1 (Place1 c.wider h some1)))
       (λ room. Ended (IsMember (room 1) (TypeIn room (suc n) 1) (IsParams (Parameter room)) (IsPattern (room 1) (deeper room (suc n) 2)) (IsBlock (room 1) (deeper room (suc n) 2) (BodyIn room (suc n) 2))))
-  members_in = members-whole c 1 _ _ _ _ D0 types_here param_in (param-strict L c.most some) (param-strict c.wider h some1) patterns_here (blocks_by D0) (blocks_by D1) member1 member2
+  members_in = members-whole c 1 _ _ _ _ RoomForOne types_here param_in (param-strict L c.most some) (param-strict c.wider h some1) patterns_here (blocks_by RoomForOne) (blocks_by RoomForTwo) member1 member2
 
-  disj_in : Whole c D1 (m.Name ∷ []) ((place L (c.most - 1) 1).expr level.Disj) ((place c.wider (h - 1) 1).expr level.Disj) (λ room. (deeper room (suc n) 2).disj)
+  disj_in : Whole c RoomForTwo (m.Name ∷ []) ((place L (c.most - 1) 1).expr level.Disj) ((place c.wider (h - 1) 1).expr level.Disj) (λ room. (deeper room (suc n) 2).disj)
   disj_in = (places c (c.most - 1) (h - 1) (suc n) 1 (omega (arith, some)) (omega (arith, le)) (omega (arith, less))).disj
 
   lines_by : (Q : Type 0) → Whole c Q (m.Setup ∷ m.OpenParen ∷ m.Name ∷ m.CloseParen ∷ m.Newline ∷ []) (main_line First) (main_line Second) (λ room. IsMline (room 1) (deeper room (suc n) 2))
@@ -193,7 +193,7 @@ module _ (c : Cut) (h n : ℕ) (some : 1 ≤ c.most) (le : c.most ≤ h) (less :
 
   by_records : Whole c (Unit {0}) main_marks (program First) (program Second) (λ room z i s. s ≡ [] → IsTypedProgram room (suc n) z i)
   by_records = program-whole c (Unit {0}) (suc n) First Second Parameter
-      (main-whole c (Unit {0}) (suc n) _ _ _ _ _ _ _ _ _ _ _ _ _ _ _ _ Parameter (lines_by D0) line1 line2)
+      (main-whole c (Unit {0}) (suc n) _ _ _ _ _ _ _ _ _ _ _ _ _ _ _ _ Parameter (lines_by RoomForOne) line1 line2)
       (message-good c (Unit {0}) (suc n) _ _ _ _ _ _ _ _ _ _ _ _ _ _ _ _ _ types_out (types-strict L c.most 1) (types-strict c.wider h 1) disj_in (disj-strict L (c.most - 1) 1) (disj-strict c.wider (h - 1) 1) members_in)
       (class-good c (Unit {0}) (suc n) _ _ _ _ _ _ _ _ _ _ _ _ _ _ _ _ _ types_out (types-strict L c.most 1) (types-strict c.wider h 1) disj_in (disj-strict L (c.most - 1) 1) (disj-strict c.wider (h - 1) 1) members_in)
       (subst Keeps1 (sym first_is) (message-keeps L c.most some)) (subst Keeps2 (sym first_is) (class-keeps L c.most some))

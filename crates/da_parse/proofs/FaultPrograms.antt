@@ -162,17 +162,17 @@ module _ (c : Cut) (Q : Type 0) (N : ℕ) (e0 e01 e1 e11 : Level → Reader Expr
   abbrev O1 : Outer
   O1 = record { place = record { may_open = c.wider 0; expr = e01; pattern = r01 }; inner_ty = ty1; inside = Inside1 }
 
-  abbrev D0 : Type 0
-  D0 = 0 < c.most
+  abbrev RoomForOne : Type 0
+  RoomForOne = 0 < c.most
 
-  abbrev D1 : Type 0
-  D1 = 1 < c.most
+  abbrev RoomForTwo : Type 0
+  RoomForTwo = 1 < c.most
 
   abbrev MembersHere : Rule (List Member)
   MembersHere room = Ended (IsMember (room 1) (TypeIn room N 1) (IsParams (Parameter room)) (IsPattern (room 1) (deeper room N 2)) (IsBlock (room 1) (deeper room N 2) (BodyIn room N 2)))
 
   -- a colon, the end of the line and the beginning of a block, and what stands in it
-  header_then : (Q1 : Type 0) {A : Type 0} {v : List Mark} {p q : Reader A} {H : Rule A} → Whole c D0 v p q (λ room z q s. (i : List Tok) → Opens m.Indent (room 0) i q → (i1 : List Tok) → At m.Newline i1 i → (i2 : List Tok) → At m.Colon i2 i1 → H room z i2 s)
+  header_then : (Q1 : Type 0) {A : Type 0} {v : List Mark} {p q : Reader A} {H : Rule A} → Whole c RoomForOne v p q (λ room z q s. (i : List Tok) → Opens m.Indent (room 0) i q → (i1 : List Tok) → At m.Newline i1 i → (i2 : List Tok) → At m.Colon i2 i1 → H room z i2 s)
       → Whole c Q1 (m.Colon ∷ m.Newline ∷ m.Indent ∷ v) (header_end O >> p) (header_end O1 >> q) H
   header_then Q1 {p = p} {q = q} inside = whole_same c Q1 (header_is O p) (header_is O1 q)
       (bind c Q1 (expect_whole c Q1 m.Colon) (λ _. bind c Q1 (expect_whole c Q1 m.Newline) (λ _. opening_whole c Q1 0 m.Indent inside)))
@@ -188,36 +188,36 @@ module _ (c : Cut) (Q : Type 0) (N : ℕ) (e0 e01 e1 e11 : Level → Reader Expr
   unfolding main_line
   nothing1 = refl
 
-  pub main-whole : Whole c D0 (m.Setup ∷ m.OpenParen ∷ m.Name ∷ m.CloseParen ∷ m.Newline ∷ []) (main_line O) (main_line O1) LineHere → Strict (main_line O) → Strict (main_line O1) → Whole c Q main_marks (main O) (main O1) (λ room. IsMain room N)
+  pub main-whole : Whole c RoomForOne (m.Setup ∷ m.OpenParen ∷ m.Name ∷ m.CloseParen ∷ m.Newline ∷ []) (main_line O) (main_line O1) LineHere → Strict (main_line O) → Strict (main_line O1) → Whole c Q main_marks (main O) (main O1) (λ room. IsMain room N)
   unfolding main
-  main-whole lines strict strict1 = bind c Q (expect_whole c Q m.Def) (λ _. bind c Q (expect_whole c Q m.Main) (λ _. opening_whole c Q 0 m.OpenParen (bind c D0 (expect_whole c D0 m.CloseParen) (λ _.
-      header_then D0 (whole_as c D0 (λ room ls i s all i1 opened i2 over i3 colon i4 close i5 opened0 i6 there i7 def. g.main def there opened0 close colon over opened all)
-      (ended_whole c D0 lines strict strict1 nothing nothing1))))))
+  main-whole lines strict strict1 = bind c Q (expect_whole c Q m.Def) (λ _. bind c Q (expect_whole c Q m.Main) (λ _. opening_whole c Q 0 m.OpenParen (bind c RoomForOne (expect_whole c RoomForOne m.CloseParen) (λ _.
+      header_then RoomForOne (whole_as c RoomForOne (λ room ls i s all i1 opened i2 over i3 colon i4 close i5 opened0 i6 there i7 def. g.main def there opened0 close colon over opened all)
+      (ended_whole c RoomForOne lines strict strict1 nothing nothing1))))))
 
-  module _ {w wd wm : List Mark} (types : Whole c D0 w ty ty1 (λ room. TypeIn room N 1)) (types_strict : Strict ty) (types_strict1 : Strict ty1)
-      (disj : Whole c D1 wd (e1 level.Disj) (e11 level.Disj) (λ room. (deeper room N 2).disj)) (disj_strict : Strict (e1 level.Disj)) (disj_strict1 : Strict (e11 level.Disj))
-      (members_in : Whole c D0 wm (members Inside) (members Inside1) MembersHere) where
+  module _ {w wd wm : List Mark} (types : Whole c RoomForOne w ty ty1 (λ room. TypeIn room N 1)) (types_strict : Strict ty) (types_strict1 : Strict ty1)
+      (disj : Whole c RoomForTwo wd (e1 level.Disj) (e11 level.Disj) (λ room. (deeper room N 2).disj)) (disj_strict : Strict (e1 level.Disj)) (disj_strict1 : Strict (e11 level.Disj))
+      (members_in : Whole c RoomForOne wm (members Inside) (members Inside1) MembersHere) where
     pub message-good : (at_it : ℕ) → Good c Q Anywhere (message O at_it) (message O1 at_it) (λ room z q s. (i : List Tok) → At m.Message i q → sp.line i ≡ at_it → IsMessage room N z i s)
     unfolding message
-    message-good at_it = (bind c Q (word_whole c Q) (λ n. opening_whole c Q 0 m.OpenParen (bind c D0 (all_closed c D0 m.CloseParen types types_strict types_strict1) (λ xs. bind c D0 (expect_whole c D0 m.Newline) (λ _.
-        pure_whole c D0 (record { tag = n; parts = xs; line = at_it }) (λ room i i1 over i2 l i3 opened i4 name i5 there lined.
+    message-good at_it = (bind c Q (word_whole c Q) (λ n. opening_whole c Q 0 m.OpenParen (bind c RoomForOne (all_closed c RoomForOne m.CloseParen types types_strict types_strict1) (λ xs. bind c RoomForOne (expect_whole c RoomForOne m.Newline) (λ _.
+        pure_whole c RoomForOne (record { tag = n; parts = xs; line = at_it }) (λ room i i1 over i2 l i3 opened i4 name i5 there lined.
         subst (λ v. IsMessage room N (record { tag = n; parts = xs; line = v }) i5 i) lined (g.IsMessage.message there name opened l over))))))).good
 
     pub class-good : (at_it : ℕ) → Good c Q Anywhere (class O at_it) (class O1 at_it) (λ room z q s. (i : List Tok) → At m.Class i q → sp.line i ≡ at_it → IsClass room N (Parameter room) z i s)
     unfolding class
-    class-good at_it = (bind c Q (word_whole c Q) (λ n. bind c Q (expect_whole c Q m.Extends) (λ _. bind c Q (expect_whole c Q m.Process) (λ _. header_then Q (bind c D0 members_in (λ ms.
-        pure_whole c D0 (record { name = n; members = ms; line = at_it }) (λ room i i1 l i2 opened i3 over i4 colon i5 process i6 extends i7 name i8 there lined.
+    class-good at_it = (bind c Q (word_whole c Q) (λ n. bind c Q (expect_whole c Q m.Extends) (λ _. bind c Q (expect_whole c Q m.Process) (λ _. header_then Q (bind c RoomForOne members_in (λ ms.
+        pure_whole c RoomForOne (record { name = n; members = ms; line = at_it }) (λ room i i1 l i2 opened i3 over i4 colon i5 process i6 extends i7 name i8 there lined.
         subst (λ v. IsClass room N (Parameter room) (record { name = n; members = ms; line = v }) i8 i) lined (g.IsClass.class there name extends process colon over opened l)))))))).good
 
     new_line-good : (n : List ℕ) (at_it : ℕ) → Good c Q Anywhere (new_line O n at_it) (new_line O1 n at_it) (λ room z q s. (i : List Tok) → Named n i q → sp.line i ≡ at_it → LineHere room z i s)
     unfolding new_line
     new_line-good n at_it = (bind c Q (expect_whole c Q m.Assign) (λ _. bind c Q (expect_whole c Q m.New) (λ _. opening_whole c Q 1 m.OpenParen
-        (bind c D1 (word_whole c D1) (λ k. bind c D1 (count-whole c D1) (λ many. bind c D1 (expect_whole c D1 m.CloseParen) (λ _. bind c D1 (expect_whole c D1 m.Newline) (λ _.
-        pure_whole c D1 (line_tree.New n k many at_it) (λ room i i1 over i2 close i3 many_are i4 class_is i5 opened i6 new i7 is i8 name lined.
+        (bind c RoomForTwo (word_whole c RoomForTwo) (λ k. bind c RoomForTwo (count-whole c RoomForTwo) (λ many. bind c RoomForTwo (expect_whole c RoomForTwo m.CloseParen) (λ _. bind c RoomForTwo (expect_whole c RoomForTwo m.Newline) (λ _.
+        pure_whole c RoomForTwo (line_tree.New n k many at_it) (λ room i i1 over i2 close i3 many_are i4 class_is i5 opened i6 new i7 is i8 name lined.
         subst (λ v. LineHere room (line_tree.New n k many v) i8 i) lined (g.new name is new opened class_is many_are close over)))))))))).good
 
-    argument-good : Good c D1 (λ i. sees m.Comma i ≡ true) (argument O) (argument O1) (λ room. Led m.Comma (deeper room N 2).disj)
-    argument-good = past_mark c D1 m.Comma (λ i seen. mark_sees m.Comma i seen) (good_as c D1 (λ room z i s h i1 comma. led comma h) disj.good)
+    argument-good : Good c RoomForTwo (λ i. sees m.Comma i ≡ true) (argument O) (argument O1) (λ room. Led m.Comma (deeper room N 2).disj)
+    argument-good = past_mark c RoomForTwo m.Comma (λ i seen. mark_sees m.Comma i seen) (good_as c RoomForTwo (λ room z i s h i1 comma. led comma h) disj.good)
 
     argument_strict : (i : List Tok) (z : Expr × List Tok) → sees m.Comma i ≡ true → argument O i ≡ Ok z → length z.1 < length i
     argument_strict i z seen e = omega (arith, rest_shorter m.Comma i seen, disj_strict (rest i) z e)
@@ -227,9 +227,9 @@ module _ (c : Cut) (Q : Type 0) (N : ℕ) (e0 e01 e1 e11 : Level → Reader Expr
 
     setup_line-good : (at_it : ℕ) → Good c Q Anywhere (setup_line O at_it) (setup_line O1 at_it) (λ room z q s. (i : List Tok) → At m.Setup i q → sp.line i ≡ at_it → LineHere room z i s)
     unfolding setup_line
-    setup_line-good at_it = (opening_whole c Q 1 m.OpenParen (bind c D1 (word_whole c D1) (λ n. bind c D1 (begun_whole c D1 m.Comma argument-good argument_strict argument_strict1 []) (λ xs.
-        bind c D1 (expect_whole c D1 m.CloseParen) (λ _. bind c D1 (expect_whole c D1 m.Newline) (λ _.
-        pure_whole c D1 (line_tree.Setup n xs at_it) (λ room i i1 over i2 close i3 finds i4 name i5 opened i6 there lined.
+    setup_line-good at_it = (opening_whole c Q 1 m.OpenParen (bind c RoomForTwo (word_whole c RoomForTwo) (λ n. bind c RoomForTwo (begun_whole c RoomForTwo m.Comma argument-good argument_strict argument_strict1 []) (λ xs.
+        bind c RoomForTwo (expect_whole c RoomForTwo m.CloseParen) (λ _. bind c RoomForTwo (expect_whole c RoomForTwo m.Newline) (λ _.
+        pure_whole c RoomForTwo (line_tree.Setup n xs at_it) (λ room i i1 over i2 close i3 finds i4 name i5 opened i6 there lined.
         let (l, is, spelled) = finds in
         subst (λ v. LineHere room (line_tree.Setup n xs v) i6 i) lined (g.IsMline.setup there opened name (subst (λ v. Behind m.Comma (deeper room N 2).disj v i3 i2) (sym is) (Many-Behind spelled)) close over)))))))).good
 

@@ -6,7 +6,5 @@ mod process;
 mod row;
 mod taken;
 mod term;
-#[cfg(test)]
-mod tests;
 
 pub use matching::{match_pattern, matches_pattern};

@@ -16,8 +16,6 @@ mod read;
 mod set;
 mod steps;
 mod str;
-#[cfg(test)]
-mod tests;
 mod token;
 mod val;
 mod value;

@@ -4,8 +4,6 @@
 mod front;
 mod packet;
 mod reading;
-#[cfg(test)]
-mod tests;
 mod writing;
 
 pub use packet::{CodecFault, Packet};

@@ -13,6 +13,7 @@ pub mod NodeSteps
 pub mod NormGathers
 pub mod NormLaw
 pub mod PlaceLaws
+pub mod PlainLaw
 pub mod PlanSteps
 pub mod QueryLaw
 pub mod QuerySteps

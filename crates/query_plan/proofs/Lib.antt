@@ -1,4 +1,5 @@
 pub mod NodeLaws
+pub mod PlainAt
 pub mod PlansAt
 pub mod SpelledLaws
 pub mod WidthLaws

@@ -1,4 +1,5 @@
 pub mod Nodes
+pub mod PlainNodes
 pub mod PlanLive
 pub mod Plans
 pub mod Questions

@@ -7,8 +7,6 @@ mod line;
 mod number;
 mod put;
 mod schedule;
-#[cfg(test)]
-mod tests;
 mod words;
 
 pub use action::write_action;
