@@ -11,7 +11,7 @@ use Rattle.da_lang.specs.declared.program.Class.{Class}
 use Rattle.da_machine.specs.declared.code.Code.{Code}
 use Rattle.da_machine.specs.declared.code.YieldPoint.{YieldPoint}
 use Rattle.da_machine.specs.CodeFor.{Has, AltsAt, ItemAt}
-use Rattle.da_machine.specs.Points.{AtAwait, AtLabel, IsNumbered, Point, Points, class_points, conditions_of}
+use Rattle.da_machine.specs.Points.{AtAwait, AtLabel, IsNumbered, Point, Points, class_points, ways_of}
 use Rattle.code_gen.specs.Made.{AreNumbered, Grown, MadeAlts, MadeAwait, MadeLabel, added, alt_points, end_of, filled, patched, pointed, repointed}
 use Rattle.code_gen.proofs.Growing.{fill_end, fill_grown, fill_has, fill_keeps, grown_on, holes_may_be, none_then, put_end, put_grown, put_has, stays_has, then_none}
 use Rattle.code_gen.proofs.ItemCode.{alt_holes, alts_written}
@@ -110,7 +110,7 @@ made_await a b c d e f alts at number none entries leaves places exit is_at is_n
     let ce : Grown c e (length ps) = subst (λ z. Grown c z (length ps)) (sym is_e) (fill_grown j c d (length ps) leaves cd made.behind) in
     let be = none_then b c e (length ps) bc ce in
     let ae = grown_on a b e 1 (length ps) ab be in
-    let whole : 1 + length ps ≡ length (AtAwait (conditions_of alts) ∷ ps) = omega arith in
+    let whole : 1 + length ps ≡ length (AtAwait (ways_of alts) ∷ ps) = omega arith in
     let at_e : slice_get e.yields at ≡ Some reserved = subst (λ k. slice_get e.yields k ≡ Some reserved) (sym is_at) (point_stays b e (length ps) (length a.yields) reserved be (point_there a b reserved is_b)) in
     let ef : Keeps e f = subst (Keeps e) (sym is_f) (repoint_keeps e at y at_e) in
     let end_f : end_of f ≡ end_of d = ap end_of is_f ∙ ap end_of is_e ∙ fill_end j d leaves in
@@ -123,9 +123,9 @@ made_await a b c d e f alts at number none entries leaves places exit is_at is_n
     record {
       grown = subst (Grown a f) whole (subst (λ z. Grown a z (1 + length ps)) (sym is_f) (repoint_grown a e (1 + length ps) at y ae (omega (arith, is_at))));
       stands = λ class numbered i is.
-          let own = first_number class (length a.yields) (AtAwait (conditions_of alts)) ps numbered in
-          let has = subst (λ k. Has f (end_of a) (op.Yield k)) (is_number (small_number class (length a.yields) (AtAwait (conditions_of alts)) ps numbered)) has_f in
-          let others = rest_numbers class (length a.yields) (AtAwait (conditions_of alts) ∷ []) ps numbered in
+          let own = first_number class (length a.yields) (AtAwait (ways_of alts)) ps numbered in
+          let has = subst (λ k. Has f (end_of a) (op.Yield k)) (is_number (small_number class (length a.yields) (AtAwait (ways_of alts)) ps numbered)) has_f in
+          let others = rest_numbers class (length a.yields) (AtAwait (ways_of alts) ∷ []) ps numbered in
           let at_c = subst (λ k. AreNumbered class k ps) (sym ac.count) others in
           let open_d = made.stands class at_c in
           let may = holes_may_be j d leaves (alt_holes d class (end_of c) alts (end_of d) entries leaves open_d) in

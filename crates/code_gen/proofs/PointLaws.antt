@@ -13,7 +13,7 @@ use Rattle.da_lang.specs.declared.program.ItemKind.TheViews.{out-Alt, out-Item, 
 use Rattle.da_lang.specs.declared.program.RBranch.{RBranch}
 use Rattle.da_lang.specs.Turns.{kind_of}
 use Rattle.da_machine.specs.declared.code.Code.{Code}
-use Rattle.da_machine.specs.Points.{AltPoints, AtAwait, AtLabel, IsNumbered, Point, Points, alt_points_step, branch_points_step, condition_of, conditions_of, item_points_step, kind_points_step, points_in, points_of}
+use Rattle.da_machine.specs.Points.{AltPoints, AtAwait, AtLabel, IsNumbered, Point, Points, alt_points_step, branch_points_step, way_of, ways_of, item_points_step, kind_points_step, points_in, points_of}
 use Rattle.code_gen.specs.Made.{AreNumbered, Grown, alt_points, block_points, branch_points}
 use Rattle.code_gen.proofs.Growing.{grown_on}
 use Rattle.code_gen.proofs.Lists.{behind_front, in_front}
@@ -24,7 +24,7 @@ points_in_kind (kind.If branches other) = flat_map branch_points branches ++ blo
 points_in_kind (kind.While e body) = block_points body
 points_in_kind (kind.For s e body) = block_points body
 points_in_kind (kind.Call args body) = block_points body
-points_in_kind (kind.Await alts) = AtAwait (conditions_of alts) ∷ flat_map alt_points alts
+points_in_kind (kind.Await alts) = AtAwait (ways_of alts) ∷ flat_map alt_points alts
 points_in_kind kind.Label = AtLabel ∷ []
 points_in_kind _ = []
 
@@ -55,12 +55,12 @@ block_name items = by_name Item ItemPoints points_in item_name items
 branch_name : (b : RBranch) → BranchPoints b ≡ branch_points b
 branch_name b = fold_out-RBranch Points AltPoints Points Points kind_points_step alt_points_step item_points_step branch_points_step b ∙ block_name (out-RBranch b).body
 
-alt_name : (a : Alt) → AltParts a ≡ record { waits_for = condition_of a; inside = points_of (map ItemPoints (out-Alt a).body) }
+alt_name : (a : Alt) → AltParts a ≡ record { way = way_of a; inside = points_of (map ItemPoints (out-Alt a).body) }
 alt_name a = fold_out-Alt Points AltPoints Points Points kind_points_step alt_points_step item_points_step branch_points_step a
 
-alt_conditions : (alts : List Alt) → map (λ (p : AltPoints). p.waits_for) (map AltParts alts) ≡ conditions_of alts
+alt_conditions : (alts : List Alt) → map (λ (p : AltPoints). p.way) (map AltParts alts) ≡ ways_of alts
 alt_conditions [] = refl
-alt_conditions (a ∷ alts) = ap (λ (p : AltPoints). p.waits_for ∷ map (λ (p : AltPoints). p.waits_for) (map AltParts alts)) (alt_name a) ∙ ap (λ l. condition_of a ∷ l) (alt_conditions alts)
+alt_conditions (a ∷ alts) = ap (λ (p : AltPoints). p.way ∷ map (λ (p : AltPoints). p.way) (map AltParts alts)) (alt_name a) ∙ ap (λ l. way_of a ∷ l) (alt_conditions alts)
 
 alt_insides : (alts : List Alt) → flat_map (λ (p : AltPoints). p.inside) (map AltParts alts) ≡ flat_map alt_points alts
 alt_insides [] = refl
@@ -79,7 +79,7 @@ layer (kind.If branches other) = ap (λ l. l ++ points_of (map ItemPoints other)
 layer (kind.While e body) = block_name body
 layer (kind.For s e body) = block_name body
 layer (kind.Call args body) = block_name body
-layer (kind.Await alts) = ap (λ l. AtAwait l ∷ flat_map (λ (p : AltPoints). p.inside) (map AltParts alts)) (alt_conditions alts) ∙ ap (λ l. AtAwait (conditions_of alts) ∷ l) (alt_insides alts)
+layer (kind.Await alts) = ap (λ l. AtAwait l ∷ flat_map (λ (p : AltPoints). p.inside) (map AltParts alts)) (alt_conditions alts) ∙ ap (λ l. AtAwait (ways_of alts) ∷ l) (alt_insides alts)
 layer kind.Label = refl
 layer kind.Pass = refl
 

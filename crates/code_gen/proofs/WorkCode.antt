@@ -18,7 +18,7 @@ use Rattle.da_lang.specs.declared.program.RExpr.{RExpr}
 use Rattle.da_lang.specs.Turns.{kind_of, line_of, slot_of_arg, value_of_arg}
 use Rattle.da_machine.specs.declared.code.Code.{Code}
 use Rattle.da_machine.specs.CodeFor.{Has, BlockAt, BranchesAt, EnterAt, ExprAt, ExprsAt, ItemAt, LoopAt, WorkAt}
-use Rattle.da_machine.specs.Points.{AtAwait, AtLabel, Points, conditions_of, points_in}
+use Rattle.da_machine.specs.Points.{AtAwait, AtLabel, Points, ways_of, points_in}
 use Rattle.code_gen.specs.Made.{AreNumbered, Grown, MadeAwait, MadeBlock, MadeBranches, MadeDoing, MadeExpr, MadeExprs, MadeItem, MadeLabel, MadeLoop, MadeStores, MadeWhile, added, alt_points, block_points, branch_points, end_of, filled, patched}
 use Rattle.code_gen.proofs.Growing.{fill_end, fill_grown, fill_has, fill_keeps, grown_on, holes_may_be, none_then, patch_end, patch_grown, patch_has, patch_keeps, put_end, put_grown, put_has, stays_has, then_none}
 use Rattle.code_gen.proofs.ItemCode.{branch_holes, branches_written}
@@ -202,7 +202,7 @@ label_item a b i is made =
 pub await_item : (a b : Code) (i : Item) (alts : List Alt) → (out-Item i).kind ≡ it.Await alts → MadeAwait a b alts → MadeItem a b i
 await_item a b i alts is made =
     let k : kind_of i ≡ kind.Await alts = ap out-ItemKind is ∙ it.outs-Await alts in
-    let same : points_in i ≡ AtAwait (conditions_of alts) ∷ flat_map alt_points alts = points_at i ∙ ap points_in_kind k in
+    let same : points_in i ≡ AtAwait (ways_of alts) ∷ flat_map alt_points alts = points_at i ∙ ap points_in_kind k in
     record {
       grown = subst (λ l. Grown a b (length l)) (sym same) made.grown;
       stands = λ class numbered. made.stands class (subst (AreNumbered class (length a.yields)) same numbered) i k;

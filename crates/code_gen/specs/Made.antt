@@ -19,7 +19,7 @@ use Rattle.da_machine.specs.declared.code.Code.{Code}
 use Rattle.da_machine.specs.declared.code.YieldPoint.{YieldPoint}
 use Rattle.da_machine.specs.CodeFor.{BlockAt, EnterAt, ExprAt, ExprsAt, FoundAt, Has, ItemAt, LoopAt, PartsAt, StoresAt, WorkAt}
 use Rattle.da_lang.specs.declared.code.Instr.TheVariants as op
-use Rattle.da_machine.specs.Points.{AtAwait, AtLabel, IsNumbered, Point, Points, class_points, conditions_of, points_in}
+use Rattle.da_machine.specs.Points.{AtAwait, AtLabel, IsNumbered, Point, Points, class_points, ways_of, points_in}
 use Rattle.code_gen.specs.Open.{HandlersAt, OpenAlts, OpenBranches, OpenSetups, SetupAt}
 
 -- with an instruction more; with another one at a place; with the same one at several places
@@ -129,8 +129,8 @@ pub record MadeLabel (old new : Code) : Type 0 where
   pub stands : (class : Class) → AreNumbered class (length old.yields) (AtLabel ∷ []) → (i : Item) → kind_of i ≡ kind.Label → ItemAt new class (end_of old) i (end_of new)
 
 pub record MadeAwait (old new : Code) (alts : List Alt) : Type 0 where
-  pub grown : Grown old new (length (AtAwait (conditions_of alts) ∷ flat_map alt_points alts))
-  pub stands : (class : Class) → AreNumbered class (length old.yields) (AtAwait (conditions_of alts) ∷ flat_map alt_points alts) → (i : Item) → kind_of i ≡ kind.Await alts → ItemAt new class (end_of old) i (end_of new)
+  pub grown : Grown old new (length (AtAwait (ways_of alts) ∷ flat_map alt_points alts))
+  pub stands : (class : Class) → AreNumbered class (length old.yields) (AtAwait (ways_of alts) ∷ flat_map alt_points alts) → (i : Item) → kind_of i ≡ kind.Await alts → ItemAt new class (end_of old) i (end_of new)
 
 pub record MadeLoop (old new : Code) (slot : ℕ) (body : List Item) (line : ℕ) : Type 0 where
   pub grown : Grown old new (length (block_points body))

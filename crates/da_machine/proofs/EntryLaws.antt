@@ -14,7 +14,7 @@ use Rattle.da_machine.specs.declared.code.Code.{Code}
 use Rattle.da_machine.specs.declared.code.YieldPoint.{YieldPoint}
 use Rattle.da_machine.specs.CodeFor.{Has, AltsAt, CodeFor, EnterAt, ItemAt, LoopAt}
 use Rattle.da_machine.specs.Entries.{IsPoint}
-use Rattle.da_machine.specs.Points.{AtLabel, AtAwait, conditions_of, IsNumbered}
+use Rattle.da_machine.specs.Points.{AtLabel, AtAwait, ways_of, IsNumbered}
 use Rattle.da_machine.proofs.TurnCode.{block_for}
 
 module _ (code : Code) (class : Class) where
@@ -43,7 +43,7 @@ module _ (code : Code) (class : Class) where
   item_point _ _ _ (ItemAt.await {at} {end} {k = j} {i} {alts} {entries} is has point numbered blocks) k here loops todo code_for =
       let same : j ≡ k = same_number at k j here has in
       IsPoint.at_await i todo alts entries is (subst (λ n. slice_get code.yields n ≡ Some (record { label = false; entries = entries })) same point)
-      (subst (λ n. IsNumbered class n (AtAwait (conditions_of alts))) same numbered)
+      (subst (λ n. IsNumbered class n (AtAwait (ways_of alts))) same numbered)
       (alt_entry end (at + 1) alts entries blocks loops todo code_for)
 
   -- where the code stands for what is to do at a yield point, it stands at the entries for what a move leaves

@@ -27,7 +27,7 @@ use Rattle.da_lang.specs.declared.tree.CmpOp.{CmpOp}
 use Rattle.da_lang.specs.Turns.{kind_of, line_of, slot_of_arg, value_of_arg}
 use Rattle.da_lang.specs.World.{Task, Do, Loop, Prepare}
 use Rattle.da_machine.specs.declared.code.Code.{Code}
-use Rattle.da_machine.specs.Points.{AtLabel, AtAwait, conditions_of, IsNumbered}
+use Rattle.da_machine.specs.Points.{AtLabel, AtAwait, ways_of, IsNumbered}
 
 -- the instruction stands at the place
 abbrev pub Has : Code → ℕ → Instr → Type 0
@@ -95,7 +95,7 @@ module _ (code : Code) where
       pub data ItemAt : ℕ → Item → ℕ → Type 0 where
         works : {at end : ℕ} {i : Item} → Has code at (op.Turn (line_of i)) → WorkAt at (line_of i) (kind_of i) end → ItemAt at i end
         label : {at k : ℕ} {i : Item} → kind_of i ≡ kind.Label → Has code at (op.Yield k) → slice_get code.yields k ≡ Some (record { label = true; entries = (at + 1) ∷ [] }) → IsNumbered class k AtLabel → ItemAt at i (at + 1)
-        await : {at end k : ℕ} {i : Item} {alts : List Alt} {entries : List ℕ} → kind_of i ≡ kind.Await alts → Has code at (op.Yield k) → slice_get code.yields k ≡ Some (record { label = false; entries = entries }) → IsNumbered class k (AtAwait (conditions_of alts)) → AltsAt end (at + 1) alts entries → ItemAt at i end
+        await : {at end k : ℕ} {i : Item} {alts : List Alt} {entries : List ℕ} → kind_of i ≡ kind.Await alts → Has code at (op.Yield k) → slice_get code.yields k ≡ Some (record { label = false; entries = entries }) → IsNumbered class k (AtAwait (ways_of alts)) → AltsAt end (at + 1) alts entries → ItemAt at i end
 
       -- the code behind the turn at this place, of a statement of a kind on a line
       pub data WorkAt : ℕ → ℕ → ItemKind-F ItemKind Alt Item RBranch → ℕ → Type 0 where

@@ -1,5 +1,5 @@
 -- The yield points of a class.
-use Rattle.std.specs.Prelude.{◌≡◌, ℕ, List, [], ◌∷◌, ◌++◌, map, Some, flat_map, slice_get}
+use Rattle.std.specs.Prelude.{◌≡◌, ℕ, List, [], ◌∷◌, ◌++◌, map, Option, Some, flat_map, slice_get}
 use Rattle.da_lang.specs.declared.program.Alt.{Alt}
 use Rattle.da_lang.specs.declared.program.Class.{Class}
 use Rattle.da_lang.specs.declared.program.Item.{Item}
@@ -9,20 +9,27 @@ use Rattle.da_lang.specs.declared.program.ItemKind.TheOpen.{ItemKind-F, Alt-F, I
 use Rattle.da_lang.specs.declared.program.ItemKind.TheViews.{out-Alt}
 use Rattle.da_lang.specs.declared.query.Cond.{Cond}
 
--- a label, or an `await` with the conditions of its alternatives
+-- an alternative of an `await`: what it waits for, the `some` whose least row it binds, if there is one, and the slots that
+-- take the parts of that row
+pub record Way : Type 0 where
+  pub waits_for : Cond
+  pub found : Option ℕ
+  pub binds : List ℕ
+
+-- a label, or an `await` with its alternatives
 pub data Point : Type 0 where
   AtLabel : Point
-  AtAwait : List Cond → Point
+  AtAwait : List Way → Point
 
-abbrev pub condition_of : Alt → Cond
-condition_of a = (out-Alt a).cond
+abbrev pub way_of : Alt → Way
+way_of a = record { waits_for = (out-Alt a).cond; found = (out-Alt a).found; binds = (out-Alt a).binds }
 
-abbrev pub conditions_of : List Alt → List Cond
-conditions_of alts = map condition_of alts
+abbrev pub ways_of : List Alt → List Way
+ways_of alts = map way_of alts
 
--- an alternative: what it waits for, and the yield points of its block
+-- an alternative, and the yield points of its block
 pub record AltPoints : Type 0 where
-  pub waits_for : Cond
+  pub way : Way
   pub inside : List Point
 
 abbrev pub Points : Type 0
@@ -37,12 +44,15 @@ kind_points_step (ItemKind-F.If branches other) = points_of branches ++ points_o
 kind_points_step (ItemKind-F.While e body) = points_of body
 kind_points_step (ItemKind-F.For s e body) = points_of body
 kind_points_step (ItemKind-F.Call args body) = points_of body
-kind_points_step (ItemKind-F.Await alts) = AtAwait (map (λ a. a.waits_for) alts) ∷ flat_map (λ a. a.inside) alts
+kind_points_step (ItemKind-F.Await alts) = AtAwait (map (λ a. a.way) alts) ∷ flat_map (λ a. a.inside) alts
 kind_points_step ItemKind-F.Label = AtLabel ∷ []
 kind_points_step _ = []
 
 abbrev pub alt_points_step : Alt-F Points AltPoints Points Points → AltPoints
-alt_points_step a = record { waits_for = a.cond; inside = points_of a.body }
+alt_points_step a = record {
+  way = record { waits_for = a.cond; found = a.found; binds = a.binds };
+  inside = points_of a.body;
+}
 
 abbrev pub item_points_step : Item-F Points AltPoints Points Points → Points
 item_points_step i = i.kind
