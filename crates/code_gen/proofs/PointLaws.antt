@@ -58,9 +58,9 @@ branch_name b = fold_out-RBranch Points AltPoints Points Points kind_points_step
 alt_name : (a : Alt) → AltParts a ≡ record { way = way_of a; inside = points_of (map ItemPoints (out-Alt a).body) }
 alt_name a = fold_out-Alt Points AltPoints Points Points kind_points_step alt_points_step item_points_step branch_points_step a
 
-alt_conditions : (alts : List Alt) → map (λ (p : AltPoints). p.way) (map AltParts alts) ≡ ways_of alts
-alt_conditions [] = refl
-alt_conditions (a ∷ alts) = ap (λ (p : AltPoints). p.way ∷ map (λ (p : AltPoints). p.way) (map AltParts alts)) (alt_name a) ∙ ap (λ l. way_of a ∷ l) (alt_conditions alts)
+alt_ways : (alts : List Alt) → map (λ (p : AltPoints). p.way) (map AltParts alts) ≡ ways_of alts
+alt_ways [] = refl
+alt_ways (a ∷ alts) = ap (λ (p : AltPoints). p.way ∷ map (λ (p : AltPoints). p.way) (map AltParts alts)) (alt_name a) ∙ ap (λ l. way_of a ∷ l) (alt_ways alts)
 
 alt_insides : (alts : List Alt) → flat_map (λ (p : AltPoints). p.inside) (map AltParts alts) ≡ flat_map alt_points alts
 alt_insides [] = refl
@@ -79,7 +79,7 @@ layer (kind.If branches other) = ap (λ l. l ++ points_of (map ItemPoints other)
 layer (kind.While e body) = block_name body
 layer (kind.For s e body) = block_name body
 layer (kind.Call args body) = block_name body
-layer (kind.Await alts) = ap (λ l. AtAwait l ∷ flat_map (λ (p : AltPoints). p.inside) (map AltParts alts)) (alt_conditions alts) ∙ ap (λ l. AtAwait (ways_of alts) ∷ l) (alt_insides alts)
+layer (kind.Await alts) = ap (λ l. AtAwait l ∷ flat_map (λ (p : AltPoints). p.inside) (map AltParts alts)) (alt_ways alts) ∙ ap (λ l. AtAwait (ways_of alts) ∷ l) (alt_insides alts)
 layer kind.Label = refl
 layer kind.Pass = refl
 
