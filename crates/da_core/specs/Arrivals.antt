@@ -28,10 +28,10 @@ use Rattle.da_core.specs.declared.deliveries.Handled.{Handled}
 use Rattle.da_core.specs.declared.deliveries.Handled.TheVariants as handled
 use Rattle.da_core.specs.declared.known.Known.{Known}
 use Rattle.da_core.specs.declared.moves.Standing.{Standing}
-use Rattle.da_core.specs.Known.{data_of}
-use Rattle.da_core.specs.RunsNow.{ClassRuns}
+use Rattle.da_core.specs.Known.{HasPlan, data_of, rows_kept}
 use Rattle.da_core.specs.StandsFor.{IsPlace}
 use Rattle.da_core.specs.Waits.{waits_of}
+use Rattle.query_plan.specs.Questions.{norm_class}
 
 -- A message as it arrives: with its sender and the time of its sending.
 abbrev pub entry_at : Value → ℕ → ℕ → Entry
@@ -50,7 +50,7 @@ MayArrive p m from time = IsEntry p (entry_at m from time)
 -- (at whatever time it was sent).
 pub record MayHandle (p : Program) (class : Class) (code : ClassCode) (m : Value) (from : ℕ) (known : Known) : Type 0 where
   pub accepted : IsAccepted p
-  pub runs : ClassRuns class
+  pub plan : HasPlan known class
   pub among : Has p.classes class
   pub forward : IsForward code.code
   pub enters : IsEntered code.code class Handler handler_tasks class.handlers code.code.handlers
@@ -92,6 +92,7 @@ handled_as (stop.Fault kind line) turns = handled.Fault kind line
 -- the handlers were run: the process knows what they leave, and their actions were added
 pub record HasHandled (ran : Ran) (old new : Known) (answer : Handled) : Type 0 where
   pub mine : new.me ≡ old.me
+  pub plan : new.plan.now ≡ old.plan.now
   pub same : ran.data' ≡ data_of new
   pub actions : new.actions ≡ old.actions ++ ran.actions
   pub halt : ran.halt ≡ halt_of answer
@@ -110,6 +111,7 @@ goes_on (handled.Fault kind line) actions d go = record { data' = d; todo = []; 
 -- a handler was tried in turn n: whatever comes behind it, the run is this one
 pub record HasTried (x : Delivery) (h : Handler) (n : ℕ) (old new : Known) (answer : Handled) : Type 0 where
   pub mine : new.me ≡ old.me
+  pub plan : new.plan.now ≡ old.plan.now
   pub actions : List Action
   pub added : new.actions ≡ old.actions ++ actions
   pub run : (go : ℕ → Data → Ran) → IsAlike (tried x h n (data_of old) go) (goes_on answer actions (data_of new) go)
@@ -133,7 +135,7 @@ stop_of (handled.Fault kind line) number = stop.Fault kind line
 pub record MayTakeIn (x : Delivery) (time at : ℕ) (known : Known) (todo : List Task) : Type 0 where
   pub can : CanHandle x known
   pub tasks : (p : Program) × ShapedTasks p x.class.now known.me todo
-  pub waits : x.code.now.waits ≡ waits_of x.class.now
+  pub waits : x.code.now.waits ≡ waits_of x.class.now (norm_class x.class.now).flags
   pub number : ℕ
   pub there : HasInstr x.code.now.code at (op.Yield number)
   pub point : (loops : List (List Val)) × IsPoint x.code.now.code x.class.now number loops todo
@@ -141,5 +143,7 @@ pub record MayTakeIn (x : Delivery) (time at : ℕ) (known : Known) (todo : List
 -- the message was taken in, and the process knows and stands as the handlers leave it
 pub record HasTakenIn (x : Delivery) (time : ℕ) (todo : List Task) (old new : Known) (s : Standing) : Type 0 where
   pub same : (all_handled x (received x time old)).data' ≡ data_of new
+  pub plan : new.plan.now ≡ old.plan.now
   pub actions : let ran = all_handled x (received x time old) in new.actions ≡ old.actions ++ delivery_actions x time old.me ran
   pub place : let ran = all_handled x (received x time old) in IsPlace ran.data' todo s.flags s.place (phase_after ran.halt)
+  pub rows : s.kept ≡ rows_kept x.code.now.live.patterns (all_handled x (received x time old)).data'

@@ -6,11 +6,10 @@ use Rattle.da_lang.specs.declared.event.Action.{Action}
 use Rattle.da_lang.specs.declared.event.Action.TheVariants as action
 use Rattle.da_lang.specs.declared.program.Class.{Class}
 use Rattle.da_lang.specs.declared.program.Program.{Program}
-use Rattle.da_lang.specs.declared.query.Cond.{Cond}
 use Rattle.da_lang.specs.Accepted.{IsAccepted}
-use Rattle.da_lang.specs.Queries.{holds}
 use Rattle.da_lang.specs.Runs.{Ran, run_to_yield}
 use Rattle.da_lang.specs.Shaped.{ShapedData, ShapedTasks}
+use Rattle.da_lang.specs.Turns.{bind_found}
 use Rattle.da_lang.specs.Steps.{closing, move_step, moved, phase_after, proc_step}
 use Rattle.da_lang.specs.World.{Data, Task, World, Phase, Waiting}
 use Rattle.da_machine.specs.declared.code.Code.{Code}
@@ -27,12 +26,14 @@ use Rattle.da_core.specs.declared.moves.Begin.{Begin}
 use Rattle.da_core.specs.declared.moves.Standing.{Standing}
 use Rattle.da_core.specs.declared.place.Place.{Place}
 use Rattle.da_core.specs.declared.place.Place.TheVariants as place
-use Rattle.da_core.specs.Compiled.{code_of}
-use Rattle.da_core.specs.Known.{data_of}
-use Rattle.da_core.specs.Plain.{ArePlain}
-use Rattle.da_core.specs.RunsNow.{ClassRuns}
+use Rattle.da_core.specs.declared.waits.Alternative.{Alternative}
+use Rattle.da_core.specs.Compiled.{IsCodeFor, code_of}
+use Rattle.da_core.specs.Known.{HasPlan, data_of, rows_kept}
 use Rattle.da_core.specs.StandsFor.{IsPlace, IsWaiting, program_of}
 use Rattle.da_core.specs.Waits.{waits_of}
+use Rattle.query_plan.specs.Nodes.{node_rows}
+use Rattle.query_plan.specs.Questions.{norm_class}
+use Rattle.query_plan.specs.Told.{has_row}
 
 -- WHERE A MOVE GOES ON
 
@@ -65,35 +66,61 @@ begin_at code at flags place.Label zero = behind_turn (entry_behind code at 0)
 begin_at code at flags (place.Await count) (suc n) = if_flag (slice_get flags n) (behind_turn (entry_behind code at n))
 begin_at code at flags _ k = None
 
--- A process of the class of an accepted program knows this and has this to do, and the code at the entry stands for it.
-pub record MayRun (p : Program) (class : Class) (code : ClassCode) (known : Known) (m : Machine) (begin : Begin) (d : Data) (todo : List Task) : Type 0 where
+-- THE LEAST ROW
+
+-- alternative n, counted from 0, of those of a yield point, if they are there
+abbrev pub alternative_of : Option (List Alternative) → ℕ → Option Alternative
+alternative_of None n = None
+alternative_of (Some alternatives) n = slice_get alternatives n
+
+-- what is waited for where this instruction is a yield point
+abbrev pub waits_behind : ClassCode → Option Instr → Option (List Alternative)
+waits_behind code (Some (op.Yield number)) = slice_get code.waits number
+waits_behind code _ = None
+
+-- the alternative that the move of this number takes at a place in the code; the move 0 takes none
+abbrev pub alternative_at : ClassCode → ℕ → ℕ → Option Alternative
+alternative_at code at zero = None
+alternative_at code at (suc n) = alternative_of (waits_behind code (slice_get code.code.instrs at)) n
+
+-- what a process knows when it has bound the least row that the alternative finds, if it finds one
+abbrev pub bound_by : Class → Option Alternative → Data → Data
+bound_by class None d = d
+bound_by class (Some alternative) d = bind_found class.queries alternative.found alternative.binds d
+
+-- A process of the class of an accepted program knows this, and when it has bound a row it knows d, which is as types say. It has
+-- this to do, and the code at the entry stands for it.
+pub record MayRun (p : Program) (class : Class) (code : ClassCode) (known : Known) (m : Machine) (k : ℕ) (begin : Begin) (d : Data) (todo : List Task) : Type 0 where
   pub accepted : IsAccepted p
-  pub runs : ClassRuns class
   pub forward : IsForward code.code
-  pub waits : code.waits ≡ waits_of class
+  pub waits : code.waits ≡ waits_of class (norm_class class).flags
+  pub plan : HasPlan known class
+  pub bound : d ≡ bound_by class (alternative_at code m.place k) (data_of known)
   pub knows : ShapedData p class d
   pub tasks : ShapedTasks p class d.me todo
-  pub same : d ≡ data_of known
   pub code_for : CodeFor code.code class begin.entry m.loops todo
   pub early : begin.turns ≤ 1
 
--- the move of this number is allowed, and is the run from this entry
+-- the move of this number is allowed, and is the run from this entry of a process that knows d
 pub record CanMove (core : Core) (w : World) (k : ℕ) (code : ClassCode) (begin : Begin) : Type 0 where
+  pub place : ℕ
   pub class : Class
+  pub d : Data
   pub todo : List Task
   pub code_is : code_of core.compiled.now w.data'.me ≡ Some code
-  pub step : proc_step (program_of core) w (move_step k) ≡ Some (moved w.data'.me k (run_to_yield class begin.turns w.data' todo))
-  pub may : MayRun (program_of core) class code core.known core.machine begin w.data' todo
+  pub is : IsCodeFor (program_of core) place class code
+  pub mine : d.me ≡ w.data'.me
+  pub step : proc_step (program_of core) w (move_step k) ≡ Some (moved w.data'.me k (run_to_yield class begin.turns d todo))
+  pub may : MayRun (program_of core) class code core.known core.machine k begin d todo
 
 -- HOW THE PROCESS STANDS BEHIND IT
 
--- the code stopped in front of a yield point that is there, with plain conditions; or it did not stop in front of one
+-- the code stopped in front of a yield point that is there, with its alternatives; or it did not stop in front of one
 pub record HasPoint (code : ClassCode) (number : ℕ) : Type 0 where
   pub point : YieldPoint
-  pub conditions : List Cond
+  pub alternatives : List Alternative
   pub there : slice_get code.code.yields number ≡ Some point
-  pub waits : slice_get code.waits number ≡ Some conditions
-  pub plain : ArePlain conditions
+  pub waits : slice_get code.waits number ≡ Some alternatives
 
 abbrev pub MayStop : ClassCode → Stop → Type 0
 MayStop code (stop.Yield number) = HasPoint code number
@@ -107,11 +134,15 @@ abbrev pub place_at : Bool → ℕ → Place
 place_at true count = place.Label
 place_at false count = place.Await count
 
--- it waits at the yield point, with the flags of its conditions
+-- whether the flag of each alternative has a row
+abbrev pub flags_told : Known → List Alternative → List Bool
+flags_told known alternatives = map (λ a. has_row (node_rows (data_of known) known.plan.now.nodes a.flag)) alternatives
+
+-- it waits at the yield point, with the flags of its alternatives
 pub record StandsAt (code : ClassCode) (known : Known) (number : ℕ) (s : Standing) : Type 0 where
   pub has : HasPoint code number
-  pub place : s.place ≡ place_at has.point.label (length has.conditions)
-  pub flags : s.flags ≡ map (λ b. holds (data_of known) b []) has.conditions
+  pub place : s.place ≡ place_at has.point.label (length has.alternatives)
+  pub flags : s.flags ≡ flags_told known has.alternatives
 
 -- how the process stands where its code stopped so; the end and a fault are told
 abbrev pub HasStopped : ClassCode → Known → Known → Stop → Standing → Type 0
@@ -121,7 +152,7 @@ HasStopped code old new (stop.Fault kind line) s = (new ≡ with_action old (act
 
 -- the process stands so behind an event
 abbrev pub settled : Core → Standing → Core
-settled core s = record core { place = s.place; flags = s.flags; spent = false }
+settled core s = record core { place = s.place; flags = s.flags; kept = s.kept; spent = false }
 
 -- the actions of a move
 abbrev pub move_actions : ℕ → ℕ → Ran → List Action
@@ -135,6 +166,8 @@ IsBehind class code m todo _ = Unit {0}
 -- the run was made, and the process knows and stands as it leaves it
 pub record HasRun (class : Class) (code : ClassCode) (me k : ℕ) (ran : Ran) (old new : Known) (m : Machine) (s : Standing) : Type 0 where
   pub same : ran.data' ≡ data_of new
+  pub plan : HasPlan new class
   pub actions : new.actions ≡ old.actions ++ move_actions me k ran
   pub place : IsPlace ran.data' ran.todo s.flags s.place (phase_after ran.halt)
+  pub rows : s.kept ≡ rows_kept code.live.patterns ran.data'
   pub behind : IsBehind class code m ran.todo (phase_after ran.halt)

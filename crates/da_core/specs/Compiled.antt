@@ -1,4 +1,4 @@
--- A program with the code of its classes.
+-- A program with the code and the plans of its classes.
 use Rattle.std.specs.Prelude.{◌≡◌, ℕ, suc, ◌-◌, nat_eq, if◌then◌else◌, List, [], ◌∷◌, take, Option, Some, None, slice_get}
 use Rattle.da_lang.specs.declared.program.Class.{Class}
 use Rattle.da_lang.specs.declared.program.ProcDecl.{ProcDecl}
@@ -6,6 +6,8 @@ use Rattle.da_lang.specs.declared.program.Program.{Program}
 use Rattle.da_lang.specs.Accepted.{IsAccepted}
 use Rattle.da_lang.specs.World.{at_number}
 use Rattle.code_gen.specs.ClassCode.{IsCodeOf}
+use Rattle.query_plan.specs.PlanLive.{plan_live}
+use Rattle.query_plan.specs.Questions.{norm_class}
 use Rattle.da_core.specs.declared.compiled.ClassCode.{ClassCode}
 use Rattle.da_core.specs.declared.compiled.Compiled.{Compiled}
 use Rattle.da_core.specs.Waits.{waits_of}
@@ -13,10 +15,13 @@ use Rattle.da_core.specs.Waits.{waits_of}
 abbrev pub program_of : Compiled → Program
 program_of c = c.typed
 
--- the code of the class at this place of the program, with what is waited for at each of its yield points
+-- the code of the class at this place of the program, its plan, what is waited for at each of its yield points, and its live
+-- patterns
 pub record IsCodeFor (p : Program) (place : ℕ) (class : Class) (c : ClassCode) : Type 0 where
   pub code : IsCodeOf p place class c.code
-  pub waits : c.waits ≡ waits_of class
+  pub plan : c.plan ≡ norm_class class
+  pub waits : c.waits ≡ waits_of class (norm_class class).flags
+  pub live : c.live.patterns ≡ plan_live (norm_class class).nodes
 
 -- it stands in the list of codes
 pub record HasCode (p : Program) (codes : List ClassCode) (place : ℕ) (class : Class) : Type 0 where

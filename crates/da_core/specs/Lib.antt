@@ -3,7 +3,7 @@ pub mod Begins
 pub mod Compiled
 pub mod Known
 pub mod Made
-pub mod Plain
-pub mod RunsNow
+pub mod PlanLimit
 pub mod StandsFor
+pub mod Told
 pub mod Waits

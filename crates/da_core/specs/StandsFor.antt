@@ -7,8 +7,10 @@ use Rattle.da_lang.specs.declared.program.Item.{Item}
 use Rattle.da_lang.specs.declared.program.ItemKind.{ItemKind}
 use Rattle.da_lang.specs.declared.program.ItemKind.TheOpen as kind
 use Rattle.da_lang.specs.declared.program.ItemKind.TheOpen.{ItemKind-F}
+use Rattle.da_lang.specs.declared.program.ItemKind.TheViews.{out-Alt}
 use Rattle.da_lang.specs.declared.program.Program.{Program}
 use Rattle.da_lang.specs.declared.program.RBranch.{RBranch}
+use Rattle.da_lang.specs.Live.{kept}
 use Rattle.da_lang.specs.Queries.{holds}
 use Rattle.da_lang.specs.Shaped.{ShapedData, ShapedTasks}
 use Rattle.da_lang.specs.Steps.{first_tasks}
@@ -17,15 +19,13 @@ use Rattle.da_lang.specs.World.{Data, Task, Do, World, Phase, New, Waiting, Ende
 use Rattle.da_machine.specs.declared.code.Code.{Code}
 use Rattle.da_machine.specs.declared.machine.Machine.{Machine}
 use Rattle.da_machine.specs.CodeFor.{Has, CodeFor}
-use Rattle.da_machine.specs.Points.{conditions_of}
 use Rattle.da_core.specs.declared.compiled.ClassCode.{ClassCode}
 use Rattle.da_core.specs.declared.process.Core.{Core}
 use Rattle.da_core.specs.declared.place.Place.{Place}
 use Rattle.da_core.specs.declared.place.Place.TheVariants as place
 use Rattle.da_core.specs.Compiled.{IsCompiled, code_of}
 use Rattle.da_core.specs.Compiled as compiled
-use Rattle.da_core.specs.Known.{data_of}
-use Rattle.da_core.specs.RunsNow.{RunsNow}
+use Rattle.da_core.specs.Known.{HasPlan, data_of}
 
 abbrev pub program_of : Core → Program
 program_of core = compiled.program_of core.compiled.now
@@ -46,11 +46,11 @@ pub record BeginsWith (todo : List Task) (kind : ItemKind-F ItemKind Alt Item RB
   pub is : kind_of item ≡ kind
 
 -- an `await` of so many alternatives, which hold as these flags say
-pub record AwaitsAs (d : Data) (todo : List Task) (kept : List Bool) (count : ℕ) : Type 0 where
+pub record AwaitsAs (d : Data) (todo : List Task) (flags : List Bool) (count : ℕ) : Type 0 where
   pub alts : List Alt
   pub begins : BeginsWith todo (kind.Await alts)
   pub size : length alts ≡ count
-  pub flags : kept ≡ map (λ b. holds d b []) (conditions_of alts)
+  pub hold : flags ≡ map (λ a. holds d (out-Alt a).cond []) alts
 
 -- where a process stands: its place is that of the world
 abbrev pub IsPlace : Data → List Task → List Bool → Place → Phase → Type 0
@@ -74,18 +74,20 @@ IsAt p class code m w Waiting = IsWaiting class code m w.todo
 IsAt p class code m w Ended = Unit {0}
 IsAt p class code m w Faulted = Unit {0}
 
--- A core stands for a world that is as types say, of a process of a compiled program: it knows the same, stands at the same
--- place with the same alternatives, and the code where its machine stands stands for what is to do. It is not spent.
+-- A core stands for a world that is as types say, of a process of a compiled program: it knows the same, answers by the plan of
+-- the class, keeps as many rows, stands at the same place with the same alternatives, and the code where its machine stands
+-- stands for what is to do. It is not spent.
 pub record StandsFor (core : Core) (w : World) : Type 0 where
   pub unspent : core.spent ≡ false
   pub compiled : IsCompiled core.compiled.now
-  pub runs : RunsNow (program_of core)
   pub class : Class
   pub code : ClassCode
   pub code_is : code_of core.compiled.now w.data'.me ≡ Some code
   pub knows : ShapedData (program_of core) class w.data'
   pub tasks : ShapedTasks (program_of core) class w.data'.me w.todo
   pub same : w.data' ≡ data_of core.known
+  pub plan : HasPlan core.known class
+  pub rows : core.kept ≡ kept class w.data'
   pub no_actions : core.known.actions ≡ []
   pub place : IsPlace w.data' w.todo core.flags core.place w.phase
   pub at : IsAt (program_of core) class code.code core.machine w w.phase

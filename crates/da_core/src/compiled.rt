@@ -1,56 +1,114 @@
-//! A program with the code of its classes.
+//! A program with the code and the plans of its classes.
 ghost use Rattle.da_core.specs.Compiled.{IsCodeFor, IsCompiled, code_of as code_lem, count_of as count_lem, program_of, rank_in, start_in};
+ghost use Rattle.da_core.specs.PlanLimit.{is_large, nodes_fault};
+ghost use Rattle.da_lang.specs.Typing.{least_of};
 ghost use Rattle.da_lang.specs.World.{at_number, class_of};
 ghost use Rattle.da_lang.specs.declared.program.Class.{Class as ClassOf};
+ghost use Rattle.quant_norm.specs.declared.top.PlanFault.TheVariants.{TooMany};
+ghost use Rattle.query_plan.specs.Questions.{norm_class};
 ghost use Rattle.std.specs.Option.{option_copied};
-ghost use Rattle.std.specs.Prelude.{◌≡◌, ◌<◌, IfOk, length, slice_get};
+ghost use Rattle.std.specs.Prelude.{◌≡◌, ◌<◌, ℕ, IfErr, IfOk, None, Some, false, length, slice_get, true};
 
-use crate::waits::waits_of;
+use crate::waits::{Alternative, waits_of};
 use code_gen::generate;
-use da_lang::{Class, Cond, ProcDecl, Program};
+use da_lang::{Class, ProcDecl, Program};
 use da_machine::Code;
 use da_types::Typed;
 use da_values::{List, NoMemory};
+use history_live::{Live, live_patterns};
+use quant_norm::{PlanFault, normalise};
+use query_plan::Plan;
 use std::alloc::Global;
 
-/// The code of a class, and the conditions for which a process waits at each of its yield points.
+/// The code of a class, its plan, the alternatives at each of its yield points, and its live patterns.
 #[derive(Debug, Drop)]
 pub struct ClassCode {
     pub code: Code,
-    pub waits: List<List<Cond>>,
+    pub plan: Plan,
+    pub waits: List<List<Alternative>>,
+    pub live: Live,
 }
 
-/// An accepted program with the code of its classes.
+/// An accepted program with the code and the plans of its classes.
 #[derive(Debug, Drop)]
 pub struct Compiled {
     pub(crate) typed: Typed,
     pub(crate) codes: List<ClassCode>,
 }
 
-/// Compiles a program.
-pub fn compile(alloc: Global, t: Typed) -> Result<Compiled, NoMemory>
+/// Compiles a program. `TooMany` comes exactly where the plan of a class has too many nodes, with the least line of such a
+/// class, and `Memory` only for want of memory.
+pub fn compile(alloc: Global, t: Typed) -> Result<Compiled, PlanFault>
     ensures compiled { IfOk result IsCompiled }
     ensures program { IfOk result (λ c. program_of c ≡ t) }
+    ensures few { IfOk result (λ c. nodes_fault t ≡ None) }
+    ensures many { IfErr result (λ fault. (line : ℕ) → fault ≡ TooMany line → nodes_fault t ≡ Some line) }
 {
     let mut codes = List::new(alloc);
+    let mut least = None;
     let count = t.program().classes.len();
     'classes: for place in 0..count {
-        codes.push(class_code(alloc, &t, place)?)?;
+        match class_code(alloc, &t, place) {
+            Ok(code) => codes.push(code)?,
+            Err(PlanFault::TooMany { line }) => least = Some(lesser(line, least)),
+            Err(PlanFault::Memory) => return Err(PlanFault::Memory),
+        }
     }
-    Ok(Compiled { typed: t, codes })
+    match least {
+        Some(line) => Err(PlanFault::TooMany { line }),
+        None => Ok(Compiled { typed: t, codes }),
+    }
+}
+
+// The lesser of a line and one that may be there.
+fn lesser(line: u32, other: Option<u32>) -> u32
+    ensures { result ≡ least_of line other }
+{
+    match other {
+        Some(other) => {
+            if other < line {
+                other
+            } else {
+                line
+            }
+        }
+        None => line,
+    }
 }
 
 // The code of the class at this place.
-fn class_code(alloc: Global, t: &Typed, place: usize) -> Result<ClassCode, NoMemory>
+fn class_code(alloc: Global, t: &Typed, place: usize) -> Result<ClassCode, PlanFault>
     requires { place < length t.now.classes }
+    ensures made { IfOk result (λ code. (class : ClassOf) → slice_get t.now.classes place ≡ Some class → IsCodeFor t.now place class code) }
+    ensures few { IfOk result (λ code. (class : ClassOf) → slice_get t.now.classes place ≡ Some class → is_large class ≡ false) }
+    ensures many { IfErr result (λ fault. (line : ℕ) → fault ≡ TooMany line
+        → (class : ClassOf) → slice_get t.now.classes place ≡ Some class → (line ≡ class.line) × (is_large class ≡ true)) }
+{
+    let plan = normalise(alloc, t, place)?;
+    match code_with(alloc, t, place, plan) {
+        Ok(code) => Ok(code),
+        Err(_) => Err(PlanFault::Memory),
+    }
+}
+
+// The same, with the plan of the class.
+fn code_with(alloc: Global, t: &Typed, place: usize, plan: Plan) -> Result<ClassCode, NoMemory>
+    requires there { place < length t.now.classes }
+    requires planned { (class : ClassOf) → slice_get t.now.classes place ≡ Some class → plan ≡ norm_class class }
     ensures { IfOk result (λ code. (class : ClassOf) → slice_get t.now.classes place ≡ Some class → IsCodeFor t.now place class code) }
 {
     let code = generate(alloc, t, place)?;
+    let live = live_patterns(alloc, &plan)?;
     let waits = match t.program().classes.get(place) {
-        Some(class) => waits_of(alloc, class)?,
+        Some(class) => waits_of(alloc, class, plan.flags.as_slice())?,
         None => List::new(alloc),
     };
-    Ok(ClassCode { code, waits })
+    Ok(ClassCode {
+        code,
+        plan,
+        waits,
+        live,
+    })
 }
 
 impl Compiled {
@@ -59,6 +117,19 @@ impl Compiled {
         ensures { result.now ≡ program_of self.now }
     {
         self.typed.program()
+    }
+
+    /// The plan of the class at this place among the classes of the program, counted from 0. It takes no memory.
+    pub fn plan(&self, class: usize) -> &Plan
+        requires compiled { IsCompiled self.now }
+        requires there { class < length (program_of self.now).classes }
+        ensures { (c : ClassOf) → slice_get (program_of self.now).classes class ≡ Some c
+            → result.now ≡ norm_class c }
+    {
+        let Some(code) = self.codes.get(class) else {
+            unreachable!()
+        };
+        &code.plan
     }
 
     // The code of the class of a process, or `None` where there is none.

@@ -3,7 +3,6 @@ ghost use Rattle.da_core.specs.Arrivals.{CanHandle, HasEntry, HasHandled, HasTak
 ghost use Rattle.da_core.specs.Known.{data_of};
 ghost use Rattle.da_lang.specs.Matching.{matched_entry};
 ghost use Rattle.da_lang.specs.Runs.{Ran, max_turns};
-ghost use Rattle.da_lang.specs.Turns.{bind_all};
 ghost use Rattle.da_lang.specs.World.{Data, Task};
 ghost use Rattle.da_lang.specs.declared.code.Instr.TheVariants as op;
 ghost use Rattle.da_machine.specs.CodeFor.{Has};
@@ -13,12 +12,12 @@ ghost use Rattle.da_values.specs.Value.{val_of};
 ghost use Rattle.std.specs.Prelude.{◌≡◌, ◌≤◌, [], ℕ, IfOk, List, OnErr, OnOk, Some};
 
 use crate::compiled::ClassCode;
-use crate::known::{Known, put};
+use crate::known::{Known, bind};
 use crate::moves::{Standing, stand};
 use da_lang::{Class, FaultKind, Handler, Instr};
 use da_machine::{Code, Machine, Stop, run_code};
 use da_pattern::match_pattern;
-use da_values::{NoMemory, Row, Value, copy_value};
+use da_values::{NoMemory, Row, Value};
 
 /// The turns that one event may take.
 const MOST_TURNS: u32 = 1_000_000;
@@ -45,7 +44,7 @@ pub fn take_in(
     delivery: &Delivery<'_>,
     time: u64,
     at: u64,
-    known: &mut Known,
+    known: &mut Known<'_>,
 ) -> Result<Standing, NoMemory>
     requires { (todo : List Task) × MayTakeIn delivery.now time at known.old todo }
     ensures taken { IfOk result (λ s. (todo : List Task) → MayTakeIn delivery.now time at known.old todo
@@ -85,7 +84,7 @@ fn waiting_at(code: &Code, at: u64) -> Stop
 }
 
 // Tries the handlers of the class one after the other, in text order.
-fn handle_all(delivery: &Delivery<'_>, known: &mut Known) -> Result<Handled, NoMemory>
+fn handle_all(delivery: &Delivery<'_>, known: &mut Known<'_>) -> Result<Handled, NoMemory>
     requires { CanHandle delivery.now known.old }
     ensures runs { IfOk result (λ answer.
         HasHandled (all_handled delivery.now (data_of known.old)) known.old known.new answer) }
@@ -117,7 +116,7 @@ fn try_handler(
     handler: &Handler,
     entry: u64,
     turns: u32,
-    known: &mut Known,
+    known: &mut Known<'_>,
 ) -> Result<Handled, NoMemory>
     requires can { CanHandle delivery.now known.old }
     requires there { HasEntry delivery.now handler.now entry }
@@ -141,7 +140,7 @@ fn run_handler(
     entry: u64,
     row: &Row,
     turns: u32,
-    known: &mut Known,
+    known: &mut Known<'_>,
 ) -> Result<Handled, NoMemory>
     requires can { CanHandle delivery.now known.old }
     requires there { HasEntry delivery.now handler.now entry }
@@ -171,7 +170,7 @@ fn handled_by(stop: Stop, turns: u32) -> Handled
 }
 
 // The row that the patterns of a handler take of a message and its sender, or `None` where they do not match.
-fn row_for(handler: &Handler, m: &Value, from: u16, known: &Known) -> Result<Option<Row>, NoMemory>
+fn row_for(handler: &Handler, m: &Value, from: u16, known: &Known<'_>) -> Result<Option<Row>, NoMemory>
     ensures { IfOk result (λ row. row
         ≡ matched_entry (data_of known.now) handler.now.message handler.now.from (val_of m.now) from []) }
 {
@@ -182,17 +181,4 @@ fn row_for(handler: &Handler, m: &Value, from: u16, known: &Known) -> Result<Opt
     };
     let sender = Value::Proc(from);
     match_pattern(alloc, &handler.from, &sender, &row, &known.slots, known.me)
-}
-
-// Gives slots the parts of a row, one by one, as many as there are of both.
-fn bind(slots: &[u16], row: &Row, known: &mut Known) -> Result<(), NoMemory>
-    ensures bound { OnOk result (data_of known.new ≡ bind_all slots.now row.now (data_of known.old)) }
-    ensures actions { known.new.actions ≡ known.old.actions }
-{
-    let parts = row.as_slice();
-    for (slot, part) in slots.iter().zip(parts) {
-        let value = copy_value(known.alloc, part)?;
-        put(&mut known.slots, *slot, value);
-    }
-    Ok(())
 }

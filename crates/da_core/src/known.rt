@@ -1,39 +1,29 @@
 //! What a process knows, as code keeps it.
-ghost use Rattle.da_core.specs.Known.{Knows, data_of, entry_of};
-ghost use Rattle.da_lang.specs.Queries.{least_row, query_value};
+ghost use Rattle.da_core.specs.Known.{data_of};
 ghost use Rattle.da_lang.specs.Steps.{received_at};
-ghost use Rattle.da_lang.specs.Turns.{later, sending, sent_at, sent_to};
-ghost use Rattle.da_lang.specs.World.{at_number, or_nothing, value_in, with_slot};
-ghost use Rattle.da_lang.specs.declared.event.Action.{Action};
+ghost use Rattle.da_lang.specs.Turns.{bind_all, later, sent_at};
 ghost use Rattle.da_lang.specs.declared.event.Action.TheVariants as action;
-ghost use Rattle.da_machine.specs.Conditions.{EachProcess};
 ghost use Rattle.da_machine.specs.RunsTo.{IsFront};
-ghost use Rattle.da_values.specs.declared.val.Val.{Val};
-ghost use Rattle.da_values.specs.Value.{val_of, vals};
-ghost use Rattle.da_values.specs.Views.{elements_of, proc_of};
-ghost use Rattle.std.specs.Option.{option_copied, option_map};
-ghost use Rattle.std.specs.Prelude.{◌≡◌, [], ◌∷◌, ◌++◌, IfOk, List, map, OnErr, OnOk};
+ghost use Rattle.da_values.specs.Value.{val_of};
+ghost use Rattle.node_rows.specs.Facts.{data_of as facts_data};
+ghost use Rattle.std.specs.Prelude.{◌≡◌, [], ◌∷◌, ◌++◌, OnErr, OnOk};
 
+use crate::slots::put;
 use da_lang::Action;
-use da_machine::Store;
-use da_values::{List, NoMemory, Row, SetVal, Value, copy_value, set_insert, set_remove};
+use da_values::{List, NoMemory, Row, Value, copy_value};
+use node_rows::{Facts, Past};
+use query_plan::Plan;
 use std::alloc::Global;
 
 /// The greatest time of a clock.
 const LAST_TIME: u64 = 9_223_372_036_854_775_807;
 
-/// An entry of a history: a message, the other process, and the time of the sending.
+/// What a process knows, the plan by which it answers the queries of its class, and the actions of the event that it carries
+/// out. Contracts see what it knows by `data_of`.
 #[derive(Debug, Drop)]
-pub struct Past {
-    pub message: Value,
-    pub peer: u16,
-    pub time: u64,
-}
-
-/// What a process knows, and the actions of the event that it carries out. Contracts see what it knows by `data_of`.
-#[derive(Debug, Drop)]
-pub struct Known {
+pub struct Known<'c> {
     pub alloc: Global,
+    pub plan: &'c Plan,
     pub me: u16,
     pub clock: u64,
     pub slots: Row,
@@ -42,12 +32,27 @@ pub struct Known {
     pub actions: List<Action>,
 }
 
-impl Known {
+impl Known<'_> {
+    /// What the process knows, lent.
+    pub fn facts(&self) -> Facts<'_>
+        ensures { facts_data result ≡ data_of self.now }
+    {
+        Facts {
+            alloc: self.alloc,
+            me: self.me,
+            clock: self.clock,
+            slots: &self.slots,
+            sent: self.sent.as_slice(),
+            received: self.received.as_slice(),
+        }
+    }
+
     /// Takes in a message: the clock rises above its own time and the carried one, the message joins the history, and it is
     /// told.
     #[tactic(auto, using(crate::proofs::Fronts::no_front))]
     pub fn receive(&mut self, m: &Value, from: u16, time: u64) -> Result<(), NoMemory>
         ensures known { OnOk result (data_of self.new ≡ received_at (val_of m.now) from time (data_of self.old)) }
+        ensures plan { self.new.plan.now ≡ self.old.plan.now }
         ensures actions { OnOk result (self.new.actions ≡ self.old.actions ++ action.Got self.old.me from time m.now ∷ []) }
         ensures front { OnErr result (IsFront self.old.actions self.new.actions (action.Got self.old.me from time m.now ∷ [])) }
     {
@@ -66,10 +71,11 @@ impl Known {
         Ok(())
     }
 
-    // Sends a message to one process.
+    /// Sends a message to one process.
     #[tactic(auto, using(crate::proofs::Fronts::no_front))]
-    fn send_one(&mut self, m: &Value, to: u16) -> Result<(), NoMemory>
+    pub fn send_one(&mut self, m: &Value, to: u16) -> Result<(), NoMemory>
         ensures known { OnOk result (data_of self.new ≡ sent_at (val_of m.now) to (later self.old.clock) (data_of self.old)) }
+        ensures plan { self.new.plan.now ≡ self.old.plan.now }
         ensures actions { OnOk result (self.new.actions ≡ self.old.actions ++ action.Sent self.old.me to (later self.old.clock) m.now ∷ []) }
         ensures front { OnErr result (IsFront self.old.actions self.new.actions (action.Sent self.old.me to (later self.old.clock) m.now ∷ [])) }
     {
@@ -90,72 +96,6 @@ impl Known {
     }
 }
 
-impl Store for Known {
-    ghost stands = { Knows };
-
-    ghost actions = { λ known. known.actions };
-
-    fn slot(&self, s: u16) -> Result<Value, NoMemory> {
-        match in_slot(&self.slots, s) {
-            Some(v) => copy_value(self.alloc, v),
-            None => Ok(Value::Proc(0)),
-        }
-    }
-
-    fn clock(&self) -> u64 {
-        self.clock
-    }
-
-    fn me(&self) -> u16 {
-        self.me
-    }
-
-    // The class has no query, so each number has the value of one that is not there.
-    fn ask(&self, _q: u32) -> Result<Value, NoMemory>
-        ensures { IfOk result (λ v. EachProcess (Knows self.now) (λ p class d. val_of v ≡ query_value class.queries _q d)) }
-    {
-        Ok(Value::Proc(0))
-    }
-
-    fn found(&self, _q: u32) -> Result<Option<Row>, NoMemory>
-        ensures { IfOk result (λ row. EachProcess (Knows self.now) (λ p class d. row ≡ least_row class.queries _q d)) }
-    {
-        Ok(None)
-    }
-
-    fn set_slot(&mut self, s: u16, v: Value) -> Result<(), NoMemory> {
-        put(&mut self.slots, s, v);
-        Ok(())
-    }
-
-    fn add(&mut self, s: u16, v: Value) -> Result<(), NoMemory> {
-        let mut set = take_set(self.alloc, &mut self.slots, s);
-        let _ = set_insert(&mut set, v)?;
-        put(&mut self.slots, s, Value::Set(set));
-        Ok(())
-    }
-
-    fn del(&mut self, s: u16, v: &Value) -> Result<(), NoMemory> {
-        let mut set = take_set(self.alloc, &mut self.slots, s);
-        let _ = set_remove(&mut set, v);
-        put(&mut self.slots, s, Value::Set(set));
-        Ok(())
-    }
-
-    fn send(&mut self, m: &Value, to: &SetVal) -> Result<(), NoMemory> {
-        let processes = to.as_slice();
-        'processes: for process in processes {
-            self.send_one(m, number_of(process))?;
-        }
-        Ok(())
-    }
-
-    fn output(&mut self, v: &Value) -> Result<(), NoMemory> {
-        let v = copy_value(self.alloc, v)?;
-        self.actions.push(Action::Out { p: self.me, v })
-    }
-}
-
 // The next time of a clock, which stays at its greatest one.
 #[tactic(auto, unfolding(da_lang::specs::Turns::last_time))]
 fn later_time(time: u64) -> u64
@@ -168,79 +108,16 @@ fn later_time(time: u64) -> u64
     }
 }
 
-// The number of a process, or 0 of what is none.
-#[tactic(auto, using(crate::proofs::SlotLaws::viewing))]
-fn number_of(v: &Value) -> u16
-    ensures { result ≡ proc_of (val_of v.now) }
+/// Gives slots the parts of a row, one by one, as many as there are of both.
+pub fn bind(slots: &[u16], row: &Row, known: &mut Known<'_>) -> Result<(), NoMemory>
+    ensures bound { OnOk result (data_of known.new ≡ bind_all slots.now row.now (data_of known.old)) }
+    ensures plan { known.new.plan.now ≡ known.old.plan.now }
+    ensures actions { known.new.actions ≡ known.old.actions }
 {
-    match v {
-        Value::Proc(process) => *process,
-        _ => 0,
+    let parts = row.as_slice();
+    for (slot, part) in slots.iter().zip(parts) {
+        let value = copy_value(known.alloc, part)?;
+        put(&mut known.slots, *slot, value);
     }
-}
-
-/// The value in a slot, or `None` where there is no such slot.
-#[tactic(auto, using(crate::proofs::SlotLaws::slot_there))]
-pub fn in_slot(slots: &Row, s: u16) -> Option<&Value>
-    ensures { option_map val_of (option_copied result) ≡ at_number slots.now s }
-{
-    let place = usize::from(s).checked_sub(1)?;
-    slots.get(place)
-}
-
-/// Puts a value into a slot, if there is one.
-#[tactic(auto, using(crate::proofs::SlotLaws::slot_put))]
-pub fn put(slots: &mut Row, s: u16, v: Value)
-    ensures { slots.new ≡ with_slot slots.old s (val_of v) }
-{
-    if let Some(place) = usize::from(s).checked_sub(1) {
-        if place < slots.len() {
-            slots.replace(place, v);
-        }
-    }
-}
-
-// Takes the set out of a slot, which the next value that is put into the slot replaces.
-fn take_set(alloc: Global, slots: &mut Row, s: u16) -> SetVal
-    ensures set { result ≡ elements_of (value_in slots.old s) }
-    ensures others { (x : Val) → with_slot slots.new s x ≡ with_slot slots.old s x }
-{
-    let found = take(slots, s);
-    set_of(alloc, found)
-}
-
-// Takes the value out of a slot, or answers `None` where there is no such slot.
-#[tactic(auto, using(crate::proofs::SlotLaws::slot_there, crate::proofs::SlotLaws::slot_taken, crate::proofs::SlotLaws::no_slot))]
-fn take(slots: &mut Row, s: u16) -> Option<Value>
-    ensures value { option_map val_of result ≡ at_number slots.old s }
-    ensures others { (x : Val) → with_slot slots.new s x ≡ with_slot slots.old s x }
-{
-    let place = usize::from(s).checked_sub(1)?;
-    if place < slots.len() {
-        Some(slots.replace(place, Value::Proc(0)))
-    } else {
-        None
-    }
-}
-
-// The set that was found, or the empty one where there is none.
-#[tactic(auto, using(crate::proofs::SlotLaws::viewing))]
-fn set_of(alloc: Global, found: Option<Value>) -> SetVal
-    ensures { result ≡ elements_of (or_nothing (option_map val_of found)) }
-{
-    match found {
-        Some(v) => set_in(alloc, v),
-        None => SetVal::new(alloc),
-    }
-}
-
-// The set that a value is, or the empty one where it is none.
-#[tactic(auto, using(crate::proofs::SlotLaws::viewing))]
-fn set_in(alloc: Global, v: Value) -> SetVal
-    ensures { result ≡ elements_of (val_of v) }
-{
-    match v {
-        Value::Set(set) => set,
-        _ => SetVal::new(alloc),
-    }
+    Ok(())
 }

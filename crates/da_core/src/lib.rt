@@ -2,18 +2,18 @@
 //! that arrive.
 #![tactic(auto)]
 
+mod answers;
 mod compiled;
-mod conditions;
 mod deliveries;
 mod known;
 mod moves;
 mod opening;
 mod place;
 mod process;
-mod runs;
+mod slots;
+mod store;
 mod waits;
 
 pub use compiled::{Compiled, compile};
 pub use place::{Place, StepFault, Stopped};
 pub use process::Core;
-pub use runs::runs_now;

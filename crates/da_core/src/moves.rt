@@ -1,16 +1,19 @@
 //! The run of a move.
-ghost use Rattle.da_core.specs.Begins.{HasPoint, HasRun, HasStopped, MayRun, MayStop, StandsAt, begin_at, behind_turn, entry_behind, move_actions, place_at as place_lem};
+ghost use Rattle.da_core.specs.Begins.{HasPoint, HasRun, HasStopped, MayRun, MayStop, StandsAt, alternative_at as alternative_lem, begin_at, behind_turn, bound_by, entry_behind, move_actions, place_at as place_lem};
+ghost use Rattle.da_core.specs.Known.{HasPlan, IsPlanned, data_of, rows_kept};
 ghost use Rattle.da_lang.specs.Runs.{run_to_yield};
 ghost use Rattle.da_lang.specs.World.{Data, Task};
 ghost use Rattle.da_lang.specs.declared.program.Class.{Class};
 ghost use Rattle.da_lang.specs.declared.program.Program.{Program};
 ghost use Rattle.da_machine.specs.RunsTo.{IsFront};
-ghost use Rattle.std.specs.Prelude.{◌≡◌, IfOk, List, OnErr};
+ghost use Rattle.std.specs.Option.{option_copied};
+ghost use Rattle.std.specs.Prelude.{◌≡◌, ℕ, IfOk, List, OnErr, OnOk};
 
+use crate::answers::{flags_of, found, kept};
 use crate::compiled::ClassCode;
-use crate::conditions::flags_of;
-use crate::known::Known;
+use crate::known::{Known, bind};
 use crate::place::Place;
+use crate::waits::Alternative;
 use da_lang::{Action, Instr};
 use da_machine::{Code, Machine, Stop, run_code};
 use da_values::{List, NoMemory};
@@ -23,11 +26,13 @@ pub struct Begin {
     pub turns: u32,
 }
 
-/// Where a process stands, and at an `await` for each alternative whether its condition holds.
+/// Where a process stands; at an `await` for each alternative whether its condition holds; and how many rows its live patterns
+/// match.
 #[derive(Debug, Drop)]
 pub struct Standing {
     pub place: Place,
     pub flags: List<bool>,
+    pub kept: u128,
 }
 
 /// Where the move of this number goes on, or `None` where it is not allowed, for a process that stands so.
@@ -87,27 +92,60 @@ fn entry_in(code: &Code, at: u64, n: usize) -> Option<u64>
     }
 }
 
-/// Tells the move of this number and runs it, up to the next yield point, to the end or to a fault.
+// The alternative that the move of this number takes at a place in the code, or `None` where it takes none.
+fn alternative_at(code: &ClassCode, at: u64, k: u32) -> Option<&Alternative>
+    ensures { option_copied result ≡ alternative_lem code.now at k }
+{
+    let n = k.checked_sub(1)? as usize;
+    match code.code.instrs.get(at as usize)? {
+        Instr::Yield(number) => code.waits.get(*number as usize)?.get(n),
+        _ => None,
+    }
+}
+
+// Binds the least row that an alternative finds, if it finds one.
+fn bind_found(alternative: Option<&Alternative>, known: &mut Known<'_>) -> Result<(), NoMemory>
+    requires { IsPlanned known.old }
+    ensures bound { OnOk result ((class : Class) → HasPlan known.old class
+        → data_of known.new ≡ bound_by class (option_copied alternative) (data_of known.old)) }
+    ensures plan { known.new.plan.now ≡ known.old.plan.now }
+    ensures actions { known.new.actions ≡ known.old.actions }
+{
+    let Some(alternative) = alternative else {
+        return Ok(());
+    };
+    let Some(q) = alternative.found else {
+        return Ok(());
+    };
+    match found(known, q)? {
+        Some(row) => bind(alternative.binds.as_slice(), &row, known),
+        None => Ok(()),
+    }
+}
+
+/// Tells the move of this number, binds the least row of the alternative that it takes, and runs on, up to the next yield
+/// point, to the end or to a fault.
 pub fn run_from(
     alloc: Global,
     code: &ClassCode,
     begin: Begin,
     k: u32,
-    known: &mut Known,
+    known: &mut Known<'_>,
     machine: &mut Machine,
 ) -> Result<Standing, NoMemory>
     requires { (p : Program) × (class : Class) × (d : Data) × (todo : List Task)
-        × MayRun p class code.now known.old machine.old begin d todo }
+        × MayRun p class code.now known.old machine.old k begin d todo }
     ensures runs { IfOk result (λ s. (p : Program) (class : Class) (d : Data) (todo : List Task)
-        → MayRun p class code.now known.old machine.old begin d todo
+        → MayRun p class code.now known.old machine.old k begin d todo
         → let ran = run_to_yield class begin.turns d todo in
         HasRun class code.now d.me k ran known.old known.new machine.new s) }
     ensures part { OnErr result ((p : Program) (class : Class) (d : Data) (todo : List Task)
-        → MayRun p class code.now known.old machine.old begin d todo
+        → MayRun p class code.now known.old machine.old k begin d todo
         → let ran = run_to_yield class begin.turns d todo in
         IsFront known.old.actions known.new.actions (move_actions d.me k ran)) }
 {
     known.actions.push(Action::Took { p: known.me, k })?;
+    bind_found(alternative_at(code, machine.place, k), known)?;
     machine.place = begin.entry;
     machine.turns = begin.turns;
     let stop = run_code(alloc, &code.code, machine, known)?;
@@ -118,18 +156,22 @@ pub fn run_from(
 }
 
 /// How a process stands whose code stopped so. The end and a fault are told.
-pub fn stand(code: &ClassCode, stop: Stop, known: &mut Known) -> Result<Standing, NoMemory>
-    requires { MayStop code.now stop }
+pub fn stand(code: &ClassCode, stop: Stop, known: &mut Known<'_>) -> Result<Standing, NoMemory>
+    requires stops { MayStop code.now stop }
+    requires planned { IsPlanned known.old }
     ensures stops { IfOk result (λ s. HasStopped code.now known.old known.new stop s) }
+    ensures rows { IfOk result (λ s. s.kept ≡ rows_kept code.now.live.patterns (data_of known.new)) }
     ensures same { OnErr result (known.new.actions ≡ known.old.actions) }
 {
+    let kept = kept(known, &code.live)?;
     match stop {
-        Stop::Yield(number) => wait_at(code, number, known),
+        Stop::Yield(number) => wait_at(code, number, kept, known),
         Stop::Ended => {
             known.actions.push(Action::End { p: known.me })?;
             Ok(Standing {
                 place: Place::Ended,
                 flags: List::new(known.alloc),
+                kept,
             })
         }
         Stop::Fault { kind, line } => {
@@ -141,25 +183,33 @@ pub fn stand(code: &ClassCode, stop: Stop, known: &mut Known) -> Result<Standing
             Ok(Standing {
                 place: Place::Faulted,
                 flags: List::new(known.alloc),
+                kept,
             })
         }
     }
 }
 
-// How a process waits at the yield point of this number.
-fn wait_at(code: &ClassCode, number: u32, known: &Known) -> Result<Standing, NoMemory>
-    requires { HasPoint code.now number }
-    ensures { IfOk result (λ s. StandsAt code.now known.now number s) }
+// How a process waits at the yield point of this number, which keeps so many rows.
+fn wait_at(
+    code: &ClassCode,
+    number: u32,
+    kept: u128,
+    known: &Known<'_>,
+) -> Result<Standing, NoMemory>
+    requires there { HasPoint code.now number }
+    requires planned { IsPlanned known.now }
+    ensures stands { IfOk result (λ s. StandsAt code.now known.now number s) }
+    ensures rows { IfOk result (λ s. s.kept ≡ kept) }
 {
     let Some(point) = code.code.yields.get(number as usize) else {
         unreachable!()
     };
-    let Some(conditions) = code.waits.get(number as usize) else {
+    let Some(alternatives) = code.waits.get(number as usize) else {
         unreachable!()
     };
-    let place = place_at(point.label, conditions.len())?;
-    let flags = flags_of(known, conditions.as_slice())?;
-    Ok(Standing { place, flags })
+    let place = place_at(point.label, alternatives.len())?;
+    let flags = flags_of(known, alternatives.as_slice())?;
+    Ok(Standing { place, flags, kept })
 }
 
 // Where a process waits, at a label or at an `await` of so many alternatives. No memory has room for more than 32 bits

@@ -3,13 +3,15 @@ ghost use Rattle.da_core.specs.Arrivals.{MayArrive, arrival};
 ghost use Rattle.da_core.specs.Begins.{CanMove, settled};
 ghost use Rattle.da_core.specs.Compiled.{IsCompiled, program_of as compiled_program};
 ghost use Rattle.da_core.specs.Made.{HasBegun, HasMade, phase_at, stopped_at as stopped_lem};
-ghost use Rattle.da_core.specs.RunsNow.{RunsNow};
 ghost use Rattle.da_core.specs.StandsFor.{IsPlace, IsReady, StandsFor, Whichever, flags_of, is_spent, program_of};
+ghost use Rattle.da_core.specs.Told.{answers_of, kept_of};
 ghost use Rattle.da_lang.specs.Shaped.{IsProcess};
 ghost use Rattle.da_lang.specs.Steps.{move_step, proc_step};
-ghost use Rattle.da_lang.specs.World.{Waiting, opening};
-ghost use Rattle.std.specs.Prelude.{◌≡◌, ◌↔◌, IfOk, IsErrOf, IsSome, IsTrue, MatchOption, None, true, false};
+ghost use Rattle.da_lang.specs.World.{Waiting, class_of, opening};
+ghost use Rattle.da_machine.specs.RunsTo.{IsFront};
+ghost use Rattle.std.specs.Prelude.{◌≡◌, ◌↔◌, ◌++◌, IfOk, IsErrOf, IsSome, IsTrue, MatchOption, None, OnErr, OnOk, true, false};
 
+use crate::answers::{kept, tell_answers};
 use crate::compiled::{ClassCode, Compiled};
 use crate::deliveries::{Delivery, take_in};
 use crate::known::Known;
@@ -27,24 +29,27 @@ use std::mem;
 pub struct Core<'c> {
     alloc: Global,
     compiled: &'c Compiled,
-    known: Known,
+    known: Known<'c>,
     machine: Machine,
     place: Place,
     flags: List<bool>,
+    kept: u128,
     spent: bool,
 }
 
 impl<'c> Core<'c> {
-    /// A process before its first event. The program is one of those that run as yet.
+    /// A process before its first event.
     pub fn start(alloc: Global, compiled: &'c Compiled, me: u16) -> Result<Core<'c>, NoMemory>
         requires compiled { IsCompiled compiled.now }
         requires there { IsProcess (compiled_program compiled.now) me }
-        requires runs { RunsNow (compiled_program compiled.now) }
         ensures program { IfOk result (λ core. program_of core ≡ compiled_program compiled.now) }
         ensures stands { IfOk result (λ core.
             StandsFor core (opening (compiled_program compiled.now) me)) }
     {
         let Some(class) = compiled.class_of(me) else {
+            unreachable!()
+        };
+        let Some(code) = compiled.code_of(me) else {
             unreachable!()
         };
         let Some(entry) = compiled.start_of(me) else {
@@ -53,6 +58,7 @@ impl<'c> Core<'c> {
         let slots = first_values(alloc, me, class.slots.as_slice())?;
         let known = Known {
             alloc,
+            plan: &code.plan,
             me,
             clock: 0,
             slots,
@@ -60,6 +66,7 @@ impl<'c> Core<'c> {
             received: List::new(alloc),
             actions: List::new(alloc),
         };
+        let kept = kept(&known, &code.live)?;
         Ok(Core {
             alloc,
             compiled,
@@ -67,6 +74,7 @@ impl<'c> Core<'c> {
             machine: Machine::new(alloc, entry),
             place: Place::New,
             flags: List::new(alloc),
+            kept,
             spent: false,
         })
     }
@@ -86,6 +94,27 @@ impl<'c> Core<'c> {
         ensures { result ≡ is_spent self.now }
     {
         self.spent
+    }
+
+    /// How many rows the process keeps of its histories. It takes no memory.
+    pub fn kept(&self) -> u128
+        ensures { Whichever self.now (λ w.
+            result ≡ kept_of (class_of (program_of self.now) w.data'.me) w.data') }
+    {
+        self.kept
+    }
+
+    /// Tells the answers of all queries of the process, ascending by number, in `out`. Where memory is refused, `out` has a
+    /// front of them besides.
+    pub fn answers(&self, out: &mut List<Action>) -> Result<(), NoMemory>
+        requires ready { IsReady self.now }
+        requires unspent { is_spent self.now ≡ false }
+        ensures told { OnOk result (Whichever self.now (λ w. out.new ≡ out.old
+            ++ answers_of w.data'.me (class_of (program_of self.now) w.data'.me) w.data')) }
+        ensures front { OnErr result (Whichever self.now (λ w. IsFront out.old out.new
+            (answers_of w.data'.me (class_of (program_of self.now) w.data'.me) w.data'))) }
+    {
+        tell_answers(&self.known, out)
     }
 
     /// Whether the move of this number is allowed: 0 is the one from the opening or a label, and each other number takes
@@ -208,6 +237,7 @@ impl<'c> Core<'c> {
         let stopped = stopped_at(standing.place);
         self.place = standing.place;
         self.flags = standing.flags;
+        self.kept = standing.kept;
         self.spent = false;
         stopped
     }

@@ -1,31 +1,89 @@
-//! What is waited for at the yield points of a class.
-ghost use Rattle.da_core.specs.Waits.{alts_wait, branches_wait, items_wait, kind_waits, waits_of as waits_lem};
-ghost use Rattle.da_machine.specs.Points.{condition_of, conditions_of};
-ghost use Rattle.std.specs.Prelude.{◌≡◌, ◌++◌, IfOk, OnOk};
+//! What is waited for at the yield points of a class, with the flags of its plan.
+ghost use Rattle.da_core.specs.Waits.{all_taken, alt_take, alts_taken, branch_take, handler_take, item_take, items_take, kind_take, next_flag, waits_of as waits_lem};
+ghost use Rattle.std.specs.Prelude.{◌≡◌, ◌++◌, drop, IfOk, OnOk, map};
 
-use da_lang::{Alt, Class, Cond, Item, ItemKind, RBranch, copy_cond};
+use da_lang::{Alt, Class, Handler, Item, ItemKind, RBranch};
 use da_values::{List, NoMemory};
 use std::alloc::Global;
 
-/// The conditions that are waited for at each yield point of a class, in the order of the inlined text.
-pub fn waits_of(alloc: Global, class: &Class) -> Result<List<List<Cond>>, NoMemory>
-    ensures { IfOk result (λ waits. waits ≡ waits_lem class.now) }
-{
-    let mut waits = List::new(alloc);
-    add_items(alloc, class.run.as_slice(), &mut waits)?;
-    'handlers: for handler in class.handlers.as_slice() {
-        add_items(alloc, handler.body.as_slice(), &mut waits)?;
+/// An alternative of an `await`: its flag, which is the node of the plan that has a row exactly where its condition holds; the
+/// `some` whose least row it binds, if there is one; and the slots that take the parts of that row.
+#[derive(Debug, Drop)]
+pub struct Alternative {
+    pub flag: u32,
+    pub found: Option<u32>,
+    pub binds: List<u16>,
+}
+
+/// Flags that alternatives take one after the other.
+#[derive(Drop)]
+struct Flags<'f> {
+    rest: &'f [u32],
+}
+
+impl Flags<'_> {
+    // The next flag, or node 0 where none is left, which no plan of a class comes to.
+    fn next(&mut self) -> u32
+        ensures flag { result ≡ next_flag self.old.rest.now }
+        ensures left { self.new.rest.now ≡ drop 1 self.old.rest.now }
+    {
+        match self.rest.split_first() {
+            Some((flag, rest)) => {
+                self.rest = rest;
+                *flag
+            }
+            None => 0,
+        }
     }
+}
+
+/// The alternatives at each yield point of a class, whose plan has these flags, in the order of the inlined text. There are
+/// none at a label.
+pub fn waits_of(
+    alloc: Global,
+    class: &Class,
+    flags: &[u32],
+) -> Result<List<List<Alternative>>, NoMemory>
+    ensures { IfOk result (λ waits. waits ≡ waits_lem class.now flags.now) }
+{
+    let mut flags = Flags { rest: flags };
+    let mut waits = List::new(alloc);
+    add_items(alloc, class.run.as_slice(), &mut flags, &mut waits)?;
+    add_handlers(alloc, class.handlers.as_slice(), &mut flags, &mut waits)?;
     Ok(waits)
+}
+
+// Adds those of the bodies of handlers.
+fn add_handlers(
+    alloc: Global,
+    handlers: &[Handler],
+    flags: &mut Flags<'_>,
+    waits: &mut List<List<Alternative>>,
+) -> Result<(), NoMemory>
+    ensures waits { OnOk result
+        (waits.new ≡ waits.old ++ (all_taken (map handler_take handlers.now) flags.old.rest.now).waits) }
+    ensures left { OnOk result
+        (flags.new.rest.now ≡ (all_taken (map handler_take handlers.now) flags.old.rest.now).left) }
+{
+    'handlers: for handler in handlers {
+        add_items(alloc, handler.body.as_slice(), flags, waits)?;
+    }
+    Ok(())
 }
 
 /// Adds those of statements.
 #[cycle(waits)]
-fn add_items(alloc: Global, items: &[Item], waits: &mut List<List<Cond>>) -> Result<(), NoMemory>
-    ensures { OnOk result (waits.new ≡ waits.old ++ items_wait items.now) }
+fn add_items(
+    alloc: Global,
+    items: &[Item],
+    flags: &mut Flags<'_>,
+    waits: &mut List<List<Alternative>>,
+) -> Result<(), NoMemory>
+    ensures waits { OnOk result (waits.new ≡ waits.old ++ (items_take items.now flags.old.rest.now).waits) }
+    ensures left { OnOk result (flags.new.rest.now ≡ (items_take items.now flags.old.rest.now).left) }
 {
     for item in items {
-        add_kind(alloc, &item.kind, waits)?;
+        add_kind(alloc, &item.kind, flags, waits)?;
     }
     Ok(())
 }
@@ -33,20 +91,28 @@ fn add_items(alloc: Global, items: &[Item], waits: &mut List<List<Cond>>) -> Res
 /// Adds those of what a statement does.
 #[cycle(waits)]
 #[tactic(auto, using(crate::proofs::WaitForms::kind_rules))]
-fn add_kind(alloc: Global, kind: &ItemKind, waits: &mut List<List<Cond>>) -> Result<(), NoMemory>
-    ensures { OnOk result (waits.new ≡ waits.old ++ kind_waits kind.now) }
+fn add_kind(
+    alloc: Global,
+    kind: &ItemKind,
+    flags: &mut Flags<'_>,
+    waits: &mut List<List<Alternative>>,
+) -> Result<(), NoMemory>
+    ensures waits { OnOk result (waits.new ≡ waits.old ++ (kind_take kind.now flags.old.rest.now).waits) }
+    ensures left { OnOk result (flags.new.rest.now ≡ (kind_take kind.now flags.old.rest.now).left) }
 {
     match kind {
         ItemKind::If(branches, other) => {
-            add_branches(alloc, branches.as_slice(), waits)?;
-            add_items(alloc, other.as_slice(), waits)
+            add_branches(alloc, branches.as_slice(), flags, waits)?;
+            add_items(alloc, other.as_slice(), flags, waits)
         }
-        ItemKind::While(_, body) => add_items(alloc, body.as_slice(), waits),
-        ItemKind::For(_, _, body) => add_items(alloc, body.as_slice(), waits),
-        ItemKind::Call(_, body) => add_items(alloc, body.as_slice(), waits),
+        ItemKind::While(_, body) => add_items(alloc, body.as_slice(), flags, waits),
+        ItemKind::For(_, _, body) => add_items(alloc, body.as_slice(), flags, waits),
+        ItemKind::Call(_, body) => add_items(alloc, body.as_slice(), flags, waits),
         ItemKind::Await(alts) => {
-            waits.push(conditions(alloc, alts.as_slice())?)?;
-            add_alts(alloc, alts.as_slice(), waits)
+            let mut inside = List::new(alloc);
+            let own = alternatives(alloc, alts.as_slice(), flags, &mut inside)?;
+            waits.push(own)?;
+            move_behind(waits, inside)
         }
         ItemKind::Label => waits.push(List::new(alloc)),
         ItemKind::Assign(_, _) => Ok(()),
@@ -63,34 +129,68 @@ fn add_kind(alloc: Global, kind: &ItemKind, waits: &mut List<List<Cond>>) -> Res
 fn add_branches(
     alloc: Global,
     branches: &[RBranch],
-    waits: &mut List<List<Cond>>,
+    flags: &mut Flags<'_>,
+    waits: &mut List<List<Alternative>>,
 ) -> Result<(), NoMemory>
-    ensures { OnOk result (waits.new ≡ waits.old ++ branches_wait branches.now) }
+    ensures waits { OnOk result
+        (waits.new ≡ waits.old ++ (all_taken (map branch_take branches.now) flags.old.rest.now).waits) }
+    ensures left { OnOk result
+        (flags.new.rest.now ≡ (all_taken (map branch_take branches.now) flags.old.rest.now).left) }
 {
     for branch in branches {
-        add_items(alloc, branch.body.as_slice(), waits)?;
+        add_items(alloc, branch.body.as_slice(), flags, waits)?;
     }
     Ok(())
 }
 
-/// Adds those of the blocks of alternatives.
+/// The alternatives of an `await`; those within their blocks are added to `inside`.
 #[cycle(waits)]
-fn add_alts(alloc: Global, alts: &[Alt], waits: &mut List<List<Cond>>) -> Result<(), NoMemory>
-    ensures { OnOk result (waits.new ≡ waits.old ++ alts_wait alts.now) }
+fn alternatives(
+    alloc: Global,
+    alts: &[Alt],
+    flags: &mut Flags<'_>,
+    inside: &mut List<List<Alternative>>,
+) -> Result<List<Alternative>, NoMemory>
+    ensures own { IfOk result (λ own. own ≡ (alts_taken (map alt_take alts.now) flags.old.rest.now).own) }
+    ensures inside { OnOk result
+        (inside.new ≡ inside.old ++ (alts_taken (map alt_take alts.now) flags.old.rest.now).inside) }
+    ensures left { OnOk result
+        (flags.new.rest.now ≡ (alts_taken (map alt_take alts.now) flags.old.rest.now).left) }
 {
+    let mut own = List::new(alloc);
     for alt in alts {
-        add_items(alloc, alt.body.as_slice(), waits)?;
+        own.push(Alternative {
+            flag: flags.next(),
+            found: alt.found,
+            binds: copy_slots(alloc, alt.binds.as_slice())?,
+        })?;
+        add_items(alloc, alt.body.as_slice(), flags, inside)?;
     }
-    Ok(())
+    Ok(own)
 }
 
-// Copies of the conditions of alternatives.
-fn conditions(alloc: Global, alts: &[Alt]) -> Result<List<Cond>, NoMemory>
-    ensures { IfOk result (λ conditions. conditions ≡ conditions_of alts.now) }
+// A copy of the numbers of slots.
+fn copy_slots(alloc: Global, slots: &[u16]) -> Result<List<u16>, NoMemory>
+    ensures { IfOk result (λ copy. copy ≡ slots.now) }
 {
-    let mut conditions = List::new(alloc);
-    for alt in alts {
-        conditions.push(copy_cond(alloc, alt.cond.get())?)?;
+    let mut copy = List::new(alloc);
+    for slot in slots {
+        copy.push(*slot)?;
     }
-    Ok(conditions)
+    Ok(copy)
+}
+
+// Moves all that is waited for behind what is there.
+fn move_behind(
+    waits: &mut List<List<Alternative>>,
+    more: List<List<Alternative>>,
+) -> Result<(), NoMemory>
+    ensures { OnOk result (waits.new ≡ waits.old ++ more) }
+{
+    let mut more = more;
+    more.reverse();
+    while let Some(own) = more.pop() {
+        waits.push(own)?;
+    }
+    Ok(())
 }

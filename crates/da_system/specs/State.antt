@@ -9,7 +9,6 @@ use Rattle.da_core.specs.declared.place.StepFault.TheVariants.{Forbidden, Memory
 use Rattle.da_core.specs.declared.process.Core.{Core}
 use Rattle.da_core.specs.Compiled.{IsCompiled}
 use Rattle.da_core.specs.Compiled as compiled
-use Rattle.da_core.specs.RunsNow.{RunsNow}
 use Rattle.da_core.specs.StandsFor.{StandsFor}
 use Rattle.da_core.specs.StandsFor as process
 use Rattle.da_system.specs.declared.system.System.{System}
@@ -42,7 +41,6 @@ StandFrom program first _ _ = ⊥
 pub record Stands (system : System) (s : SystemState) : Type 0 where
   pub unspent : system.spent ≡ false
   pub compiled : IsCompiled system.compiled.now
-  pub runs : RunsNow (program_of system)
   pub sound : IsSoundState (program_of system) s
   pub each : length system.cores.items ≡ length (program_of system).procs
   pub cores : StandFrom (program_of system) 1 system.cores.items s.worlds

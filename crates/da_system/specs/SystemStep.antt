@@ -1,18 +1,14 @@
 -- The step of a system: what each event does, and where it is not allowed.
 use Rattle.std.specs.Prelude.{ℕ, if◌then◌else◌, List, [], ◌∷◌, map, length, Option, Some, None}
-use Rattle.std.specs.List.{range_with_len}
 use Rattle.da_lang.specs.declared.event.Action.{Action}
-use Rattle.da_lang.specs.declared.event.Action.TheVariants.{Again, Answer, Kept, Lost}
+use Rattle.da_lang.specs.declared.event.Action.TheVariants.{Again, Kept, Lost}
 use Rattle.da_lang.specs.declared.event.Event.{Event}
 use Rattle.da_lang.specs.declared.event.Event.TheVariants as event
-use Rattle.da_lang.specs.declared.program.Class.{Class}
 use Rattle.da_lang.specs.declared.program.Program.{Program}
-use Rattle.da_lang.specs.declared.query.Query.{Query}
 use Rattle.da_lang.specs.declared.ty.ChannelKind.{ChannelKind}
-use Rattle.da_lang.specs.Live.{kept}
-use Rattle.da_lang.specs.Queries.{shown_set}
 use Rattle.da_lang.specs.Steps.{Step, Go, Take, Deliver, Stepped, proc_step}
 use Rattle.da_lang.specs.World.{Data, World, class_of, at_number, opening}
+use Rattle.da_core.specs.Told.{answers_of, kept_of, numbers_to}
 use Rattle.da_system.specs.Channels.{Channels, Letter, after_actions, channel, may_arrive, may_lose, may_repeat, no_letters, put_numbered, with_letter, without_letter}
 
 -- a system: the kind of its channels, its processes in the order of their numbers, and its channels
@@ -27,10 +23,6 @@ pub record AfterEvent : Type 0 where
   pub actions : List Action
 
 -- THE OPENING
-
--- the numbers of so many processes or queries: 1, 2 and so on
-abbrev pub numbers_to : ℕ → List ℕ
-numbers_to count = range_with_len 1 count
 
 abbrev pub start : Program → SystemState
 start program = record {
@@ -90,19 +82,6 @@ repeat s p q i = if may_repeat s.kind then copy_letter s p q (at_number (channel
 abbrev pub told : SystemState → Option World → (Data → List Action) → Option AfterEvent
 told s None tell = None
 told s (Some world) tell = Some (record { state = s; actions = tell world.data' })
-
--- an answer of each query, ascending by number
-abbrev pub answers : ℕ → List Query → Data → List Action
-answers p queries d = map (λ n. Answer p n (shown_set queries n d)) (numbers_to (length queries))
-
--- a process of no class has no queries, and keeps no rows
-abbrev pub answers_of : ℕ → Option Class → Data → List Action
-answers_of p None d = []
-answers_of p (Some class) d = answers p class.queries d
-
-abbrev pub kept_of : Option Class → Data → ℕ
-kept_of None d = 0
-kept_of (Some class) d = kept class d
 
 abbrev pub show : Program → SystemState → ℕ → Option AfterEvent
 show program s p = told s (at_number s.worlds p) (answers_of p (class_of program p))

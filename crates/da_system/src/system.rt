@@ -1,17 +1,15 @@
 //! The processes of a program, and their steps.
 ghost use Rattle.da_core.specs.Compiled.{IsCompiled, program_of as compiled_program};
 ghost use Rattle.da_core.specs.Made.{phase_at};
-ghost use Rattle.da_core.specs.RunsNow.{RunsNow};
 ghost use Rattle.da_lang.specs.Accepted.{IsAccepted};
 ghost use Rattle.da_lang.specs.Steps.{move_step};
 ghost use Rattle.da_lang.specs.World.{at_number};
-ghost use Rattle.da_lang.specs.declared.event.Action.{Action as ActionOf};
 ghost use Rattle.da_system.specs.Channels.{channel};
 ghost use Rattle.da_system.specs.Queues.{AreSent, count_of};
 ghost use Rattle.da_system.specs.SoundState.{IsSoundState, StaysSound};
 ghost use Rattle.da_system.specs.State.{Answers, HasBegun, HasPosted, HasStepped, IsReady, StandAlike, Stands, Whichever, is_spent, program_of, waits_at, waits_in as waits_lem};
 ghost use Rattle.da_system.specs.SystemStep.{deliver, lose, process_step, repeat, show, start, stat, sys_step};
-ghost use Rattle.std.specs.Prelude.{◌≡◌, ◌↔◌, ◌+◌, ◌<◌, ◌≤◌, List as ListOf, MatchOption, None, IfErr, IfOk, IsErrOf, IsSome, IsTrue, OnOk, drop, false, is_some, length, option_copied, true};
+ghost use Rattle.std.specs.Prelude.{◌≡◌, ◌↔◌, ◌+◌, ◌<◌, ◌≤◌, MatchOption, None, IfErr, IfOk, IsErrOf, IsSome, IsTrue, OnOk, drop, false, is_some, length, option_copied, true};
 
 use crate::channels::{Channels, may_arrive, may_lose, may_repeat};
 use da_core::{Compiled, Core, Place, StepFault};
@@ -31,10 +29,9 @@ pub struct System<'c> {
 }
 
 impl<'c> System<'c> {
-    /// The system before any event. The program is one of those that run as yet.
+    /// The system before any event.
     pub fn new(alloc: Global, compiled: &'c Compiled) -> Result<System<'c>, NoMemory>
         requires compiled { IsCompiled compiled.now }
-        requires runs { RunsNow (compiled_program compiled.now) }
         ensures ready { IfOk result IsReady }
         ensures program { IfOk result (λ system.
             program_of system ≡ compiled_program compiled.now) }
@@ -135,7 +132,7 @@ impl System<'_> {
             Event::Deliver { p, q, i } => self.deliver(*p, *q, *i, out),
             Event::Lose { p, q, i } => self.lose(*p, *q, *i, out),
             Event::Repeat { p, q, i } => self.repeat(*p, *q, *i, out),
-            Event::Show { p } => self.show(*p),
+            Event::Show { p } => self.show(*p, out),
             Event::Stat { p } => self.stat(*p, out),
         }
     }
@@ -360,19 +357,25 @@ impl System<'_> {
         self.make_move(p, k, out)
     }
 
-    // Tells the answers of process `p`: none, since its class has no queries.
-    fn show(&self, p: u32) -> Result<(), StepFault>
-        ensures { (out : ListOf ActionOf)
-            → Answers (λ s. show (program_of self.now) s p) self.now result self.now out out }
+    // Tells the answers of process `p`.
+    fn show(&mut self, p: u32, out: &mut List<Action>) -> Result<(), StepFault>
+        requires ready { IsReady self.old }
+        requires unspent { is_spent self.old ≡ false }
+        ensures program { program_of self.new ≡ program_of self.old }
+        ensures answers { Answers (λ s. show (program_of self.old) s p)
+            self.old result self.new out.old out.new }
     {
-        if self.has_process(p) {
-            Ok(())
-        } else {
-            Err(StepFault::Forbidden)
+        let Some(core) = self.core(p) else {
+            return Err(StepFault::Forbidden);
+        };
+        if core.answers(out).is_err() {
+            self.spent = true;
+            return Err(StepFault::Memory);
         }
+        Ok(())
     }
 
-    // Tells how many rows process `p` keeps: none, since its class has no queries.
+    // Tells how many rows process `p` keeps.
     fn stat(&mut self, p: u32, out: &mut List<Action>) -> Result<(), StepFault>
         requires ready { IsReady self.old }
         requires unspent { is_spent self.old ≡ false }
@@ -380,10 +383,14 @@ impl System<'_> {
         ensures answers { Answers (λ s. stat (program_of self.old) s p)
             self.old result self.new out.old out.new }
     {
-        if !self.has_process(p) {
+        let Some(core) = self.core(p) else {
             return Err(StepFault::Forbidden);
-        }
-        if out.push(Action::Kept { p: p as u16, n: 0 }).is_err() {
+        };
+        let kept = Action::Kept {
+            p: p as u16,
+            n: core.kept(),
+        };
+        if out.push(kept).is_err() {
             self.spent = true;
             return Err(StepFault::Memory);
         }

@@ -1,6 +1,6 @@
 -- From what the lexer, the parser, names, limits and types answer to what is said of a text.
-use Rattle.std.proofs.Common.{◌≡◌, sym, ◌∙◌, subst, ℕ, ◌≤◌, List, length}
-use Rattle.std.specs.Prelude.{Ok, Err}
+use Rattle.std.proofs.Common.{◌≡◌, refl, sym, ◌∙◌, subst, ℕ, ◌≤◌, List, length}
+use Rattle.std.specs.Prelude.{Ok, Err, Some}
 use Rattle.da_lex.specs.Scanning.{IsFaultOf}
 use Rattle.da_lex.specs.declared.fault.LexFault.{LexFault}
 use Rattle.da_lex.specs.declared.fault.LexFault.TheVariants as lex_fault
@@ -12,7 +12,9 @@ use Rattle.da_lang.specs.declared.program.Program.{Program}
 use Rattle.da_lang.specs.declared.tree.Tree.{Tree}
 use Rattle.da_lang.specs.Accepted.{IsWritten}
 use Rattle.da_lang.specs.Grammar.{SpellsWithin}
+use Rattle.da_core.specs.PlanLimit.{nodes_fault}
 use Rattle.da_lang.specs.Limits.{Resolves}
+use Rattle.da_lang.specs.Typing.{Typed}
 use Rattle.da_parse.specs.declared.whole.ParseFault.{ParseFault}
 use Rattle.da_parse.specs.declared.whole.ParseFault.TheVariants as parse_fault
 use Rattle.da_parse.specs.Parse.{Answers, IsLineOf, NamesLine, parsed}
@@ -25,10 +27,12 @@ use Rattle.da_scope.specs.Resolving.{IsRefusedAs as IsNotResolved}
 use Rattle.da_types.specs.declared.top.TypeFault.{TypeFault}
 use Rattle.da_types.specs.declared.top.TypeFault.TheVariants as types
 use Rattle.da_types.specs.Refusing.{IsRefusedAs as IsNotTyped}
+use Rattle.quant_norm.specs.declared.top.PlanFault.{PlanFault}
+use Rattle.quant_norm.specs.declared.top.PlanFault.TheVariants as plan
 use Rattle.dalgo.specs.declared.status.RefusedKind.{RefusedKind}
 use Rattle.dalgo.specs.declared.status.RefusedKind.TheVariants as kind_is
-use Rattle.dalgo.specs.Faults.{after_names, after_types}
-use Rattle.dalgo.specs.Verdict.{HasTree, HasNoTree, IsRefusedAs, Refuses, kind_after, misnamed, mistyped, no_program, not_cut, too_deep, too_large, program_limit}
+use Rattle.dalgo.specs.Faults.{after_names, after_plans, after_types}
+use Rattle.dalgo.specs.Verdict.{HasTree, HasNoTree, IsRefusedAs, Refuses, kind_after, misnamed, mistyped, no_program, not_cut, overplanned, too_deep, too_large, program_limit}
 
 -- the text is not cut into tokens
 pub is_not_cut : (text : List ℕ) (e : LexFault) (kind : LexKind) (line : ℕ) (told : RefusedKind) (told_line : ℕ) → length text ≤ program_limit → IsFaultOf e (tokens text)
@@ -68,3 +72,9 @@ not_resolved text tree scope.Memory has is = tt
 pub not_typed : (text : List ℕ) (tree : Tree) (p : Program) (why : TypeFault) → HasTree text tree → Resolves tree p → IsNotTyped p why → IsRefusedAs text (after_types why)
 not_typed text tree p (types.Refused line) has resolves is = mistyped line (record { tree = tree; has = has; resolved = p; resolves = resolves; is = is })
 not_typed text tree p types.Memory has resolves is = tt
+
+pub not_planned : (text : List ℕ) (tree : Tree) (p q : Program) (why : PlanFault) → HasTree text tree → Resolves tree p → Typed p q
+    → ((line : ℕ) → why ≡ plan.TooMany line → nodes_fault q ≡ Some line) → IsRefusedAs text (after_plans why)
+not_planned text tree p q (plan.TooMany line) has resolves typed many =
+    overplanned line (record { tree = tree; has = has; resolved = p; resolves = resolves; program = q; typed = typed; is = many line refl })
+not_planned text tree p q plan.Memory has resolves typed many = tt

@@ -8,7 +8,7 @@ use Rattle.da_lang.specs.declared.tree.Tree.{Tree}
 use Rattle.da_lang.specs.Limits.{Resolves}
 use Rattle.da_lang.specs.Typing.{Typed}
 use Rattle.da_outside.specs.Outside.{Appends, AppendsFront, IsWhole, Rose}
-use Rattle.da_core.specs.RunsNow.{RunsNow}
+use Rattle.da_core.specs.PlanLimit.{nodes_fault}
 use Rattle.da_system.specs.declared.system.System.{System}
 use Rattle.da_system.specs.SourceRun.{src_run}
 use Rattle.da_system.specs.State.{Stands, Whichever}
@@ -26,7 +26,7 @@ use Rattle.dalgo.specs.declared.status.Status.TheVariants.{BadSchedule, Done, Fo
 use Rattle.dalgo.specs.declared.endings.Ending.{Ending}
 use Rattle.dalgo.specs.declared.endings.Ending.TheVariants as ending
 use Rattle.dalgo.specs.Lines.{accepted_text}
-use Rattle.dalgo.specs.Replies.{CheckReply, accepted, declined, IsAccepted, IsAnswer, IsCheck, IsRefused, IsReplay, IsReply, MayRead, ReadCause, ReplayRefuses, ReplayReply, refused, answered, RunReply, bad_schedule, ran, RunsToday, RunsWhole, ended_by, run_status, run_text}
+use Rattle.dalgo.specs.Replies.{CheckReply, accepted, declined, IsAccepted, IsAnswer, IsCheck, IsRefused, IsReplay, IsReply, MayRead, ReadCause, ReplayReply, refused, answered, RunReply, bad_schedule, ran, RunsWhole, ended_by, run_status, run_text}
 use Rattle.dalgo.specs.Told.{Gains, OfTold}
 use Rattle.dalgo.specs.Top.{status_after}
 use Rattle.dalgo.specs.Verdict.{Accepts, HasTree, IsRefusedAs, Refuses, program_limit}
@@ -38,15 +38,8 @@ use Rattle.sched_text.proofs.ScheduleLaws.{not_bad, one_schedule}
 -- WHAT WAS READ
 
 -- a program that was read
-pub accepts_read : (t : List ℕ) (tree : Tree) (p q : Program) → HasTree t tree → Resolves tree p → Typed p q → Accepts t q
-accepts_read t tree p q has resolves typed = record { tree = tree; has = has; resolved = p; resolves = resolves; typed = typed }
-
--- whether it runs as yet
-pub runs_read : (t : List ℕ) (program : Program) (r : Bool) → Accepts t program → (IsTrue r ↔ RunsNow program) → r ≡ true → RunsToday t program
-runs_read t program r accepts says is = record { accepts = accepts; today = says.0 is }
-
-pub runs_not : (t : List ℕ) (program : Program) (r : Bool) → Accepts t program → (IsTrue r ↔ RunsNow program) → r ≡ false → ReplayRefuses t kind_is.NotYet 0
-runs_not t program r accepts says is = inr (refl, refl, record { program = program; accepts = accepts; later = λ runs. false≢true (sym is ∙ says.1 runs) })
+pub accepts_read : (t : List ℕ) (tree : Tree) (p q : Program) → HasTree t tree → Resolves tree p → Typed p q → nodes_fault q ≡ None → Accepts t q
+accepts_read t tree p q has resolves typed planned = record { tree = tree; has = has; resolved = p; resolves = resolves; typed = typed; planned = planned }
 
 -- a text that was read whole, and gives a program
 pub read_within : (text t : List ℕ) (program : Program) → text ≡ take (program_limit + 1) t → length text ≤ program_limit → Accepts text program → Accepts t program
@@ -115,14 +108,14 @@ run_reply s program events _ _ good (ran others is) =
     let same = one_schedule s others events is good in
     (ap (run_status program) same, ap (run_text program) same)
 
-whole_reply : (t s : List ℕ) (program : Program) (events : List Event) (status : Status) (bytes : List ℕ) → RunsToday t program → SpellsSchedule s events → ReplayReply t s status bytes
+whole_reply : (t s : List ℕ) (program : Program) (events : List Event) (status : Status) (bytes : List ℕ) → Accepts t program → SpellsSchedule s events → ReplayReply t s status bytes
     → (status ≡ run_status program events) × (bytes ≡ run_text program events)
 whole_reply t s program events _ _ runs good (refused kind line refuses) = absurd (not_refused t program runs (record { kind = kind; line = line; refuses = refuses }))
 whole_reply t s program events _ _ runs good (answered other also status bytes reply) =
-    run_reply s program events status bytes good (subst (λ p. RunReply p s status bytes) (accepts_one t program other runs.accepts also.accepts) reply)
+    run_reply s program events status bytes good (subst (λ p. RunReply p s status bytes) (accepts_one t program other runs also) reply)
 
 pub runs_whole : (told_program told_schedule : Option (List ℕ)) (t s : List ℕ) (program : Program) (events : List Event) (r : Result Status Ending) (status : Status) (before after : Option (List ℕ))
-    → status ≡ status_after r → told_program ≡ Some t → told_schedule ≡ Some s → RunsToday t program → SpellsSchedule s events → (IsErrOf r ending.Read → ⊥) → (IsErrOf r ending.Write → ⊥)
+    → status ≡ status_after r → told_program ≡ Some t → told_schedule ≡ Some s → Accepts t program → SpellsSchedule s events → (IsErrOf r ending.Read → ⊥) → (IsErrOf r ending.Write → ⊥)
     → IfOk r (λ status. OfTold told_program (λ t. OfTold told_schedule (λ s. Gains (ReplayReply t s) status before after))) → RunsWhole program events status before after
 runs_whole p q t s program events r status before after same told_p told_q runs good read write replies =
     either (after_quiet (λ o. OfTold p (λ t. OfTold q (λ s. Gains (ReplayReply t s) o before after))) r status same read write replies)

@@ -19,9 +19,9 @@ use Rattle.da_lang.specs.Typing.{Typed, filled, least, type_breaks}
 use Rattle.da_parse.specs.declared.whole.ParseFault.{ParseFault}
 use Rattle.da_parse.proofs.WholePrograms.{Spells_unique, SpellsWithin_spells}
 use Rattle.dalgo.specs.declared.status.RefusedKind.{RefusedKind}
-use Rattle.da_core.specs.RunsNow.{RunsNow}
-use Rattle.dalgo.specs.Replies.{IsNotYet, IsRefused, ReplayRefuses, RunsToday}
-use Rattle.dalgo.specs.Verdict.{Accepts, HasNoTree, HasTree, IsMisnamed, IsMistyped, IsTooLarge, Refuses, too_long, not_cut, no_program, too_deep, misnamed, too_large, mistyped}
+use Rattle.da_core.specs.PlanLimit.{nodes_fault}
+use Rattle.dalgo.specs.Replies.{IsRefused}
+use Rattle.dalgo.specs.Verdict.{Accepts, HasNoTree, HasTree, IsMisnamed, IsMistyped, IsOverplanned, IsTooLarge, Refuses, too_long, not_cut, no_program, too_deep, misnamed, too_large, mistyped, overplanned}
 
 same_list : (text : List ℕ) (ts us : List Token) → tokens text ≡ Ok ts → tokens text ≡ Ok us → ts ≡ us
 same_list text ts us one other = let both : ◌≡◌ {A = Result (List Token) LexFault} (Ok ts) (Ok us) = sym one ∙ other in cc
@@ -69,6 +69,13 @@ typed t program line accepts is =
     none_least (type_breaks is.resolved) line
     (ap type_breaks (same_resolved is.tree accepts.tree is.resolved accepts.resolved (one_tree t is.tree accepts.tree is.has accepts.has) is.resolves accepts.resolves) ∙ accepts.typed.keeps) is.is
 
+fits : (t : List ℕ) (program : Program) (line : ℕ) → Accepts t program → IsOverplanned t line → ⊥
+fits t program line accepts is =
+    let resolved_one = same_resolved is.tree accepts.tree is.resolved accepts.resolved (one_tree t is.tree accepts.tree is.has accepts.has) is.resolves accepts.resolves in
+    let one : is.program ≡ program = is.typed.becomes ∙ ap filled resolved_one ∙ sym accepts.typed.becomes in
+    let clash : ◌≡◌ {A = Option ℕ} None (Some line) = sym accepts.planned ∙ sym (ap nodes_fault one) ∙ is.is in
+    cc
+
 pub accepted_or_not : (t : List ℕ) (program : Program) (kind : RefusedKind) (line : ℕ) → Accepts t program → Refuses t kind line → ⊥
 accepted_or_not t program _ _ accepts (too_long long) = omega (arith, long, accepts.has.size)
 accepted_or_not t program _ _ accepts (not_cut kind line is) = cut_or_not t accepts.has.list _ accepts.has.lexed is.1
@@ -77,6 +84,7 @@ accepted_or_not t program _ _ accepts (too_deep line lacks) = no_tree t accepts.
 accepted_or_not t program _ _ accepts (misnamed kind line is) = named t program kind line accepts is
 accepted_or_not t program _ _ accepts (too_large which line is) = within t program which line accepts is
 accepted_or_not t program _ _ accepts (mistyped line is) = typed t program line accepts is
+accepted_or_not t program _ _ accepts (overplanned line is) = fits t program line accepts is
 
 -- a text gives one program
 pub accepts_one : (t : List ℕ) (program other : Program) → Accepts t program → Accepts t other → other ≡ program
@@ -84,13 +92,6 @@ accepts_one t program other accepts also =
     also.typed.becomes ∙ ap filled (same_resolved also.tree accepts.tree also.resolved accepts.resolved (one_tree t also.tree accepts.tree also.has accepts.has) also.resolves accepts.resolves)
     ∙ sym accepts.typed.becomes
 
--- a text that runs is not refused
-both_forms : (t : List ℕ) (program : Program) → RunsToday t program → IsNotYet t → ⊥
-both_forms t program runs later = later.later (subst RunsNow (sym (accepts_one t program later.program runs.accepts later.accepts)) runs.today)
-
-pub not_refused : (t : List ℕ) (program : Program) → RunsToday t program → IsRefused t → ⊥
-not_refused t program runs refusal = either refusal.refuses
-  where
-    either : ReplayRefuses t refusal.kind refusal.line → ⊥
-    either (inl refuses) = accepted_or_not t program refusal.kind refusal.line runs.accepts refuses
-    either (inr later) = both_forms t program runs later.2
+-- a text that is accepted is not refused
+pub not_refused : (t : List ℕ) (program : Program) → Accepts t program → IsRefused t → ⊥
+not_refused t program accepts refusal = accepted_or_not t program refusal.kind refusal.line accepts refusal.refuses

@@ -2,10 +2,8 @@
 use Rattle.std.specs.Prelude.{◌≡◌, ℕ, ◌⊎◌, List, [], ◌∷◌, length, codes, Option, Some, None}
 use Rattle.da_lang.specs.declared.event.Event.{Event}
 use Rattle.da_lang.specs.declared.program.Program.{Program}
-use Rattle.da_core.specs.RunsNow.{RunsNow}
 use Rattle.da_system.specs.SourceRun.{src_run}
 use Rattle.dalgo.specs.declared.status.RefusedKind.{RefusedKind}
-use Rattle.dalgo.specs.declared.status.RefusedKind.TheVariants.{NotYet}
 use Rattle.dalgo.specs.declared.status.Status.{Status}
 use Rattle.dalgo.specs.declared.status.Status.TheVariants.{Done, Refused, Forbidden, BadSchedule, ReadFault, WriteFault, Memory, Words}
 use Rattle.dalgo.specs.Lines.{accepted_text, badline_text, refused_text}
@@ -14,25 +12,10 @@ use Rattle.dalgo.specs.Verdict.{Accepts, Refuses}
 use Rattle.sched_text.specs.ActionText.{action_text}
 use Rattle.sched_text.specs.ScheduleText.{IsBadSchedule, SpellsSchedule}
 
--- the text gives this program, and it is one of those that run as yet
-pub record RunsToday (text : List ℕ) (program : Program) : Type 0 where
-  pub accepts : Accepts text program
-  pub today : RunsNow program
-
--- the text gives a program that is none of them
-pub record IsNotYet (text : List ℕ) : Type 0 where
-  pub program : Program
-  pub accepts : Accepts text program
-  pub later : RunsNow program → ⊥
-
--- `replay` refuses what `check` refuses, and last a program that does not run yet
-abbrev pub ReplayRefuses : List ℕ → RefusedKind → ℕ → Type 0
-ReplayRefuses text kind line = Refuses text kind line ⊎ ((kind ≡ NotYet) × (line ≡ 0) × IsNotYet text)
-
 pub record IsRefused (text : List ℕ) : Type 0 where
   pub kind : RefusedKind
   pub line : ℕ
-  pub refuses : ReplayRefuses text kind line
+  pub refuses : Refuses text kind line
 
 -- the status of a run that stops at the event of this number, or at none
 abbrev pub ended_by : Option ℕ → Status
@@ -45,15 +28,15 @@ run_status program events = ended_by (src_run program events).stop
 abbrev pub run_text : Program → List Event → List ℕ
 run_text program events = action_text (src_run program events).actions
 
--- the status and the bytes with which a program that runs answers the text of a schedule
+-- the status and the bytes with which an accepted program answers the text of a schedule
 pub data RunReply (program : Program) (schedule_text : List ℕ) : Status → List ℕ → Type 0 where
   bad_schedule : (line : ℕ) → IsBadSchedule schedule_text line → RunReply program schedule_text (BadSchedule line) (badline_text line)
   ran : (events : List Event) → SpellsSchedule schedule_text events → RunReply program schedule_text (run_status program events) (run_text program events)
 
 -- the status and the bytes with which `replay` answers a program's text and a schedule's
 pub data ReplayReply (program_text schedule_text : List ℕ) : Status → List ℕ → Type 0 where
-  refused : (kind : RefusedKind) (line : ℕ) → ReplayRefuses program_text kind line → ReplayReply program_text schedule_text (Refused kind line) (refused_text kind line)
-  answered : (program : Program) → RunsToday program_text program → (status : Status) (bytes : List ℕ) → RunReply program schedule_text status bytes
+  refused : (kind : RefusedKind) (line : ℕ) → Refuses program_text kind line → ReplayReply program_text schedule_text (Refused kind line) (refused_text kind line)
+  answered : (program : Program) → Accepts program_text program → (status : Status) (bytes : List ℕ) → RunReply program schedule_text status bytes
       → ReplayReply program_text schedule_text status bytes
 
 -- the program was run to the end of the schedule or to its first forbidden event, and all of that was written; or memory was refused

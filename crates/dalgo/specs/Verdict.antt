@@ -1,5 +1,5 @@
 -- Which program a text gives, and by what a text is refused that gives none.
-use Rattle.std.specs.Prelude.{◌≡◌, ℕ, ◌<◌, ◌≤◌, List, [], length, Ok, Err, Some}
+use Rattle.std.specs.Prelude.{◌≡◌, ℕ, ◌<◌, ◌≤◌, List, [], length, Ok, Err, None, Some}
 use Rattle.da_values.specs.declared.token.LexKind.{LexKind}
 use Rattle.da_values.specs.declared.token.LexKind.TheVariants as lex
 use Rattle.da_values.specs.declared.token.Token.{Token}
@@ -15,6 +15,7 @@ use Rattle.da_lang.specs.Grammar.{SpellsWithin}
 use Rattle.da_lang.specs.Limits.{Resolves, limit_fault}
 use Rattle.da_lang.specs.NameRules.{name_fault, name_refusals}
 use Rattle.da_lang.specs.Typing.{Typed, type_fault}
+use Rattle.da_core.specs.PlanLimit.{nodes_fault}
 use Rattle.da_parse.specs.declared.whole.ParseFault.{ParseFault}
 use Rattle.da_parse.specs.declared.whole.ParseFault.TheVariants as parse
 use Rattle.da_parse.specs.FirstFault.{IsFirst}
@@ -44,13 +45,15 @@ pub record HasNoTree (text : List ℕ) (why : ParseFault) (line : ℕ) : Type 0 
   pub told : IsFirst (toks text list) why
   pub on : IsLineOf text line
 
--- the text gives this program: it has a tree, the tree has a program, and that program keeps the rules of types
+-- the text gives this program: it has a tree, the tree has a program, that program keeps the rules of types, and the plan of no
+-- class has too many nodes
 pub record Accepts (text : List ℕ) (program : Program) : Type 0 where
   pub tree : Tree
   pub has : HasTree text tree
   pub resolved : Program
   pub resolves : Resolves tree resolved
   pub typed : Typed resolved program
+  pub planned : nodes_fault program ≡ None
 
 -- the first fault of the text, where it is cut into tokens, is of this kind and on this line
 abbrev pub IsNotCut : List ℕ → LexKind → ℕ → Type 0
@@ -84,6 +87,16 @@ pub record IsMistyped (text : List ℕ) (line : ℕ) : Type 0 where
   pub resolves : Resolves tree resolved
   pub is : type_fault resolved ≡ Some line
 
+-- it has a program that keeps the rules of types, and this is the least line of a class of it whose plan has too many nodes
+pub record IsOverplanned (text : List ℕ) (line : ℕ) : Type 0 where
+  pub tree : Tree
+  pub has : HasTree text tree
+  pub resolved : Program
+  pub resolves : Resolves tree resolved
+  pub program : Program
+  pub typed : Typed resolved program
+  pub is : nodes_fault program ≡ Some line
+
 -- the kinds of refusal by names and by limits
 abbrev pub kind_of_name : ScopeKind → RefusedKind
 kind_of_name name.NotYet = kind_is.NotYet
@@ -114,6 +127,7 @@ pub data Refuses (text : List ℕ) : RefusedKind → ℕ → Type 0 where
   misnamed : (kind : ScopeKind) (line : ℕ) → IsMisnamed text kind line → Refuses text (kind_of_name kind) line
   too_large : (which : LimitKind) (line : ℕ) → IsTooLarge text which line → Refuses text (kind_of_limit which) line
   mistyped : (line : ℕ) → IsMistyped text line → Refuses text kind_is.Types line
+  overplanned : (line : ℕ) → IsOverplanned text line → Refuses text kind_is.Nodes line
 
 -- a text that gives no program is refused so, or memory was refused
 abbrev pub IsRefusedAs : List ℕ → ProgramFault → Type 0

@@ -16,11 +16,6 @@ const ONE: &[u8] =
 
 const RAN: &[u8] = b"took 1 0\nout 1 7\nend 1\n";
 
-const NOT_YET: Status = Status::Refused {
-    kind: RefusedKind::NotYet,
-    line: 0,
-};
-
 const ITEMS: Status = Status::Refused {
     kind: RefusedKind::Items,
     line: 1,
@@ -129,9 +124,9 @@ const REPLAYS: [(&[u8], &[u8], Status, &[u8]); 7] = [
     ),
     (
         b"class P extends process:\n    var s: set[int]\n    def run():\n        await some x in s\ndef main():\n    a = new(P)\n",
-        b"move 1\n",
-        NOT_YET,
-        b"refused notyet 0\n",
+        b"move 1\nmove 1 1\n",
+        Status::Forbidden { event: 2 },
+        b"took 1 0\nstop 2\n",
     ),
     (
         b"class P extends process:\n    def run():\n        output(y)\ndef main():\n    a = new(P, 2)\n",

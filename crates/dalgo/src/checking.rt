@@ -53,8 +53,8 @@ fn answer_check<K: Sink>(alloc: Global, text: &[u8], out: &mut K) -> Result<Stat
         return refuse(alloc, out, RefusedKind::Size, 0);
     }
     match read_program(alloc, text) {
-        Ok(typed) => {
-            let program = typed.program();
+        Ok(compiled) => {
+            let program = compiled.program();
             let line = accepted_line(alloc, program.classes.len(), program.procs.len())?;
             say(out, line.as_slice(), Status::Done)
         }

@@ -35,6 +35,7 @@ fn refused_word(kind: RefusedKind) -> &'static [u8]
         RefusedKind::Parts => b"parts",
         RefusedKind::Generators => b"generators",
         RefusedKind::Types => b"type",
+        RefusedKind::Nodes => b"nodes",
     }
 }
 

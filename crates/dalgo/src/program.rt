@@ -1,15 +1,18 @@
 //! Programs, from their texts.
+ghost use Rattle.da_core.specs.Compiled.{IsCompiled, program_of};
 ghost use Rattle.da_lang.specs.Limits.{Resolves};
 ghost use Rattle.da_values.specs.declared.token.LexKind.TheVariants as lex;
 ghost use Rattle.dalgo.specs.Verdict.{Accepts, HasTree, IsRefusedAs, kind_after, kind_of_limit, kind_of_name};
 ghost use Rattle.std.specs.Prelude.{◌≡◌, ◌≤◌, IfErr, IfOk, length};
 
 use crate::status::RefusedKind;
+use da_core::{Compiled, compile};
 use da_lang::{LimitKind, ScopeKind, Tree};
 use da_lex::{LexFault, LexKind, lex};
 use da_parse::{ParseFault, parse};
 use da_scope::{ScopeFault, resolve};
-use da_types::{TypeFault, Typed, check_types};
+use da_types::{TypeFault, check_types};
+use quant_norm::PlanFault;
 use std::alloc::Global;
 use thiserror::Error;
 
@@ -65,18 +68,37 @@ impl From<TypeFault> for ProgramFault {
     }
 }
 
-/// The program of a text of at most 1,048,576 bytes: its tokens are cut, the tree that they spell is read, the names of
-/// the tree are resolved within the limits, and its types are checked, in this order. The first of these that fails
-/// gives the refusal.
-#[tactic(auto, using(crate::proofs::ProgramLemmas::not_resolved, crate::proofs::ProgramLemmas::not_typed))]
-pub fn read_program(alloc: Global, text: &[u8]) -> Result<Typed, ProgramFault>
+impl From<PlanFault> for ProgramFault {
+    ghost use Rattle.dalgo.specs.Faults.{after_plans};
+    ghost use Rattle.std.specs.Prelude.{◌≡◌};
+
+    ghost from_gives = { λ why fault. fault ≡ after_plans why };
+
+    fn from(why: PlanFault) -> ProgramFault {
+        match why {
+            PlanFault::TooMany { line } => ProgramFault::Refused {
+                kind: RefusedKind::Nodes,
+                line,
+            },
+            PlanFault::Memory => ProgramFault::Memory,
+        }
+    }
+}
+
+/// The program of a text of at most 1,048,576 bytes, compiled: its tokens are cut, the tree that they spell is read, the
+/// names of the tree are resolved within the limits, its types are checked, and its classes get code and plans, in this
+/// order. The first of these that fails gives the refusal.
+#[tactic(auto, using(crate::proofs::ProgramLemmas::not_resolved, crate::proofs::ProgramLemmas::not_typed, crate::proofs::ProgramLemmas::not_planned))]
+pub fn read_program(alloc: Global, text: &[u8]) -> Result<Compiled, ProgramFault>
     requires { length text.now ≤ 1048576 }
-    ensures read { IfOk result (λ typed. Accepts text.now typed) }
+    ensures compiled { IfOk result IsCompiled }
+    ensures read { IfOk result (λ compiled. Accepts text.now (program_of compiled)) }
     ensures refused { IfErr result (IsRefusedAs text.now) }
 {
     let tree = read_tree(alloc, text)?;
     let program = resolve(alloc, &tree)?;
-    Ok(check_types(alloc, program)?)
+    let typed = check_types(alloc, program)?;
+    Ok(compile(alloc, typed)?)
 }
 
 // The tree of a text.

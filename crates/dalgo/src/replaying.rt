@@ -1,6 +1,5 @@
 //! The command `replay`.
 ghost use Rattle.da_core.specs.Compiled.{IsCompiled, program_of};
-ghost use Rattle.da_core.specs.RunsNow.{RunsNow};
 ghost use Rattle.da_outside.specs.Outside.{Appends, AppendsFront, Rose};
 ghost use Rattle.dalgo.specs.Replies.{IsRefused, IsReply, ReadCause, ReplayReply, RunReply, run_status, run_text};
 ghost use Rattle.dalgo.specs.Told.{Begins, Gains, OfTold};
@@ -9,7 +8,7 @@ ghost use Rattle.std.specs.Prelude.{ℕ, ◌≡◌, ◌+◌, ◌<◌, ◌≤◌,
 use crate::endings::{Ending, refuse, refuse_schedule};
 use crate::program::{PROGRAM_LIMIT, ProgramFault, read_program};
 use crate::status::{RefusedKind, Status};
-use da_core::{Compiled, compile, runs_now};
+use da_core::Compiled;
 use da_lang::Event;
 use da_outside::{Files, Sink, Trouble, read_all};
 use da_system::System;
@@ -74,15 +73,11 @@ fn answer_program<F: Files, K: Sink>(
     if text.len() > PROGRAM_LIMIT {
         return refuse(alloc, out, RefusedKind::Size, 0);
     }
-    let typed = match read_program(alloc, text) {
-        Ok(typed) => typed,
+    let compiled = match read_program(alloc, text) {
+        Ok(compiled) => compiled,
         Err(ProgramFault::Refused { kind, line }) => return refuse(alloc, out, kind, line),
         Err(ProgramFault::Memory) => return Err(Ending::Memory),
     };
-    if !runs_now(typed.program()) {
-        return refuse(alloc, out, RefusedKind::NotYet, 0);
-    }
-    let compiled = compile(alloc, typed)?;
     match read_all(alloc, files, name, SCHEDULE_LIMIT) {
         Ok(schedule) => answer_schedule(alloc, &compiled, schedule.as_slice(), out),
         Err(Trouble::Failed) => Err(Ending::Read),
@@ -98,8 +93,7 @@ fn answer_schedule<K: Sink>(
     text: &[u8],
     out: &mut K,
 ) -> Result<Status, Ending>
-    requires compiled { IsCompiled compiled.now }
-    requires runs { RunsNow (program_of compiled.now) }
+    requires { IsCompiled compiled.now }
     ensures answers { (whole : List ℕ) → text.now ≡ take (SCHEDULE_LIMIT + 1) whole
         → IfOk result (λ status. Gains (RunReply (program_of compiled.now) whole) status
         (K.taken out.old) (K.taken out.new)) }
@@ -127,8 +121,7 @@ fn answer_events<K: Sink>(
     events: &[Event],
     out: &mut K,
 ) -> Result<Status, Ending>
-    requires compiled { IsCompiled compiled.now }
-    requires runs { RunsNow (program_of compiled.now) }
+    requires { IsCompiled compiled.now }
     ensures ran { IfOk result (λ status. (status ≡ run_status (program_of compiled.now) events.now)
         × Appends (K.taken out.old) (K.taken out.new)
         (run_text (program_of compiled.now) events.now)) }

@@ -17,7 +17,7 @@ pub enum RefusedKind {
     Syntax,
     /// A token opens a thing where 32 are open.
     Deep,
-    /// A form of the language that is not built yet, or a program of no form that can be run yet.
+    /// A form of the language that is not built yet.
     NotYet,
     /// A name is not in scope for its use.
     Unknown,
@@ -51,6 +51,8 @@ pub enum RefusedKind {
     Generators,
     /// A rule of types is broken.
     Types,
+    /// The plan of a class has more than 4,096 nodes.
+    Nodes,
 }
 
 /// How a call of the program ends.

@@ -2,7 +2,7 @@
 ghost use Rattle.da_lang.specs.declared.event.Event.{Event};
 ghost use Rattle.da_lang.specs.declared.program.Program.{Program};
 ghost use Rattle.da_outside.specs.Outside.{Appends, AppendsFront, Rose};
-ghost use Rattle.dalgo.specs.Replies.{CheckReply, HasReadCause, IsAccepted, IsAnswer, IsCheck, IsOther, IsReplay, ReplayReply, RunsToday, RunsWhole};
+ghost use Rattle.dalgo.specs.Replies.{CheckReply, HasReadCause, IsAccepted, IsAnswer, IsCheck, IsOther, IsReplay, ReplayReply, RunsWhole};
 ghost use Rattle.dalgo.specs.Told.{Begins, Gains, OfTold};
 ghost use Rattle.dalgo.specs.Verdict.{Accepts};
 ghost use Rattle.sched_text.specs.ScheduleText.{SpellsSchedule};
@@ -29,9 +29,9 @@ pub fn dalgo<F: Files, K: Sink>(
     ensures replies { (p q : List ℕ) → IsReplay (map string_bytes words.now) p q → IsAnswer result
         → OfTold (F.told files.old p) (λ t. OfTold (F.told files.old q) (λ s. Gains (ReplayReply t s) result (K.taken out.old) (K.taken out.new))) }
 
-    // An accepted program of the form that runs today runs, unless a read or write failed or memory was refused.
+    // Each accepted program runs, unless a read or write failed or memory was refused.
     ensures complete { (p q t s : List ℕ) (program : Program) (events : List Event) → IsReplay (map string_bytes words.now) p q
-        → F.told files.old p ≡ Some t → F.told files.old q ≡ Some s → RunsToday t program → SpellsSchedule s events
+        → F.told files.old p ≡ Some t → F.told files.old q ≡ Some s → Accepts t program → SpellsSchedule s events
         → (Rose (F.faults files.old p) (F.faults files.new p) → ⊥) → (Rose (F.faults files.old q) (F.faults files.new q) → ⊥)
         → (Rose (K.faults out.old) (K.faults out.new) → ⊥) → RunsWhole program events result (K.taken out.old) (K.taken out.new) }
 

@@ -9,6 +9,7 @@ use crate::classes::plan_of;
 use crate::limit::{Halt, MOST_NODES};
 use da_lang::Class;
 use da_types::Typed;
+use da_values::NoMemory;
 use query_plan::Plan;
 use std::alloc::Global;
 use thiserror::Error;
@@ -22,6 +23,17 @@ pub enum PlanFault {
     /// Memory was refused.
     #[error("no memory is left")]
     Memory,
+}
+
+impl From<NoMemory> for PlanFault {
+    ghost use Rattle.quant_norm.specs.declared.top.PlanFault.TheVariants.{Memory};
+    ghost use Rattle.std.specs.Prelude.{◌≡◌};
+
+    ghost from_gives = { λ _ fault. fault ≡ Memory };
+
+    fn from(_: NoMemory) -> PlanFault {
+        PlanFault::Memory
+    }
 }
 
 /// The plan of the class at a place among the classes of a program, counted from 0. `TooMany` comes exactly where it has

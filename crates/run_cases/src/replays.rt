@@ -1,11 +1,10 @@
 //! Replays in memory.
-ghost use Rattle.da_core.specs.Compiled.{IsCompiled, program_of};
-ghost use Rattle.da_core.specs.RunsNow.{RunsNow};
+ghost use Rattle.da_core.specs.Compiled.{IsCompiled};
 ghost use Rattle.da_lang.specs.Accepted.{IsWritten};
 ghost use Rattle.std.specs.Prelude.{IfOk};
 
 use anyhow::anyhow;
-use da_core::{Compiled, compile, runs_now};
+use da_core::{Compiled, compile};
 use da_lang::{Event, Tree};
 use da_lex::lex;
 use da_outside::MemSink;
@@ -14,6 +13,7 @@ use da_scope::resolve;
 use da_system::System;
 use da_types::{Typed, check_types};
 use da_values::{List, NoMemory};
+use quant_norm::PlanFault;
 use replay_run::{Outcome, replay};
 use sched_text::{SchedFault, read_schedule};
 use std::alloc::Global;
@@ -25,11 +25,15 @@ const MOST_BYTES: usize = 1_048_576;
 /// What the replay of a schedule writes, with the status on a line behind it where that is not 0.
 pub fn reply(alloc: Global, program: &[u8], schedule: &[u8]) -> anyhow::Result<String> {
     let typed = typed_of(alloc, program)?;
-    if !runs_now(typed.program()) {
-        return Ok(format!(in alloc; "refused notyet 0\nstatus 1\n")?);
-    }
+    let compiled = match compile(alloc, typed) {
+        Ok(compiled) => compiled,
+        Err(PlanFault::TooMany { line }) => {
+            return Ok(format!(in alloc; "refused nodes {line}\nstatus 1\n")?);
+        }
+        Err(PlanFault::Memory) => return Err(NoMemory.into()),
+    };
     match read_schedule(alloc, schedule) {
-        Ok(events) => run(alloc, typed, events.as_slice()),
+        Ok(events) => run(alloc, &compiled, events.as_slice()),
         Err(SchedFault::BadLine(line)) => Ok(format!(in alloc; "badline {line}\nstatus 4\n")?),
         Err(SchedFault::Memory) => Err(NoMemory.into()),
     }
@@ -56,15 +60,14 @@ fn tree_of(alloc: Global, text: &[u8]) -> anyhow::Result<Tree>
 
 // Runs the events over the processes of a program. What runs to its end is run once more in two parts, over one system
 // and into a sink that takes 4 bytes at a time.
-fn run(alloc: Global, typed: Typed, events: &[Event]) -> anyhow::Result<String>
-    requires { RunsNow typed }
+fn run(alloc: Global, compiled: &Compiled, events: &[Event]) -> anyhow::Result<String>
+    requires { IsCompiled compiled.now }
 {
-    let compiled = compile(alloc, typed)?;
-    let mut system = System::new(alloc, &compiled)?;
+    let mut system = System::new(alloc, compiled)?;
     let mut sink = MemSink::new(alloc, usize::MAX, List::new(alloc));
     let outcome = replay(alloc, &mut system, events, &mut sink);
     let text = str::from_utf8(sink.bytes())?;
-    let whole = outcome != Outcome::Done || goes_on(alloc, &compiled, events, sink.bytes())?;
+    let whole = outcome != Outcome::Done || goes_on(alloc, compiled, events, sink.bytes())?;
     if !whole {
         return Err(anyhow!("a system that ran does not go on as it should"));
     }
@@ -83,8 +86,7 @@ fn goes_on(
     events: &[Event],
     text: &[u8],
 ) -> Result<bool, NoMemory>
-    requires compiled { IsCompiled compiled.now }
-    requires runs { RunsNow (program_of compiled.now) }
+    requires { IsCompiled compiled.now }
 {
     let mut system = System::new(alloc, compiled)?;
     let mut sink = MemSink::new(alloc, 4, List::new(alloc));

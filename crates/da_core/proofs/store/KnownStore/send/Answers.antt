@@ -2,7 +2,7 @@ use Rattle.std.proofs.Common.{map}
 use Rattle.da_values.specs.Views.{proc_of}
 use Rattle.da_machine.proofs.Fronts.{on_err}
 use Rattle.da_core.proofs.Sending.{sends_next, sends_stop}
-use Rattle.da_core.proofs.known.KnownStore.send.Goals as goal
+use Rattle.da_core.proofs.store.KnownStore.send.Goals as goal
 
 pub returns-in_err-send_one-clause-front : goal.returns-in_err-send_one-clause-front
 returns-in_err-send_one-clause-front c =

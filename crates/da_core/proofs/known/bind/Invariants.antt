@@ -2,7 +2,7 @@ use Rattle.std.proofs.Common.{◌≡◌}
 use Rattle.da_values.specs.Value.{vals}
 use Rattle.da_lang.specs.Turns.{bind_all}
 use Rattle.da_core.specs.Known.{data_of}
-use Rattle.da_core.proofs.deliveries.bind.Given as goal
+use Rattle.da_core.proofs.known.bind.Given as goal
 
 abbrev pub invariant-loop-slot : goal.invariant-loop-slot
 invariant-loop-slot l =

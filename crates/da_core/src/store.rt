@@ -1,0 +1,86 @@
+//! What a process knows as the store over which the code of its class runs.
+ghost use Rattle.da_core.specs.Known.{Knows};
+ghost use Rattle.da_lang.specs.Turns.{sending, sent_to};
+ghost use Rattle.da_lang.specs.declared.event.Action.TheVariants as action;
+ghost use Rattle.da_values.specs.Value.{val_of};
+ghost use Rattle.da_values.specs.Views.{proc_of};
+ghost use Rattle.std.specs.Prelude.{◌≡◌};
+
+use crate::answers;
+use crate::known::Known;
+use crate::slots::{in_slot, put, take_set};
+use da_lang::Action;
+use da_machine::Store;
+use da_values::{NoMemory, Row, SetVal, Value, copy_value, set_insert, set_remove};
+
+impl Store for Known<'_> {
+    ghost stands = { Knows };
+
+    ghost actions = { λ known. known.actions };
+
+    fn slot(&self, s: u16) -> Result<Value, NoMemory> {
+        match in_slot(&self.slots, s) {
+            Some(v) => copy_value(self.alloc, v),
+            None => Ok(Value::Proc(0)),
+        }
+    }
+
+    fn clock(&self) -> u64 {
+        self.clock
+    }
+
+    fn me(&self) -> u16 {
+        self.me
+    }
+
+    fn ask(&self, q: u32) -> Result<Value, NoMemory> {
+        answers::ask(self, q)
+    }
+
+    fn found(&self, q: u32) -> Result<Option<Row>, NoMemory> {
+        answers::found(self, q)
+    }
+
+    fn set_slot(&mut self, s: u16, v: Value) -> Result<(), NoMemory> {
+        put(&mut self.slots, s, v);
+        Ok(())
+    }
+
+    fn add(&mut self, s: u16, v: Value) -> Result<(), NoMemory> {
+        let mut set = take_set(self.alloc, &mut self.slots, s);
+        let _ = set_insert(&mut set, v)?;
+        put(&mut self.slots, s, Value::Set(set));
+        Ok(())
+    }
+
+    fn del(&mut self, s: u16, v: &Value) -> Result<(), NoMemory> {
+        let mut set = take_set(self.alloc, &mut self.slots, s);
+        let _ = set_remove(&mut set, v);
+        put(&mut self.slots, s, Value::Set(set));
+        Ok(())
+    }
+
+    fn send(&mut self, m: &Value, to: &SetVal) -> Result<(), NoMemory> {
+        let processes = to.as_slice();
+        'processes: for process in processes {
+            self.send_one(m, number_of(process))?;
+        }
+        Ok(())
+    }
+
+    fn output(&mut self, v: &Value) -> Result<(), NoMemory> {
+        let v = copy_value(self.alloc, v)?;
+        self.actions.push(Action::Out { p: self.me, v })
+    }
+}
+
+// The number of a process, or 0 of what is none.
+#[tactic(auto, using(crate::proofs::SlotLaws::viewing))]
+fn number_of(v: &Value) -> u16
+    ensures { result ≡ proc_of (val_of v.now) }
+{
+    match v {
+        Value::Proc(process) => *process,
+        _ => 0,
+    }
+}
