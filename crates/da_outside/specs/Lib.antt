@@ -1,3 +1,5 @@
+pub mod Link
 pub mod Memory
 pub mod Outside
 pub mod Script
+pub mod ScriptLink
