@@ -1,5 +1,6 @@
 pub mod Arriving
 pub mod Carrying
+pub mod Compiling
 pub mod DefaultForms
 pub mod Delivering
 pub mod Entering
