@@ -1,34 +1,29 @@
 -- How a process stands where its code stopped.
 use Rattle.std.proofs.Common.{◌≡◌, ℕ, List, [], ◌∷◌, ◌++◌, length, map, Option, Some, refl, sym, ap, ◌∙◌, subst, append_assoc, append-nil}
-use Rattle.std.specs.Prelude.{Bool, true, false, ◌&&◌, slice_get}
-use Rattle.std.specs.List.{list_all}
-use Rattle.std.specs.Option.{option_map}
-use Rattle.std.proofs.lemmas.List.{length-map}
-use Rattle.std.proofs.lemmas.List.Elements.{All-head}
-use Rattle.std.proofs.lemmas.Option.{slice_get-map}
+use Rattle.std.specs.Prelude.{true, false, slice_get}
+use Rattle.std.specs.List.{AllZip}
+use Rattle.std.proofs.lemmas.Slice.Zip.{AllZip-long}
 use Rattle.da_values.specs.declared.val.Val.{Val}
 use Rattle.da_lang.specs.declared.event.Action.{Action}
 use Rattle.da_lang.specs.declared.event.Action.TheVariants as action
 use Rattle.da_lang.specs.declared.program.Alt.{Alt}
 use Rattle.da_lang.specs.declared.program.Class.{Class}
-use Rattle.da_lang.specs.declared.program.Item.{Item}
-use Rattle.da_lang.specs.declared.program.ItemKind.TheOpen as kind
-use Rattle.da_lang.specs.declared.program.Program.{Program}
-use Rattle.da_lang.specs.declared.query.Cond.{Cond}
+use Rattle.da_lang.specs.declared.program.ItemKind.TheViews.{out-Alt}
 use Rattle.da_lang.specs.Queries.{holds}
 use Rattle.da_lang.specs.Runs.{Halt, AtYield, UsedUp, Faults, Ran}
-use Rattle.da_lang.specs.Shaped.{IsTask, ShapedTasks}
 use Rattle.da_lang.specs.Steps.{closing, phase_after}
-use Rattle.da_lang.specs.Turns.{kind_of}
 use Rattle.da_lang.specs.World.{Data, Task, Do, Waiting}
 use Rattle.da_machine.specs.declared.code.YieldPoint.{YieldPoint}
 use Rattle.da_machine.specs.declared.machine.Machine.{Machine}
 use Rattle.da_machine.specs.declared.machine.Stop.{Stop}
 use Rattle.da_machine.specs.Entries.{IsPoint}
-use Rattle.da_machine.specs.Points.{AtLabel, AtAwait, IsNumbered, Point, class_points, condition_of, conditions_of}
 use Rattle.da_machine.specs.RunsTo.{IsFront}
 use Rattle.da_machine.specs.Stops.{IsStop}
 use Rattle.da_machine.proofs.EntryLaws.{at_point}
+use Rattle.query_plan.specs.declared.plan.Plan.{Plan}
+use Rattle.query_plan.specs.Nodes.{node_rows}
+use Rattle.query_plan.specs.Questions.{norm_class}
+use Rattle.query_plan.specs.Told.{has_row}
 use Rattle.da_core.specs.declared.compiled.ClassCode.{ClassCode}
 use Rattle.da_core.specs.declared.known.Known.{Known}
 use Rattle.da_core.specs.declared.moves.Standing.{Standing}
@@ -38,7 +33,7 @@ use Rattle.da_core.specs.Begins.{HasPoint, HasRun, HasStopped, MayStop, StandsAt
 use Rattle.da_core.specs.Known.{HasPlan, data_of, rows_kept}
 use Rattle.da_core.specs.StandsFor.{IsPlace}
 use Rattle.da_core.specs.Waits.{waits_of}
-use Rattle.query_plan.specs.Questions.{norm_class}
+use Rattle.da_core.proofs.WaitLaws.{IsAlternative, await_waits, label_waits}
 
 -- AT A YIELD POINT
 
@@ -52,15 +47,70 @@ stands_there code known number point alternatives yields waits s place_is flags_
   flags = flags_are;
 }
 
+-- the flags of alternatives tell which of them hold
+flags_hold : (class : Class) (d : Data) (own : List Alternative) (alts : List Alt) → AllZip (IsAlternative class) own alts
+    → map (λ x. has_row (node_rows d (norm_class class).nodes x.flag)) own ≡ map (λ a. holds d (out-Alt a).cond []) alts
+flags_hold class d [] [] all = refl
+flags_hold class d [] (a ∷ alts) all = absurd all
+flags_hold class d (x ∷ own) [] all = absurd all
+flags_hold class d (x ∷ own) (a ∷ alts) all =
+    ap (λ b. b ∷ map (λ x. has_row (node_rows d (norm_class class).nodes x.flag)) own) (all.0.row d)
+    ∙ ap (λ bs. holds d (out-Alt a).cond [] ∷ bs) (flags_hold class d own alts all.1)
+
 module _ (code : ClassCode) (class : Class) (number : ℕ) (loops : List (List Val)) (waits : code.waits ≡ waits_of class (norm_class class).flags) where
+  wait_there : (own : List Alternative) → slice_get (waits_of class (norm_class class).flags) number ≡ Some own → slice_get code.waits number ≡ Some own
+  wait_there own there = ap (λ ws. slice_get ws number) waits ∙ there
+
   -- a yield point stands in both lists
   pub has_point : (todo : List Task) → IsPoint code.code class number loops todo → HasPoint code number
-  has_point todo is = ?
+  has_point _ (IsPoint.at_label i rest entry is there numbered code_for) = record {
+    point = record { label = true; entries = entry ∷ [] };
+    alternatives = [];
+    there = there;
+    waits = wait_there [] (label_waits class number numbered);
+  }
+  has_point _ (IsPoint.at_await i rest alts entries is there numbered each) =
+      let (own, found, all) = await_waits class number alts numbered in
+      record {
+        point = record { label = false; entries = entries };
+        alternatives = own;
+        there = there;
+        waits = wait_there own found;
+      }
 
   module _ (known : Known) (plan : HasPlan known class) (s : Standing) (stands : StandsAt code known number s) where
+    one_point : (point : YieldPoint) → slice_get code.code.yields number ≡ Some point → stands.has.point ≡ point
+    one_point point there = let both : ◌≡◌ {A = Option YieldPoint} (Some stands.has.point) (Some point) = sym stands.has.there ∙ there in cc
+
+    one_wait : (own : List Alternative) → slice_get code.waits number ≡ Some own → stands.has.alternatives ≡ own
+    one_wait own there = let both : ◌≡◌ {A = Option (List Alternative)} (Some stands.has.alternatives) (Some own) = sym stands.has.waits ∙ there in cc
+
+    -- the flags are those of the plan of the class, in the world that is known
+    planned_flags : (d : Data) → d ≡ data_of known → (own : List Alternative) → flags_told known own ≡ map (λ x. has_row (node_rows d (norm_class class).nodes x.flag)) own
+    planned_flags d same own =
+        ap (λ (x : Plan). map (λ a. has_row (node_rows (data_of known) x.nodes a.flag)) own) plan
+        ∙ ap (λ (x : Data). map (λ a. has_row (node_rows x (norm_class class).nodes a.flag)) own) (sym same)
+
     -- who stands there stands at the place of the world, with the flags of its alternatives
     pub place_there : (d : Data) → d ≡ data_of known → (todo : List Task) → IsPoint code.code class number loops todo → IsPlace d todo s.flags s.place Waiting
-    place_there d same todo is = ?
+    place_there d same _ (IsPoint.at_label i rest entry is there numbered code_for) =
+        let label = one_point (record { label = true; entries = entry ∷ [] }) there in
+        let place_is : s.place ≡ place.Label = stands.place ∙ ap (λ (x : YieldPoint). place_at x.label (length stands.has.alternatives)) label in
+        subst (λ x. IsPlace d (Do i ∷ rest) s.flags x Waiting) (sym place_is) (record { item = i; rest = rest; first = refl; is = is })
+    place_there d same _ (IsPoint.at_await i rest alts entries is there numbered each) =
+        let (own, found, all) = await_waits class number alts numbered in
+        let label = one_point (record { label = false; entries = entries }) there in
+        let those = one_wait own (wait_there own found) in
+        let place_is : s.place ≡ place.Await (length alts) =
+        stands.place ∙ ap (λ (x : YieldPoint). place_at x.label (length stands.has.alternatives)) label
+        ∙ ap (λ (xs : List Alternative). place.Await (length xs)) those ∙ sym (ap place.Await (AllZip-long (IsAlternative class) own alts all)) in
+        let hold : s.flags ≡ map (λ a. holds d (out-Alt a).cond []) alts = stands.flags ∙ ap (flags_told known) those ∙ planned_flags d same own ∙ flags_hold class d own alts all in
+        subst (λ x. IsPlace d (Do i ∷ rest) s.flags x Waiting) (sym place_is) (record {
+          alts = alts;
+          begins = record { item = i; rest = rest; first = refl; is = is };
+          size = refl;
+          hold = hold;
+        })
 
 -- WHERE THE CODE STOPPED
 
