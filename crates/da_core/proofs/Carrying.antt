@@ -1,5 +1,5 @@
 -- The run of a move, from its first action to where the process stands.
-use Rattle.std.proofs.Common.{◌≡◌, ℕ, ◌≤◌, List, [], ◌∷◌, ◌++◌, sym, ap, ◌∙◌, subst, arith}
+use Rattle.std.proofs.Common.{◌≡◌, ℕ, ◌≤◌, List, [], ◌∷◌, ◌++◌, Option, sym, ap, ◌∙◌, subst, arith}
 use Rattle.da_lang.specs.declared.event.Action.{Action}
 use Rattle.da_lang.specs.declared.event.Action.TheVariants as action
 use Rattle.da_lang.specs.declared.program.Class.{Class}
@@ -15,6 +15,7 @@ use Rattle.da_core.specs.declared.compiled.ClassCode.{ClassCode}
 use Rattle.da_core.specs.declared.known.Known.{Known}
 use Rattle.da_core.specs.declared.moves.Begin.{Begin}
 use Rattle.da_core.specs.declared.moves.Standing.{Standing}
+use Rattle.da_core.specs.declared.waits.Alternative.{Alternative}
 use Rattle.da_core.specs.Begins.{HasRun, HasStopped, MayRun, MayStop, alternative_at, bound_by, move_actions}
 use Rattle.da_core.specs.Known.{HasPlan, IsPlanned, Knows, data_of, rows_kept}
 use Rattle.da_core.proofs.Entering.{alternative-me}
@@ -38,6 +39,15 @@ pub record HasBound (code : ClassCode) (known : Known) (m : Machine) (k : ℕ) (
   pub knows : (class : Class) → HasPlan known class → data_of bound ≡ bound_by class (alternative_at code m.place k) (data_of known)
   pub plan : bound.plan.now ≡ known.plan.now
   pub told : bound.actions ≡ known.actions ++ action.Took known.me k ∷ []
+
+pub has_bound : (code : ClassCode) (known : Known) (m : Machine) (k : ℕ) (bound : Known) (alternative : Option Alternative) (pushed : List Action) → alternative ≡ alternative_at code m.place k
+    → pushed ≡ known.actions ++ action.Took known.me k ∷ [] → ((class : Class) → HasPlan known class → data_of bound ≡ bound_by class alternative (data_of known)) → bound.plan.now ≡ known.plan.now
+    → bound.actions ≡ pushed → HasBound code known m k bound
+has_bound code known m k bound alternative pushed taken told binds plan stays = record {
+  knows = λ class has. binds class has ∙ ap (λ x. bound_by class x (data_of known)) taken;
+  plan = plan;
+  told = stays ∙ told;
+}
 
 module _ (p : Program) (class : Class) (code : ClassCode) (known : Known) (m : Machine) (k : ℕ) (begin : Begin) (d : Data) (todo : List Task) (may : MayRun p class code known m k begin d todo) where
   abbrev ran : Ran

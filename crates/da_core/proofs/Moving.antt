@@ -144,8 +144,8 @@ module _ (core : Core) (w : World) (s : StandsFor core w) (k : ℕ) (code : Clas
         added = back ∙ run.actions ∙ ap (λ x. own ++ move_actions x k ran) can.mine ∙ ap (λ xs. xs ++ move_actions me k ran) from;
       }
 
-  pub has_begun : (own out given left : List Action) → own ≡ out → given ≡ left → IsFront own left (move_actions can.d.me k ran) → HasBegun core w (move_step k) out given
-  has_begun own out given left from back (more, is) = record {
+  pub has_begun : (own out given told : List Action) → own ≡ out → given ≡ told → IsFront own told (move_actions can.d.me k ran) → HasBegun core w (move_step k) out given
+  has_begun own out given told from back (more, is) = record {
     after = moved me k ran;
     leads = can.step;
     front = (
