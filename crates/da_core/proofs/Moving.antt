@@ -21,9 +21,10 @@ use Rattle.da_core.specs.declared.place.Place.TheVariants as place
 use Rattle.da_core.specs.declared.place.Stopped.{Stopped}
 use Rattle.da_core.specs.Begins.{CanMove, HasRun, IsBehind, MayRun, move_actions}
 use Rattle.da_core.specs.Compiled.{code_of}
+use Rattle.da_core.specs.Known.{data_of}
 use Rattle.da_core.specs.Made.{HasBegun, HasMade, phase_at, phase_of, stopped_at}
 use Rattle.da_core.specs.StandsFor.{IsAt, IsPlace, StandsFor, program_of}
-use Rattle.da_core.specs.Told.{kept_of}
+use Rattle.da_core.specs.Told.{answers, answers_of, kept_of}
 use Rattle.da_core.proofs.KeptLaw.{rows_are}
 use Rattle.da_core.proofs.Laws.{keeps_shaped}
 
@@ -91,6 +92,12 @@ stops_so d todo s place.Faulted UsedUp is = absurd is
 -- the core keeps as many rows as the process
 pub keeps_rows : (core : Core) (w : World) → StandsFor core w → core.kept ≡ kept_of (class_of (program_of core) w.data'.me) w.data'
 keeps_rows core w s = s.rows ∙ sym (ap (λ class. kept_of class w.data') s.knows.is_class)
+
+-- what it tells of its queries is told of the process
+pub tells_answers : (core : Core) (w : World) (s : StandsFor core w)
+    → answers core.known.me s.class.queries (data_of core.known) ≡ answers_of w.data'.me (class_of (program_of core) w.data'.me) w.data'
+tells_answers core w s =
+    ap (λ (x : Data). answers x.me s.class.queries x) (sym s.same) ∙ sym (ap (λ class. answers_of w.data'.me class w.data') s.knows.is_class)
 
 module _ (core : Core) (w : World) (s : StandsFor core w) (k : ℕ) (code : ClassCode) (begin : Begin) (can : CanMove core w k code begin) where
   abbrev p : Program
