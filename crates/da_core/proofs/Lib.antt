@@ -1,4 +1,5 @@
 pub mod Arriving
+pub mod Asking
 pub mod Carrying
 pub mod Compiling
 pub mod DefaultForms
