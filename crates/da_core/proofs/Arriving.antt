@@ -19,11 +19,8 @@ use Rattle.da_lang.specs.Turns.{bind_all, do_all}
 use Rattle.da_lang.specs.World.{Data, Task}
 use Rattle.da_types.specs.KeepsShaped.{LeavesShaped}
 use Rattle.da_types.proofs.shaped.DataKept.{bound-me, bound_shaped}
-use Rattle.da_types.proofs.shaped.Known.{IsWholeProgram}
-use Rattle.da_types.proofs.shaped.KeptShaped.{accepted_is_whole}
 use Rattle.da_types.proofs.shaped.StatementValues.{handler_row_fits}
 use Rattle.da_types.proofs.shaped.TasksKept.{do_all_tasks, handler_item}
-use Rattle.da_types.proofs.sound.AcceptedLaws.{is_sound}
 use Rattle.da_machine.specs.declared.machine.Machine.{Machine}
 use Rattle.da_machine.specs.declared.machine.Stop.{Stop}
 use Rattle.da_machine.specs.CodeFor.{CodeFor}
@@ -35,7 +32,7 @@ use Rattle.da_core.specs.declared.deliveries.Handled.TheVariants as handled
 use Rattle.da_core.specs.declared.known.Known.{Known}
 use Rattle.da_core.specs.Arrivals.{CanHandle, HasEntry, HasHandled, HasTried, IsAlike, all_handled, goes_on, handled_as, row_for, tried}
 use Rattle.da_core.specs.Known.{Knows, data_of}
-use Rattle.da_core.proofs.Laws.{keeps_shaped}
+use Rattle.da_core.proofs.Laws.{is_whole, keeps_shaped}
 use Rattle.da_core.proofs.Tasks.{has_at}
 
 -- RUNS THAT ARE ALIKE
@@ -105,13 +102,10 @@ module _ (x : Delivery) (h : Handler) (entry n : ℕ) (old : Known) (can : CanHa
   abbrev ran : Ran
   ran = run_to_yield class n (data_of bound) todo
 
-  whole : IsWholeProgram p
-  whole = accepted_is_whole p can.1.accepted (is_sound p can.1.accepted).constants
-
   knows : ShapedData p class (data_of bound)
   knows =
       subst (ShapedData p class) (sym bind)
-      (bound_shaped p class h.binds row (data_of old) can.1.knows (handler_row_fits p class (data_of old) whole can.1.knows h _ row there.among can.1.arrives matches))
+      (bound_shaped p class h.binds row (data_of old) can.1.knows (handler_row_fits p class (data_of old) (is_whole p can.1.accepted) can.1.knows h _ row there.among can.1.arrives matches))
 
   tasks : ShapedTasks p class bound.me todo
   tasks = do_all_tasks p class bound.me h.body [] (λ j k. handler_item class h j there.among k) (All-nil (IsTask p class bound.me))
