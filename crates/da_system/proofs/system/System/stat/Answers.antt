@@ -8,8 +8,8 @@ use Rattle.da_system.proofs.system.System.stat.Goals as goal
 pub returns-in_default-clause-answers : goal.returns-in_default-clause-answers
 returns-in_default-clause-answers c = (λ s stands. none_told c.args.self.now s stands c.args.p _ (sym c.in_default.ensures), λ s. (λ x. x, λ x. x), refl)
 
-pub overflow_cast-p : goal.overflow_cast-p
-overflow_cast-p c =
+pub overflow_cast-kept : goal.overflow_cast-kept
+overflow_cast-kept c =
     let (s, stands) = c.requires.ready c.requires.unspent in
     record { fits = few_numbers c.args.self.now s stands c.args.p (ap is_some (sym c.in-Some.ensures)) }
 
