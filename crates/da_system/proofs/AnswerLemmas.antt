@@ -54,9 +54,6 @@ module _ (step : SystemState → Option AfterEvent) (system left : System) (old 
 
 -- the same of an event that is seen to be this one
 module _ (program : Program) (system : System) (e seen : Event) (is : e ≡ seen) where
-  pub answers_by : (r : Answer) (left : System) (old new : List Action) → Answers (λ s. sys_step program s seen) system r left old new → Answers (λ s. sys_step program s e) system r left old new
-  answers_by r left old new answers = subst (λ (x : Event). Answers (λ s. sys_step program s x) system r left old new) (sym is) answers
-
   pub enabled_by : (b : Bool) → Whichever system (λ s. IsTrue b ↔ IsSome (sys_step program s seen)) → Whichever system (λ s. IsTrue b ↔ IsSome (sys_step program s e))
   enabled_by b here = λ s stands. subst (λ (x : Event). IsTrue b ↔ IsSome (sys_step program s x)) (sym is) (here s stands)
 

@@ -3,7 +3,6 @@ pub mod AnswerLemmas
 pub mod FlatLemmas
 pub mod LetterLemmas
 pub mod MadeLemmas
-pub mod NoRows
 pub mod PlaceLemmas
 pub mod QueueLaws
 pub mod SoundLaws

@@ -12,7 +12,6 @@ use Rattle.da_core.specs.StandsFor as process
 use Rattle.da_core.specs.declared.compiled.Compiled.{Compiled}
 use Rattle.da_core.specs.Compiled.{IsCompiled}
 use Rattle.da_core.specs.Compiled as compiled
-use Rattle.da_core.specs.RunsNow.{RunsNow}
 use Rattle.da_system.specs.declared.system.System.{System}
 use Rattle.da_system.specs.Channels.{no_letters, put_numbered}
 use Rattle.da_system.specs.Queues as queues
@@ -101,16 +100,15 @@ module _ (program : Program) where
       (opened_from 1 n cores core stand (subst (λ k. StandsAt program k core (opening program k)) here at))
 
 -- a system stands for the state before any event, where each core is that of a new process and nothing is under way
-pub opened_stands : (system : System) (n : ℕ) → system.spent ≡ false → IsCompiled system.compiled.now → RunsNow (program_of system) → n ≡ length (program_of system).procs
+pub opened_stands : (system : System) (n : ℕ) → system.spent ≡ false → IsCompiled system.compiled.now → n ≡ length (program_of system).procs
     → StandFrom (program_of system) 1 system.cores.items (map (opening (program_of system)) (range_with_len 1 n))
     → queues.count_of system.channels ≡ length (program_of system).procs → queues.StandsFor system.channels (no_letters (length (program_of system).procs)) → Stands system (start (program_of system))
-opened_stands system n unspent compiled runs all stand count channels =
+opened_stands system n unspent compiled all stand count channels =
     let here : StandFrom (program_of system) 1 system.cores.items (map (opening (program_of system)) (range_with_len 1 (length (program_of system).procs))) =
     subst (λ k. StandFrom (program_of system) 1 system.cores.items (map (opening (program_of system)) (range_with_len 1 k))) all stand in
     record {
       unspent = unspent;
       compiled = compiled;
-      runs = runs;
       sound = sound_start (program_of system) compiled.accepted;
       each = stand_length (program_of system) 1 system.cores.items _ here ∙ length-opened (program_of system) 1 (length (program_of system).procs);
       cores = here;
@@ -125,7 +123,6 @@ pub stands_on : (system left : System) (s next : SystemState) → Stands system 
 stands_on system left s next stands unspent same sound many cores count channels = record {
   unspent = unspent;
   compiled = subst IsCompiled (sym same) stands.compiled;
-  runs = subst (λ (c : Compiled). RunsNow (compiled.program_of c)) (sym same) stands.runs;
   sound = subst (λ (c : Compiled). IsSoundState (compiled.program_of c) next) (sym same) sound;
   each = many ∙ stands.each ∙ ap (λ (c : Compiled). length (compiled.program_of c).procs) (sym same);
   cores = subst (λ (c : Compiled). StandFrom (compiled.program_of c) 1 left.cores.items next.worlds) (sym same) cores;

@@ -1,5 +1,5 @@
 -- The moves of a system in code, and what it tells, by the cores of its processes.
-use Rattle.std.proofs.Common.{◌≡◌, refl, sym, ◌∙◌, ap, ℕ, ◌<◌, ◌^◌, arith, Bool, true, false, List, [], ◌∷◌}
+use Rattle.std.proofs.Common.{◌≡◌, refl, sym, ◌∙◌, ap, subst, ℕ, ◌<◌, ◌^◌, arith, Bool, true, false, List, [], ◌∷◌, ◌++◌}
 use Rattle.std.specs.Prelude.{◌↔◌, Option, Some, None, IsSome, IsTrue, is_some}
 use Rattle.std.proofs.lemmas.Bool.{false≢true}
 use Rattle.da_lang.specs.declared.event.Action.{Action}
@@ -9,14 +9,16 @@ use Rattle.da_lang.specs.declared.program.Program.{Program}
 use Rattle.da_lang.specs.Steps.{Step, Take, move_step, proc_step}
 use Rattle.da_lang.specs.World.{Data, World, at_number, class_of}
 use Rattle.da_types.proofs.sound.AcceptedLaws.{is_sound}
+use Rattle.da_machine.specs.RunsTo.{IsFront}
 use Rattle.da_core.specs.declared.process.Core.{Core}
 use Rattle.da_core.specs.StandsFor as process
+use Rattle.da_core.specs.Told.{answers_of, kept_of}
+use Rattle.da_core.proofs.Fronts.{front_same}
 use Rattle.da_system.specs.declared.system.System.{System}
-use Rattle.da_system.specs.State.{Stands, program_of}
+use Rattle.da_system.specs.State.{HasBegun, HasStepped, Stands, StandsAt, program_of}
 use Rattle.da_system.specs.SystemStep.{SystemState, process_step, show, stat, step_of, stepped, sys_step, told}
 use Rattle.da_system.proofs.AcceptedStates.{never_steps}
 use Rattle.da_system.proofs.LetterLemmas.{stepped_some}
-use Rattle.da_system.proofs.NoRows.{none_answered, none_kept}
 use Rattle.da_system.proofs.StandLemmas.{core_at, none_at, within, world_there}
 
 module _ (system : System) (s : SystemState) (stands : Stands system s) where
@@ -57,40 +59,73 @@ module _ (system : System) (s : SystemState) (stands : Stands system s) where
 
   -- WHAT IS TOLD
 
-  told_all : (o : Option World) (tell : Data → List Action) (actions : List Action) → is_some o ≡ true → ((d : Data) → tell d ≡ actions) → told s o tell ≡ Some (record { state = s; actions = actions })
-  told_all None tell actions there same = absurd (false≢true there)
-  told_all (Some w) tell actions there same = ap (λ (told' : List Action). Some (record { state = s; actions = told' })) (same w.data')
+  pub none_told : (p : ℕ) (tell : Data → List Action) → at_number cores p ≡ None → told s (at_number s.worlds p) tell ≡ None
+  none_told p tell none = ap (λ (o : Option World). told s o tell) (none_at program cores s.worlds p stands.cores none)
 
-  told_none : (o : Option World) (tell : Data → List Action) → is_some o ≡ false → told s o tell ≡ None
-  told_none None tell none = refl
-  told_none (Some w) tell none = absurd (false≢true (sym none))
+  -- what a core tells is told of the world that it stands for
+  module _ (p : ℕ) (core : Core) (there : at_number cores p ≡ Some core) where
+    its : (w : World) × (at_number s.worlds p ≡ Some w) × StandsAt program p core w
+    its = core_at program cores s.worlds p core stands.cores there
+
+    told_is : (tell : Data → List Action) → told s (at_number s.worlds p) tell ≡ Some (record { state = s; actions = tell its.0.data' })
+    told_is tell = ap (λ (o : Option World). told s o tell) its.1
+
+    answers_are : answers_of its.0.data'.me (class_of (process.program_of core) its.0.data'.me) its.0.data' ≡ answers_of p (class_of program p) its.0.data'
+    answers_are =
+        ap (λ (q : Program). answers_of its.0.data'.me (class_of q its.0.data'.me) its.0.data') its.2.same
+        ∙ ap (λ me. answers_of me (class_of program me) its.0.data') its.2.number
+
+    kept_is : kept_of (class_of (process.program_of core) its.0.data'.me) its.0.data' ≡ kept_of (class_of program p) its.0.data'
+    kept_is =
+        ap (λ (q : Program). kept_of (class_of q its.0.data'.me) its.0.data') its.2.same ∙ ap (λ me. kept_of (class_of program me) its.0.data') its.2.number
+
+    pub may_tell : process.IsReady core
+    may_tell = λ unspent. (its.0, its.2.stands)
+
+    pub unspent_there : process.is_spent core ≡ false
+    unspent_there = its.2.stands.unspent
+
+    pub shows : (old new : List Action) → process.Whichever core (λ w. new ≡ old ++ answers_of w.data'.me (class_of (process.program_of core) w.data'.me) w.data') → HasStepped (show program s p) system old new
+    shows old new added = record {
+      after = record { state = s; actions = answers_of p (class_of program p) its.0.data' };
+      is = told_is (answers_of p (class_of program p));
+      stands = stands;
+      added = added its.0 its.2.stands ∙ ap (λ (xs : List Action). old ++ xs) answers_are;
+    }
+
+    pub begins_to_show : (old new : List Action) → process.Whichever core (λ w. IsFront old new (answers_of w.data'.me (class_of (process.program_of core) w.data'.me) w.data')) → HasBegun (show program s p) old new
+    begins_to_show old new front = record {
+      after = record { state = s; actions = answers_of p (class_of program p) its.0.data' };
+      is = told_is (answers_of p (class_of program p));
+      front = subst (IsFront old new) answers_are (front its.0 its.2.stands);
+    }
+
+    module _ (n : ℕ) (is : process.Whichever core (λ w. n ≡ kept_of (class_of (process.program_of core) w.data'.me) w.data')) where
+      keeps_so : stat program s p ≡ Some (record { state = s; actions = Kept p n ∷ [] })
+      keeps_so =
+          told_is (λ d. Kept p (kept_of (class_of program p) d) ∷ [])
+          ∙ ap (λ rows. Some (record { state = s; actions = Kept p rows ∷ [] })) (sym (is its.0 its.2.stands ∙ kept_is))
+
+      pub keeps : (old new : List Action) → new ≡ old ++ Kept p n ∷ [] → HasStepped (stat program s p) system old new
+      keeps old new added = record { after = record { state = s; actions = Kept p n ∷ [] }; is = keeps_so; stands = stands; added = added }
+
+      pub begins_to_keep : (old new : List Action) → new ≡ old → HasBegun (stat program s p) old new
+      begins_to_keep old new same = record { after = record { state = s; actions = Kept p n ∷ [] }; is = keeps_so; front = front_same old new (Kept p n ∷ []) same }
+
+  -- both are allowed exactly where there is such a process
+  told_some : (o : Option World) (tell : Data → List Action) → is_some (told s o tell) ≡ is_some o
+  told_some None tell = refl
+  told_some (Some w) tell = refl
 
   module _ (p : ℕ) (b : Bool) (found : is_some (at_number cores p) ≡ b) where
-    there_is : is_some (at_number s.worlds p) ≡ b
-    there_is = world_there program cores s.worlds p stands.cores ∙ found
-
-    pub shows_none : b ≡ true → show program s p ≡ Some (record { state = s; actions = [] })
-    shows_none is = told_all (at_number s.worlds p) _ [] (there_is ∙ is) (λ d. none_answered program stands.runs p d)
-
-    pub keeps_none : b ≡ true → stat program s p ≡ Some (record { state = s; actions = Kept p 0 ∷ [] })
-    keeps_none is = told_all (at_number s.worlds p) _ (Kept p 0 ∷ []) (there_is ∙ is) (λ d. none_kept program stands.runs p d)
-
-    pub none_shows : b ≡ false → show program s p ≡ None
-    none_shows is = told_none (at_number s.worlds p) _ (there_is ∙ is)
-
-    pub none_keeps : b ≡ false → stat program s p ≡ None
-    none_keeps is = told_none (at_number s.worlds p) _ (there_is ∙ is)
-
-    -- both are allowed exactly where there is such a process
-    told_some : (o : Option World) (tell : Data → List Action) → is_some (told s o tell) ≡ is_some o
-    told_some None tell = refl
-    told_some (Some w) tell = refl
+    allowed_as : (tell : Data → List Action) → is_some (told s (at_number s.worlds p) tell) ≡ b
+    allowed_as tell = told_some (at_number s.worlds p) tell ∙ world_there program cores s.worlds p stands.cores ∙ found
 
     pub shows_as : IsTrue b ↔ IsSome (show program s p)
-    shows_as = let same = told_some (at_number s.worlds p) _ ∙ there_is in (λ yes. same ∙ yes, λ some. sym same ∙ some)
+    shows_as = let same = allowed_as _ in (λ yes. same ∙ yes, λ some. sym same ∙ some)
 
     pub keeps_as : IsTrue b ↔ IsSome (stat program s p)
-    keeps_as = let same = told_some (at_number s.worlds p) _ ∙ there_is in (λ yes. same ∙ yes, λ some. sym same ∙ some)
+    keeps_as = let same = allowed_as _ in (λ yes. same ∙ yes, λ some. sym same ∙ some)
 
 -- what is not allowed is not enabled
 pub not_enabled : {A : Type 0} {o : Option A} → o ≡ None → (IsTrue false ↔ IsSome o)

@@ -28,9 +28,10 @@ use Rattle.da_lang.specs.Steps.{Deliver, Go, Step, Stepped, Take, after_halt, cl
 use Rattle.da_lang.specs.Turns.{AfterTurn as Turned, bind_all, bind_found, choose, do_all, enter, kind_of, kind_turn, later, line_of, loop_turn, max_packet, packet_len, quiet, recipients, send_if, sending, turn, with_outcome, with_outcomes, with_value}
 use Rattle.da_lang.specs.World.{Data, Do, Loop, New, Phase, Prepare, Task, Waiting, World, class_of, at_number}
 use Rattle.da_lang.proofs.RunBounds.{by_truth, go_after_has}
+use Rattle.da_core.specs.Told.{answers_of, kept_of, numbers_to}
 use Rattle.da_system.specs.Channels.{Letter, channel, may_arrive, may_lose, may_repeat}
 use Rattle.da_system.specs.SourceRun.{EndsByStop, SrcRun, at_event, src_run_from}
-use Rattle.da_system.specs.SystemStep.{AfterEvent, SystemState, answers_of, arrive, copy_letter, drop_letter, kept_of, numbers_to, process_step, step_of, stepped, sys_step, told}
+use Rattle.da_system.specs.SystemStep.{AfterEvent, SystemState, arrive, copy_letter, drop_letter, process_step, step_of, stepped, sys_step, told}
 
 abbrev IsNoStop : Action → Type 0
 IsNoStop (Stop i) = ⊥

@@ -31,7 +31,7 @@ pub struct System<'c> {
 impl<'c> System<'c> {
     /// The system before any event.
     pub fn new(alloc: Global, compiled: &'c Compiled) -> Result<System<'c>, NoMemory>
-        requires compiled { IsCompiled compiled.now }
+        requires { IsCompiled compiled.now }
         ensures ready { IfOk result IsReady }
         ensures program { IfOk result (λ system.
             program_of system ≡ compiled_program compiled.now) }

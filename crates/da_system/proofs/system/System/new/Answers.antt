@@ -14,10 +14,10 @@ use Rattle.da_system.proofs.Tested.{chosen_ok}
 use Rattle.da_system.proofs.system.System.new.Goals as goal
 
 pub returns-in_err-core-clause-sound : goal.returns-in_err-core-clause-sound
-returns-in_err-core-clause-sound c = sound_start (program_of c.args.compiled.now) c.requires.compiled.accepted
+returns-in_err-core-clause-sound c = sound_start (program_of c.args.compiled.now) c.requires.accepted
 
 pub returns-then-is_err-clause-sound : goal.returns-then-is_err-clause-sound
-returns-then-is_err-clause-sound c = sound_start (program_of c.args.compiled.now) c.requires.compiled.accepted
+returns-then-is_err-clause-sound c = sound_start (program_of c.args.compiled.now) c.requires.accepted
 
 pub loop-place-preserved : goal.loop-place-preserved
 loop-place-preserved c =
@@ -29,25 +29,25 @@ loop-place-preserved c =
 pub overflow_cast-place : goal.overflow_cast-place
 overflow_cast-place c =
     let procs : c.len-count.result ≡ length (program_of c.args.compiled.now).procs = c.len-count.ensures ∙ ap (λ (p : Program). length p.procs) c.program.ensures in
-    let few = (is_sound (program_of c.args.compiled.now) c.requires.compiled.accepted).few in
+    let few = (is_sound (program_of c.args.compiled.now) c.requires.accepted).few in
     let small : c.loop-place.place < 2 ^ 16 = omega (arith, c.loop-place-test.true, procs, few) in
     record { fits = small }
 
 pub overflow_add-place : goal.overflow_add-place
 overflow_add-place c =
     let procs : c.len-count.result ≡ length (program_of c.args.compiled.now).procs = c.len-count.ensures ∙ ap (λ (p : Program). length p.procs) c.program.ensures in
-    let few = (is_sound (program_of c.args.compiled.now) c.requires.compiled.accepted).few in
+    let few = (is_sound (program_of c.args.compiled.now) c.requires.accepted).few in
     let small : c.loop-place.place + 1 < 2 ^ 16 = omega (arith, c.loop-place-test.true, procs, few) in
     record { fits = small }
 
 pub new-requires : goal.new-requires
 new-requires c =
     let procs : c.len-count.result ≡ length (program_of c.args.compiled.now).procs = c.len-count.ensures ∙ ap (λ (p : Program). length p.procs) c.program.ensures in
-    let few = (is_sound (program_of c.args.compiled.now) c.requires.compiled.accepted).few in
+    let few = (is_sound (program_of c.args.compiled.now) c.requires.accepted).few in
     omega (arith, procs, few)
 
 pub returns-in_err-channels-clause-sound : goal.returns-in_err-channels-clause-sound
-returns-in_err-channels-clause-sound c = sound_start (program_of c.args.compiled.now) c.requires.compiled.accepted
+returns-in_err-channels-clause-sound c = sound_start (program_of c.args.compiled.now) c.requires.accepted
 
 pub returns-clause-ready : goal.returns-clause-ready
 returns-clause-ready c =
@@ -55,7 +55,7 @@ returns-clause-ready c =
     let procs : c.len-count.result ≡ length (program_of c.args.compiled.now).procs = c.len-count.ensures ∙ ap (λ (p : Program). length p.procs) c.program.ensures in
     λ unspent. (
       start (program_of c.args.compiled.now),
-      opened_stands _ c.loop-place.place refl c.requires.compiled c.requires.runs (all ∙ ap (λ (p : Program). length p.procs) c.program.ensures) c.loop-place.invariant
+      opened_stands _ c.loop-place.place refl c.requires (all ∙ ap (λ (p : Program). length p.procs) c.program.ensures) c.loop-place.invariant
           (c.in_ok-channels.ensures.count ∙ procs) (subst (λ n. StandsFor c.in_ok-channels.channels (no_letters n)) procs c.in_ok-channels.ensures.stands),
     )
 
@@ -63,8 +63,8 @@ pub returns-clause-start : goal.returns-clause-start
 returns-clause-start c =
     let all : c.loop-place.place ≡ length c.program.result.now.procs = omega (arith, c.loop-place-test.false, c.loop-place.auto.place-end, c.len-count.ensures) in
     let procs : c.len-count.result ≡ length (program_of c.args.compiled.now).procs = c.len-count.ensures ∙ ap (λ (p : Program). length p.procs) c.program.ensures in
-    opened_stands _ c.loop-place.place refl c.requires.compiled c.requires.runs (all ∙ ap (λ (p : Program). length p.procs) c.program.ensures) c.loop-place.invariant
+    opened_stands _ c.loop-place.place refl c.requires (all ∙ ap (λ (p : Program). length p.procs) c.program.ensures) c.loop-place.invariant
     (c.in_ok-channels.ensures.count ∙ procs) (subst (λ n. StandsFor c.in_ok-channels.channels (no_letters n)) procs c.in_ok-channels.ensures.stands)
 
 pub returns-clause-sound : goal.returns-clause-sound
-returns-clause-sound c = sound_start (program_of c.args.compiled.now) c.requires.compiled.accepted
+returns-clause-sound c = sound_start (program_of c.args.compiled.now) c.requires.accepted

@@ -1,37 +1,26 @@
-use Rattle.std.proofs.Common.{◌≡◌, ◌∷◌, ◌++◌, ◌∙◌, [], refl, sym}
+use Rattle.std.proofs.Common.{◌≡◌, ◌∷◌, ◌++◌, [], ap, refl, sym}
+use Rattle.std.specs.Prelude.{is_some}
 use Rattle.da_lang.specs.declared.event.Action.TheVariants.{Kept}
-use Rattle.da_core.proofs.Fronts.{front_same}
-use Rattle.da_system.proofs.StepLemmas.{few_numbers, keeps_none, none_keeps}
+use Rattle.da_system.proofs.StepLemmas.{begins_to_keep, few_numbers, keeps, none_told}
 use Rattle.da_system.proofs.Tested.{when_err, when_ok}
 use Rattle.da_system.proofs.system.System.stat.Goals as goal
 
-pub overflow_cast-p : goal.overflow_cast-p
-overflow_cast-p c =
-    let (s, stands) = c.requires.ready c.requires.unspent in
-    record { fits = few_numbers c.args.self.now s stands c.args.p (sym c.has_process.ensures ∙ c.if-not-has_process.false) }
+pub returns-in_default-clause-answers : goal.returns-in_default-clause-answers
+returns-in_default-clause-answers c = (λ s stands. none_told c.args.self.now s stands c.args.p _ (sym c.in_default.ensures), λ s. (λ x. x, λ x. x), refl)
 
-pub returns-then-not-has_process-clause-answers : goal.returns-then-not-has_process-clause-answers
-returns-then-not-has_process-clause-answers c = (
-  λ s stands. none_keeps c.args.self.now s stands c.args.p c.has_process.result (sym c.has_process.ensures) c.if-not-has_process.true,
-  λ s. (λ x. x, λ x. x),
-  refl,
-)
+pub overflow_cast-kept : goal.overflow_cast-kept
+overflow_cast-kept c =
+    let (s, stands) = c.requires.ready c.requires.unspent in
+    record { fits = few_numbers c.args.self.now s stands c.args.p (ap is_some (sym c.in-Some.ensures)) }
 
 pub returns-then-is_err-clause-answers : goal.returns-then-is_err-clause-answers
 returns-then-is_err-clause-answers c = (
   refl,
-  λ s stands. record {
-    after = record { state = s; actions = Kept c.args.p 0 ∷ [] };
-    is = keeps_none c.args.self.now s stands c.args.p c.has_process.result (sym c.has_process.ensures) c.if-not-has_process.false;
-    front = front_same c.args.out.now c.push.new.self (Kept c.args.p 0 ∷ [])
-        (when_err c.push.result c.is_err.result c.is_err.ensures.value (c.push.new.self ≡ c.args.out.now) c.if-is_err.true c.push.ensures.err);
-  },
+  λ s stands. begins_to_keep c.args.self.now s stands c.args.p c.in-Some.core.now (sym c.in-Some.ensures) c.kept.result c.kept.ensures c.args.out.now c.push.new.self
+      (when_err c.push.result c.is_err.result c.is_err.ensures.value (c.push.new.self ≡ c.args.out.now) c.if-is_err.true c.push.ensures.err),
 )
 
 pub returns-clause-answers : goal.returns-clause-answers
-returns-clause-answers c = λ s stands. record {
-  after = record { state = s; actions = Kept c.args.p 0 ∷ [] };
-  is = keeps_none c.args.self.now s stands c.args.p c.has_process.result (sym c.has_process.ensures) c.if-not-has_process.false;
-  stands = stands;
-  added = when_ok c.push.result c.is_err.result c.is_err.ensures.value (c.push.new.self ≡ c.args.out.now ++ Kept c.args.p 0 ∷ []) c.if-is_err.false c.push.ensures.ok;
-}
+returns-clause-answers c = λ s stands.
+    keeps c.args.self.now s stands c.args.p c.in-Some.core.now (sym c.in-Some.ensures) c.kept.result c.kept.ensures c.args.out.now c.push.new.self
+    (when_ok c.push.result c.is_err.result c.is_err.ensures.value (c.push.new.self ≡ c.args.out.now ++ Kept c.args.p c.kept.result ∷ []) c.if-is_err.false c.push.ensures.ok)
