@@ -1,21 +1,21 @@
 -- Compiling the classes of a program one by one.
-use Rattle.std.specs.Prelude.{◌≡◌, ℕ, zero, suc, ◌+◌, ◌<◌, ◌≤◌, Bool, true, false, ◌==◌, nat_lt, if◌then◌else◌, List, [], ◌∷◌, ◌++◌, length, map, take, Option, None, Some, refl, slice_get}
+use Rattle.std.specs.Prelude.{◌≡◌, ℕ, zero, suc, ◌+◌, ◌<◌, Bool, true, false, ◌==◌, List, [], ◌∷◌, ◌++◌, length, map, take, Option, None, Some, refl, slice_get}
 use Rattle.std.specs.List.{filter}
 use Rattle.std.proofs.Common.{◌∙◌, ap, sym, subst, append-nil, arith, length-append, min}
 use Rattle.std.proofs.lemmas.Bool.{eqb-true, eqb-false}
-use Rattle.std.proofs.lemmas.List.{map-append, take_all, take_more}
+use Rattle.std.proofs.lemmas.List.{map-append, take_more}
 use Rattle.std.proofs.lemmas.List.Elements.{filter-append}
 use Rattle.std.proofs.lemmas.Option.{get_or_from_slice_get, slice_get_within}
 use Rattle.da_lang.specs.declared.program.Class.{Class}
 use Rattle.da_lang.specs.declared.program.Program.{Program}
 use Rattle.da_lang.specs.Typing.{least, least_of}
+use Rattle.query_plan.specs.declared.plan.Plan.{Plan}
+use Rattle.query_plan.specs.Questions.{norm_class}
 use Rattle.da_core.specs.declared.compiled.ClassCode.{ClassCode}
 use Rattle.da_core.specs.declared.compiled.Compiled.{Compiled}
 use Rattle.da_core.specs.Compiled.{HasCode, IsCodeFor, IsCompiled, program_of}
-use Rattle.da_core.specs.PlanLimit.{is_large, large_lines, nodes_fault}
+use Rattle.da_core.specs.PlanLimit.{is_large, large_lines}
 use Rattle.da_core.specs.Waits.{Waits, waits_of}
-use Rattle.query_plan.specs.declared.plan.Plan.{Plan}
-use Rattle.query_plan.specs.Questions.{norm_class}
 use Rattle.da_core.proofs.Tasks.{get_before, get_last}
 
 -- within a list there is a member at each place
@@ -31,9 +31,6 @@ pub record AreCoded (p : Program) (codes : List ClassCode) (n : ℕ) : Type 0 wh
   pub count : length codes ≡ n
   pub each : (k : ℕ) (class : Class) → slice_get p.classes k ≡ Some class → k < n → HasCode p codes k class
 
-pub none_coded : (p : Program) → AreCoded p [] 0
-none_coded p = record { count = refl; each = λ k class there less. absurd (omega (arith, less)) }
-
 module _ (p : Program) (codes : List ClassCode) (n : ℕ) (code : ClassCode) (are : AreCoded p codes n) (is : (class : Class) → slice_get p.classes n ≡ Some class → IsCodeFor p n class code) where
   by_place : (k : ℕ) (class : Class) → slice_get p.classes k ≡ Some class → (b : Bool) → (k == n) ≡ b → k < n + 1 → HasCode p (codes ++ code ∷ []) k class
   by_place k class there true same less =
@@ -48,7 +45,7 @@ module _ (p : Program) (codes : List ClassCode) (n : ℕ) (code : ClassCode) (ar
       let has = are.each k class there (omega (arith, less, apart)) in
       record { code = has.code; there = get_before codes (code ∷ []) k has.code has.there; is = has.is }
 
-  pub one_coded : AreCoded p (codes ++ code ∷ []) (n + 1)
+  one_coded : AreCoded p (codes ++ code ∷ []) (n + 1)
   one_coded = record {
     count = length-append codes (code ∷ []) ∙ ap (λ x. x + 1) are.count;
     each = λ k class there less. by_place k class there (k == n) refl less;
@@ -91,9 +88,6 @@ pub record Came (p : Program) (codes : List ClassCode) (found : Option ℕ) (n :
   pub so_far : found ≡ least (large_lines (take n p.classes))
   pub coded : found ≡ None → AreCoded p codes n
 
-pub came_none : (p : Program) → Came p [] None 0
-came_none p = record { so_far = refl; coded = λ none. none_coded p }
-
 module _ (p : Program) (codes : List ClassCode) (found : Option ℕ) (n : ℕ) (came : Came p codes found n) (class : Class) (there : slice_get p.classes n ≡ Some class) where
   pub one_more : (code : ClassCode) → ((c : Class) → slice_get p.classes n ≡ Some c → IsCodeFor p n c code) → is_large class ≡ false → Came p (codes ++ code ∷ []) found (n + 1)
   one_more code is few = record {
@@ -110,10 +104,6 @@ module _ (p : Program) (codes : List ClassCode) (found : Option ℕ) (n : ℕ) (
 
 pub came_as : (p : Program) (codes others : List ClassCode) (found other : Option ℕ) (n : ℕ) → codes ≡ others → found ≡ other → Came p others other n → Came p codes found n
 came_as p codes others found other n same_codes same_found came = subst (λ cs. Came p cs found n) (sym same_codes) (subst (λ o. Came p others o n) (sym same_found) came)
-
--- all of them
-pub came_through : (p : Program) (codes : List ClassCode) (found : Option ℕ) (n : ℕ) → length p.classes ≤ n → Came p codes found n → found ≡ nodes_fault p
-came_through p codes found n past came = came.so_far ∙ ap (λ cs. least (large_lines cs)) (take_all n p.classes past)
 
 -- ONE CLASS
 

@@ -1,7 +1,7 @@
 -- A process before its first event.
-use Rattle.std.proofs.Common.{◌≡◌, ℕ, zero, suc, ◌+◌, ◌-◌, ◌<◌, List, [], ◌∷◌, ◌++◌, length, map, take, Option, Some, None, refl, sym, ap, ◌∙◌, subst, arith, if◌then◌else◌, length-append}
-use Rattle.std.specs.Prelude.{Bool, true, false, nat_eq, ◌==◌, slice_get}
-use Rattle.std.proofs.lemmas.Bool.{eqb-true, eqb-false, eq-eqb, false≢true}
+use Rattle.std.proofs.Common.{◌≡◌, ℕ, zero, suc, ◌+◌, ◌-◌, List, [], ◌∷◌, length, map, take, Option, Some, None, refl, sym, ap, ◌∙◌, subst, arith, if◌then◌else◌}
+use Rattle.std.specs.Prelude.{Bool, true, false, nat_eq, slice_get}
+use Rattle.std.proofs.lemmas.Bool.{eq-eqb, false≢true}
 use Rattle.std.proofs.lemmas.List.Elements.{All-nil}
 use Rattle.da_lang.specs.declared.program.Class.{Class}
 use Rattle.da_lang.specs.declared.program.ProcDecl.{ProcDecl}
@@ -9,11 +9,10 @@ use Rattle.da_lang.specs.declared.program.Program.{Program}
 use Rattle.da_lang.specs.Shaped.{IsProcess, IsTask, ShapedData}
 use Rattle.da_lang.specs.Steps.{first_tasks}
 use Rattle.da_lang.specs.World.{at_number, class_of, class_of_decl, first_value, opening, opening_data, New}
-use Rattle.da_core.proofs.Laws.{has_class, keeps_shaped}
 use Rattle.da_machine.specs.CodeFor.{CodeFor}
+use Rattle.code_gen.specs.ClassCode.{numbered_from, processes_of}
 use Rattle.query_plan.specs.PlanLive.{plan_live}
 use Rattle.query_plan.specs.Questions.{norm_class}
-use Rattle.code_gen.specs.ClassCode.{numbered_from, processes_of}
 use Rattle.da_core.specs.declared.compiled.ClassCode.{ClassCode}
 use Rattle.da_core.specs.declared.compiled.Compiled.{Compiled}
 use Rattle.da_core.specs.declared.process.Core.{Core}
@@ -22,6 +21,7 @@ use Rattle.da_core.specs.Compiled.{IsCompiled, code_at, code_of, count_of, progr
 use Rattle.da_core.specs.Known.{data_of, rows_kept}
 use Rattle.da_core.specs.StandsFor.{IsPlace, StandsFor}
 use Rattle.da_core.proofs.KeptLaw.{rows_are}
+use Rattle.da_core.proofs.Laws.{has_class, keeps_shaped}
 
 -- THE START OF A PROCESS
 

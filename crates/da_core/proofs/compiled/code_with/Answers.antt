@@ -14,7 +14,7 @@ returns c = λ class there.
     let same = c.program.ensures.same in
     let planned = c.requires.planned class there in
     let waits : c.match-get.waits ≡ waits_of class (norm_class class).flags = elim c.match-get.branch [
-      in-Some+in_ok-waits-in-Some w ↦ waits_found p lent c.args.place class same there w.in-Some.class.now w.in-Some.ensures.value c.args.plan planned w.as_slice.result.now w.as_slice.ensures
+      | in-Some+in_ok-waits-in-Some w ↦ waits_found p lent c.args.place class same there w.in-Some.class.now w.in-Some.ensures.value c.args.plan planned w.as_slice.result.now w.as_slice.ensures
           c.match-get.waits (w.waits-is ∙ w.in_ok-waits-in-Some.ensures)
       | in-None w ↦ absurd (class_found p lent c.args.place class same there w.in-None.ensures.value)
     ] in

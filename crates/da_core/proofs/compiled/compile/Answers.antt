@@ -11,7 +11,7 @@ classes-preserved c =
     let size : c.len-count.result ≡ length c.args.t.classes = c.len-count.ensures ∙ ap (λ (p : Program). length p.classes) c.program.ensures.same in
     let (class, there) = member_there c.args.t.classes c.classes.place (omega (arith, size, c.classes-test.true)) in
     elim c.match-class_code.branch [
-      in-Ok+in_ok-push-in-Ok w ↦ came_as _ _ _ _ _ _ (w.codes-is ∙ w.in_ok-push-in-Ok.ensures.ok) w.least-is
+      | in-Ok+in_ok-push-in-Ok w ↦ came_as _ _ _ _ _ _ (w.codes-is ∙ w.in_ok-push-in-Ok.ensures.ok) w.least-is
           (one_more _ _ _ _ c.classes.invariant class there w.in-Ok.code w.in-Ok.ensures.made (w.in-Ok.ensures.few class there))
       | in-Err-TooMany w ↦
           let arm = w.in-Err-TooMany in
