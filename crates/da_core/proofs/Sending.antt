@@ -1,5 +1,5 @@
 -- A message to each of some processes, one after the other.
-use Rattle.std.proofs.Common.{◌≡◌, ℕ, ◌+◌, ◌<◌, ◌≤◌, List, [], ◌∷◌, ◌++◌, drop, get_or, length, map, refl, sym, ap, ◌∙◌, subst, append_assoc, append-nil}
+use Rattle.std.proofs.Common.{◌≡◌, ℕ, ◌+◌, ◌<◌, ◌≤◌, List, [], ◌∷◌, ◌++◌, drop, get_or, length, map, refl, sym, ap, ◌∙◌, subst, append_assoc}
 use Rattle.std.proofs.lemmas.List.{at_drop_all, at_drop_more}
 use Rattle.da_values.specs.declared.val.Val.{Val}
 use Rattle.da_values.specs.declared.value.Value.{Value}
@@ -40,10 +40,6 @@ sends_on m ps p left first now next so_far is plan told = record {
       ∙ append_assoc now.actions (Sent now.me p (later now.clock) (value_of m) ∷ []) (sending now.me m left (later now.clock))
       ∙ so_far.told;
 }
-
-pub sends_last : (m : Val) (ps : List ℕ) (first now : Known) → Sends m ps [] first now
-    → (data_of now ≡ sent_to m ps (data_of first)) × (now.actions ≡ first.actions ++ sending first.me m ps first.clock)
-sends_last m ps first now s = (s.knows, sym (append-nil now.actions) ∙ s.told)
 
 -- memory was refused while the message went to the next one
 pub sends_front : (m : Val) (ps : List ℕ) (p : ℕ) (left : List ℕ) (first now next : Known) → Sends m ps (p ∷ left) first now
