@@ -69,9 +69,6 @@ phase_is d todo flags _ _ is = absurd is
 pub stands_in_phase : (core : Core) (w : World) → StandsFor core w → w.phase ≡ phase_at core.place
 stands_in_phase core w s = phase_is w.data' w.todo core.flags core.place w.phase s.place
 
-pub stands_at : (core : Core) (w : World) → StandsFor core w → IsPlace w.data' w.todo core.flags core.place w.phase
-stands_at core w s = s.place
-
 pub stops_so : (d : Data) (todo : List Task) (s : Standing) (place : Place) (halt : Halt) → IsPlace d todo s.flags place (phase_after halt) → phase_of (stopped_at place) ≡ phase_after halt
 stops_so d todo s place.Label AtYield is = refl
 stops_so d todo s (place.Await count) AtYield is = refl

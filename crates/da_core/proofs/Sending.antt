@@ -21,13 +21,6 @@ pub record Sends (m : Val) (ps left : List ℕ) (first now : Known) : Type 0 whe
   pub plan : now.plan.now ≡ first.plan.now
   pub told : now.actions ++ sending now.me m left now.clock ≡ first.actions ++ sending first.me m ps first.clock
 
-pub sends_first : (m : Val) (ps left : List ℕ) (first : Known) → left ≡ ps → Sends m ps left first first
-sends_first m ps left first is = record {
-  knows = ap (λ qs. sent_to m qs (data_of first)) is;
-  plan = refl;
-  told = ap (λ qs. first.actions ++ sending first.me m qs first.clock) is;
-}
-
 pub sends_on : (m : Val) (ps : List ℕ) (p : ℕ) (left : List ℕ) (first now next : Known) → Sends m ps (p ∷ left) first now
     → data_of next ≡ sent_at m p (later now.clock) (data_of now) → next.plan.now ≡ now.plan.now
     → next.actions ≡ now.actions ++ Sent now.me p (later now.clock) (value_of m) ∷ [] → Sends m ps left first next
