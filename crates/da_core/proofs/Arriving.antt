@@ -19,11 +19,8 @@ use Rattle.da_lang.specs.Turns.{bind_all, do_all}
 use Rattle.da_lang.specs.World.{Data, Task}
 use Rattle.da_types.specs.KeepsShaped.{LeavesShaped}
 use Rattle.da_types.proofs.shaped.DataKept.{bound-me, bound_shaped}
-use Rattle.da_types.proofs.shaped.Known.{IsWholeProgram}
-use Rattle.da_types.proofs.shaped.KeptShaped.{accepted_is_whole}
 use Rattle.da_types.proofs.shaped.StatementValues.{handler_row_fits}
 use Rattle.da_types.proofs.shaped.TasksKept.{do_all_tasks, handler_item}
-use Rattle.da_types.proofs.sound.AcceptedLaws.{is_sound}
 use Rattle.da_machine.specs.declared.machine.Machine.{Machine}
 use Rattle.da_machine.specs.declared.machine.Stop.{Stop}
 use Rattle.da_machine.specs.CodeFor.{CodeFor}
@@ -35,7 +32,7 @@ use Rattle.da_core.specs.declared.deliveries.Handled.TheVariants as handled
 use Rattle.da_core.specs.declared.known.Known.{Known}
 use Rattle.da_core.specs.Arrivals.{CanHandle, HasEntry, HasHandled, HasTried, IsAlike, all_handled, goes_on, handled_as, row_for, tried}
 use Rattle.da_core.specs.Known.{Knows, data_of}
-use Rattle.da_core.proofs.Laws.{keeps_shaped}
+use Rattle.da_core.proofs.Laws.{is_whole, keeps_shaped}
 use Rattle.da_core.proofs.Tasks.{has_at}
 
 -- RUNS THAT ARE ALIKE
@@ -62,6 +59,7 @@ TriedPart x h n old new = (go : ℕ → Data → Ran) → IsFront old.actions ne
 pub not_tried : (x : Delivery) (h : Handler) (n : ℕ) (known : Known) → None ≡ row_for x h (data_of known) → HasTried x h n known known (handled.Through n)
 not_tried x h n known none = record {
   mine = refl;
+  plan = refl;
   actions = [];
   added = sym (append-nil known.actions);
   run = λ go. same_run (tried x h n (data_of known) go) (go n (data_of known)) (ap (λ row. try_handler x.class.now h n (data_of known) row go) (sym none));
@@ -91,7 +89,7 @@ body_first UsedUp ran go = ((go ran.turns ran.data').actions, refl)
 body_first (Faults kind line) ran go = ([], sym (append-nil ran.actions))
 
 module _ (x : Delivery) (h : Handler) (entry n : ℕ) (old : Known) (can : CanHandle x old) (there : HasEntry x h entry) (row : Row) (matches : row_for x h (data_of old) ≡ Some row)
-    (bound : Known) (bind : data_of bound ≡ bind_all h.binds row (data_of old)) (stays : bound.actions ≡ old.actions) where
+    (bound : Known) (bind : data_of bound ≡ bind_all h.binds row (data_of old)) (planned : bound.plan.now ≡ old.plan.now) (stays : bound.actions ≡ old.actions) where
   abbrev p : Program
   p = can.0
 
@@ -104,19 +102,16 @@ module _ (x : Delivery) (h : Handler) (entry n : ℕ) (old : Known) (can : CanHa
   abbrev ran : Ran
   ran = run_to_yield class n (data_of bound) todo
 
-  whole : IsWholeProgram p
-  whole = accepted_is_whole p can.1.accepted (is_sound p can.1.accepted).constants
-
   knows : ShapedData p class (data_of bound)
   knows =
       subst (ShapedData p class) (sym bind)
-      (bound_shaped p class h.binds row (data_of old) can.1.knows (handler_row_fits p class (data_of old) whole can.1.knows h _ row there.among can.1.arrives matches))
+      (bound_shaped p class h.binds row (data_of old) can.1.knows (handler_row_fits p class (data_of old) (is_whole p can.1.accepted) can.1.knows h _ row there.among can.1.arrives matches))
 
   tasks : ShapedTasks p class bound.me todo
   tasks = do_all_tasks p class bound.me h.body [] (λ j k. handler_item class h j there.among k) (All-nil (IsTask p class bound.me))
 
   pub stands : Knows bound p class (data_of bound)
-  stands = record { same = refl; no_queries = can.1.runs.no_queries }
+  stands = record { same = refl; plan = planned ∙ can.1.plan }
 
   pub ready : (m : Machine) → m.place ≡ entry → m.loops ≡ [] → IsReady p class x.code.now.code m (data_of bound) todo
   ready m place loops = record {
@@ -143,6 +138,7 @@ module _ (x : Delivery) (h : Handler) (entry n : ℕ) (old : Known) (can : CanHa
     pub has_tried : HasTried x h n old after (handled_as stop m.turns)
     has_tried = record {
       mine = sym (ap (λ (d : Data). d.me) run.known.same) ∙ left.same ∙ bound_me;
+      plan = run.known.plan ∙ sym can.1.plan;
       actions = ran.actions;
       added = run.actions ∙ ap (λ xs. xs ++ ran.actions) stays;
       run = λ go.
@@ -156,7 +152,7 @@ module _ (x : Delivery) (h : Handler) (entry n : ℕ) (old : Known) (can : CanHa
       p,
       record {
         accepted = can.1.accepted;
-        runs = can.1.runs;
+        plan = run.known.plan;
         among = can.1.among;
         forward = can.1.forward;
         enters = can.1.enters;
@@ -199,6 +195,7 @@ pub record Came (x : Delivery) (left : List Handler) (entries : List ℕ) (n : �
   pub can : CanHandle x now
   pub entered : AreEntered x left entries
   pub mine : now.me ≡ first.me
+  pub plan : now.plan.now ≡ first.plan.now
   pub actions : List Action
   pub added : now.actions ≡ first.actions ++ actions
   pub rest : IsAlike (all_handled x (data_of first)) (behind actions (rest_handled x left n (data_of now)))
@@ -218,6 +215,7 @@ module _ (x : Delivery) (first now : Known) (n : ℕ) where
     pub too_long : max_turns ≤ n → HasHandled all first now (handled.Fault TooLong h.line)
     too_long past = record {
       mine = came.mine;
+      plan = came.plan;
       same = came.rest.data' ∙ ap (λ (r : Ran). r.data') stops;
       actions = came.added ∙ ap (λ xs. first.actions ++ xs) (sym (came.rest.actions ∙ ap (λ (r : Ran). came.actions ++ r.actions) stops ∙ append-nil came.actions));
       halt = came.rest.halt ∙ ap (λ (r : Ran). r.halt) stops;
@@ -252,6 +250,7 @@ module _ (x : Delivery) (first now : Known) (n : ℕ) where
           can = can;
           entered = came.entered.1;
           mine = one.mine ∙ came.mine;
+          plan = one.plan ∙ came.plan;
           actions = came.actions ++ one.actions;
           added = added;
           rest =
@@ -265,6 +264,7 @@ module _ (x : Delivery) (first now : Known) (n : ℕ) where
             let ends = subst (λ a. IsAlike (tried x h (n + 1) (data_of now) go) (goes_on a one.actions (data_of next) go)) is (one.run go) in
             record {
               mine = one.mine ∙ came.mine;
+              plan = one.plan ∙ came.plan;
               same = next_rest.data' ∙ ends.data';
               actions = added ∙ ap (λ xs. first.actions ++ xs) (sym (next_rest.actions ∙ ap (λ xs. came.actions ++ xs) ends.actions));
               halt = next_rest.halt ∙ ends.halt;
@@ -273,6 +273,7 @@ module _ (x : Delivery) (first now : Known) (n : ℕ) where
   pub came_through : (left : List Handler) (entries : List ℕ) → Came x left entries n first now → (left ≡ []) ⊎ (entries ≡ []) → HasHandled all first now (handled.Through n)
   came_through [] entries came is = record {
     mine = came.mine;
+    plan = came.plan;
     same = came.rest.data';
     actions = came.added ∙ ap (λ xs. first.actions ++ xs) (sym (came.rest.actions ∙ append-nil came.actions));
     halt = came.rest.halt;
@@ -287,6 +288,7 @@ came_first x first can these entries hs es =
       can = can;
       entered = each_entered x x.class.now.handlers x.code.now.code.handlers can.1.enters.one_each (λ k h e at there. record { among = has_at x.class.now.handlers k h at; code_for = can.1.enters.stands k h e at there });
       mine = refl;
+      plan = refl;
       actions = [];
       added = sym (append-nil first.actions);
       rest = same_run _ _ refl;

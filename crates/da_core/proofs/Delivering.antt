@@ -26,12 +26,13 @@ use Rattle.da_core.specs.declared.moves.Standing.{Standing}
 use Rattle.da_core.specs.declared.place.Stopped.{Stopped}
 use Rattle.da_core.specs.Arrivals.{CanHandle, HasTakenIn, MayArrive, MayTakeIn, all_handled, arrival, delivery_actions, received}
 use Rattle.da_core.specs.Compiled.{IsCodeFor, code_of}
+use Rattle.da_core.specs.Known.{HasPlan}
 use Rattle.da_core.specs.Made.{HasBegun, HasMade, phase_of, stopped_at}
 use Rattle.da_core.specs.StandsFor.{IsAt, IsWaiting, StandsFor, program_of}
 use Rattle.da_core.proofs.Entering.{is_code}
+use Rattle.da_core.proofs.KeptLaw.{rows_are}
 use Rattle.da_core.proofs.Laws.{class_has, keeps_shaped}
 use Rattle.da_core.proofs.Moving.{stops_so}
-use Rattle.da_core.proofs.RunLaws.{class_of_runs}
 
 -- the machine stays where it stands, and the process waits there where no handler faults
 at_behind : (p : Program) (class : Class) (code : ClassCode) (m : Machine) (w : World) (halt : Halt) → IsWaiting class code.code m w.todo → IsAt p class code.code m w (phase_after halt)
@@ -84,6 +85,9 @@ module _ (core : Core) (w : World) (s : StandsFor core w) (waits : w.phase ≡ W
   its_code : (place : ℕ) × IsCodeFor p place class code
   its_code = is_code core.compiled.now class code s.compiled d.me is_class is_coded
 
+  planned : HasPlan core.known class
+  planned = subst (HasPlan core.known) same_class s.plan
+
   knows : ShapedData p class d
   knows = subst (λ c. ShapedData p c d) same_class s.knows
 
@@ -108,7 +112,7 @@ module _ (core : Core) (w : World) (s : StandsFor core w) (waits : w.phase ≡ W
       p,
       record {
         accepted = s.compiled.accepted;
-        runs = class_of_runs p s.runs class among;
+        plan = planned;
         among = among;
         forward = its_code.1.code.forward;
         enters = its_code.1.code.handlers;
@@ -153,18 +157,19 @@ module _ (core : Core) (w : World) (s : StandsFor core w) (waits : w.phase ≡ W
 
     -- what the process knows behind the delivery and how it stands, where the actions are given back
     module _ (known : Known) (stands : Standing) (taken : HasTakenIn x time w.todo old known stands) where
-      module _ (empty : List Action) (none : empty ≡ []) (new : Core) (is_new : new ≡ record core { known = record known { actions = empty }; place = stands.place; flags = stands.flags; spent = false }) where
+      module _ (empty : List Action) (none : empty ≡ []) (new : Core) (is_new : new ≡ record core { known = record known { actions = empty }; place = stands.place; flags = stands.flags; kept = stands.kept; spent = false }) where
         pub stands_after : StandsFor new after.world
         stands_after = subst (λ z. StandsFor z after.world) (sym is_new) (record {
           unspent = refl;
           compiled = s.compiled;
-          runs = s.runs;
           class = class;
           code = code;
           code_is = ap (code_of core.compiled.now) shaped.same ∙ is_coded;
           knows = subst (λ c. ShapedData p c ran.data') class_stays shaped.shaped.knows;
           tasks = subst (λ c. ShapedTasks p c ran.data'.me w.todo) class_stays shaped.shaped.todo;
           same = taken.same;
+          plan = taken.plan ∙ planned;
+          rows = taken.rows ∙ rows_are p d.me class code.live.patterns s.compiled.accepted is_class its_code.1.live ran.data';
           no_actions = none;
           place = taken.place;
           at = at_behind p class code core.machine after.world ran.halt waiting;

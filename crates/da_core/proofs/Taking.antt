@@ -19,7 +19,7 @@ use Rattle.da_core.specs.declared.known.Known.{Known}
 use Rattle.da_core.specs.declared.moves.Standing.{Standing}
 use Rattle.da_core.specs.Arrivals.{CanHandle, HasHandled, HasTakenIn, MayTakeIn, all_handled, delivery_actions, halt_of, received, stop_of}
 use Rattle.da_core.specs.Begins.{HasStopped, MayStop}
-use Rattle.da_core.specs.Known.{data_of}
+use Rattle.da_core.specs.Known.{HasPlan, IsPlanned, data_of, rows_kept}
 use Rattle.da_core.specs.StandsFor.{IsPlace}
 use Rattle.da_core.proofs.Stopping.{has_point, place_there, run_front, stop_front}
 
@@ -35,7 +35,7 @@ received_front x time old new front =
 
 -- the process before the message arrives, and when it has joined the history
 module _ (x : Delivery) (time at : ℕ) (old : Known) (todo : List Task) (may : MayTakeIn x time at old todo) (got : Known)
-    (joins : data_of got ≡ received x time old) (told : got.actions ≡ old.actions ++ action.Got old.me x.from time x.message.now ∷ []) where
+    (joins : data_of got ≡ received x time old) (same_plan : got.plan.now ≡ old.plan.now) (told : got.actions ≡ old.actions ++ action.Got old.me x.from time x.message.now ∷ []) where
   abbrev p : Program
   p = may.can.0
 
@@ -57,7 +57,7 @@ module _ (x : Delivery) (time at : ℕ) (old : Known) (todo : List Task) (may : 
         p,
         record {
           accepted = can.accepted;
-          runs = can.runs;
+          plan = same_plan ∙ can.plan;
           among = can.among;
           forward = can.forward;
           enters = can.enters;
@@ -74,14 +74,19 @@ module _ (x : Delivery) (time at : ℕ) (old : Known) (todo : List Task) (may : 
       (subst (λ xs. IsFront xs new ran.actions) told (subst (λ d. IsFront got.actions new (all_handled x d).actions) joins front))
 
   pub may_stop : (answer : Handled) → MayStop code (stop_of answer may.number)
-  may_stop (handled.Through turns) =
-      has_point code class may.number may.point.0 may.waits may.tasks.0 old.me todo may.point.1 may.can.1.runs may.tasks.1
+  may_stop (handled.Through turns) = has_point code class may.number may.point.0 may.waits todo may.point.1
   may_stop (handled.Fault kind line) = tt
 
   -- behind the handlers
   module _ (now : Known) (answer : Handled) (handlers : HasHandled (all_handled x (data_of got)) got now answer) where
     had : HasHandled ran got now answer
     had = subst (λ d. HasHandled (all_handled x d) got now answer) joins handlers
+
+    planned : HasPlan now class
+    planned = had.plan ∙ same_plan ∙ may.can.1.plan
+
+    pub plan_there : IsPlanned now
+    plan_there = (class, planned)
 
     same_me : now.me ≡ old.me
     same_me = had.mine ∙ ap (λ (d : Data). d.me) joins
@@ -97,25 +102,34 @@ module _ (x : Delivery) (time at : ℕ) (old : Known) (todo : List Task) (may : 
         closes ∙ ap (λ xs. xs ++ closing old.me halt) so_far ∙ append_assoc (old.actions ++ first ∷ []) ran.actions (closing old.me halt)
         ∙ append_assoc old.actions (first ∷ []) (ran.actions ++ closing old.me halt) ∙ ap (λ h. old.actions ++ ((first ∷ ran.actions) ++ closing old.me h)) (sym is)
 
-    by_answer : (a : Handled) → ran.halt ≡ halt_of a → (new : Known) (s : Standing) → HasStopped code now new (stop_of a may.number) s → HasTakenIn x time todo old new s
-    by_answer (handled.Through turns) halts new s stopped =
+    abbrev RowsKept : Known → Standing → Type 0
+    RowsKept new s = s.kept ≡ rows_kept code.live.patterns (data_of new)
+
+    by_answer : (a : Handled) → ran.halt ≡ halt_of a → (new : Known) (s : Standing) → HasStopped code now new (stop_of a may.number) s → RowsKept new s → HasTakenIn x time todo old new s
+    by_answer (handled.Through turns) halts new s stopped rows =
         let (stays, stands) = stopped in
+        let same : ran.data' ≡ data_of new = had.same ∙ ap data_of (sym stays) in
         record {
-          same = had.same ∙ ap data_of (sym stays);
+          same = same;
+          plan = ap (λ (k : Known). k.plan.now) stays ∙ had.plan ∙ same_plan;
           actions = closed new AtYield halts (ap (λ (k : Known). k.actions) stays ∙ sym (append-nil now.actions));
           place =
               subst (λ h. IsPlace ran.data' todo s.flags s.place (phase_after h)) (sym halts)
-              (place_there code class may.number may.point.0 may.waits now s stands ran.data' had.same todo may.point.1);
+              (place_there code class may.number may.point.0 may.waits now planned s stands ran.data' had.same todo may.point.1);
+          rows = rows ∙ ap (rows_kept code.live.patterns) (sym same);
         }
-    by_answer (handled.Fault kind line) halts new s stopped =
+    by_answer (handled.Fault kind line) halts new s stopped rows =
         let (becomes, place_is) = stopped in
+        let same : ran.data' ≡ data_of new = had.same ∙ sym (ap data_of becomes) in
         record {
-          same = had.same ∙ sym (ap data_of becomes);
+          same = same;
+          plan = ap (λ (k : Known). k.plan.now) becomes ∙ had.plan ∙ same_plan;
           actions = closed new (Faults kind line) halts (ap (λ (k : Known). k.actions) becomes ∙ ap (λ me. now.actions ++ action.Fault me kind line ∷ []) same_me);
           place =
               subst (λ h. IsPlace ran.data' todo s.flags s.place (phase_after h)) (sym halts)
               (subst (λ at'. IsPlace ran.data' todo s.flags at' (phase_after (Faults kind line))) (sym place_is) tt);
+          rows = rows ∙ ap (rows_kept code.live.patterns) (sym same);
         }
 
-    pub taken : (new : Known) (s : Standing) → HasStopped code now new (stop_of answer may.number) s → HasTakenIn x time todo old new s
-    taken new s stopped = by_answer answer had.halt new s stopped
+    pub taken : (new : Known) (s : Standing) → HasStopped code now new (stop_of answer may.number) s → RowsKept new s → HasTakenIn x time todo old new s
+    taken new s stopped rows = by_answer answer had.halt new s stopped rows

@@ -18,29 +18,29 @@ run_code-requires-clause-ready c =
       c.args.delivery.now.class.now,
       data_of c.bind.new.known,
       do_all c.args.handler.now.body [],
-      stands c.args.delivery.now c.args.handler.now c.args.entry c.args.turns c.args.known.now c.requires.can c.requires.there c.args.row.now c.requires.matches c.bind.new.known bound c.in_ok-bind.ensures.actions,
-      ready c.args.delivery.now c.args.handler.now c.args.entry c.args.turns c.args.known.now c.requires.can c.requires.there c.args.row.now c.requires.matches c.bind.new.known bound c.in_ok-bind.ensures.actions _ c.new-machine.ensures.place c.new-machine.ensures.loops,
+      stands c.args.delivery.now c.args.handler.now c.args.entry c.args.turns c.args.known.now c.requires.can c.requires.there c.args.row.now c.requires.matches c.bind.new.known bound c.in_ok-bind.ensures.plan c.in_ok-bind.ensures.actions,
+      ready c.args.delivery.now c.args.handler.now c.args.entry c.args.turns c.args.known.now c.requires.can c.requires.there c.args.row.now c.requires.matches c.bind.new.known bound c.in_ok-bind.ensures.plan c.in_ok-bind.ensures.actions _ c.new-machine.ensures.place c.new-machine.ensures.loops,
     )
 
 pub returns-in_err-stop-clause-part : goal.returns-in_err-stop-clause-part
 returns-in_err-stop-clause-part c =
     let bound = c.in_ok-bind.ensures.bound ∙ ap (λ slots. bind_all slots c.args.row.now (data_of c.args.known.now)) c.as_slice.ensures in
     on_err _ (TriedPart c.args.delivery.now c.args.handler.now c.args.turns c.args.known.now c.run_code.new.s.actions)
-    (tried_part c.args.delivery.now c.args.handler.now c.args.entry c.args.turns c.args.known.now c.requires.can c.requires.there c.args.row.now c.requires.matches c.bind.new.known bound c.in_ok-bind.ensures.actions c.run_code.new.s.actions
-    (c.in_err-stop.ensures.part _ _ _ _ (stands c.args.delivery.now c.args.handler.now c.args.entry c.args.turns c.args.known.now c.requires.can c.requires.there c.args.row.now c.requires.matches c.bind.new.known bound c.in_ok-bind.ensures.actions)
-    (ready c.args.delivery.now c.args.handler.now c.args.entry c.args.turns c.args.known.now c.requires.can c.requires.there c.args.row.now c.requires.matches c.bind.new.known bound c.in_ok-bind.ensures.actions _ c.new-machine.ensures.place c.new-machine.ensures.loops)))
+    (tried_part c.args.delivery.now c.args.handler.now c.args.entry c.args.turns c.args.known.now c.requires.can c.requires.there c.args.row.now c.requires.matches c.bind.new.known bound c.in_ok-bind.ensures.plan c.in_ok-bind.ensures.actions c.run_code.new.s.actions
+    (c.in_err-stop.ensures.part _ _ _ _ (stands c.args.delivery.now c.args.handler.now c.args.entry c.args.turns c.args.known.now c.requires.can c.requires.there c.args.row.now c.requires.matches c.bind.new.known bound c.in_ok-bind.ensures.plan c.in_ok-bind.ensures.actions)
+    (ready c.args.delivery.now c.args.handler.now c.args.entry c.args.turns c.args.known.now c.requires.can c.requires.there c.args.row.now c.requires.matches c.bind.new.known bound c.in_ok-bind.ensures.plan c.in_ok-bind.ensures.actions _ c.new-machine.ensures.place c.new-machine.ensures.loops)))
 
 pub returns-clause-tried : goal.returns-clause-tried
 returns-clause-tried c =
     let bound = c.in_ok-bind.ensures.bound ∙ ap (λ slots. bind_all slots c.args.row.now (data_of c.args.known.now)) c.as_slice.ensures in
     subst (HasTried c.args.delivery.now c.args.handler.now c.args.turns c.args.known.now c.run_code.new.s) (sym c.handled_by.ensures)
-    (has_tried c.args.delivery.now c.args.handler.now c.args.entry c.args.turns c.args.known.now c.requires.can c.requires.there c.args.row.now c.requires.matches c.bind.new.known bound c.in_ok-bind.ensures.actions c.run_code.new.s c.run_code.new.m c.in_ok-stop.stop
-    (c.in_ok-stop.ensures.runs _ _ _ _ (stands c.args.delivery.now c.args.handler.now c.args.entry c.args.turns c.args.known.now c.requires.can c.requires.there c.args.row.now c.requires.matches c.bind.new.known bound c.in_ok-bind.ensures.actions)
-    (ready c.args.delivery.now c.args.handler.now c.args.entry c.args.turns c.args.known.now c.requires.can c.requires.there c.args.row.now c.requires.matches c.bind.new.known bound c.in_ok-bind.ensures.actions _ c.new-machine.ensures.place c.new-machine.ensures.loops)))
+    (has_tried c.args.delivery.now c.args.handler.now c.args.entry c.args.turns c.args.known.now c.requires.can c.requires.there c.args.row.now c.requires.matches c.bind.new.known bound c.in_ok-bind.ensures.plan c.in_ok-bind.ensures.actions c.run_code.new.s c.run_code.new.m c.in_ok-stop.stop
+    (c.in_ok-stop.ensures.runs _ _ _ _ (stands c.args.delivery.now c.args.handler.now c.args.entry c.args.turns c.args.known.now c.requires.can c.requires.there c.args.row.now c.requires.matches c.bind.new.known bound c.in_ok-bind.ensures.plan c.in_ok-bind.ensures.actions)
+    (ready c.args.delivery.now c.args.handler.now c.args.entry c.args.turns c.args.known.now c.requires.can c.requires.there c.args.row.now c.requires.matches c.bind.new.known bound c.in_ok-bind.ensures.plan c.in_ok-bind.ensures.actions _ c.new-machine.ensures.place c.new-machine.ensures.loops)))
 
 pub returns-clause-can : goal.returns-clause-can
 returns-clause-can c =
     let bound = c.in_ok-bind.ensures.bound ∙ ap (λ slots. bind_all slots c.args.row.now (data_of c.args.known.now)) c.as_slice.ensures in
-    can_still c.args.delivery.now c.args.handler.now c.args.entry c.args.turns c.args.known.now c.requires.can c.requires.there c.args.row.now c.requires.matches c.bind.new.known bound c.in_ok-bind.ensures.actions c.run_code.new.s c.run_code.new.m c.in_ok-stop.stop
-    (c.in_ok-stop.ensures.runs _ _ _ _ (stands c.args.delivery.now c.args.handler.now c.args.entry c.args.turns c.args.known.now c.requires.can c.requires.there c.args.row.now c.requires.matches c.bind.new.known bound c.in_ok-bind.ensures.actions)
-    (ready c.args.delivery.now c.args.handler.now c.args.entry c.args.turns c.args.known.now c.requires.can c.requires.there c.args.row.now c.requires.matches c.bind.new.known bound c.in_ok-bind.ensures.actions _ c.new-machine.ensures.place c.new-machine.ensures.loops))
+    can_still c.args.delivery.now c.args.handler.now c.args.entry c.args.turns c.args.known.now c.requires.can c.requires.there c.args.row.now c.requires.matches c.bind.new.known bound c.in_ok-bind.ensures.plan c.in_ok-bind.ensures.actions c.run_code.new.s c.run_code.new.m c.in_ok-stop.stop
+    (c.in_ok-stop.ensures.runs _ _ _ _ (stands c.args.delivery.now c.args.handler.now c.args.entry c.args.turns c.args.known.now c.requires.can c.requires.there c.args.row.now c.requires.matches c.bind.new.known bound c.in_ok-bind.ensures.plan c.in_ok-bind.ensures.actions)
+    (ready c.args.delivery.now c.args.handler.now c.args.entry c.args.turns c.args.known.now c.requires.can c.requires.there c.args.row.now c.requires.matches c.bind.new.known bound c.in_ok-bind.ensures.plan c.in_ok-bind.ensures.actions _ c.new-machine.ensures.place c.new-machine.ensures.loops))
