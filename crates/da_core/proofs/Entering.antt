@@ -18,9 +18,8 @@ use Rattle.da_lang.specs.declared.program.Program.{Program}
 use Rattle.da_lang.specs.declared.program.RBranch.{RBranch}
 use Rattle.da_lang.specs.Matching.{Row}
 use Rattle.da_lang.specs.Queries.{holds, least_row}
-use Rattle.da_lang.specs.Runs.{run_to_yield}
 use Rattle.da_lang.specs.Shaped.{ShapedData, ShapedTasks}
-use Rattle.da_lang.specs.Steps.{first_tasks, move_step, moved, proc_step}
+use Rattle.da_lang.specs.Steps.{first_tasks, move_step, proc_step}
 use Rattle.da_lang.specs.Turns.{bind_found, bind_row, do_all, kind_of}
 use Rattle.da_lang.specs.World.{Data, Task, Do, World, Phase, New, Waiting, Ended, Faulted, at_number, class_of, class_of_decl}
 use Rattle.da_lang.proofs.MoveLaws.{step_begins, step_at_label, step_at_await}

@@ -1,12 +1,12 @@
 -- What a core stands for behind a move.
-use Rattle.std.proofs.Common.{◌≡◌, ℕ, List, [], ◌++◌, Option, Some, None, refl, sym, ap, ◌∙◌, subst}
+use Rattle.std.proofs.Common.{◌≡◌, ℕ, List, [], ◌++◌, refl, sym, ap, ◌∙◌, subst}
 use Rattle.std.specs.Prelude.{Bool, false}
 use Rattle.da_lang.specs.declared.event.Action.{Action}
 use Rattle.da_lang.specs.declared.program.Class.{Class}
 use Rattle.da_lang.specs.declared.program.Program.{Program}
 use Rattle.da_lang.specs.Runs.{Halt, AtYield, UsedUp, Faults, Ran, run_to_yield}
 use Rattle.da_lang.specs.Shaped.{ShapedTasks}
-use Rattle.da_lang.specs.Steps.{Stepped, move_step, moved, phase_after, proc_step}
+use Rattle.da_lang.specs.Steps.{move_step, moved, phase_after}
 use Rattle.da_lang.specs.World.{Data, Task, World, Phase, New, Waiting, Ended, Faulted, class_of}
 use Rattle.da_types.specs.KeepsShaped.{LeavesShaped}
 use Rattle.da_machine.specs.declared.machine.Machine.{Machine}
@@ -69,9 +69,6 @@ phase_is d todo flags _ _ is = absurd is
 pub stands_in_phase : (core : Core) (w : World) → StandsFor core w → w.phase ≡ phase_at core.place
 stands_in_phase core w s = phase_is w.data' w.todo core.flags core.place w.phase s.place
 
-pub stands_at : (core : Core) (w : World) → StandsFor core w → IsPlace w.data' w.todo core.flags core.place w.phase
-stands_at core w s = s.place
-
 pub stops_so : (d : Data) (todo : List Task) (s : Standing) (place : Place) (halt : Halt) → IsPlace d todo s.flags place (phase_after halt) → phase_of (stopped_at place) ≡ phase_after halt
 stops_so d todo s place.Label AtYield is = refl
 stops_so d todo s (place.Await count) AtYield is = refl
@@ -111,9 +108,6 @@ module _ (core : Core) (w : World) (s : StandsFor core w) (k : ℕ) (code : Clas
 
   abbrev after : World
   after = (moved me k ran).world
-
-  pub not_none : proc_step p w (move_step k) ≡ None → ⊥
-  not_none none = let both : ◌≡◌ {A = Option Stepped} None (Some (moved me k ran)) = sym none ∙ can.step in cc
 
   left : LeavesShaped p can.class can.d.me ran.data' ran.todo ran.actions
   left = leaves p can.class code core.known core.machine k begin can.d can.todo can.may

@@ -1,5 +1,5 @@
 -- A message to each of some processes, one after the other.
-use Rattle.std.proofs.Common.{◌≡◌, ℕ, ◌+◌, ◌<◌, ◌≤◌, List, [], ◌∷◌, ◌++◌, drop, get_or, length, map, refl, sym, ap, ◌∙◌, subst, append_assoc, append-nil}
+use Rattle.std.proofs.Common.{◌≡◌, ℕ, ◌+◌, ◌<◌, ◌≤◌, List, [], ◌∷◌, ◌++◌, drop, get_or, length, map, sym, ap, ◌∙◌, subst, append_assoc}
 use Rattle.std.proofs.lemmas.List.{at_drop_all, at_drop_more}
 use Rattle.da_values.specs.declared.val.Val.{Val}
 use Rattle.da_values.specs.declared.value.Value.{Value}
@@ -21,13 +21,6 @@ pub record Sends (m : Val) (ps left : List ℕ) (first now : Known) : Type 0 whe
   pub plan : now.plan.now ≡ first.plan.now
   pub told : now.actions ++ sending now.me m left now.clock ≡ first.actions ++ sending first.me m ps first.clock
 
-pub sends_first : (m : Val) (ps left : List ℕ) (first : Known) → left ≡ ps → Sends m ps left first first
-sends_first m ps left first is = record {
-  knows = ap (λ qs. sent_to m qs (data_of first)) is;
-  plan = refl;
-  told = ap (λ qs. first.actions ++ sending first.me m qs first.clock) is;
-}
-
 pub sends_on : (m : Val) (ps : List ℕ) (p : ℕ) (left : List ℕ) (first now next : Known) → Sends m ps (p ∷ left) first now
     → data_of next ≡ sent_at m p (later now.clock) (data_of now) → next.plan.now ≡ now.plan.now
     → next.actions ≡ now.actions ++ Sent now.me p (later now.clock) (value_of m) ∷ [] → Sends m ps left first next
@@ -40,10 +33,6 @@ sends_on m ps p left first now next so_far is plan told = record {
       ∙ append_assoc now.actions (Sent now.me p (later now.clock) (value_of m) ∷ []) (sending now.me m left (later now.clock))
       ∙ so_far.told;
 }
-
-pub sends_last : (m : Val) (ps : List ℕ) (first now : Known) → Sends m ps [] first now
-    → (data_of now ≡ sent_to m ps (data_of first)) × (now.actions ≡ first.actions ++ sending first.me m ps first.clock)
-sends_last m ps first now s = (s.knows, sym (append-nil now.actions) ∙ s.told)
 
 -- memory was refused while the message went to the next one
 pub sends_front : (m : Val) (ps : List ℕ) (p : ℕ) (left : List ℕ) (first now next : Known) → Sends m ps (p ∷ left) first now

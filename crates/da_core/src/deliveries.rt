@@ -170,7 +170,12 @@ fn handled_by(stop: Stop, turns: u32) -> Handled
 }
 
 // The row that the patterns of a handler take of a message and its sender, or `None` where they do not match.
-fn row_for(handler: &Handler, m: &Value, from: u16, known: &Known<'_>) -> Result<Option<Row>, NoMemory>
+fn row_for(
+    handler: &Handler,
+    m: &Value,
+    from: u16,
+    known: &Known<'_>,
+) -> Result<Option<Row>, NoMemory>
     ensures { IfOk result (λ row. row
         ≡ matched_entry (data_of known.now) handler.now.message handler.now.from (val_of m.now) from []) }
 {
