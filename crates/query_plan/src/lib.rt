@@ -1,10 +1,17 @@
-//! Plans: the conditions and queries of a class as nodes, each of which reads lower ones, and what their rows are.
+//! Plans: the conditions and queries of a class as nodes, each of which reads lower ones, what their rows are, and their
+//! texts.
 #![tactic(auto)]
 
+mod conditions;
 mod copy;
 mod plan;
 mod same;
+mod terms;
+mod text;
+mod width;
 
 pub use copy::{copy_node, copy_nodes};
 pub use plan::Plan;
 pub use same::same_node;
+pub use text::{live_line, plan_lines, query_lines};
+pub use width::{added_by, plus};
