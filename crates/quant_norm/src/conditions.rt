@@ -3,7 +3,6 @@ ghost use Rattle.quant_norm.specs.Making.{Binds, Makes, place_of};
 ghost use Rattle.query_plan.specs.Plans.{agg_bound, all_bound, all_on, any_on, denied_on, norm, norm_if, operand_bound, signed_bound, test_on};
 ghost use Rattle.std.specs.Prelude.{map};
 
-use crate::counts::plus;
 use crate::either::{any_on, either_on};
 use crate::generators::gens_on;
 use crate::limit::Halt;
@@ -12,6 +11,7 @@ use crate::place::{Place, copy_place};
 use crate::rename::{renamed_other, renamed_term};
 use da_lang::{Agg, Cond, Node, Operand, SignedOperand, Term};
 use da_values::{Boxed, List, Value};
+use query_plan::plus;
 use std::alloc::Global;
 
 /// The node of the rows of the place for which the condition holds.

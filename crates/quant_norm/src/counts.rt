@@ -1,83 +1,12 @@
-//! How many variables patterns have, and how many numbered queries stand in a part of the text.
+//! How many numbered queries stand in a part of the text.
 ghost use Rattle.da_lang.specs.declared.program.BindArg.{BindArg};
-ghost use Rattle.da_lang.specs.Live.{is_history};
-ghost use Rattle.query_plan.specs.Nodes.{binds, parts_added};
 ghost use Rattle.query_plan.specs.Questions.{asks, cond_asks};
 ghost use Rattle.quant_norm.specs.Making.{operand_asks, part_asks, signed_asks};
 ghost use Rattle.std.specs.List.{sum_by};
-ghost use Rattle.std.specs.Prelude.{◌≡◌, ◌+◌, IfOk, if◌then◌else◌};
+ghost use Rattle.std.specs.Prelude.{◌≡◌, ◌+◌, IfOk};
 
-use da_lang::{BindArg, ChainPart, Cond, Operand, Pattern, RExpr, RGen, SignedOperand, Source};
+use da_lang::{BindArg, ChainPart, Cond, Operand, RExpr, SignedOperand};
 use da_values::NoMemory;
-
-/// The sum of two numbers of parts. Rows with more parts than 16 bits count are refused as memory is.
-pub fn plus(a: u16, b: u16) -> Result<u16, NoMemory>
-    ensures { IfOk result (λ sum. sum ≡ a + b) }
-{
-    match a.checked_add(b) {
-        Some(sum) => Ok(sum),
-        None => Err(NoMemory),
-    }
-}
-
-/// How many variables a pattern has.
-#[cycle(binds)]
-#[tactic(auto, using(crate::proofs::CountSteps::binding))]
-fn variables(pattern: &Pattern) -> Result<u16, NoMemory>
-    ensures { IfOk result (λ count. count ≡ binds pattern.now) }
-{
-    match pattern {
-        Pattern::Bind => Ok(1),
-        Pattern::Tuple(parts) => {
-            let count = all_variables(parts.as_slice())?;
-            Ok(count)
-        }
-        Pattern::Any => Ok(0),
-        Pattern::Const(_) => Ok(0),
-        Pattern::Me => Ok(0),
-        Pattern::Equal(_) => Ok(0),
-    }
-}
-
-#[cycle(binds)]
-#[tactic(auto, using(crate::proofs::CountSteps::summing))]
-fn all_variables(patterns: &[Pattern]) -> Result<u16, NoMemory>
-    ensures { IfOk result (λ count. count ≡ sum_by binds patterns.now) }
-{
-    let mut count = 0;
-    for pattern in patterns {
-        count = plus(count, variables(pattern)?)?;
-    }
-    Ok(count)
-}
-
-/// How many parts a generator adds.
-pub fn added_by(gen_: &RGen) -> Result<u16, NoMemory>
-    ensures { IfOk result (λ count. count ≡ parts_added gen_.now) }
-{
-    let message = variables(&gen_.message)?;
-    let peer = added_by_peer(gen_)?;
-    let count = plus(message, peer)?;
-    Ok(count)
-}
-
-// How many the other process adds. An element of a slot has none.
-fn added_by_peer(gen_: &RGen) -> Result<u16, NoMemory>
-    ensures { IfOk result
-        (λ count. count ≡ (if is_history gen_.now.source then binds gen_.now.peer else 0)) }
-{
-    match gen_.source {
-        Source::Slot(_) => Ok(0),
-        Source::Received => {
-            let count = variables(&gen_.peer)?;
-            Ok(count)
-        }
-        Source::Sent => {
-            let count = variables(&gen_.peer)?;
-            Ok(count)
-        }
-    }
-}
 
 // The sum of two numbers of queries.
 fn both(a: usize, b: usize) -> Result<usize, NoMemory>
