@@ -1,11 +1,10 @@
 -- The run of a move, from its first action to where the process stands.
-use Rattle.std.proofs.Common.{◌≡◌, ℕ, ◌≤◌, List, [], ◌∷◌, ◌++◌, sym, ap, ◌∙◌, subst, arith}
+use Rattle.std.proofs.Common.{◌≡◌, ℕ, ◌≤◌, List, [], ◌∷◌, ◌++◌, Option, sym, ap, ◌∙◌, subst, arith}
 use Rattle.da_lang.specs.declared.event.Action.{Action}
 use Rattle.da_lang.specs.declared.event.Action.TheVariants as action
 use Rattle.da_lang.specs.declared.program.Class.{Class}
 use Rattle.da_lang.specs.declared.program.Program.{Program}
 use Rattle.da_lang.specs.Runs.{Ran, max_turns, run_to_yield}
-use Rattle.da_lang.specs.Shaped.{ShapedTasks}
 use Rattle.da_lang.specs.Steps.{closing}
 use Rattle.da_lang.specs.World.{Data, Task}
 use Rattle.da_machine.specs.declared.machine.Machine.{Machine}
@@ -16,9 +15,12 @@ use Rattle.da_core.specs.declared.compiled.ClassCode.{ClassCode}
 use Rattle.da_core.specs.declared.known.Known.{Known}
 use Rattle.da_core.specs.declared.moves.Begin.{Begin}
 use Rattle.da_core.specs.declared.moves.Standing.{Standing}
-use Rattle.da_core.specs.Begins.{HasRun, HasStopped, MayRun, MayStop, move_actions}
-use Rattle.da_core.specs.Known.{Knows}
-use Rattle.da_core.proofs.Moving.{leaves, tasks_left}
+use Rattle.da_core.specs.declared.waits.Alternative.{Alternative}
+use Rattle.da_core.specs.Begins.{HasRun, HasStopped, MayRun, MayStop, alternative_at, bound_by, move_actions}
+use Rattle.da_core.specs.Known.{HasPlan, IsPlanned, Knows, data_of, rows_kept}
+use Rattle.da_core.proofs.Entering.{alternative-me}
+use Rattle.da_core.proofs.Fronts.{front_same}
+use Rattle.da_core.proofs.Moving.{leaves}
 use Rattle.da_core.proofs.Stopping.{has_run, may_stop, run_front, stop_front}
 
 -- the label, the `await` or nothing was taken before
@@ -29,41 +31,64 @@ early_enough n early = omega (arith, early)
 -- a front of the actions that are due was added, whatever the process is
 abbrev pub Partly : ClassCode → Known → Machine → Begin → ℕ → List Action → Type 0
 Partly code known m begin k new =
-    (p : Program) (class : Class) (d : Data) (todo : List Task) → MayRun p class code known m begin d todo
+    (p : Program) (class : Class) (d : Data) (todo : List Task) → MayRun p class code known m k begin d todo
     → IsFront known.actions new (move_actions d.me k (run_to_yield class begin.turns d todo))
 
-module _ (p : Program) (class : Class) (code : ClassCode) (known : Known) (m : Machine) (begin : Begin) (d : Data) (todo : List Task) (may : MayRun p class code known m begin d todo) where
+-- the move was told, and then the row was bound
+pub record HasBound (code : ClassCode) (known : Known) (m : Machine) (k : ℕ) (bound : Known) : Type 0 where
+  pub knows : (class : Class) → HasPlan known class → data_of bound ≡ bound_by class (alternative_at code m.place k) (data_of known)
+  pub plan : bound.plan.now ≡ known.plan.now
+  pub told : bound.actions ≡ known.actions ++ action.Took known.me k ∷ []
+
+pub has_bound : (code : ClassCode) (known : Known) (m : Machine) (k : ℕ) (bound : Known) (alternative : Option Alternative) (pushed : List Action) → alternative ≡ alternative_at code m.place k
+    → pushed ≡ known.actions ++ action.Took known.me k ∷ [] → ((class : Class) → HasPlan known class → data_of bound ≡ bound_by class alternative (data_of known)) → bound.plan.now ≡ known.plan.now
+    → bound.actions ≡ pushed → HasBound code known m k bound
+has_bound code known m k bound alternative pushed taken told binds plan stays = record {
+  knows = λ class has. binds class has ∙ ap (λ x. bound_by class x (data_of known)) taken;
+  plan = plan;
+  told = stays ∙ told;
+}
+
+module _ (p : Program) (class : Class) (code : ClassCode) (known : Known) (m : Machine) (k : ℕ) (begin : Begin) (d : Data) (todo : List Task) (may : MayRun p class code known m k begin d todo) where
   abbrev ran : Ran
   ran = run_to_yield class begin.turns d todo
-
-  pub knows_it : (actions : List Action) → Knows (record known { actions = actions }) p class d
-  knows_it actions = record { same = may.same; no_queries = may.runs.no_queries }
 
   pub ready : IsReady p class code.code (record m { place = begin.entry; turns = begin.turns }) d todo
   ready = record { accepted = may.accepted; knows = may.knows; tasks = may.tasks; code_for = may.code_for }
 
-  -- the move is told first
-  module _ (k : ℕ) (pushed : List Action) (told : pushed ≡ known.actions ++ action.Took known.me k ∷ []) where
-    told_of : pushed ≡ known.actions ++ action.Took d.me k ∷ []
-    told_of = told ∙ ap (λ (x : Data). known.actions ++ action.Took x.me k ∷ []) (sym may.same)
+  itself : d.me ≡ known.me
+  itself = ap (λ (x : Data). x.me) may.bound ∙ alternative-me p class (alternative_at code m.place k) (data_of known)
 
-    pub front_of_run : (new : List Action) → IsFront pushed new ran.actions → IsFront known.actions new (move_actions d.me k ran)
-    front_of_run new front = run_front known.actions new ran.actions (closing d.me ran.halt) (action.Took d.me k) (subst (λ xs. IsFront xs new ran.actions) told_of front)
+  -- where memory is refused before the run, only the move was told
+  pub front_of_row : (new : List Action) → new ≡ known.actions ++ action.Took known.me k ∷ [] → IsFront known.actions new (move_actions d.me k ran)
+  front_of_row new told =
+      run_front known.actions new ran.actions (closing d.me ran.halt) (action.Took d.me k)
+      (front_same (known.actions ++ action.Took d.me k ∷ []) new ran.actions (told ∙ ap (λ x. known.actions ++ action.Took x k ∷ []) (sym itself)))
 
-    module _ (after : Known) (m1 : Machine) (answer : Stop) (run : IsRun class code.code answer m1 (Knows after p class) pushed after.actions ran) where
-      tasks : ShapedTasks p class ran.data'.me ran.todo
-      tasks = tasks_left p class code known m begin d todo may
+  module _ (bound : Known) (so : HasBound code known m k bound) where
+    pub knows_it : Knows bound p class d
+    knows_it = record { same = may.bound ∙ sym (so.knows class may.plan); plan = so.plan ∙ may.plan }
 
+    so_told : bound.actions ≡ known.actions ++ action.Took d.me k ∷ []
+    so_told = so.told ∙ ap (λ x. known.actions ++ action.Took x k ∷ []) (sym itself)
+
+    pub front_of_run : (new : List Action) → IsFront bound.actions new ran.actions → IsFront known.actions new (move_actions d.me k ran)
+    front_of_run new front = run_front known.actions new ran.actions (closing d.me ran.halt) (action.Took d.me k) (subst (λ xs. IsFront xs new ran.actions) so_told front)
+
+    module _ (after : Known) (m1 : Machine) (answer : Stop) (run : IsRun class code.code answer m1 (Knows after p class) bound.actions after.actions ran) where
       pub stops_there : MayStop code answer
-      stops_there = may_stop p class code may.runs may.waits answer m1 ran.data'.me ran.todo ran.halt run.stops tasks
+      stops_there = may_stop class code may.waits answer m1 ran.todo ran.halt run.stops
+
+      pub planned : IsPlanned after
+      planned = (class, run.known.plan)
 
       so_far : after.actions ≡ (known.actions ++ action.Took d.me k ∷ []) ++ ran.actions
-      so_far = run.actions ∙ ap (λ xs. xs ++ ran.actions) told_of
+      so_far = run.actions ∙ ap (λ xs. xs ++ ran.actions) so_told
 
       pub front_of_stop : (new : List Action) → new ≡ after.actions → IsFront known.actions new (move_actions d.me k ran)
       front_of_stop new stays = stop_front known.actions after.actions new ran.actions (closing d.me ran.halt) (action.Took d.me k) so_far stays
 
-      pub run_whole : (new : Known) (s : Standing) → HasStopped code after new answer s → HasRun class code d.me k ran known new m1 s
-      run_whole new s stopped =
-          has_run p class code may.runs may.waits d.me k ran.data' ran.todo ran.actions known after new m1 answer s run.known.same
-          (leaves p class code known m begin d todo may).same so_far ran.turns ran.halt run.stops stopped
+      pub run_whole : (new : Known) (s : Standing) → HasStopped code after new answer s → s.kept ≡ rows_kept code.live.patterns (data_of new) → HasRun class code d.me k ran known new m1 s
+      run_whole new s stopped rows =
+          has_run class code may.waits d.me k ran.data' ran.todo ran.actions known after new m1 answer s run.known.same run.known.plan
+          (leaves p class code known m k begin d todo may).same rows so_far ran.turns ran.halt run.stops stopped

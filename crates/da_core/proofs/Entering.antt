@@ -1,6 +1,7 @@
 -- Where the move of a core goes on in the code.
 use Rattle.std.proofs.Common.{◌≡◌, ℕ, zero, suc, ◌≤◌, List, [], ◌∷◌, Option, Some, None, refl, sym, ap, ◌∙◌, subst, arith}
 use Rattle.std.specs.Prelude.{Bool, true, false, MatchOption, slice_get}
+use Rattle.std.specs.List.{AllZip}
 use Rattle.std.specs.Option.{option_map}
 use Rattle.std.proofs.lemmas.Option.{slice_get-map}
 use Rattle.da_values.specs.declared.val.Val.{Val}
@@ -15,22 +16,22 @@ use Rattle.da_lang.specs.declared.program.ItemKind.TheViews.{out-Alt}
 use Rattle.da_lang.specs.declared.program.ProcDecl.{ProcDecl}
 use Rattle.da_lang.specs.declared.program.Program.{Program}
 use Rattle.da_lang.specs.declared.program.RBranch.{RBranch}
-use Rattle.da_lang.specs.declared.query.Query.{Query}
-use Rattle.da_lang.specs.Queries.{holds}
-use Rattle.da_lang.specs.Runs.{run_to_yield}
-use Rattle.da_lang.specs.Shaped.{ShapedTasks}
-use Rattle.da_lang.specs.Steps.{first_tasks, move_step, moved, proc_step}
-use Rattle.da_lang.specs.Turns.{bind_found, do_all, kind_of}
+use Rattle.da_lang.specs.Matching.{Row}
+use Rattle.da_lang.specs.Queries.{holds, least_row}
+use Rattle.da_lang.specs.Shaped.{ShapedData, ShapedTasks}
+use Rattle.da_lang.specs.Steps.{first_tasks, move_step, proc_step}
+use Rattle.da_lang.specs.Turns.{bind_found, bind_row, do_all, kind_of}
 use Rattle.da_lang.specs.World.{Data, Task, Do, World, Phase, New, Waiting, Ended, Faulted, at_number, class_of, class_of_decl}
 use Rattle.da_lang.proofs.MoveLaws.{step_begins, step_at_label, step_at_await}
-use Rattle.da_core.proofs.Laws.{class_has}
-use Rattle.da_core.proofs.RunLaws.{class_of_runs}
+use Rattle.da_types.proofs.shaped.DataKept.{bound-me}
+use Rattle.da_types.proofs.shaped.StatementValues.{alt_row_fits}
+use Rattle.da_types.proofs.shaped.TurnsKept.{found_bound}
 use Rattle.da_machine.specs.declared.code.Code.{Code}
 use Rattle.da_machine.specs.declared.code.YieldPoint.{YieldPoint}
 use Rattle.da_machine.specs.declared.machine.Machine.{Machine}
 use Rattle.da_machine.specs.CodeFor.{Has as HasInstr, CodeFor}
 use Rattle.da_machine.specs.Entries.{IsPoint}
-use Rattle.da_machine.specs.Points.{condition_of, conditions_of}
+use Rattle.da_machine.specs.Points.{AtAwait, IsNumbered, ways_of}
 use Rattle.da_machine.proofs.EntryLaws.{at_point}
 use Rattle.da_core.specs.declared.compiled.ClassCode.{ClassCode}
 use Rattle.da_core.specs.declared.compiled.Compiled.{Compiled}
@@ -38,11 +39,15 @@ use Rattle.da_core.specs.declared.process.Core.{Core}
 use Rattle.da_core.specs.declared.moves.Begin.{Begin}
 use Rattle.da_core.specs.declared.place.Place.{Place}
 use Rattle.da_core.specs.declared.place.Place.TheVariants as place
-use Rattle.da_core.specs.Begins.{CanMove, MayRun, begin_at, behind_turn, entry_behind, entry_of, if_flag, point_of}
+use Rattle.da_core.specs.declared.waits.Alternative.{Alternative}
+use Rattle.da_core.specs.Begins.{CanMove, MayRun, alternative_at, alternative_of, begin_at, behind_turn, bound_by, entry_behind, entry_of, if_flag, point_of, waits_behind}
 use Rattle.da_core.specs.Compiled.{IsCodeFor, IsCompiled, code_at, code_of, program_of as compiled_program}
-use Rattle.da_core.specs.RunsNow.{ClassRuns}
-use Rattle.da_core.proofs.Tasks.{alt_shaped, first_shaped, rest_shaped}
 use Rattle.da_core.specs.StandsFor.{AwaitsAs, BeginsWith, IsAt, IsPlace, IsWaiting, StandsFor, program_of}
+use Rattle.da_core.specs.Waits.{waits_of}
+use Rattle.da_core.proofs.Laws.{is_whole}
+use Rattle.da_core.proofs.Tasks.{alt_shaped, first_shaped, has_at, item_shaped, rest_shaped}
+use Rattle.da_core.proofs.WaitLaws.{IsAlternative, await_waits}
+use Rattle.query_plan.specs.Questions.{norm_class}
 
 -- THE CODE OF A PROCESS
 
@@ -59,16 +64,6 @@ module _ (c : Compiled) (class : Class) (code : ClassCode) (is : IsCompiled c) w
   pub is_code : (me : ℕ) → class_of (compiled_program c) me ≡ Some class → code_of c me ≡ Some code → (place : ℕ) × IsCodeFor (compiled_program c) place class code
   is_code me classed coded = found_code (at_number (compiled_program c).procs me) classed coded
 
--- WITHOUT QUERIES NOTHING IS BOUND
-
-no_rows : (found : Option ℕ) (binds : List ℕ) (d : Data) → bind_found [] found binds d ≡ d
-no_rows None binds d = refl
-no_rows (Some zero) binds d = refl
-no_rows (Some (suc n)) binds d = refl
-
-pub unbound : (queries : List Query) → queries ≡ [] → (found : Option ℕ) (binds : List ℕ) (d : Data) → bind_found queries found binds d ≡ d
-unbound queries is found binds d = ap (λ qs. bind_found qs found binds d) is ∙ no_rows found binds d
-
 -- ENTRIES
 
 module _ (code : Code) (class : Class) (number : ℕ) (loops : List (List Val)) where
@@ -80,22 +75,64 @@ module _ (code : Code) (class : Class) (number : ℕ) (loops : List (List Val)) 
   label_entry _ (IsPoint.at_await j todo alts entries is there numbered each) i rest same label =
       absurd (let head : j ≡ i = cc in let kinds : ◌≡◌ {A = ItemKind-F ItemKind Alt Item RBranch} (kind.Await alts) kind.Label = sym is ∙ ap kind_of head ∙ label in cc)
 
-  pub await_entry : (todo : List Task) → IsPoint code class number loops todo → (i : Item) (rest : List Task) (alts : List Alt) → todo ≡ Do i ∷ rest → kind_of i ≡ kind.Await alts
-      → (n : ℕ) (a : Alt) → slice_get alts n ≡ Some a
-      → (point : YieldPoint) × (entry : ℕ) × (slice_get code.yields number ≡ Some point) × (slice_get point.entries n ≡ Some entry) × CodeFor code class entry loops (do_all (out-Alt a).body rest)
-  await_entry _ (IsPoint.at_label j todo entry is there numbered code_for) i rest alts same await n a has =
+  -- an `await` of these alternatives stands there, with its entries
+  pub record AwaitPoint (rest : List Task) (alts : List Alt) : Type 0 where
+    pub entries : List ℕ
+    pub there : slice_get code.yields number ≡ Some (record { label = false; entries = entries })
+    pub numbered : IsNumbered class number (AtAwait (ways_of alts))
+    pub each : (n : ℕ) (a : Alt) → slice_get alts n ≡ Some a → (entry : ℕ) × (slice_get entries n ≡ Some entry) × CodeFor code class entry loops (do_all (out-Alt a).body rest)
+
+  pub await_point : (todo : List Task) → IsPoint code class number loops todo → (i : Item) (rest : List Task) (alts : List Alt) → todo ≡ Do i ∷ rest → kind_of i ≡ kind.Await alts → AwaitPoint rest alts
+  await_point _ (IsPoint.at_label j todo entry is there numbered code_for) i rest alts same await =
       absurd (let head : j ≡ i = cc in let kinds : ◌≡◌ {A = ItemKind-F ItemKind Alt Item RBranch} kind.Label (kind.Await alts) = sym is ∙ ap kind_of head ∙ await in cc)
-  await_entry _ (IsPoint.at_await j todo others entries is there numbered each) i rest alts same await n a has =
+  await_point _ (IsPoint.at_await j todo others entries is there numbered each) i rest alts same await =
       let tail : todo ≡ rest = cc in
       let head : j ≡ i = cc in
       let kinds : ◌≡◌ {A = ItemKind-F ItemKind Alt Item RBranch} (kind.Await others) (kind.Await alts) = sym is ∙ ap kind_of head ∙ await in
       let those : others ≡ alts = cc in
-      let (entry, stands, code_for) = each n a (ap (λ xs. slice_get xs n) those ∙ has) in
-      (record { label = false; entries = entries }, entry, there, stands, subst (λ tasks. CodeFor code class entry loops (do_all (out-Alt a).body tasks)) tail code_for)
+      let point : AwaitPoint todo others = record { entries = entries; there = there; numbered = numbered; each = each } in
+      subst (AwaitPoint rest) those (subst (λ tasks. AwaitPoint tasks others) tail point)
 
 pub entry_is : (code : Code) (at number n entry : ℕ) (point : YieldPoint) → HasInstr code at (op.Yield number) → slice_get code.yields number ≡ Some point → slice_get point.entries n ≡ Some entry
     → entry_behind code at n ≡ Some entry
 entry_is code at number n entry point here there stands = ap (λ i. entry_of (point_of code i) n) here ∙ ap (λ x. entry_of x n) there ∙ stands
+
+-- THE ROW THAT IS BOUND
+
+module _ (p : Program) (class : Class) where
+  row-me : (binds : List ℕ) (row : Option Row) (d : Data) → (bind_row binds row d).me ≡ d.me
+  row-me binds None d = refl
+  row-me binds (Some row) d = bound-me p class binds row d
+
+  found-me : (found : Option ℕ) (binds : List ℕ) (d : Data) → (bind_found class.queries found binds d).me ≡ d.me
+  found-me None binds d = refl
+  found-me (Some n) binds d = row-me binds (least_row class.queries n d) d
+
+  -- a process stays itself when it binds a row
+  pub alternative-me : (alternative : Option Alternative) (d : Data) → (bound_by class alternative d).me ≡ d.me
+  alternative-me None d = refl
+  alternative-me (Some x) d = found-me x.found x.binds d
+
+-- of alternatives side by side
+one_at : (class : Class) (own : List Alternative) (alts : List Alt) → AllZip (IsAlternative class) own alts → (n : ℕ) (a : Alt) → slice_get alts n ≡ Some a
+    → (x : Alternative) × (slice_get own n ≡ Some x) × IsAlternative class x a
+one_at class [] [] all n a there = absurd (let none : ◌≡◌ {A = Option Alt} None (Some a) = there in cc)
+one_at class [] (b ∷ alts) all n a there = absurd all
+one_at class (x ∷ own) [] all n a there = absurd all
+one_at class (x ∷ own) (b ∷ alts) all zero a there = let same : b ≡ a = cc in (x, refl, subst (IsAlternative class x) same all.0)
+one_at class (x ∷ own) (b ∷ alts) all (suc n) a there = one_at class own alts all.1 n a there
+
+-- what the alternative at a place in the code binds is what the alternative of the text binds
+pub alternative_binds : (class : Class) (code : ClassCode) (at number : ℕ) (alts : List Alt) → code.waits ≡ waits_of class (norm_class class).flags → HasInstr code.code at (op.Yield number)
+    → IsNumbered class number (AtAwait (ways_of alts)) → (n : ℕ) (a : Alt) → slice_get alts n ≡ Some a → (d : Data)
+    → bind_found class.queries (out-Alt a).found (out-Alt a).binds d ≡ bound_by class (alternative_at code at (suc n)) d
+alternative_binds class code at number alts waits here numbered n a there d =
+    let (own, stands, all) = await_waits class number alts numbered in
+    let (x, place, is) = one_at class own alts all n a there in
+    let taken : alternative_at code at (suc n) ≡ Some x =
+    ap (λ i. alternative_of (waits_behind code i) n) here ∙ ap (λ ws. alternative_of (slice_get ws number) n) waits ∙ ap (λ o. alternative_of o n) stands ∙ place in
+    sym (ap (λ found. bind_found class.queries found (out-Alt a).binds d) is.found) ∙ sym (ap (λ binds. bind_found class.queries x.found binds d) is.binds)
+    ∙ sym (ap (λ o. bound_by class o d) taken)
 
 -- A MOVE OF A CORE
 
@@ -112,19 +149,16 @@ module _ (core : Core) (w : World) (s : StandsFor core w) where
   code_for_class : (place : ℕ) × IsCodeFor p place s.class s.code
   code_for_class = is_code core.compiled.now s.class s.code s.compiled d.me s.knows.is_class s.code_is
 
-  pub runs_class : ClassRuns s.class
-  runs_class = class_of_runs p s.runs s.class (class_has p d.me s.class s.knows.is_class)
-
-  may : (begin : Begin) (todo : List Task) → begin.turns ≤ 1 → ShapedTasks p s.class d.me todo → CodeFor s.code.code s.class begin.entry m.loops todo
-      → MayRun p s.class s.code core.known m begin d todo
-  may begin todo early tasks code_for = record {
+  may : (k : ℕ) (begin : Begin) (after : Data) (todo : List Task) → after ≡ bound_by s.class (alternative_at s.code m.place k) d → after.me ≡ d.me → ShapedData p s.class after → begin.turns ≤ 1
+      → ShapedTasks p s.class d.me todo → CodeFor s.code.code s.class begin.entry m.loops todo → MayRun p s.class s.code core.known m k begin after todo
+  may k begin after todo bound mine knows early tasks code_for = record {
     accepted = s.compiled.accepted;
-    runs = runs_class;
     forward = code_for_class.1.code.forward;
     waits = code_for_class.1.waits;
-    knows = s.knows;
-    tasks = tasks;
-    same = s.same;
+    plan = s.plan;
+    bound = bound ∙ ap (bound_by s.class (alternative_at s.code m.place k)) s.same;
+    knows = knows;
+    tasks = subst (λ me. ShapedTasks p s.class me todo) (sym mine) tasks;
     code_for = code_for;
     early = early;
   }
@@ -138,11 +172,15 @@ module _ (core : Core) (w : World) (s : StandsFor core w) where
 
   begins_new : w.phase ≡ New → CodeFor s.code.code s.class m.place m.loops (first_tasks p s.class d.me) → IsBegin 0 (Some (record { entry = m.place; turns = 0 }))
   begins_new new at = record {
+    place = code_for_class.0;
     class = s.class;
+    d = d;
     todo = first_tasks p s.class d.me;
     code_is = s.code_is;
+    is = code_for_class.1;
+    mine = refl;
     step = step_begins p s.class w s.knows.is_class new;
-    may = may (record { entry = m.place; turns = 0 }) (first_tasks p s.class d.me) (omega arith) (first_shaped p s.class d.me) at;
+    may = may 0 (record { entry = m.place; turns = 0 }) d (first_tasks p s.class d.me) refl refl s.knows (omega arith) (first_shaped p s.class d.me) at;
   }
 
   begins_at_label : w.phase ≡ Waiting → BeginsWith w.todo kind.Label → IsWaiting s.class s.code.code m w.todo → IsBegin 0 (behind_turn (entry_behind s.code.code m.place 0))
@@ -151,11 +189,15 @@ module _ (core : Core) (w : World) (s : StandsFor core w) where
       let goes : entry_behind s.code.code m.place 0 ≡ Some entry = entry_is s.code.code m.place at.number 0 entry (record { label = true; entries = entry ∷ [] }) at.there there refl in
       let start : Begin = record { entry = entry; turns = 1 } in
       let can : CanMove core w 0 s.code start = record {
+        place = code_for_class.0;
         class = s.class;
+        d = d;
         todo = begins.rest;
         code_is = s.code_is;
+        is = code_for_class.1;
+        mine = refl;
         step = step_at_label p s.class w s.knows.is_class begins.item begins.rest waits begins.first begins.is;
-        may = may start begins.rest (omega arith) (rest_shaped p s.class d.me begins.item w.todo begins.rest begins.first s.tasks) code_for;
+        may = may 0 start d begins.rest refl refl s.knows (omega arith) (rest_shaped p s.class d.me begins.item w.todo begins.rest begins.first s.tasks) code_for;
       } in
       subst (λ found. IsBegin 0 (behind_turn found)) (sym goes) can
 
@@ -163,43 +205,58 @@ module _ (core : Core) (w : World) (s : StandsFor core w) where
     abbrev b : BeginsWith w.todo (kind.Await awaits.alts)
     b = awaits.begins
 
-    flag_is : (n : ℕ) → slice_get core.flags n ≡ option_map (λ c. holds d c []) (option_map condition_of (slice_get awaits.alts n))
-    flag_is n =
-        ap (λ flags. slice_get flags n) awaits.flags ∙ slice_get-map (λ c. holds d c []) (conditions_of awaits.alts) n
-        ∙ ap (option_map (λ c. holds d c [])) (slice_get-map condition_of awaits.alts n)
+    abbrev holds_now : Alt → Bool
+    holds_now a = holds d (out-Alt a).cond []
+
+    flag_is : (n : ℕ) → slice_get core.flags n ≡ option_map holds_now (slice_get awaits.alts n)
+    flag_is n = ap (λ flags. slice_get flags n) awaits.hold ∙ slice_get-map holds_now awaits.alts n
 
     no_alternative : (n : ℕ) → slice_get awaits.alts n ≡ None → proc_step p w (move_step (suc n)) ≡ None
     no_alternative n none = rw (s.knows.is_class, waits, b.first, b.is, none) refl
 
-    not_now : (n : ℕ) (a : Alt) → slice_get awaits.alts n ≡ Some a → holds d (out-Alt a).cond [] ≡ false → proc_step p w (move_step (suc n)) ≡ None
+    not_now : (n : ℕ) (a : Alt) → slice_get awaits.alts n ≡ Some a → holds_now a ≡ false → proc_step p w (move_step (suc n)) ≡ None
     not_now n a there false' = rw (s.knows.is_class, waits, b.first, b.is, there, false') refl
 
-    takes : (n : ℕ) (a : Alt) → slice_get awaits.alts n ≡ Some a → holds d (out-Alt a).cond [] ≡ true → IsBegin (suc n) (behind_turn (entry_behind s.code.code m.place n))
+    abbrev bound_of : Alt → Data
+    bound_of a = bind_found s.class.queries (out-Alt a).found (out-Alt a).binds d
+
+    -- the row fits the slots
+    bound_shaped : (n : ℕ) (a : Alt) → slice_get awaits.alts n ≡ Some a → ShapedData p s.class (bound_of a) × ((bound_of a).me ≡ d.me)
+    bound_shaped n a there =
+        let stands = item_shaped p s.class d.me b.item w.todo b.rest b.first s.tasks in
+        found_bound p s.class (out-Alt a).found (out-Alt a).binds d s.knows
+        (λ query row finds found. alt_row_fits p s.class d (is_whole p s.compiled.accepted) s.knows b.item stands awaits.alts a query row b.is (has_at awaits.alts n a there) finds found)
+
+    takes : (n : ℕ) (a : Alt) → slice_get awaits.alts n ≡ Some a → holds_now a ≡ true → IsBegin (suc n) (behind_turn (entry_behind s.code.code m.place n))
     takes n a there true' =
-        let (point, entry, yields, stands, code_for) = await_entry s.code.code s.class at.number m.loops w.todo (at_point s.code.code s.class m.place m.loops w.todo at.code_for at.number at.there) b.item b.rest awaits.alts b.first b.is n a there in
-        let goes : entry_behind s.code.code m.place n ≡ Some entry = entry_is s.code.code m.place at.number n entry point at.there yields stands in
+        let point = await_point s.code.code s.class at.number m.loops w.todo (at_point s.code.code s.class m.place m.loops w.todo at.code_for at.number at.there) b.item b.rest awaits.alts b.first b.is in
+        let (entry, stands, code_for) = point.each n a there in
+        let goes : entry_behind s.code.code m.place n ≡ Some entry = entry_is s.code.code m.place at.number n entry (record { label = false; entries = point.entries }) at.there point.there stands in
         let start : Begin = record { entry = entry; turns = 1 } in
         let tasks : ShapedTasks p s.class d.me (do_all (out-Alt a).body b.rest) = alt_shaped p s.class d.me b.item w.todo b.rest b.first s.tasks awaits.alts a n b.is there in
-        let bound = unbound s.class.queries runs_class.no_queries (out-Alt a).found (out-Alt a).binds d in
+        let row = bound_shaped n a there in
+        let binds : bound_of a ≡ bound_by s.class (alternative_at s.code m.place (suc n)) d = alternative_binds s.class s.code m.place at.number awaits.alts code_for_class.1.waits at.there point.numbered n a there d in
         let can : CanMove core w (suc n) s.code start = record {
+          place = code_for_class.0;
           class = s.class;
+          d = bound_of a;
           todo = do_all (out-Alt a).body b.rest;
           code_is = s.code_is;
-          step =
-              step_at_await p s.class w s.knows.is_class b.item b.rest awaits.alts a (suc n) waits b.first b.is there true'
-              ∙ ap (λ (x : Data). Some (moved d.me (suc n) (run_to_yield s.class 1 x (do_all (out-Alt a).body b.rest)))) bound;
-          may = may start (do_all (out-Alt a).body b.rest) (omega arith) tasks code_for;
+          is = code_for_class.1;
+          mine = row.1;
+          step = step_at_await p s.class w s.knows.is_class b.item b.rest awaits.alts a (suc n) waits b.first b.is there true';
+          may = may (suc n) start (bound_of a) (do_all (out-Alt a).body b.rest) binds row.1 row.0 (omega arith) tasks code_for;
         } in
         subst (λ found. IsBegin (suc n) (behind_turn found)) (sym goes) can
 
-    by_flag : (n : ℕ) (a : Alt) (flag : Bool) → slice_get awaits.alts n ≡ Some a → holds d (out-Alt a).cond [] ≡ flag → IsBegin (suc n) (if_flag (Some flag) (behind_turn (entry_behind s.code.code m.place n)))
+    by_flag : (n : ℕ) (a : Alt) (flag : Bool) → slice_get awaits.alts n ≡ Some a → holds_now a ≡ flag → IsBegin (suc n) (if_flag (Some flag) (behind_turn (entry_behind s.code.code m.place n)))
     by_flag n a true there is = takes n a there is
     by_flag n a false there is = not_now n a there is
 
     by_alternative : (n : ℕ) (found : Option Alt) → slice_get awaits.alts n ≡ found
-        → IsBegin (suc n) (if_flag (option_map (λ c. holds d c []) (option_map condition_of found)) (behind_turn (entry_behind s.code.code m.place n)))
+        → IsBegin (suc n) (if_flag (option_map holds_now found) (behind_turn (entry_behind s.code.code m.place n)))
     by_alternative n None there = no_alternative n there
-    by_alternative n (Some a) there = by_flag n a (holds d (out-Alt a).cond []) there refl
+    by_alternative n (Some a) there = by_flag n a (holds_now a) there refl
 
     begins_at_await : (n : ℕ) → IsBegin (suc n) (if_flag (slice_get core.flags n) (behind_turn (entry_behind s.code.code m.place n)))
     begins_at_await n =

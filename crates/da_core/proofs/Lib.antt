@@ -1,14 +1,13 @@
 pub mod Arriving
+pub mod Asking
 pub mod Carrying
 pub mod DefaultForms
 pub mod Delivering
 pub mod Entering
 pub mod Fronts
+pub mod KeptLaw
 pub mod Laws
 pub mod Moving
-pub mod PlainForms
-pub mod RunForms
-pub mod RunLaws
 pub mod Sending
 pub mod SlotLaws
 pub mod Starting
@@ -16,3 +15,4 @@ pub mod Stopping
 pub mod Taking
 pub mod Tasks
 pub mod WaitForms
+pub mod WaitLaws

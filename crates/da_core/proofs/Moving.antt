@@ -1,15 +1,14 @@
 -- What a core stands for behind a move.
-use Rattle.std.proofs.Common.{◌≡◌, ℕ, List, [], ◌++◌, Option, Some, None, refl, sym, ap, ◌∙◌, subst}
+use Rattle.std.proofs.Common.{◌≡◌, ℕ, List, [], ◌++◌, refl, sym, ap, ◌∙◌, subst}
 use Rattle.std.specs.Prelude.{Bool, false}
 use Rattle.da_lang.specs.declared.event.Action.{Action}
 use Rattle.da_lang.specs.declared.program.Class.{Class}
 use Rattle.da_lang.specs.declared.program.Program.{Program}
 use Rattle.da_lang.specs.Runs.{Halt, AtYield, UsedUp, Faults, Ran, run_to_yield}
 use Rattle.da_lang.specs.Shaped.{ShapedTasks}
-use Rattle.da_lang.specs.Steps.{Stepped, move_step, moved, phase_after, proc_step}
-use Rattle.da_lang.specs.World.{Data, Task, World, Phase, New, Waiting, Ended, Faulted}
+use Rattle.da_lang.specs.Steps.{move_step, moved, phase_after}
+use Rattle.da_lang.specs.World.{Data, Task, World, Phase, New, Waiting, Ended, Faulted, class_of}
 use Rattle.da_types.specs.KeepsShaped.{LeavesShaped}
-use Rattle.da_core.proofs.Laws.{keeps_shaped}
 use Rattle.da_machine.specs.declared.machine.Machine.{Machine}
 use Rattle.da_machine.specs.RunsTo.{IsFront}
 use Rattle.da_core.specs.declared.compiled.ClassCode.{ClassCode}
@@ -22,35 +21,35 @@ use Rattle.da_core.specs.declared.place.Place.TheVariants as place
 use Rattle.da_core.specs.declared.place.Stopped.{Stopped}
 use Rattle.da_core.specs.Begins.{CanMove, HasRun, IsBehind, MayRun, move_actions}
 use Rattle.da_core.specs.Compiled.{code_of}
+use Rattle.da_core.specs.Known.{data_of}
 use Rattle.da_core.specs.Made.{HasBegun, HasMade, phase_at, phase_of, stopped_at}
 use Rattle.da_core.specs.StandsFor.{IsAt, IsPlace, StandsFor, program_of}
+use Rattle.da_core.specs.Told.{answers, answers_of, kept_of}
+use Rattle.da_core.proofs.KeptLaw.{rows_are}
+use Rattle.da_core.proofs.Laws.{keeps_shaped}
 
 -- where the actions are others
-pub may_with : (p : Program) (class : Class) (code : ClassCode) (known : Known) (m : Machine) (begin : Begin) (d : Data) (todo : List Task) (actions : List Action)
-    → MayRun p class code known m begin d todo → MayRun p class code (record known { actions = actions }) m begin d todo
-may_with p class code known m begin d todo actions may = record {
+pub may_with : (p : Program) (class : Class) (code : ClassCode) (known : Known) (m : Machine) (k : ℕ) (begin : Begin) (d : Data) (todo : List Task) (actions : List Action)
+    → MayRun p class code known m k begin d todo → MayRun p class code (record known { actions = actions }) m k begin d todo
+may_with p class code known m k begin d todo actions may = record {
   accepted = may.accepted;
-  runs = may.runs;
   forward = may.forward;
   waits = may.waits;
+  plan = may.plan;
+  bound = may.bound;
   knows = may.knows;
   tasks = may.tasks;
-  same = may.same;
   code_for = may.code_for;
   early = may.early;
 }
 
--- the run leaves what is shaped
-pub leaves : (p : Program) (class : Class) (code : ClassCode) (known : Known) (m : Machine) (begin : Begin) (d : Data) (todo : List Task) → MayRun p class code known m begin d todo
-    → let ran = run_to_yield class begin.turns d todo in LeavesShaped p class d.me ran.data' ran.todo ran.actions
-leaves p class code known m begin d todo may = (keeps_shaped p may.accepted).runs class begin.turns d todo may.knows may.tasks
+module _ (p : Program) (class : Class) (code : ClassCode) (known : Known) (m : Machine) (k : ℕ) (begin : Begin) (d : Data) (todo : List Task) (may : MayRun p class code known m k begin d todo) where
+  -- the run leaves what is shaped
+  pub leaves : let ran = run_to_yield class begin.turns d todo in LeavesShaped p class d.me ran.data' ran.todo ran.actions
+  leaves = (keeps_shaped p may.accepted).runs class begin.turns d todo may.knows may.tasks
 
-pub tasks_left : (p : Program) (class : Class) (code : ClassCode) (known : Known) (m : Machine) (begin : Begin) (d : Data) (todo : List Task) → MayRun p class code known m begin d todo
-    → let ran = run_to_yield class begin.turns d todo in ShapedTasks p class ran.data'.me ran.todo
-tasks_left p class code known m begin d todo may =
-    let ran = run_to_yield class begin.turns d todo in
-    let left = leaves p class code known m begin d todo may in
-    subst (λ me. ShapedTasks p class me ran.todo) (sym left.same) left.tasks
+  pub tasks_left : let ran = run_to_yield class begin.turns d todo in ShapedTasks p class ran.data'.me ran.todo
+  tasks_left = let ran = run_to_yield class begin.turns d todo in subst (λ me. ShapedTasks p class me ran.todo) (sym leaves.same) leaves.tasks
 
 -- WHERE THE PROCESS STANDS
 
@@ -90,54 +89,71 @@ stops_so d todo s place.Ended (Faults kind line) is = absurd is
 stops_so d todo s place.Faulted AtYield is = absurd is
 stops_so d todo s place.Faulted UsedUp is = absurd is
 
+-- the core keeps as many rows as the process
+pub keeps_rows : (core : Core) (w : World) → StandsFor core w → core.kept ≡ kept_of (class_of (program_of core) w.data'.me) w.data'
+keeps_rows core w s = s.rows ∙ sym (ap (λ class. kept_of class w.data') s.knows.is_class)
+
+-- what it tells of its queries is told of the process
+pub tells_answers : (core : Core) (w : World) (s : StandsFor core w)
+    → answers core.known.me s.class.queries (data_of core.known) ≡ answers_of w.data'.me (class_of (program_of core) w.data'.me) w.data'
+tells_answers core w s =
+    ap (λ (x : Data). answers x.me s.class.queries x) (sym s.same) ∙ sym (ap (λ class. answers_of w.data'.me class w.data') s.knows.is_class)
+
 module _ (core : Core) (w : World) (s : StandsFor core w) (k : ℕ) (code : ClassCode) (begin : Begin) (can : CanMove core w k code begin) where
-  abbrev d : Data
-  d = w.data'
+  abbrev p : Program
+  p = program_of core
+
+  abbrev me : ℕ
+  me = w.data'.me
 
   abbrev ran : Ran
-  ran = run_to_yield can.class begin.turns d can.todo
+  ran = run_to_yield can.class begin.turns can.d can.todo
 
   abbrev after : World
-  after = (moved d.me k ran).world
+  after = (moved me k ran).world
 
-  pub not_none : proc_step (program_of core) w (move_step k) ≡ None → ⊥
-  not_none none = let both : ◌≡◌ {A = Option Stepped} None (Some (moved d.me k ran)) = sym none ∙ can.step in cc
+  left : LeavesShaped p can.class can.d.me ran.data' ran.todo ran.actions
+  left = leaves p can.class code core.known core.machine k begin can.d can.todo can.may
 
   -- the process before the move with the actions of the caller; the process, the machine and its standing behind the move,
   -- where the actions are given back
-  module _ (own : List Action) (known : Known) (m : Machine) (stands : Standing) (run : HasRun can.class code d.me k ran (record core.known { actions = own }) known m stands) where
-    module _ (empty : List Action) (none : empty ≡ []) (new : Core) (is_new : new ≡ record core { known = record known { actions = empty }; machine = m; place = stands.place; flags = stands.flags; spent = false }) where
+  module _ (own : List Action) (known : Known) (m : Machine) (stands : Standing) (run : HasRun can.class code can.d.me k ran (record core.known { actions = own }) known m stands) where
+    module _ (empty : List Action) (none : empty ≡ []) (new : Core)
+        (is_new : new ≡ record core { known = record known { actions = empty }; machine = m; place = stands.place; flags = stands.flags; kept = stands.kept; spent = false }) where
       pub stands_after : StandsFor new after
       stands_after =
-          let left = leaves (program_of core) can.class code core.known core.machine begin d can.todo can.may in
           subst (λ z. StandsFor z after) (sym is_new) (record {
             unspent = refl;
             compiled = s.compiled;
-            runs = s.runs;
             class = can.class;
             code = code;
-            code_is = ap (code_of core.compiled.now) left.same ∙ can.code_is;
+            code_is = ap (code_of core.compiled.now) (left.same ∙ can.mine) ∙ can.code_is;
             knows = left.knows;
-            tasks = tasks_left (program_of core) can.class code core.known core.machine begin d can.todo can.may;
+            tasks = tasks_left p can.class code core.known core.machine k begin can.d can.todo can.may;
             same = run.same;
+            plan = run.plan;
+            rows = run.rows ∙ rows_are p ran.data'.me can.class code.live.patterns can.may.accepted left.knows.is_class can.is.live ran.data';
             no_actions = none;
             place = run.place;
-            at = at_behind (program_of core) can.class code m after ran.halt run.behind;
+            at = at_behind p can.class code m after ran.halt run.behind;
           })
 
       pub has_made : (out given : List Action) → own ≡ out → given ≡ known.actions → (answer : Stopped) → answer ≡ stopped_at stands.place → HasMade core w (move_step k) new answer out given
       has_made out given from back answer is = record {
-        after = moved d.me k ran;
+        after = moved me k ran;
         leads = can.step;
         stands = stands_after;
-        same = (leaves (program_of core) can.class code core.known core.machine begin d can.todo can.may).same;
+        same = left.same ∙ can.mine;
         stopped = ap phase_of is ∙ stops_so ran.data' ran.todo stands stands.place ran.halt run.place;
-        added = back ∙ run.actions ∙ ap (λ xs. xs ++ move_actions d.me k ran) from;
+        added = back ∙ run.actions ∙ ap (λ x. own ++ move_actions x k ran) can.mine ∙ ap (λ xs. xs ++ move_actions me k ran) from;
       }
 
-  pub has_begun : (own out given left : List Action) → own ≡ out → given ≡ left → IsFront own left (move_actions d.me k ran) → HasBegun core w (move_step k) out given
-  has_begun own out given left from back (more, is) = record {
-    after = moved d.me k ran;
+  pub has_begun : (own out given told : List Action) → own ≡ out → given ≡ told → IsFront own told (move_actions can.d.me k ran) → HasBegun core w (move_step k) out given
+  has_begun own out given told from back (more, is) = record {
+    after = moved me k ran;
     leads = can.step;
-    front = (more, ap (λ xs. xs ++ more) back ∙ is ∙ ap (λ xs. xs ++ move_actions d.me k ran) from);
+    front = (
+      more,
+      ap (λ xs. xs ++ more) back ∙ is ∙ ap (λ x. own ++ move_actions x k ran) can.mine ∙ ap (λ xs. xs ++ move_actions me k ran) from,
+    );
   }

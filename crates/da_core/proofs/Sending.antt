@@ -1,6 +1,6 @@
 -- A message to each of some processes, one after the other.
-use Rattle.std.proofs.Common.{◌≡◌, ℕ, ◌+◌, ◌<◌, List, [], ◌∷◌, ◌++◌, drop, get_or, length, map, sym, ap, ◌∙◌, subst, append_assoc, append-nil}
-use Rattle.std.proofs.lemmas.List.{at_drop_more}
+use Rattle.std.proofs.Common.{◌≡◌, ℕ, ◌+◌, ◌<◌, ◌≤◌, List, [], ◌∷◌, ◌++◌, drop, get_or, length, map, refl, sym, ap, ◌∙◌, subst, append_assoc}
+use Rattle.std.proofs.lemmas.List.{at_drop_all, at_drop_more}
 use Rattle.da_values.specs.declared.val.Val.{Val}
 use Rattle.da_values.specs.declared.value.Value.{Value}
 use Rattle.da_values.specs.Layer.{value_of-val_of}
@@ -18,29 +18,28 @@ use Rattle.da_core.specs.Known.{Knows, data_of}
 -- these processes are left of those to which the message goes
 pub record Sends (m : Val) (ps left : List ℕ) (first now : Known) : Type 0 where
   pub knows : sent_to m left (data_of now) ≡ sent_to m ps (data_of first)
+  pub plan : now.plan.now ≡ first.plan.now
   pub told : now.actions ++ sending now.me m left now.clock ≡ first.actions ++ sending first.me m ps first.clock
 
 pub sends_first : (m : Val) (ps left : List ℕ) (first : Known) → left ≡ ps → Sends m ps left first first
 sends_first m ps left first is = record {
   knows = ap (λ qs. sent_to m qs (data_of first)) is;
+  plan = refl;
   told = ap (λ qs. first.actions ++ sending first.me m qs first.clock) is;
 }
 
 pub sends_on : (m : Val) (ps : List ℕ) (p : ℕ) (left : List ℕ) (first now next : Known) → Sends m ps (p ∷ left) first now
-    → data_of next ≡ sent_at m p (later now.clock) (data_of now) → next.actions ≡ now.actions ++ Sent now.me p (later now.clock) (value_of m) ∷ []
-    → Sends m ps left first next
-sends_on m ps p left first now next so_far is told = record {
+    → data_of next ≡ sent_at m p (later now.clock) (data_of now) → next.plan.now ≡ now.plan.now
+    → next.actions ≡ now.actions ++ Sent now.me p (later now.clock) (value_of m) ∷ [] → Sends m ps left first next
+sends_on m ps p left first now next so_far is plan told = record {
   knows = ap (sent_to m left) is ∙ so_far.knows;
+  plan = plan ∙ so_far.plan;
   told =
       ap (λ xs. xs ++ sending next.me m left next.clock) told
       ∙ ap (λ (d : Data). (now.actions ++ Sent now.me p (later now.clock) (value_of m) ∷ []) ++ sending d.me m left d.clock) is
       ∙ append_assoc now.actions (Sent now.me p (later now.clock) (value_of m) ∷ []) (sending now.me m left (later now.clock))
       ∙ so_far.told;
 }
-
-pub sends_last : (m : Val) (ps : List ℕ) (first now : Known) → Sends m ps [] first now
-    → (data_of now ≡ sent_to m ps (data_of first)) × (now.actions ≡ first.actions ++ sending first.me m ps first.clock)
-sends_last m ps first now s = (s.knows, sym (append-nil now.actions) ∙ s.told)
 
 -- memory was refused while the message went to the next one
 pub sends_front : (m : Val) (ps : List ℕ) (p : ℕ) (left : List ℕ) (first now next : Known) → Sends m ps (p ∷ left) first now
@@ -66,9 +65,9 @@ module _ (m : Value) (processes : List Value) (k : ℕ) (v : Value) (p : ℕ) (p
   kept : (time : ℕ) → ◌≡◌ {A = List Action} (Sent now.me p time m ∷ []) (Sent now.me p time (value_of (val_of m)) ∷ [])
   kept time = ap (λ x. Sent now.me p time x ∷ []) (sym (value_of-val_of m))
 
-  pub sends_next : data_of next ≡ sent_at (val_of m) p (later now.clock) (data_of now) → next.actions ≡ now.actions ++ Sent now.me p (later now.clock) m ∷ []
+  pub sends_next : data_of next ≡ sent_at (val_of m) p (later now.clock) (data_of now) → next.plan.now ≡ now.plan.now → next.actions ≡ now.actions ++ Sent now.me p (later now.clock) m ∷ []
       → Sends (val_of m) ps (map proc_of (vals (drop (k + 1) processes))) first next
-  sends_next is told = sends_on (val_of m) ps p (map proc_of (vals (drop (k + 1) processes))) first now next to_this is (told ∙ ap (λ xs. now.actions ++ xs) (kept (later now.clock)))
+  sends_next is plan told = sends_on (val_of m) ps p (map proc_of (vals (drop (k + 1) processes))) first now next to_this is plan (told ∙ ap (λ xs. now.actions ++ xs) (kept (later now.clock)))
 
   stopped : (d : Data) → d ≡ data_of first → IsFront now.actions next.actions (Sent now.me p (later now.clock) m ∷ []) → IsFront first.actions next.actions (sending d.me (val_of m) ps d.clock)
   stopped d same front =
@@ -77,3 +76,10 @@ module _ (m : Value) (processes : List Value) (k : ℕ) (v : Value) (p : ℕ) (p
 
   pub sends_stop : IsFront now.actions next.actions (Sent now.me p (later now.clock) m ∷ []) → EachProcess (Knows first) (λ pr class d. IsFront first.actions next.actions (sending d.me (val_of m) ps d.clock))
   sends_stop front pr class d knows = stopped d knows.same front
+
+-- behind the last one
+pub sends_end : (m : Val) (processes : List Value) (k : ℕ) (ps : List ℕ) (first now : Known) → length processes ≤ k → Sends m ps (map proc_of (vals (drop k processes))) first now
+    → EachProcess (Knows first) (λ p class d. Knows now p class (sent_to m ps d))
+sends_end m processes k ps first now past so_far p class d knows =
+    let s = subst (λ left. Sends m ps left first now) (at_drop_all (λ vs. map proc_of (vals vs)) processes k past) so_far in
+    record { same = ap (sent_to m ps) knows.same ∙ sym s.knows; plan = s.plan ∙ knows.plan }

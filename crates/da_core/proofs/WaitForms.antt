@@ -1,160 +1,164 @@
--- What is waited for in a statement, by its form.
-use Rattle.std.specs.Prelude.{◌≡◌, ℕ, ◌≤◌, List, [], ◌∷◌, ◌++◌, length, map, flat_map, refl, OnOk}
+-- What is waited for in a statement, by its form, and on the way through a list.
+use Rattle.std.specs.Prelude.{◌≡◌, ℕ, ◌+◌, ◌<◌, List, [], ◌∷◌, ◌++◌, length, map, get_or, refl, OnOk}
 use Rattle.std.proofs.Common.{◌∙◌, ap, sym, subst, append_assoc, append-nil, drop, Result, Ok, Err}
-use Rattle.std.proofs.lemmas.List.{at_drop_all, map-append}
+use Rattle.std.proofs.lemmas.List.{drop_more}
 use Rattle.da_lang.specs.declared.program.Alt.{Alt, out-Alt}
 use Rattle.da_lang.specs.declared.program.BindArg.{BindArg}
-use Rattle.da_lang.specs.declared.program.Class.{Class}
-use Rattle.da_lang.specs.declared.program.Handler.{Handler}
 use Rattle.da_lang.specs.declared.program.Item.{Item, out-Item}
 use Rattle.da_lang.specs.declared.program.ItemKind.{ItemKind, roll-ItemKind}
 use Rattle.da_lang.specs.declared.program.ItemKind.TheVariants as it
 use Rattle.da_lang.specs.declared.program.ItemKind.TheOpen.{ItemKind-F}
-use Rattle.da_lang.specs.declared.program.ItemKind.TheFolds.{fold-Alt, fold-RBranch, fold-roll-ItemKind, fold_out-Alt, fold_out-Item, fold_out-RBranch, map-ItemKind}
+use Rattle.da_lang.specs.declared.program.ItemKind.TheFolds.{fold-roll-ItemKind, fold_out-Alt, fold_out-Item, fold_out-RBranch, map-ItemKind}
 use Rattle.da_lang.specs.declared.program.RBranch.{RBranch, out-RBranch}
 use Rattle.da_lang.specs.declared.program.RExpr.{RExpr}
-use Rattle.da_machine.specs.Points.{AltPoints, Points, alt_points_step, branch_points_step, condition_of, conditions_of, item_points_step, kind_points_step, points_in, points_of}
-use Rattle.da_core.specs.Waits.{Waits, alts_wait, branches_wait, handlers_wait, item_waits, items_wait, kind_points, kind_waits, waits_at, waits_of}
-
-alt_points : Alt → AltPoints
-alt_points = fold-Alt Points AltPoints Points Points kind_points_step alt_points_step item_points_step branch_points_step
-
-branch_points : RBranch → Points
-branch_points = fold-RBranch Points AltPoints Points Points kind_points_step alt_points_step item_points_step branch_points_step
+use Rattle.da_core.specs.declared.waits.Alternative.{Alternative}
+use Rattle.da_core.specs.Waits.{AltTake, AltsTaken, Take, Taken, Waits, all_taken, alt_step, alt_take, alts_taken, await_taken, branch_step, branch_take, item_step, item_take, items_take, kind_step, kind_take, next_flag, none_taken}
 
 -- ONE LAYER
 
-kind_layer : (x : ItemKind-F ItemKind Alt Item RBranch) → kind_points (roll-ItemKind x) ≡ kind_points_step (map-ItemKind ItemKind Alt Item RBranch Points AltPoints Points Points kind_points alt_points points_in branch_points x)
-unfolding kind_points points_in alt_points branch_points
-kind_layer x = fold-roll-ItemKind Points AltPoints Points Points kind_points_step alt_points_step item_points_step branch_points_step x
+form : (k : ItemKind) (x : ItemKind-F ItemKind Alt Item RBranch) → roll-ItemKind x ≡ k
+    → kind_take k ≡ kind_step (map-ItemKind ItemKind Alt Item RBranch Take AltTake Take Take kind_take alt_take item_take branch_take x)
+unfolding kind_take alt_take item_take branch_take
+form k x rolls = ap kind_take (sym rolls) ∙ fold-roll-ItemKind Take AltTake Take Take kind_step alt_step item_step branch_step x
 
-item_layer : (i : Item) → points_in i ≡ kind_points (out-Item i).kind
-unfolding kind_points points_in
-item_layer i = fold_out-Item Points AltPoints Points Points kind_points_step alt_points_step item_points_step branch_points_step i
+pub item_layer : (i : Item) → item_take i ≡ kind_take (out-Item i).kind
+unfolding kind_take item_take
+item_layer i = fold_out-Item Take AltTake Take Take kind_step alt_step item_step branch_step i
 
-alt_layer : (a : Alt) → alt_points a ≡ record { waits_for = condition_of a; inside = points_of (map points_in (out-Alt a).body) }
-unfolding alt_points points_in
-alt_layer a = fold_out-Alt Points AltPoints Points Points kind_points_step alt_points_step item_points_step branch_points_step a
+pub alt_layer : (a : Alt) → alt_take a ≡ record { found = (out-Alt a).found; binds = (out-Alt a).binds; block = items_take (out-Alt a).body }
+unfolding alt_take item_take
+alt_layer a = fold_out-Alt Take AltTake Take Take kind_step alt_step item_step branch_step a
 
-branch_layer : (b : RBranch) → branch_points b ≡ points_of (map points_in (out-RBranch b).body)
-unfolding branch_points points_in
-branch_layer b = fold_out-RBranch Points AltPoints Points Points kind_points_step alt_points_step item_points_step branch_points_step b
+pub branch_layer : (b : RBranch) → branch_take b ≡ items_take (out-RBranch b).body
+unfolding branch_take item_take
+branch_layer b = fold_out-RBranch Take AltTake Take Take kind_step alt_step item_step branch_step b
 
--- WHAT IS WAITED FOR IN LISTS
+-- ONE PART AFTER ANOTHER
 
-wait_item : (i : Item) → map waits_at (points_in i) ≡ item_waits i
-wait_item i = ap (map waits_at) (item_layer i)
+abbrev pub both_taken : Take → Take → Take
+both_taken one two flags =
+    let first = one flags in
+    let second = two first.left in
+    record { waits = first.waits ++ second.waits; left = second.left }
 
-wait_items : (items : List Item) → map waits_at (points_of (map points_in items)) ≡ items_wait items
-wait_items [] = refl
-wait_items (i ∷ is) =
-    map-append waits_at (points_in i) (points_of (map points_in is))
-    ∙ ap (λ w. w ++ map waits_at (points_of (map points_in is))) (wait_item i)
-    ∙ ap (λ w. item_waits i ++ w) (wait_items is)
-
-wait_branches : (branches : List RBranch) → map waits_at (points_of (map branch_points branches)) ≡ branches_wait branches
-wait_branches [] = refl
-wait_branches (b ∷ bs) =
-    map-append waits_at (branch_points b) (points_of (map branch_points bs))
-    ∙ ap (λ w. w ++ map waits_at (points_of (map branch_points bs))) (ap (map waits_at) (branch_layer b) ∙ wait_items (out-RBranch b).body)
-    ∙ ap (λ w. items_wait (out-RBranch b).body ++ w) (wait_branches bs)
-
-wait_alts : (alts : List Alt) → map waits_at (flat_map (λ a. a.inside) (map alt_points alts)) ≡ alts_wait alts
-wait_alts [] = refl
-wait_alts (a ∷ as') =
-    map-append waits_at (alt_points a).inside (flat_map (λ b. b.inside) (map alt_points as'))
-    ∙ ap (λ w. w ++ map waits_at (flat_map (λ b. b.inside) (map alt_points as'))) (ap (λ (x : AltPoints). map waits_at x.inside) (alt_layer a) ∙ wait_items (out-Alt a).body)
-    ∙ ap (λ w. items_wait (out-Alt a).body ++ w) (wait_alts as')
-
-wait_for : (alts : List Alt) → map (λ a. a.waits_for) (map alt_points alts) ≡ conditions_of alts
-wait_for [] = refl
-wait_for (a ∷ as') = ap (λ c. c ∷ map (λ b. b.waits_for) (map alt_points as')) (ap (λ (x : AltPoints). x.waits_for) (alt_layer a)) ∙ ap (λ cs. condition_of a ∷ cs) (wait_for as')
+all_both : (ones twos : List Take) (flags : List ℕ) → all_taken (ones ++ twos) flags ≡ both_taken (all_taken ones) (all_taken twos) flags
+all_both [] twos flags = refl
+all_both (one ∷ ones) twos flags =
+    let first = one flags in
+    let rest = all_taken ones first.left in
+    let last = all_taken twos rest.left in
+    ap (λ (t : Taken). record { waits = first.waits ++ t.waits; left = t.left }) (all_both ones twos first.left)
+    ∙ ap (λ ws. record { waits = ws; left = last.left }) (sym (append_assoc first.waits rest.waits last.waits))
 
 -- IN A STATEMENT, BY ITS FORM
 
-form : (kind : ItemKind) (x : ItemKind-F ItemKind Alt Item RBranch) → roll-ItemKind x ≡ kind
-    → kind_waits kind ≡ map waits_at (kind_points_step (map-ItemKind ItemKind Alt Item RBranch Points AltPoints Points Points kind_points alt_points points_in branch_points x))
-form kind x rolls = ap (λ k. map waits_at (kind_points k)) (sym rolls) ∙ ap (map waits_at) (kind_layer x)
+module _ (flags : List ℕ) where
+  pub take-If : (branches : List RBranch) (other : List Item) → kind_take (it.If branches other) flags ≡ both_taken (all_taken (map branch_take branches)) (items_take other) flags
+  take-If branches other =
+      ap (λ (t : Take). t flags) (form (it.If branches other) (ItemKind-F.If branches other) (it.rolls-If branches other))
+      ∙ all_both (map branch_take branches) (map item_take other) flags
 
-pub wait-If : (branches : List RBranch) (other : List Item) → kind_waits (it.If branches other) ≡ branches_wait branches ++ items_wait other
-wait-If branches other =
-    form (it.If branches other) (ItemKind-F.If branches other) (it.rolls-If branches other)
-    ∙ map-append waits_at (points_of (map branch_points branches)) (points_of (map points_in other))
-    ∙ ap (λ w. w ++ map waits_at (points_of (map points_in other))) (wait_branches branches)
-    ∙ ap (λ w. branches_wait branches ++ w) (wait_items other)
+  pub take-While : (e : RExpr) (body : List Item) → kind_take (it.While e body) flags ≡ items_take body flags
+  take-While e body = ap (λ (t : Take). t flags) (form (it.While e body) (ItemKind-F.While e body) (it.rolls-While e body))
 
-pub wait-While : (e : RExpr) (body : List Item) → kind_waits (it.While e body) ≡ items_wait body
-wait-While e body = form (it.While e body) (ItemKind-F.While e body) (it.rolls-While e body) ∙ wait_items body
+  pub take-For : (s : ℕ) (e : RExpr) (body : List Item) → kind_take (it.For s e body) flags ≡ items_take body flags
+  take-For s e body = ap (λ (t : Take). t flags) (form (it.For s e body) (ItemKind-F.For s e body) (it.rolls-For s e body))
 
-pub wait-For : (s : ℕ) (e : RExpr) (body : List Item) → kind_waits (it.For s e body) ≡ items_wait body
-wait-For s e body = form (it.For s e body) (ItemKind-F.For s e body) (it.rolls-For s e body) ∙ wait_items body
+  pub take-Call : (args : List BindArg) (body : List Item) → kind_take (it.Call args body) flags ≡ items_take body flags
+  take-Call args body = ap (λ (t : Take). t flags) (form (it.Call args body) (ItemKind-F.Call args body) (it.rolls-Call args body))
 
-pub wait-Call : (args : List BindArg) (body : List Item) → kind_waits (it.Call args body) ≡ items_wait body
-wait-Call args body = form (it.Call args body) (ItemKind-F.Call args body) (it.rolls-Call args body) ∙ wait_items body
+  pub take-Await : (alts : List Alt) → kind_take (it.Await alts) flags ≡ await_taken (alts_taken (map alt_take alts) flags)
+  take-Await alts = ap (λ (t : Take). t flags) (form (it.Await alts) (ItemKind-F.Await alts) (it.rolls-Await alts))
 
-pub wait-Await : (alts : List Alt) → kind_waits (it.Await alts) ≡ conditions_of alts ∷ alts_wait alts
-wait-Await alts =
-    form (it.Await alts) (ItemKind-F.Await alts) (it.rolls-Await alts)
-    ∙ ap (λ cs. cs ∷ map waits_at (flat_map (λ a. a.inside) (map alt_points alts))) (wait_for alts)
-    ∙ ap (λ w. conditions_of alts ∷ w) (wait_alts alts)
+  pub take-Label : kind_take it.Label flags ≡ record { waits = [] ∷ []; left = flags }
+  take-Label = ap (λ (t : Take). t flags) (form it.Label ItemKind-F.Label it.rolls-Label)
 
-pub wait-Label : kind_waits it.Label ≡ [] ∷ []
-wait-Label = form it.Label ItemKind-F.Label it.rolls-Label
+  pub take-Assign : (s : ℕ) (e : RExpr) → kind_take (it.Assign s e) flags ≡ none_taken flags
+  take-Assign s e = ap (λ (t : Take). t flags) (form (it.Assign s e) (ItemKind-F.Assign s e) (it.rolls-Assign s e))
 
-pub wait-Assign : (s : ℕ) (e : RExpr) → kind_waits (it.Assign s e) ≡ []
-wait-Assign s e = form (it.Assign s e) (ItemKind-F.Assign s e) (it.rolls-Assign s e)
+  pub take-Add : (s : ℕ) (e : RExpr) → kind_take (it.Add s e) flags ≡ none_taken flags
+  take-Add s e = ap (λ (t : Take). t flags) (form (it.Add s e) (ItemKind-F.Add s e) (it.rolls-Add s e))
 
-pub wait-Add : (s : ℕ) (e : RExpr) → kind_waits (it.Add s e) ≡ []
-wait-Add s e = form (it.Add s e) (ItemKind-F.Add s e) (it.rolls-Add s e)
+  pub take-Del : (s : ℕ) (e : RExpr) → kind_take (it.Del s e) flags ≡ none_taken flags
+  take-Del s e = ap (λ (t : Take). t flags) (form (it.Del s e) (ItemKind-F.Del s e) (it.rolls-Del s e))
 
-pub wait-Del : (s : ℕ) (e : RExpr) → kind_waits (it.Del s e) ≡ []
-wait-Del s e = form (it.Del s e) (ItemKind-F.Del s e) (it.rolls-Del s e)
+  pub take-Send : (m e : RExpr) → kind_take (it.Send m e) flags ≡ none_taken flags
+  take-Send m e = ap (λ (t : Take). t flags) (form (it.Send m e) (ItemKind-F.Send m e) (it.rolls-Send m e))
 
-pub wait-Send : (m e : RExpr) → kind_waits (it.Send m e) ≡ []
-wait-Send m e = form (it.Send m e) (ItemKind-F.Send m e) (it.rolls-Send m e)
+  pub take-Output : (e : RExpr) → kind_take (it.Output e) flags ≡ none_taken flags
+  take-Output e = ap (λ (t : Take). t flags) (form (it.Output e) (ItemKind-F.Output e) (it.rolls-Output e))
 
-pub wait-Output : (e : RExpr) → kind_waits (it.Output e) ≡ []
-wait-Output e = form (it.Output e) (ItemKind-F.Output e) (it.rolls-Output e)
+  pub take-Pass : kind_take it.Pass flags ≡ none_taken flags
+  take-Pass = ap (λ (t : Take). t flags) (form it.Pass ItemKind-F.Pass it.rolls-Pass)
 
-pub wait-Pass : kind_waits it.Pass ≡ []
-wait-Pass = form it.Pass ItemKind-F.Pass it.rolls-Pass
-
-pub ruleset kind_rules = (wait-If, wait-While, wait-For, wait-Call, wait-Await, wait-Label, wait-Assign, wait-Add, wait-Del, wait-Send, wait-Output, wait-Pass)
-
--- IN FRONT OF WHAT WAS ADDED
+pub ruleset kind_rules = (take-If, take-While, take-For, take-Call, take-Await, take-Label, take-Assign, take-Add, take-Del, take-Send, take-Output, take-Pass)
 
 -- the last call's result is handed on
 pub handed_on : {A E : Type 0} (r : Result A E) (old mid new first rest whole : Waits) → OnOk r (new ≡ mid ++ rest) → mid ≡ old ++ first → whole ≡ first ++ rest → OnOk r (new ≡ old ++ whole)
 handed_on (Ok v) old mid new first rest whole is before both = is ∙ ap (λ w. w ++ rest) before ∙ append_assoc old first rest ∙ sym (ap (λ w. old ++ w) both)
 handed_on (Err e) old mid new first rest whole is before both = tt
 
-pub nothing_more : (old whole : Waits) → whole ≡ [] → old ≡ old ++ whole
-nothing_more old whole none = sym (append-nil old) ∙ sym (ap (λ w. old ++ w) none)
+pub nothing_more : (old : Waits) (flags : List ℕ) (taken : Taken) → taken ≡ none_taken flags → old ≡ old ++ taken.waits
+nothing_more old flags taken none = sym (append-nil old) ∙ sym (ap (λ (t : Taken). old ++ t.waits) none)
 
--- OF A CLASS
+-- where the branches come first, and then the others
+pub if_parts : (k : ItemKind) (branches bs : List RBranch) (other os : List Item) (flags left : List ℕ) → k ≡ it.If branches other → bs ≡ branches → os ≡ other
+    → left ≡ (all_taken (map branch_take bs) flags).left → (kind_take k flags).waits ≡ (all_taken (map branch_take bs) flags).waits ++ (items_take os left).waits
+if_parts k branches bs other os flags left is one two three =
+    ap (λ x. (kind_take x flags).waits) (is ∙ ap (λ xs. it.If xs other) (sym one) ∙ ap (λ xs. it.If bs xs) (sym two))
+    ∙ ap (λ (t : Taken). t.waits) (take-If flags bs os)
+    ∙ ap (λ l. (all_taken (map branch_take bs) flags).waits ++ (items_take os l).waits) (sym three)
 
-flat_items : (items : List Item) → map waits_at (flat_map points_in items) ≡ items_wait items
-flat_items [] = refl
-flat_items (i ∷ is) =
-    map-append waits_at (points_in i) (flat_map points_in is)
-    ∙ ap (λ w. w ++ map waits_at (flat_map points_in is)) (wait_item i)
-    ∙ ap (λ w. item_waits i ++ w) (flat_items is)
+-- where the alternatives come first, and then what is in their blocks
+pub await_parts : (k : ItemKind) (alts lent : List Alt) (own : List Alternative) (inside : Waits) (flags : List ℕ) → k ≡ it.Await alts → lent ≡ alts
+    → own ≡ (alts_taken (map alt_take lent) flags).own → inside ≡ (alts_taken (map alt_take lent) flags).inside → (kind_take k flags).waits ≡ (own ∷ []) ++ inside
+await_parts k alts lent own inside flags is one two three =
+    ap (λ x. (kind_take x flags).waits) (is ∙ ap it.Await (sym one)) ∙ ap (λ (t : Taken). t.waits) (take-Await flags lent)
+    ∙ ap (λ w. w ∷ (alts_taken (map alt_take lent) flags).inside) (sym two) ∙ ap (λ w. own ∷ w) (sym three)
 
-flat_handlers : (handlers : List Handler) → map waits_at (flat_map (λ h. flat_map points_in h.body) handlers) ≡ handlers_wait handlers
-flat_handlers [] = refl
-flat_handlers (h ∷ hs) =
-    map-append waits_at (flat_map points_in h.body) (flat_map (λ x. flat_map points_in x.body) hs)
-    ∙ ap (λ w. w ++ map waits_at (flat_map (λ x. flat_map points_in x.body) hs)) (flat_items h.body)
-    ∙ ap (λ w. items_wait h.body ++ w) (flat_handlers hs)
+-- ON THE WAY THROUGH A LIST
 
-pub class_waits : (class : Class) → waits_of class ≡ items_wait class.run ++ handlers_wait class.handlers
-class_waits class =
-    map-append waits_at (flat_map points_in class.run) (flat_map (λ h. flat_map points_in h.body) class.handlers)
-    ∙ ap (λ w. w ++ map waits_at (flat_map (λ h. flat_map points_in h.body) class.handlers)) (flat_items class.run)
-    ∙ ap (λ w. items_wait class.run ++ w) (flat_handlers class.handlers)
+-- What is waited for so far, behind what was there before, and the flags that are left: what comes of the parts that are left
+-- makes it up to the whole.
+pub record Came (takes : List Take) (whole : Taken) (old now : Waits) (left : List ℕ) : Type 0 where
+  pub so_far : now ++ (all_taken takes left).waits ≡ old ++ whole.waits
+  pub behind : (all_taken takes left).left ≡ whole.left
 
--- where no handler is left
-pub waits_whole : (class : Class) (waits : Waits) (handlers : List Handler) (i : ℕ) → handlers ≡ class.handlers → length handlers ≤ i
-    → waits ++ handlers_wait (drop i class.handlers) ≡ items_wait class.run ++ handlers_wait class.handlers → waits ≡ waits_of class
-waits_whole class waits handlers i same past so_far =
-    sym (append-nil waits) ∙ sym (ap (λ w. waits ++ w) (at_drop_all handlers_wait class.handlers i (subst (λ (hs : List Handler). length hs ≤ i) same past))) ∙ so_far ∙ sym (class_waits class)
+-- the part at this place takes so much
+pub came_on : {A : Type 0} (f : A → Take) (xs : List A) (i : ℕ) (x : A) (took : Take) (whole : Taken) (old now more : Waits) (left last : List ℕ) → i < length xs → x ≡ get_or xs i x → f x ≡ took
+    → Came (map f (drop i xs)) whole old now left → more ≡ now ++ (took left).waits → last ≡ (took left).left → Came (map f (drop (i + 1) xs)) whole old more last
+came_on f xs i x took whole old now more left last inside is same came waits flags =
+    let rest = map f (drop (i + 1) xs) in
+    let here : Came (took ∷ rest) whole old now left = subst (λ ts. Came ts whole old now left) (ap (map f) (drop_more xs i x inside ∙ ap (λ y. y ∷ drop (i + 1) xs) (sym is)) ∙ ap (λ t. t ∷ rest) same) came in
+    record {
+      so_far = ap (λ w. w ++ (all_taken rest last).waits) waits ∙ append_assoc now (took left).waits (all_taken rest last).waits
+          ∙ ap (λ l. now ++ ((took left).waits ++ (all_taken rest l).waits)) flags ∙ here.so_far;
+      behind = ap (λ l. (all_taken rest l).left) flags ∙ here.behind;
+    }
+
+-- the same of the alternatives of an `await`
+pub record AltsCame (takes : List AltTake) (whole : AltsTaken) (own : List Alternative) (old now : Waits) (left : List ℕ) : Type 0 where
+  pub own_so_far : own ++ (alts_taken takes left).own ≡ whole.own
+  pub so_far : now ++ (alts_taken takes left).inside ≡ old ++ whole.inside
+  pub behind : (alts_taken takes left).left ≡ whole.left
+
+abbrev pub alternative_for : Alt → List ℕ → Alternative
+alternative_for a flags = record { flag = next_flag flags; found = (out-Alt a).found; binds = (out-Alt a).binds }
+
+pub alts_on : (xs : List Alt) (i : ℕ) (x : Alt) (body : List Item) (whole : AltsTaken) (own longer : List Alternative) (old now more : Waits) (left last : List ℕ) → i < length xs → x ≡ get_or xs i x
+    → body ≡ (out-Alt x).body → AltsCame (map alt_take (drop i xs)) whole own old now left → longer ≡ own ++ alternative_for x left ∷ [] → more ≡ now ++ (items_take body (drop 1 left)).waits
+    → last ≡ (items_take body (drop 1 left)).left → AltsCame (map alt_take (drop (i + 1) xs)) whole longer old more last
+alts_on xs i x body whole own longer old now more left last inside is same came owns waits flags =
+    let rest = map alt_take (drop (i + 1) xs) in
+    let took : AltTake = record { found = (out-Alt x).found; binds = (out-Alt x).binds; block = items_take body } in
+    let block = items_take body (drop 1 left) in
+    let others = alts_taken rest last in
+    let takes : alt_take x ≡ took = alt_layer x ∙ ap (λ items. record { found = (out-Alt x).found; binds = (out-Alt x).binds; block = items_take items }) (sym same) in
+    let here : AltsCame (took ∷ rest) whole own old now left = subst (λ ts. AltsCame ts whole own old now left) (ap (map alt_take) (drop_more xs i x inside ∙ ap (λ y. y ∷ drop (i + 1) xs) (sym is)) ∙ ap (λ t. t ∷ rest) takes) came in
+    record {
+      own_so_far = ap (λ w. w ++ others.own) owns ∙ append_assoc own (alternative_for x left ∷ []) others.own
+          ∙ ap (λ l. own ++ (alternative_for x left ∷ (alts_taken rest l).own)) flags ∙ here.own_so_far;
+      so_far = ap (λ w. w ++ others.inside) waits ∙ append_assoc now block.waits others.inside
+          ∙ ap (λ l. now ++ (block.waits ++ (alts_taken rest l).inside)) flags ∙ here.so_far;
+      behind = ap (λ l. (alts_taken rest l).left) flags ∙ here.behind;
+    }

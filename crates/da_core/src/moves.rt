@@ -107,7 +107,7 @@ fn alternative_at(code: &ClassCode, at: u64, k: u32) -> Option<&Alternative>
 fn bind_found(alternative: Option<&Alternative>, known: &mut Known<'_>) -> Result<(), NoMemory>
     requires { IsPlanned known.old }
     ensures bound { OnOk result ((class : Class) → HasPlan known.old class
-        → data_of known.new ≡ bound_by class (option_copied alternative) (data_of known.old)) }
+        → data_of known.new ≡ bound_by class (option_copied alternative.entry) (data_of known.old)) }
     ensures plan { known.new.plan.now ≡ known.old.plan.now }
     ensures actions { known.new.actions ≡ known.old.actions }
 {

@@ -97,6 +97,7 @@ impl<'c> Core<'c> {
     }
 
     /// How many rows the process keeps of its histories. It takes no memory.
+    #[tactic(auto, using(crate::proofs::Moving::keeps_rows))]
     pub fn kept(&self) -> u128
         ensures { Whichever self.now (λ w.
             result ≡ kept_of (class_of (program_of self.now) w.data'.me) w.data') }

@@ -8,3 +8,4 @@ abbrev pub invariant-loop-slot : goal.invariant-loop-slot
 invariant-loop-slot l =
     (bind_all l.slot-iterator.a.rest.now (vals l.slot-iterator.b.rest.now) (data_of l.known) ≡ bind_all l.slots l.row (data_of l.initial.known))
     × (l.known.actions ≡ l.initial.known.actions)
+    × (l.known.plan.now ≡ l.initial.known.plan.now)

@@ -1,7 +1,8 @@
 use Rattle.std.proofs.Common.{map}
+use Rattle.da_values.specs.Value.{val_of}
 use Rattle.da_values.specs.Views.{proc_of}
 use Rattle.da_machine.proofs.Fronts.{on_err}
-use Rattle.da_core.proofs.Sending.{sends_next, sends_stop}
+use Rattle.da_core.proofs.Sending.{sends_end, sends_next, sends_stop}
 use Rattle.da_core.proofs.store.KnownStore.send.Goals as goal
 
 pub returns-in_err-send_one-clause-front : goal.returns-in_err-send_one-clause-front
@@ -13,4 +14,8 @@ returns-in_err-send_one-clause-front c =
 pub processes-preserved : goal.processes-preserved
 processes-preserved c =
     sends_next c.args.m.now c.as_slice-processes.result.now c.processes.process-index c.process-item.result c.number_of.result (map proc_of c.args.to.now) c.args.self.now c.processes.self c.send_one.new.self
-    c.processes-test.true c.process-item.is c.number_of.ensures c.processes.invariant c.in_ok-send_one.ensures.known c.in_ok-send_one.ensures.actions
+    c.processes-test.true c.process-item.is c.number_of.ensures c.processes.invariant c.in_ok-send_one.ensures.known c.send_one.ensures.plan c.in_ok-send_one.ensures.actions
+
+pub returns-clause-stands : goal.returns-clause-stands
+returns-clause-stands c =
+    sends_end (val_of c.args.m.now) c.as_slice-processes.result.now c.processes.process-index (map proc_of c.args.to.now) c.args.self.now c.processes.self c.processes-test.false c.processes.invariant

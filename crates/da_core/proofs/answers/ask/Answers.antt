@@ -1,0 +1,19 @@
+use Rattle.std.proofs.Common.{◌≡◌, ◌∙◌}
+use Rattle.std.proofs.lemmas.Result.{IfOk-weaker}
+use Rattle.da_lang.specs.declared.program.Class.{Class}
+use Rattle.da_lang.specs.Queries.{query_value}
+use Rattle.da_values.specs.Value.{val_of}
+use Rattle.node_rows.specs.Facts.{data_of}
+use Rattle.node_rows.specs.Told.{asked}
+use Rattle.da_core.specs.Known.{HasPlan, data_of as known_data}
+use Rattle.da_core.proofs.Asking.{plain_nodes, value_told}
+use Rattle.da_core.proofs.answers.ask.Goals as goal
+
+pub ask-requires : goal.ask-requires
+ask-requires c = plain_nodes c.args.known.now c.requires
+
+pub returns : goal.returns
+returns c =
+    IfOk-weaker c.ask.result (λ v. val_of v ≡ asked (data_of c.facts.result) c.args.known.now.plan.now c.args.q)
+    (λ v. (class : Class) → HasPlan c.args.known.now class → val_of v ≡ query_value class.queries c.args.q (known_data c.args.known.now))
+    (λ _ is class plan. is ∙ value_told c.args.known.now class plan (data_of c.facts.result) c.facts.ensures c.args.q) c.ask.ensures
