@@ -1,5 +1,5 @@
 -- The rows that the live patterns of the code of a class match are those that a process of the class keeps.
-use Rattle.std.specs.Prelude.{◌≡◌, ℕ, Some}
+use Rattle.std.specs.Prelude.{◌≡◌, ℕ, List, Some}
 use Rattle.std.proofs.Common.{ap, ◌∙◌}
 use Rattle.da_lang.specs.declared.program.Class.{Class}
 use Rattle.da_lang.specs.declared.program.Program.{Program}
@@ -12,7 +12,6 @@ use Rattle.da_types.proofs.totality.Worlds.{class_has}
 use Rattle.quant_norm.proofs.LiveLaw.{typed_kept}
 use Rattle.query_plan.specs.PlanLive.{plan_live}
 use Rattle.query_plan.specs.Questions.{norm_class}
-use Rattle.std.specs.Prelude.{List}
 use Rattle.da_core.specs.Known.{rows_kept}
 
 -- of the class of some process of an accepted program

@@ -1,6 +1,7 @@
 pub mod Arriving
 pub mod Asking
 pub mod Carrying
+pub mod Compiling
 pub mod DefaultForms
 pub mod Delivering
 pub mod Entering

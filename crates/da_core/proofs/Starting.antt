@@ -1,7 +1,7 @@
 -- A process before its first event.
-use Rattle.std.proofs.Common.{◌≡◌, ℕ, zero, suc, ◌+◌, ◌-◌, ◌<◌, List, [], ◌∷◌, ◌++◌, length, map, take, Option, Some, None, refl, sym, ap, ◌∙◌, subst, arith, if◌then◌else◌, length-append}
-use Rattle.std.specs.Prelude.{Bool, true, false, nat_eq, ◌==◌, slice_get}
-use Rattle.std.proofs.lemmas.Bool.{eqb-true, eqb-false, eq-eqb, false≢true}
+use Rattle.std.proofs.Common.{◌≡◌, ℕ, zero, suc, ◌+◌, ◌-◌, List, [], ◌∷◌, length, map, take, Option, Some, None, refl, sym, ap, ◌∙◌, subst, arith, if◌then◌else◌}
+use Rattle.std.specs.Prelude.{Bool, true, false, nat_eq, slice_get}
+use Rattle.std.proofs.lemmas.Bool.{eq-eqb, false≢true}
 use Rattle.std.proofs.lemmas.List.Elements.{All-nil}
 use Rattle.da_lang.specs.declared.program.Class.{Class}
 use Rattle.da_lang.specs.declared.program.ProcDecl.{ProcDecl}
@@ -9,48 +9,19 @@ use Rattle.da_lang.specs.declared.program.Program.{Program}
 use Rattle.da_lang.specs.Shaped.{IsProcess, IsTask, ShapedData}
 use Rattle.da_lang.specs.Steps.{first_tasks}
 use Rattle.da_lang.specs.World.{at_number, class_of, class_of_decl, first_value, opening, opening_data, New}
-use Rattle.da_core.proofs.Laws.{has_class, keeps_shaped}
 use Rattle.da_machine.specs.CodeFor.{CodeFor}
 use Rattle.code_gen.specs.ClassCode.{numbered_from, processes_of}
+use Rattle.query_plan.specs.PlanLive.{plan_live}
+use Rattle.query_plan.specs.Questions.{norm_class}
 use Rattle.da_core.specs.declared.compiled.ClassCode.{ClassCode}
 use Rattle.da_core.specs.declared.compiled.Compiled.{Compiled}
 use Rattle.da_core.specs.declared.process.Core.{Core}
 use Rattle.da_core.specs.declared.place.Place.TheVariants as place
-use Rattle.da_core.specs.Compiled.{HasCode, IsCodeFor, IsCompiled, code_at, code_of, count_of, program_of, rank_in, start_at, start_in}
-use Rattle.da_core.specs.Known.{data_of}
-use Rattle.da_core.specs.RunsNow.{RunsNow}
+use Rattle.da_core.specs.Compiled.{IsCompiled, code_at, code_of, count_of, program_of, rank_in, start_at, start_in}
+use Rattle.da_core.specs.Known.{data_of, rows_kept}
 use Rattle.da_core.specs.StandsFor.{IsPlace, StandsFor}
-use Rattle.da_core.proofs.Tasks.{get_before, get_last}
-
--- COMPILED CLASSES
-
--- so many classes of the program have their code
-pub record AreCoded (p : Program) (codes : List ClassCode) (n : ℕ) : Type 0 where
-  pub count : length codes ≡ n
-  pub each : (k : ℕ) (class : Class) → slice_get p.classes k ≡ Some class → k < n → HasCode p codes k class
-
-pub none_coded : (p : Program) → AreCoded p [] 0
-none_coded p = record { count = refl; each = λ k class there less. absurd (omega (arith, less)) }
-
-module _ (p : Program) (codes : List ClassCode) (n : ℕ) (code : ClassCode) (are : AreCoded p codes n) (is : (class : Class) → slice_get p.classes n ≡ Some class → IsCodeFor p n class code) where
-  by_place : (k : ℕ) (class : Class) → slice_get p.classes k ≡ Some class → (b : Bool) → (k == n) ≡ b → k < n + 1 → HasCode p (codes ++ code ∷ []) k class
-  by_place k class there true same less =
-      let here : k ≡ n = eqb-true k n same in
-      record {
-        code = code;
-        there = ap (slice_get (codes ++ code ∷ [])) (here ∙ sym are.count) ∙ get_last codes code;
-        is = subst (λ x. IsCodeFor p x class code) (sym here) (is class (ap (slice_get p.classes) (sym here) ∙ there));
-      }
-  by_place k class there false other less =
-      let apart : k ≡ n → ⊥ = eqb-false k n other in
-      let has = are.each k class there (omega (arith, less, apart)) in
-      record { code = has.code; there = get_before codes (code ∷ []) k has.code has.there; is = has.is }
-
-  pub one_coded : AreCoded p (codes ++ code ∷ []) (n + 1)
-  one_coded = record {
-    count = length-append codes (code ∷ []) ∙ ap (λ x. x + 1) are.count;
-    each = λ k class there less. by_place k class there (k == n) refl less;
-  }
+use Rattle.da_core.proofs.KeptLaw.{rows_are}
+use Rattle.da_core.proofs.Laws.{has_class, keeps_shaped}
 
 -- THE START OF A PROCESS
 
@@ -81,6 +52,8 @@ pub record Begun (c : Compiled) (me : ℕ) : Type 0 where
   pub entry : ℕ
   pub classed : class_of (program_of c) me ≡ Some class
   pub coded : code_of c me ≡ Some code
+  pub plan : code.plan ≡ norm_class class
+  pub live : code.live.patterns ≡ plan_live (norm_class class).nodes
   pub starts : start_in (program_of c) (code_of c me) me ≡ Some entry
   pub code_for : CodeFor code.code class entry [] (first_tasks (program_of c) class me)
 
@@ -115,6 +88,8 @@ module _ (c : Compiled) (me : ℕ) (is : IsCompiled c) where
         entry = entry;
         classed = ap (class_of_decl p) there ∙ classed;
         coded = coded;
+        plan = has.is.plan;
+        live = has.is.live;
         starts = ap (λ found. start_in p found me) coded ∙ ap (λ found. start_at (rank_in p found me) has.code) there ∙ at;
         code_for = starts.stands (count_of decl.class (take (me - 1) p.procs)) me entry stands at;
       }
@@ -123,45 +98,54 @@ module _ (c : Compiled) (me : ℕ) (is : IsCompiled c) where
   begun there = let (class, classed) = has_class p me is.accepted there in begun_by (at_number p.procs me) class refl classed
 
   -- A NEW CORE stands for the opening.
-  pub starts_as : IsProcess p me → RunsNow p → (core : Core) → core.compiled.now ≡ c → core.spent ≡ false → core.place ≡ place.New → core.known.actions ≡ []
-      → data_of core.known ≡ opening_data p me → core.machine.loops ≡ [] → start_in p (code_of c me) me ≡ Some core.machine.place → StandsFor core (opening p me)
-  starts_as there runs core of_c unspent new no_actions same loops entry =
-      let b = begun there in
-      let open_world = (keeps_shaped p is.accepted).opens me b.class there b.classed in
-      let classes : ◌≡◌ {A = Option Class} (Some open_world.class) (Some b.class) = sym open_world.knows.is_class ∙ b.classed in
-      let same_class : open_world.class ≡ b.class = cc in
-      let knows : ShapedData p b.class (opening_data p me) = subst (λ x. ShapedData p x (opening_data p me)) same_class open_world.knows in
-      let entries : ◌≡◌ {A = Option ℕ} (Some b.entry) (Some core.machine.place) = sym b.starts ∙ entry in
-      let same_entry : b.entry ≡ core.machine.place = cc in
-      let code_for : CodeFor b.code.code b.class core.machine.place core.machine.loops (first_tasks p b.class me) =
-      subst (λ ls. CodeFor b.code.code b.class core.machine.place ls (first_tasks p b.class me)) (sym loops)
-      (subst (λ x. CodeFor b.code.code b.class x [] (first_tasks p b.class me)) same_entry b.code_for) in
-      record {
-        unspent = unspent;
-        compiled = subst IsCompiled (sym of_c) is;
-        runs = subst (λ x. RunsNow (program_of x)) (sym of_c) runs;
-        class = b.class;
-        code = b.code;
-        code_is = ap (λ x. code_of x me) of_c ∙ b.coded;
-        knows = subst (λ x. ShapedData (program_of x) b.class (opening_data p me)) (sym of_c) knows;
-        tasks = All-nil (IsTask (program_of core.compiled.now) b.class me);
-        same = sym same;
-        no_actions = no_actions;
-        place = subst (λ x. IsPlace (opening_data p me) [] core.flags x New) (sym new) refl;
-        at = subst (λ x. CodeFor b.code.code b.class core.machine.place core.machine.loops (first_tasks (program_of x) b.class me)) (sym of_c) code_for;
-      }
+  module _ (there : IsProcess p me) (core : Core) (of_c : core.compiled.now ≡ c) (code : ClassCode) (coded : code_of c me ≡ Some code) (planned : core.known.plan.now ≡ code.plan)
+      (counts : core.kept ≡ rows_kept code.live.patterns (data_of core.known)) where
+    starts_as : core.spent ≡ false → core.place ≡ place.New → core.known.actions ≡ [] → data_of core.known ≡ opening_data p me → core.machine.loops ≡ []
+        → start_in p (code_of c me) me ≡ Some core.machine.place → StandsFor core (opening p me)
+    starts_as unspent new no_actions same loops entry =
+        let b = begun there in
+        let open_world = (keeps_shaped p is.accepted).opens me b.class there b.classed in
+        let classes : ◌≡◌ {A = Option Class} (Some open_world.class) (Some b.class) = sym open_world.knows.is_class ∙ b.classed in
+        let same_class : open_world.class ≡ b.class = cc in
+        let knows : ShapedData p b.class (opening_data p me) = subst (λ x. ShapedData p x (opening_data p me)) same_class open_world.knows in
+        let codes : ◌≡◌ {A = Option ClassCode} (Some b.code) (Some code) = sym b.coded ∙ coded in
+        let same_code : b.code ≡ code = cc in
+        let entries : ◌≡◌ {A = Option ℕ} (Some b.entry) (Some core.machine.place) = sym b.starts ∙ entry in
+        let same_entry : b.entry ≡ core.machine.place = cc in
+        let code_for : CodeFor b.code.code b.class core.machine.place core.machine.loops (first_tasks p b.class me) =
+        subst (λ ls. CodeFor b.code.code b.class core.machine.place ls (first_tasks p b.class me)) (sym loops)
+        (subst (λ x. CodeFor b.code.code b.class x [] (first_tasks p b.class me)) same_entry b.code_for) in
+        record {
+          unspent = unspent;
+          compiled = subst IsCompiled (sym of_c) is;
+          class = b.class;
+          code = b.code;
+          code_is = ap (λ x. code_of x me) of_c ∙ b.coded;
+          knows = subst (λ x. ShapedData (program_of x) b.class (opening_data p me)) (sym of_c) knows;
+          tasks = All-nil (IsTask (program_of core.compiled.now) b.class me);
+          same = sym same;
+          plan = planned ∙ ap (λ (x : ClassCode). x.plan) (sym same_code) ∙ b.plan;
+          rows = counts ∙ ap (λ (x : ClassCode). rows_kept x.live.patterns (data_of core.known)) (sym same_code)
+              ∙ ap (rows_kept b.code.live.patterns) same ∙ rows_are p me b.class b.code.live.patterns is.accepted b.classed b.live (opening_data p me);
+          no_actions = no_actions;
+          place = subst (λ x. IsPlace (opening_data p me) [] core.flags x New) (sym new) refl;
+          at = subst (λ x. CodeFor b.code.code b.class core.machine.place core.machine.loops (first_tasks (program_of x) b.class me)) (sym of_c) code_for;
+        }
 
-  -- where its parts are those of the opening
-  pub starts_with : IsProcess p me → RunsNow p → (class : Class) → class_of p me ≡ Some class → (core : Core) → core.compiled.now ≡ c → core.spent ≡ false → core.place ≡ place.New
-      → core.known.actions ≡ [] → core.known.me ≡ me → core.known.clock ≡ 0 → core.known.slots ≡ map (first_value me) class.slots → core.known.sent ≡ [] → core.known.received ≡ []
-      → core.machine.loops ≡ [] → start_in p (code_of c me) me ≡ Some core.machine.place → StandsFor core (opening p me)
-  starts_with there runs class classed core of_c unspent new no_actions mine early slots sent received loops entry =
-      let same : data_of core.known ≡ opening_data p me = rw (mine, early, slots, sent, received, classed) refl in
-      starts_as there runs core of_c unspent new no_actions same loops entry
+    -- where its parts are those of the opening
+    pub starts_with : (class : Class) → class_of p me ≡ Some class → core.spent ≡ false → core.place ≡ place.New → core.known.actions ≡ [] → core.known.me ≡ me → core.known.clock ≡ 0
+        → core.known.slots ≡ map (first_value me) class.slots → core.known.sent ≡ [] → core.known.received ≡ [] → core.machine.loops ≡ [] → start_in p (code_of c me) me ≡ Some core.machine.place
+        → StandsFor core (opening p me)
+    starts_with class classed unspent new no_actions mine early slots sent received loops entry =
+        let same : data_of core.known ≡ opening_data p me = rw (mine, early, slots, sent, received, classed) refl in
+        starts_as unspent new no_actions same loops entry
 
-  -- the class and the start are there
+  -- the class, its code and the start are there
   pub has_a_class : IsProcess p me → None ≡ class_of p me → ⊥
   has_a_class there none = let b = begun there in let both : ◌≡◌ {A = Option Class} None (Some b.class) = none ∙ b.classed in cc
+
+  pub has_a_code : IsProcess p me → None ≡ code_of c me → ⊥
+  has_a_code there none = let b = begun there in let both : ◌≡◌ {A = Option ClassCode} None (Some b.code) = none ∙ b.coded in cc
 
   pub has_a_start : IsProcess p me → None ≡ start_in p (code_of c me) me → ⊥
   has_a_start there none = let b = begun there in let both : ◌≡◌ {A = Option ℕ} None (Some b.entry) = none ∙ b.starts in cc

@@ -25,7 +25,7 @@ use Rattle.code_gen.proofs.PointLaws.{points_at, points_in_kind}
 use Rattle.quant_norm.proofs.AwaitedLaws.{alt_met, branch_met, kind_met, met_is}
 use Rattle.quant_norm.proofs.ClassLaw.{class_law}
 use Rattle.query_plan.specs.Nodes.{node_rows}
-use Rattle.query_plan.specs.Questions.{Asked, Awaited, Met, alt_met_step, asks, awaited, branch_met_step, class_met, item_met, item_met_step, joined, kind_met_step, norm_class}
+use Rattle.query_plan.specs.Questions.{Asked, Met, alt_met_step, asks, awaited, branch_met_step, class_met, item_met, item_met_step, joined, kind_met_step, norm_class}
 use Rattle.query_plan.specs.Told.{TellsFlag, has_row}
 use Rattle.node_rows.proofs.PlanLaws.{Together, zipped_at}
 use Rattle.da_core.specs.declared.waits.Alternative.{Alternative}

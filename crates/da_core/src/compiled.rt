@@ -65,13 +65,7 @@ fn lesser(line: u32, other: Option<u32>) -> u32
     ensures { result ≡ least_of line other }
 {
     match other {
-        Some(other) => {
-            if other < line {
-                other
-            } else {
-                line
-            }
-        }
+        Some(other) => { if other < line { other } else { line } }
         None => line,
     }
 }

@@ -1,5 +1,5 @@
-use Rattle.da_core.proofs.Starting.{AreCoded}
+use Rattle.da_core.proofs.Compiling.{Came}
 use Rattle.da_core.proofs.compiled.compile.Given as goal
 
 abbrev pub invariant-classes : goal.invariant-classes
-invariant-classes l = AreCoded l.t l.codes l.place
+invariant-classes l = Came l.fn.t l.codes l.least l.place
