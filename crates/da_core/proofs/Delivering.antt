@@ -124,7 +124,6 @@ module _ (core : Core) (w : World) (s : StandsFor core w) (waits : w.phase ≡ W
     pub may_take_in : MayTakeIn x time core.machine.place old w.todo
     may_take_in = record {
       can = can;
-      tasks = (p, subst (λ (y : Data). ShapedTasks p class y.me w.todo) s.same tasks);
       waits = its_code.1.waits;
       number = waiting.number;
       there = waiting.there;

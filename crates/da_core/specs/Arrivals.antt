@@ -13,7 +13,7 @@ use Rattle.da_lang.specs.declared.code.Instr.TheVariants as op
 use Rattle.da_lang.specs.Accepted.{IsAccepted}
 use Rattle.da_lang.specs.Matching.{Row, matched_entry}
 use Rattle.da_lang.specs.Runs.{Halt, AtYield, Faults, Ran, behind}
-use Rattle.da_lang.specs.Shaped.{IsEntry, ShapedData, ShapedTasks}
+use Rattle.da_lang.specs.Shaped.{IsEntry, ShapedData}
 use Rattle.da_lang.specs.Steps.{Step, Deliver, closing, handle, phase_after, received_at, try_handler}
 use Rattle.da_lang.specs.World.{Data, Entry, Task}
 use Rattle.da_machine.specs.declared.machine.Stop.{Stop}
@@ -134,7 +134,6 @@ stop_of (handled.Fault kind line) number = stop.Fault kind line
 -- the process that waits with this to do may take in the message: it stands in front of a yield point of its class
 pub record MayTakeIn (x : Delivery) (time at : ℕ) (known : Known) (todo : List Task) : Type 0 where
   pub can : CanHandle x known
-  pub tasks : (p : Program) × ShapedTasks p x.class.now known.me todo
   pub waits : x.code.now.waits ≡ waits_of x.class.now (norm_class x.class.now).flags
   pub number : ℕ
   pub there : HasInstr x.code.now.code at (op.Yield number)
