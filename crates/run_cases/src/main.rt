@@ -11,7 +11,7 @@ use replays::reply;
 use std::{fs, rt};
 
 /// The files of cases, in the order of the answers.
-const FILES: [&str; 22] = [
+const FILES: [&str; 23] = [
     "operators",
     "statements",
     "turns",
@@ -28,6 +28,7 @@ const FILES: [&str; 22] = [
     "shows",
     "stats",
     "worked",
+    "noise",
     "nodes",
     "layouts",
     "channels",
