@@ -11,14 +11,25 @@ use replays::reply;
 use std::{fs, rt};
 
 /// The files of cases, in the order of the answers.
-const FILES: [&str; 12] = [
+const FILES: [&str; 23] = [
     "operators",
     "statements",
     "turns",
     "setups",
+    "processes",
     "moves",
     "awaits",
-    "notyet",
+    "queries",
+    "asking",
+    "aggregates",
+    "patterns",
+    "least",
+    "histories",
+    "shows",
+    "stats",
+    "worked",
+    "noise",
+    "nodes",
     "layouts",
     "channels",
     "handlers",
