@@ -33,11 +33,11 @@ returns-in-Err-Refused-clause-begun g c = λ t is.
 pub returns-in_ok-line-in-Ok-clause-checks : goal.returns-in_ok-line-in-Ok-clause-checks
 returns-in_ok-line-in-Ok-clause-checks g c = λ t is.
     gains_said (CheckReply t) Done c.as_slice.result.now _ _ _
-    (says_accepted t c.program-program.result.now c.as_slice.result.now (read_within c.args.text.now t c.program-program.result.now is c.if-text-gt-PROGRAM_LIMIT.false (rw c.program-program.ensures.same c.in-Ok.ensures.read))
+    (says_accepted t c.program-program.result.now c.as_slice.result.now (read_within c.args.text.now t c.program-program.result.now is c.if-text-gt-PROGRAM_LIMIT.false (rw c.program-program.ensures c.in-Ok.ensures.read))
     (c.as_slice.ensures ∙ c.in_ok-line-in-Ok.ensures ∙ rw (c.len.ensures, c.len-in-Ok.ensures) refl)) c.say.ensures.said
 
 pub returns-in_ok-line-in-Ok-clause-begun : goal.returns-in_ok-line-in-Ok-clause-begun
 returns-in_ok-line-in-Ok-clause-begun g c = λ t is.
     begins_by (CheckReply t) c.say.result Done c.as_slice.result.now _ _
-    (says_accepted t c.program-program.result.now c.as_slice.result.now (read_within c.args.text.now t c.program-program.result.now is c.if-text-gt-PROGRAM_LIMIT.false (rw c.program-program.ensures.same c.in-Ok.ensures.read))
+    (says_accepted t c.program-program.result.now c.as_slice.result.now (read_within c.args.text.now t c.program-program.result.now is c.if-text-gt-PROGRAM_LIMIT.false (rw c.program-program.ensures c.in-Ok.ensures.read))
     (c.as_slice.ensures ∙ c.in_ok-line-in-Ok.ensures ∙ rw (c.len.ensures, c.len-in-Ok.ensures) refl)) c.say.ensures.front
