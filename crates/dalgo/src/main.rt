@@ -3,13 +3,13 @@
 
 #[cfg(test)]
 mod cases;
-mod checking;
 mod endings;
 mod exit;
 mod lines;
 mod program;
 mod replaying;
 mod status;
+mod tasks;
 mod top;
 mod words;
 

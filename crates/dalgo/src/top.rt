@@ -2,17 +2,18 @@
 ghost use Rattle.da_lang.specs.declared.event.Event.{Event};
 ghost use Rattle.da_lang.specs.declared.program.Program.{Program};
 ghost use Rattle.da_outside.specs.Outside.{Appends, AppendsFront, Rose};
-ghost use Rattle.dalgo.specs.Replies.{CheckReply, HasReadCause, IsAccepted, IsAnswer, IsCheck, IsOther, IsReplay, ReplayReply, RunsWhole};
+ghost use Rattle.dalgo.specs.Replies.{HasReadCause, IsAnswer, IsAsking, IsCarriedOut, IsOther, IsReplay, ReplayReply, RunsWhole, TaskReply};
+ghost use Rattle.dalgo.specs.declared.words.Task.{Task};
 ghost use Rattle.dalgo.specs.Told.{Begins, Gains, OfTold};
 ghost use Rattle.dalgo.specs.Verdict.{Accepts};
 ghost use Rattle.sched_text.specs.ScheduleText.{SpellsSchedule};
 ghost use Rattle.std.specs.Prelude.{ℕ, ◌≡◌, ◌<◌, ◌≤◌, List, Some, codes, map};
 ghost use Rattle.std.specs.String.{string_bytes};
 
-use crate::checking::check;
 use crate::endings::{say, status_after};
 use crate::replaying::replay;
 use crate::status::Status;
+use crate::tasks::carry_out;
 use crate::words::{Command, command_of};
 use da_outside::{Files, Sink};
 use std::alloc::Global;
@@ -35,12 +36,12 @@ pub fn dalgo<F: Files, K: Sink>(
         → (Rose (F.faults files.old p) (F.faults files.new p) → ⊥) → (Rose (F.faults files.old q) (F.faults files.new q) → ⊥)
         → (Rose (K.faults out.old) (K.faults out.new) → ⊥) → RunsWhole program events result (K.taken out.old) (K.taken out.new) }
 
-    // `check` is answered in the same way by the program's text alone.
-    ensures checks { (p : List ℕ) → IsCheck (map string_bytes words.now) p → IsAnswer result
-        → OfTold (F.told files.old p) (λ t. Gains (CheckReply t) result (K.taken out.old) (K.taken out.new)) }
-    ensures accepted { (p t : List ℕ) (program : Program) → IsCheck (map string_bytes words.now) p → F.told files.old p ≡ Some t → Accepts t program
+    // `check`, `plan` and `stress` are answered in the same way by the program's text alone.
+    ensures answers { (task : Task) (p : List ℕ) → IsAsking (map string_bytes words.now) task p → IsAnswer result
+        → OfTold (F.told files.old p) (λ t. Gains (TaskReply task t) result (K.taken out.old) (K.taken out.new)) }
+    ensures carried_out { (task : Task) (p t : List ℕ) (program : Program) → IsAsking (map string_bytes words.now) task p → F.told files.old p ≡ Some t → Accepts t program
         → (Rose (F.faults files.old p) (F.faults files.new p) → ⊥) → (Rose (K.faults out.old) (K.faults out.new) → ⊥)
-        → IsAccepted program result (K.taken out.old) (K.taken out.new) }
+        → IsCarriedOut task program result (K.taken out.old) (K.taken out.new) }
 
     // Other words are answered so.
     ensures words { IsOther (map string_bytes words.now) → IsAnswer result → (result ≡ Status.Words) × Appends (K.taken out.old) (K.taken out.new) (codes "words\n") }
@@ -49,8 +50,8 @@ pub fn dalgo<F: Files, K: Sink>(
     // Where a write failed or memory was refused, the sink gained a front of the bytes of a reply, or nothing.
     ensures begun { (p q : List ℕ) → IsReplay (map string_bytes words.now) p q → (IsAnswer result → ⊥)
         → OfTold (F.told files.old p) (λ t. OfTold (F.told files.old q) (λ s. Begins (ReplayReply t s) (K.taken out.old) (K.taken out.new))) }
-    ensures begun_check { (p : List ℕ) → IsCheck (map string_bytes words.now) p → (IsAnswer result → ⊥)
-        → OfTold (F.told files.old p) (λ t. Begins (CheckReply t) (K.taken out.old) (K.taken out.new)) }
+    ensures begun_task { (task : Task) (p : List ℕ) → IsAsking (map string_bytes words.now) task p → (IsAnswer result → ⊥)
+        → OfTold (F.told files.old p) (λ t. Begins (TaskReply task t) (K.taken out.old) (K.taken out.new)) }
     ensures begun_words { IsOther (map string_bytes words.now) → (IsAnswer result → ⊥) → AppendsFront (K.taken out.old) (K.taken out.new) (codes "words\n") }
 
     // Each fault has its cause, and where a count rose the status says so. What files tell stays as it was, and no count
@@ -68,7 +69,9 @@ pub fn dalgo<F: Files, K: Sink>(
         Command::Replay(names) => {
             status_after(replay(alloc, names.program, names.schedule, files, out))
         }
-        Command::Check(program) => status_after(check(alloc, program, files, out)),
+        Command::Carry { task, program } => {
+            status_after(carry_out(alloc, task, program, files, out))
+        }
         Command::Other => status_after(say(out, b"words\n", Status::Words)),
     }
 }

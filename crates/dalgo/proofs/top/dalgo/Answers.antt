@@ -2,9 +2,10 @@ use Rattle.std.proofs.Common.{◌≡◌, subst, List, ℕ, sym}
 use Rattle.std.specs.Prelude.{Some}
 use Rattle.da_outside.specs.Outside.{Rose}
 use Rattle.dalgo.specs.declared.status.Status.{Status}
-use Rattle.dalgo.specs.Replies.{CheckReply, ReplayReply}
+use Rattle.dalgo.specs.declared.words.Task.{Task}
+use Rattle.dalgo.specs.Replies.{IsCarriedOut, ReplayReply, TaskReply}
 use Rattle.dalgo.specs.Told.{Begins, Gains, OfTold}
-use Rattle.dalgo.proofs.ReplyLemmas.{after_answer, after_begun, at_names, is_accepted, not_read, runs_whole, same_name, same_names}
+use Rattle.dalgo.proofs.ReplyLemmas.{after_answer, after_begun, at_names, is_carried_out, not_read, runs_whole, same_names, same_task}
 use Rattle.dalgo.proofs.top.dalgo.Goals as goal
 
 pub returns-in-Replay-clause-complete : goal.returns-in-Replay-clause-complete
@@ -19,14 +20,15 @@ returns-in-Replay-clause-complete g c = λ p q t s program events words told_p t
     runs_whole _ _ t s program events _ _ _ _ c.status_after.ensures here there accepts good (λ failed. not_read (g.F.Files.told c.args.files.now c.in-Replay.names.program.now) (g.F.Files.faults c.args.files.now) (g.F.Files.faults c.replay.new.files) c.in-Replay.names.program.now c.in-Replay.names.schedule.now (c.replay.ensures.read failed) quiet_p quiet_q)
     (λ failed. not_out (c.replay.ensures.write failed)) c.replay.ensures.replies
 
-pub returns-in-Check-clause-accepted : goal.returns-in-Check-clause-accepted
-returns-in-Check-clause-accepted g c = λ p t program words told accepts quiet quiet_out.
-    let same : p ≡ c.in-Check.program.now = same_name _ _ _ c.in-Check.ensures words in
-    let here : g.F.Files.told c.args.files.now c.in-Check.program.now ≡ Some t = subst (λ n. g.F.Files.told c.args.files.now n ≡ Some t) same told in
-    let quiet_here : Rose (g.F.Files.faults c.args.files.now c.in-Check.program.now) (g.F.Files.faults c.check.new.files c.in-Check.program.now) → ⊥ =
-    subst (λ n. Rose (g.F.Files.faults c.args.files.now n) (g.F.Files.faults c.check.new.files n) → ⊥) same quiet in
-    is_accepted _ t program _ _ _ _ c.status_after-in-Check.ensures here accepts (λ failed. quiet_here (c.check.ensures.read failed)) (λ failed. quiet_out (c.check.ensures.write failed))
-    c.check.ensures.checks
+pub returns-in-Carry-clause-carried_out : goal.returns-in-Carry-clause-carried_out
+returns-in-Carry-clause-carried_out g c = λ task p t program words told accepts quiet quiet_out.
+    let same = same_task _ _ _ _ _ c.in-Carry.ensures words in
+    let here : g.F.Files.told c.args.files.now c.in-Carry.program.now ≡ Some t = subst (λ n. g.F.Files.told c.args.files.now n ≡ Some t) same.1 told in
+    let quiet_here : Rose (g.F.Files.faults c.args.files.now c.in-Carry.program.now) (g.F.Files.faults c.carry_out.new.files c.in-Carry.program.now) → ⊥ =
+    subst (λ n. Rose (g.F.Files.faults c.args.files.now n) (g.F.Files.faults c.carry_out.new.files n) → ⊥) same.1 quiet in
+    subst (λ k. IsCarriedOut k program c.status_after-in-Carry.result (g.K.Sink.taken c.args.out.now) (g.K.Sink.taken c.carry_out.new.out)) (sym same.0)
+    (is_carried_out c.in-Carry.task _ t program _ _ _ _ c.status_after-in-Carry.ensures here accepts (λ failed. quiet_here (c.carry_out.ensures.read failed)) (λ failed. quiet_out (c.carry_out.ensures.write failed))
+    c.carry_out.ensures.replies)
 
 pub returns-in-Replay-clause-replies : goal.returns-in-Replay-clause-replies
 returns-in-Replay-clause-replies g c = λ p q words answer.
@@ -43,16 +45,17 @@ returns-in-Replay-clause-begun g c = λ p q words never.
     let here : B c.in-Replay.names.program.now c.in-Replay.names.schedule.now c.status_after.result = after_begun _ c.replay.result c.status_after.result c.status_after.ensures c.replay.ensures.status never c.replay.ensures.begun in
     at_names B p q _ _ c.status_after.result same here
 
-pub returns-in-Check-clause-checks : goal.returns-in-Check-clause-checks
-returns-in-Check-clause-checks g c = λ p words answer.
-    let same : p ≡ c.in-Check.program.now = same_name _ _ _ c.in-Check.ensures words in
-    let R : List ℕ → Status → Type 0 = λ x status. OfTold (g.F.Files.told c.args.files.now x) (λ t. Gains (CheckReply t) status (g.K.Sink.taken c.args.out.now) (g.K.Sink.taken c.check.new.out)) in
-    let here : R c.in-Check.program.now c.status_after-in-Check.result = after_answer (R c.in-Check.program.now) c.check.result c.status_after-in-Check.result c.status_after-in-Check.ensures answer c.check.ensures.checks in
-    subst (λ x. R x c.status_after-in-Check.result) (sym same) here
+pub returns-in-Carry-clause-answers : goal.returns-in-Carry-clause-answers
+returns-in-Carry-clause-answers g c = λ task p words answer.
+    let same = same_task _ _ _ _ _ c.in-Carry.ensures words in
+    let R : Task → List ℕ → Status → Type 0 = λ k x status. OfTold (g.F.Files.told c.args.files.now x) (λ t. Gains (TaskReply k t) status (g.K.Sink.taken c.args.out.now) (g.K.Sink.taken c.carry_out.new.out)) in
+    let here : R c.in-Carry.task c.in-Carry.program.now c.status_after-in-Carry.result =
+    after_answer (R c.in-Carry.task c.in-Carry.program.now) c.carry_out.result c.status_after-in-Carry.result c.status_after-in-Carry.ensures answer c.carry_out.ensures.replies in
+    subst (λ k. R k p c.status_after-in-Carry.result) (sym same.0) (subst (λ x. R c.in-Carry.task x c.status_after-in-Carry.result) (sym same.1) here)
 
-pub returns-in-Check-clause-begun_check : goal.returns-in-Check-clause-begun_check
-returns-in-Check-clause-begun_check g c = λ p words never.
-    let same : p ≡ c.in-Check.program.now = same_name _ _ _ c.in-Check.ensures words in
-    let B : List ℕ → Type 0 = λ x. OfTold (g.F.Files.told c.args.files.now x) (λ t. Begins (CheckReply t) (g.K.Sink.taken c.args.out.now) (g.K.Sink.taken c.check.new.out)) in
-    let here : B c.in-Check.program.now = after_begun _ c.check.result c.status_after-in-Check.result c.status_after-in-Check.ensures c.check.ensures.status never c.check.ensures.begun in
-    subst B (sym same) here
+pub returns-in-Carry-clause-begun_task : goal.returns-in-Carry-clause-begun_task
+returns-in-Carry-clause-begun_task g c = λ task p words never.
+    let same = same_task _ _ _ _ _ c.in-Carry.ensures words in
+    let B : Task → List ℕ → Type 0 = λ k x. OfTold (g.F.Files.told c.args.files.now x) (λ t. Begins (TaskReply k t) (g.K.Sink.taken c.args.out.now) (g.K.Sink.taken c.carry_out.new.out)) in
+    let here : B c.in-Carry.task c.in-Carry.program.now = after_begun _ c.carry_out.result c.status_after-in-Carry.result c.status_after-in-Carry.ensures c.carry_out.ensures.status never c.carry_out.ensures.begun in
+    subst (λ k. B k p) (sym same.0) (subst (B c.in-Carry.task) (sym same.1) here)

@@ -1,0 +1,2 @@
+pub mod NodeCall
+pub mod NodeRun
