@@ -8,6 +8,7 @@ pub mod Entering
 pub mod Fronts
 pub mod KeptLaw
 pub mod Laws
+pub mod MessageForms
 pub mod Moving
 pub mod Sending
 pub mod SlotLaws

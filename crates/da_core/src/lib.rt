@@ -6,6 +6,7 @@ mod answers;
 mod compiled;
 mod deliveries;
 mod known;
+mod messages;
 mod moves;
 mod opening;
 mod place;
@@ -15,5 +16,6 @@ mod store;
 mod waits;
 
 pub use compiled::{Compiled, compile};
+pub use messages::well_typed;
 pub use place::{Place, StepFault, Stopped};
 pub use process::Core;

@@ -1,5 +1,5 @@
 -- A turn, a run and a step of an accepted program lead from shaped worlds to shaped ones, and what they send may be sent.
-use Rattle.std.specs.Prelude.{◌≡◌, ℕ, ◌^◌, ◌<◌, ◌⊎◌, true, false, List, [], ◌∷◌, Some}
+use Rattle.std.specs.Prelude.{◌≡◌, ℕ, ◌^◌, ◌<◌, ◌≤◌, ◌⊎◌, true, false, List, [], ◌∷◌, Some}
 use Rattle.std.specs.List.{All}
 use Rattle.da_values.specs.declared.val.Val.{Val}
 use Rattle.da_values.specs.Proper.{IsValue}
@@ -17,7 +17,7 @@ use Rattle.da_lang.specs.ExprTypes.{ExprType}
 use Rattle.da_lang.specs.Runs.{AtYield, kind_yields, run_to_yield}
 use Rattle.da_lang.specs.Shaped.{HasType, IsEntry, IsOf, IsProcess, IsTask, Shaped, ShapedData, ShapedTasks, Within, well_typed}
 use Rattle.da_lang.specs.Steps.{Step, Go, Take, Deliver, Stepped, proc_step}
-use Rattle.da_lang.specs.Turns.{do_all, kind_of, turn}
+use Rattle.da_lang.specs.Turns.{do_all, kind_of, max_packet, packet_len, turn}
 use Rattle.da_lang.specs.World.{Data, Task, World, class_of, opening}
 
 -- a value of the type that a slot of the class has
@@ -48,13 +48,14 @@ pub record MaySend (p : Program) (m : Val) (to : List ℕ) : Type 0 where
   pub typed : well_typed p m ≡ true
   pub receivers : (q : ℕ) → Has to q → IsProcess p q
 
--- Process `me` sends this.
+-- Process `me` sends this, and its packet is small enough.
 pub record IsSending (p : Program) (me sender receiver time : ℕ) (m : Val) : Type 0 where
   pub from_me : sender ≡ me
   pub there : IsProcess p receiver
   pub proper : IsValue m
   pub typed : well_typed p m ≡ true
   pub in_time : time < 2 ^ 63
+  pub small : packet_len m ≤ max_packet
 
 -- what process `me` does may be told: of what it sends, the message and the receiver are as they have to be
 abbrev pub MayTell : Program → ℕ → Action → Type 0

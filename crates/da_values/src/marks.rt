@@ -154,30 +154,3 @@ pub fn mark_of(kind: TokenKind, text: &[u8]) -> Mark
         TokenKind::Dedent => Mark::Dedent,
     }
 }
-
-#[cfg(test)]
-mod tests {
-    use super::*;
-
-    const MARKS: [(TokenKind, &[u8], Mark); 8] = [
-        (TokenKind::Word, b"logical_time", Mark::LogicalTime),
-        (TokenKind::Word, b"self", Mark::SelfWord),
-        (TokenKind::Symbol, b"--", Mark::Dashes),
-        (TokenKind::Symbol, b"-", Mark::Minus),
-        (TokenKind::Name, b"x", Mark::Name),
-        (TokenKind::Number, b"0", Mark::Number),
-        (TokenKind::Quoted, b"'--'", Mark::Quoted),
-        (TokenKind::Dedent, b"", Mark::Dedent),
-    ];
-
-    #[test]
-    fn tokens_have_marks(rt: HostRuntime) {
-        for (kind, text, mark) in &MARKS {
-            assert_eq!(rt; mark_of(*kind, text), *mark);
-        }
-        assert_eq!(rt; word_mark(b"unreliable"), Some(Mark::Unreliable));
-        assert_eq!(rt; word_mark(b"unreliably"), None);
-        assert_eq!(rt; front_symbol(b"---"), Some((Mark::Dashes, 2)));
-        assert_eq!(rt; front_symbol(b"a-"), None);
-    }
-}

@@ -37,27 +37,3 @@ pub fn write_number<N: Integer>(number: N, out: &mut Buf) -> Result<(), NoMemory
     let mut digits = Buffer::new();
     out.append(digits.format(number).as_bytes())
 }
-
-#[cfg(test)]
-mod tests {
-    use super::*;
-    use crate::list::List;
-
-    #[test]
-    fn digits_write_numbers(rt: HostRuntime) {
-        assert_eq!(rt; read_number(b"0"), Some(0));
-        assert_eq!(rt; read_number(b"9223372036854775807"), Some(NUMBER_MAX));
-        assert_eq!(rt; read_number(b"9223372036854775808"), None);
-        assert_eq!(rt; read_number(b"1a"), None);
-    }
-
-    #[test]
-    fn numbers_are_written_behind_what_stands(rt: HostRuntime) {
-        let mut out = List::new(rt.alloc());
-        let written = write_number(NUMBER_MAX, &mut out).is_ok()
-            && out.append(b" ").is_ok()
-            && write_number(-7i128, &mut out).is_ok();
-        assert!(rt; written);
-        assert_eq!(rt; out.as_slice(), b"9223372036854775807 -7".as_slice());
-    }
-}

@@ -27,7 +27,7 @@ pub fits_of_i64 : (z : ℤ) → is_i64 z ≡ true → FitsSigned w64 z
 fits_of_i64 (pos n) small = record { sfits = ltb-true n (2 ^ 63) small }
 fits_of_i64 (negsuc n) small = record { sfits = ltb-true n (2 ^ 63) small }
 
-i64_of_fits : (z : ℤ) → FitsSigned w64 z → is_i64 z ≡ true
+pub i64_of_fits : (z : ℤ) → FitsSigned w64 z → is_i64 z ≡ true
 i64_of_fits (pos n) fits = lt-ltb n (2 ^ 63) fits.sfits
 i64_of_fits (negsuc n) fits = lt-ltb n (2 ^ 63) fits.sfits
 

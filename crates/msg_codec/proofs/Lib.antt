@@ -6,3 +6,4 @@ pub mod ReadLaws
 pub mod WriteLaws
 pub mod PacketLaws
 pub mod SizeLaws
+pub mod Decided

@@ -84,10 +84,10 @@ none_of bytes (Err Memory) only refused s c v packet = cc
 
 -- NO VALUE BEGINS ANOTHER
 
-abbrev SameAt : ℕ → Type 0
+abbrev pub SameAt : ℕ → Type 0
 SameAt depth = (x y : Val) (bytes r s : List ℕ) → length bytes ≤ 60000 → Begins depth x bytes r → Begins depth y bytes s → (x ≡ y) × (r ≡ s)
 
-same_each : (depth n : ℕ) → SameAt depth → (xs ys : List Val) (bytes r s : List ℕ) → length bytes ≤ 60000 → BeginsEach depth n xs bytes r → BeginsEach depth n ys bytes s → (xs ≡ ys) × (r ≡ s)
+pub same_each : (depth n : ℕ) → SameAt depth → (xs ys : List Val) (bytes r s : List ℕ) → length bytes ≤ 60000 → BeginsEach depth n xs bytes r → BeginsEach depth n ys bytes s → (xs ≡ ys) × (r ≡ s)
 same_each depth n same [] [] bytes r s small one two = (refl, sym one.is ∙ two.is)
 same_each depth n same [] (y ∷ ys) bytes r s small one two = absurd (omega (arith, one.counted, two.counted))
 same_each depth n same (x ∷ xs) [] bytes r s small one two = absurd (omega (arith, one.counted, two.counted))
@@ -161,7 +161,7 @@ same_step depth below x y (letter ∷ front) r s small one two = go (every_val x
         let same = same_kept depth below front r s (omega (arith, small)) v w letter behind_x behind_y in
         (sym is_x ∙ ap val_of same.0 ∙ is_y, same.1)
 
-same_value : (depth : ℕ) → SameAt depth
+pub same_value : (depth : ℕ) → SameAt depth
 same_value zero = same_step zero (λ some. absurd (omega (arith, some)))
 same_value (suc depth) = same_step (suc depth) (λ some. subst SameAt (omega arith) (same_value depth))
 

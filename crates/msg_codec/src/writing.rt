@@ -1,7 +1,6 @@
 //! From a message to its packet.
 ghost use Rattle.da_values.specs.Lengths.{encoded_len};
 ghost use Rattle.da_values.specs.Narrow.{is_narrow};
-ghost use Rattle.da_values.specs.Nesting.{nesting};
 ghost use Rattle.da_values.specs.Value.{val_of, vals};
 ghost use Rattle.da_values.specs.declared.val.Val.TheVariants as val;
 ghost use Rattle.msg_codec.specs.Packets.{has_few_parts, joined, packet_bytes, value_bytes};
@@ -12,13 +11,13 @@ ghost use Rattle.std.specs.Prelude.{◌≡◌, ◌+◌, ◌^◌, ◌<◌, ◌≤
 
 use da_values::{Buf, NoMemory, Row, SetVal, Str, Value};
 
-/// Appends the packet of a message: 13 bytes, and then those of the value. Its integers lie in 64 bits, its tuples have
-/// at most 255 parts, and at most 32 tuples and sets stand in one another. The time is at most 2^63 - 1, and the packet
-/// has at most 60,000 bytes. Where memory is refused `out` is as it was.
+/// Appends the bytes of a message with its sender and its time: 13 bytes, and then those of the value. Its integers lie in
+/// 64 bits, and its tuples have at most 255 parts. The time is at most 2^63 - 1, and there are at most 60,000 bytes. They
+/// are a packet where the value is proper and at most 32 tuples and sets stand in one another in it. Where memory is
+/// refused `out` is as it was.
 pub fn encode(sender: u16, clock: u64, v: &Value, out: &mut Buf) -> Result<(), NoMemory>
     requires narrow { IsTrue (is_narrow (val_of v.now)) }
     requires few_parts { IsTrue (has_few_parts (val_of v.now)) }
-    requires nested { nesting (val_of v.now) ≤ 32 }
     requires clock { clock < 2 ^ 63 }
     requires small { length (packet_bytes sender clock (val_of v.now)) ≤ 60000 }
     ensures ok { OnOk result (out.new ≡ out.old ++ packet_bytes sender clock (val_of v.now)) }

@@ -1,7 +1,8 @@
 -- A turn of a shaped process leaves it shaped, and what it sends may be sent.
-use Rattle.std.specs.Prelude.{◌≡◌, refl, ℕ, Bool, true, false, nat_le, if◌then◌else◌, List, [], ◌∷◌, map, Option, Some, None, Ok, Err}
+use Rattle.std.specs.Prelude.{◌≡◌, refl, ℕ, ◌≤◌, Bool, true, false, nat_le, if◌then◌else◌, List, [], ◌∷◌, map, Option, Some, None, Ok, Err}
 use Rattle.std.specs.List.{All}
 use Rattle.std.proofs.Common.{◌∙◌, ap, sym, subst, inl, inr}
+use Rattle.std.proofs.lemmas.Bool.{leb-true}
 use Rattle.std.proofs.lemmas.List.Elements.{All-nil, All-cons, All-head, All-tail}
 use Rattle.da_values.specs.declared.val.Val.{Val}
 use Rattle.da_values.specs.declared.val.Val.TheVariants as val
@@ -40,11 +41,11 @@ use Rattle.da_types.proofs.shaped.TasksKept.{block_tasks, branch_block, call_blo
 
 module _ (p : Program) where
   -- what is told of a message that may be sent
-  pub sending_told : (me : ℕ) (m : Val) (to : List ℕ) (clock : ℕ) → MaySend p m to → All (MayTell p me) (sending me m to clock)
-  sending_told me m [] clock may = All-nil (MayTell p me)
-  sending_told me m (q ∷ qs) clock may =
-      let is : IsSending p me me q (later clock) m = record { from_me = refl; there = may.receivers q (inl refl); proper = may.proper; typed = may.typed; in_time = later_below clock } in
-      let others = sending_told me m qs (later clock) (record { proper = may.proper; typed = may.typed; receivers = λ r h. may.receivers r (inr h) }) in
+  pub sending_told : (me : ℕ) (m : Val) (to : List ℕ) (clock : ℕ) → packet_len m ≤ max_packet → MaySend p m to → All (MayTell p me) (sending me m to clock)
+  sending_told me m [] clock small may = All-nil (MayTell p me)
+  sending_told me m (q ∷ qs) clock small may =
+      let is : IsSending p me me q (later clock) m = record { from_me = refl; there = may.receivers q (inl refl); proper = may.proper; typed = may.typed; in_time = later_below clock; small = small } in
+      let others = sending_told me m qs (later clock) small (record { proper = may.proper; typed = may.typed; receivers = λ r h. may.receivers r (inr h) }) in
       All-cons (MayTell p me) (Sent me q (later clock) (value_of m)) (sending me m qs (later clock)) (subst (IsSending p me me q (later clock)) (sym (val_of-value_of m)) is) others
 
 module _ (p : Program) (c : Class) where
@@ -86,9 +87,9 @@ module _ (p : Program) (c : Class) (f : IsWholeProgram p) (line : ℕ) (d : Data
   chosen_leaves true x y first second = first
   chosen_leaves false x y first second = second
 
-  send_leaves : (small : Bool) (m : Val) (to : List ℕ) → MaySend p m to → Leaves (send_if c line d todo small m to)
-  send_leaves true m to may = record { same = sent-me p c m to d; knows = sent_shaped p c m to d s may; tasks = rest; tells = sending_told p d.me m to d.clock may }
-  send_leaves false m to may = failed_leaves Message
+  send_leaves : (small : Bool) (m : Val) (to : List ℕ) → nat_le (packet_len m) max_packet ≡ small → MaySend p m to → Leaves (send_if c line d todo small m to)
+  send_leaves true m to is may = record { same = sent-me p c m to d; knows = sent_shaped p c m to d s may; tasks = rest; tells = sending_told p d.me m to d.clock (leb-true (packet_len m) max_packet is) may }
+  send_leaves false m to is may = failed_leaves Message
 
   enter_leaves : (args : List RExpr) (params : List ℕ) (body : List Item) → ((vs : List Val) → eval_all c.queries args d ≡ Ok vs → FitSlots p c params vs) → ShapedTasks p c d.me (do_all body todo) → Leaves (enter c line d todo args params body)
   enter_leaves args params body fits has =
@@ -157,7 +158,7 @@ module _ (p : Program) (c : Class) (f : IsWholeProgram p) (line : ℕ) (d : Data
         quiet_leaves (put_slot d slot new) todo refl (put_shaped p c d slot new s (fitting_suits p c slot new (removed_fits p c d slot v s (deleted_fits p c d f s i stands slot x v is e)))) rest))
     kind_leaves (Send x to) is =
         outcome_leaves (value x) _
-        (λ m e. outcome_leaves (value to) _ (λ w e_to. send_leaves (nat_le (packet_len m) max_packet) m (recipients w) (sent_fits p c d f s i stands x to m w is e e_to)))
+        (λ m e. outcome_leaves (value to) _ (λ w e_to. send_leaves (nat_le (packet_len m) max_packet) m (recipients w) refl (sent_fits p c d f s i stands x to m w is e e_to)))
     kind_leaves (Output x) is = outcome_leaves (value x) _ (λ v e. record { same = refl; knows = s; tasks = rest; tells = All-cons (MayTell p d.me) (Out d.me (value_of v)) [] tt (All-nil (MayTell p d.me)) })
     kind_leaves (If branches other) is = choose_leaves branches branches other is (λ b h. h)
     kind_leaves (While x body) is = outcome_leaves (value x) _ (λ v e. quiet_leaves d _ refl s (while_tasks body (while_block i x body is) (truth_of v)))
