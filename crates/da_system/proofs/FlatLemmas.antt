@@ -8,11 +8,11 @@ use Rattle.da_system.specs.FlatChannels.{StandFlat, flat, place_of}
 use Rattle.da_system.specs.SoundState.{IsSquare}
 
 module _ {A : Type 0} where
-  get_behind : (xs ys : List A) (k : ℕ) → slice_get (xs ++ ys) (length xs + k) ≡ slice_get ys k
+  pub get_behind : (xs ys : List A) (k : ℕ) → slice_get (xs ++ ys) (length xs + k) ≡ slice_get ys k
   get_behind [] ys k = ap (slice_get ys) (let same : 0 + k ≡ k = omega arith in same)
   get_behind (x ∷ xs) ys k = ap (slice_get (x ∷ (xs ++ ys))) (let same : suc (length xs) + k ≡ suc (length xs + k) = omega arith in same) ∙ get_behind xs ys k
 
-  get_front : (xs ys : List A) (k : ℕ) → k < length xs → slice_get (xs ++ ys) k ≡ slice_get xs k
+  pub get_front : (xs ys : List A) (k : ℕ) → k < length xs → slice_get (xs ++ ys) k ≡ slice_get xs k
   get_front [] ys k inside = absurd (omega (arith, inside))
   get_front (x ∷ xs) ys zero inside = refl
   get_front (x ∷ xs) ys (suc k) inside = get_front xs ys k (omega (arith, inside))

@@ -1,5 +1,9 @@
 pub mod AcceptedStates
 pub mod AnswerLemmas
+pub mod ChoiceExamples
+pub mod ChoiceLaws
+pub mod ChoiceLemmas
+pub mod FindLemmas
 pub mod FlatLemmas
 pub mod LetterLemmas
 pub mod MadeLemmas
@@ -9,6 +13,7 @@ pub mod SoundLaws
 pub mod StandLemmas
 pub mod StepLemmas
 pub mod StopLaws
+pub mod StressLaws
 pub mod SystemExamples
 pub mod SystemLaws
 pub mod Tested

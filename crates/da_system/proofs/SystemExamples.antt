@@ -24,7 +24,7 @@ use Rattle.da_system.specs.Channels.{Channels, Letter, after_actions, no_letters
 use Rattle.da_system.specs.SourceRun.{src_run}
 use Rattle.da_system.specs.SystemStep.{AfterEvent, SystemState, start, sys_step}
 
-abbrev num : ℕ → Val
+abbrev pub num : ℕ → Val
 num n = val.Int (pos n)
 
 -- `('note', n)`
@@ -50,34 +50,34 @@ class = record {
   queries = query.Quant false (record { source = source.Received; message = Tuple (Const (literal.Text (codes "note")) ∷ Bind ∷ []); peer = Any } ∷ []) None ∷ [];
 }
 
-abbrev program : ChannelKind → Program
+abbrev pub program : ChannelKind → Program
 program kind = record { kind = kind; messages = []; classes = class ∷ []; procs = record { class = 0; setup = None } ∷ record { class = 0; setup = None } ∷ [] }
 
 abbrev entry : ℕ → ℕ → ℕ → Entry
 entry n peer time = record { message = note n; peer = peer; time = time }
 
-abbrev letter : ℕ → ℕ → Letter
+abbrev pub letter : ℕ → ℕ → Letter
 letter n time = record { message = note n; time = time }
 
 -- process 1, which has sent notes 7 and 8 at the times 1 and 2
-abbrev first : World
+abbrev pub first : World
 first = record { data' = record { me = 1; slots = []; sent = entry 7 2 1 ∷ entry 8 2 2 ∷ []; received = []; clock = 2 }; todo = Do label ∷ []; phase = Waiting }
 
 -- process 2, with what it has received
-abbrev knows : List Entry → ℕ → Data
+abbrev pub knows : List Entry → ℕ → Data
 knows received clock = record { me = 2; slots = []; sent = []; received = received; clock = clock }
 
-abbrev second : Phase → Data → World
+abbrev pub second : Phase → Data → World
 second phase d = record { data' = d; todo = Do label ∷ []; phase = phase }
 
 -- the letters under way from the first to the second
-abbrev under_way : List Letter → Channels
+abbrev pub under_way : List Letter → Channels
 under_way letters = ([] ∷ letters ∷ []) ∷ ([] ∷ [] ∷ []) ∷ []
 
-abbrev system : ChannelKind → List Letter → World → SystemState
+abbrev pub system : ChannelKind → List Letter → World → SystemState
 system kind letters w = record { kind = kind; worlds = first ∷ w ∷ []; channels = under_way letters }
 
-abbrev both : List Letter
+abbrev pub both : List Letter
 both = letter 7 1 ∷ letter 8 2 ∷ []
 
 abbrev steps : ChannelKind → Event → Option AfterEvent

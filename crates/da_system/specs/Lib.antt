@@ -1,8 +1,11 @@
 pub mod Channels
+pub mod Choices
 pub mod FlatChannels
+pub mod Picking
 pub mod Queued
 pub mod Queues
 pub mod SoundState
 pub mod SourceRun
 pub mod State
+pub mod StressRun
 pub mod SystemStep

@@ -71,6 +71,24 @@ impl Channels {
         self.queues.get(place)?.get(at)
     }
 
+    /// How many processes there are. It takes no memory.
+    pub fn processes(&self) -> u32
+        ensures value { result ≡ count_of self.now }
+        ensures few { result < 2 ^ 16 }
+    {
+        self.count as u32
+    }
+
+    /// How many messages are under way from `p` to `q`. It takes no memory.
+    pub fn under_way(&self, p: u32, q: u32) -> usize
+        ensures { Each self.now (λ channels. result ≡ length (channel channels p q)) }
+    {
+        match self.place_of(p, q) {
+            Some(place) => self.queues[place].len(),
+            None => 0,
+        }
+    }
+
     /// Message `i` of the channel from `p` to `q`, if it is there, leaves the channel. The two processes are there, and
     /// messages are counted from 1. It takes no memory.
     pub fn remove(&mut self, p: u32, q: u32, i: u32) -> Option<InFlight>

@@ -2,6 +2,7 @@
 #![tactic(auto)]
 
 mod channels;
+mod choices;
 mod queue;
 mod system;
 

@@ -1,6 +1,6 @@
 //! One channel.
 ghost use Rattle.std.specs.Option.{option_copied};
-ghost use Rattle.std.specs.Prelude.{◌≡◌, [], ◌∷◌, ◌++◌, OnErr, OnOk, remove, slice_get};
+ghost use Rattle.std.specs.Prelude.{◌≡◌, [], ◌∷◌, ◌++◌, OnErr, OnOk, length, remove, slice_get};
 
 use da_values::{NoMemory, Value};
 use std::alloc::Global;
@@ -41,6 +41,13 @@ impl Queue {
         Queue {
             letters: VecDeque::new(alloc),
         }
+    }
+
+    /// How many messages there are. It takes no memory.
+    pub fn len(&self) -> usize
+        ensures { result ≡ length self.now }
+    {
+        self.letters.len()
     }
 
     /// The message at a place, counted from 0, or `None` where there is none. It takes no memory.

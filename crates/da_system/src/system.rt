@@ -24,8 +24,8 @@ pub struct System<'c> {
     alloc: Global,
     compiled: &'c Compiled,
     cores: Vec<Core<'c>>,
-    channels: Channels,
-    spent: bool,
+    pub(crate) channels: Channels,
+    pub(crate) spent: bool,
 }
 
 impl<'c> System<'c> {
@@ -151,7 +151,7 @@ impl System<'_> {
     }
 
     // The core of process `p`, or `None` where there is no such process.
-    fn core(&self, p: u32) -> Option<&Core<'_>>
+    pub(crate) fn core(&self, p: u32) -> Option<&Core<'_>>
         ensures { option_copied result ≡ at_number self.now.cores.items p }
     {
         let place = (p as usize).checked_sub(1)?;
@@ -166,7 +166,7 @@ impl System<'_> {
     }
 
     // Whether process `p` may make the move of number `k`.
-    fn may_move(&self, p: u32, k: u32) -> bool
+    pub(crate) fn may_move(&self, p: u32, k: u32) -> bool
         ensures { Whichever self.now (λ s.
             IsTrue result ↔ IsSome (process_step (program_of self.now) s p (move_step k))) }
     {
@@ -217,7 +217,7 @@ impl System<'_> {
     }
 
     // The kind of the channels.
-    fn kind(&self) -> ChannelKind
+    pub(crate) fn kind(&self) -> ChannelKind
         ensures { result ≡ (program_of self.now).kind }
     {
         self.compiled.program().kind
@@ -231,7 +231,7 @@ impl System<'_> {
     }
 
     // Whether process `q` waits at a label or an `await`.
-    fn waits(&self, q: u32) -> bool
+    pub(crate) fn waits(&self, q: u32) -> bool
         ensures { Whichever self.now (λ s. result ≡ waits_at (at_number s.worlds q)) }
     {
         match self.core(q) {

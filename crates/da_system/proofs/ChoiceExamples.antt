@@ -1,0 +1,54 @@
+-- The events that may be picked in some states.
+use Rattle.std.specs.Prelude.{◌≡◌, refl, Bool, true, false, List, [], ◌∷◌, None}
+use Rattle.da_values.specs.declared.value.Value.TheVariants as literal
+use Rattle.da_lang.specs.declared.event.Event.TheVariants.{Deliver, Move, Take}
+use Rattle.da_lang.specs.declared.program.Alt.{Alt, roll-Alt}
+use Rattle.da_lang.specs.declared.program.Item.{Item, roll-Item}
+use Rattle.da_lang.specs.declared.program.ItemKind.TheVariants as it
+use Rattle.da_lang.specs.declared.query.Cond.TheVariants as cond
+use Rattle.da_lang.specs.declared.query.Term.TheVariants as term
+use Rattle.da_lang.specs.declared.ty.ChannelKind.TheVariants.{FifoReliable, UnorderedUnreliable}
+use Rattle.da_lang.specs.World.{Do, World, New, Waiting, Ended}
+use Rattle.da_lang.proofs.Computing.{stepping}
+use Rattle.da_system.specs.Channels.{Letter}
+use Rattle.da_system.specs.Choices.{choices}
+use Rattle.da_system.specs.StressRun.{next_number}
+use Rattle.da_system.specs.SystemStep.{SystemState, start}
+use Rattle.da_system.proofs.SystemExamples.{both, first, knows, letter, program, second, system, under_way}
+
+-- both processes wait at a label, and two messages are under way: moves come first, and then the deliveries
+unordered_choices : choices (program UnorderedUnreliable) (system UnorderedUnreliable both (second Waiting (knows [] 0))) ≡ Move 1 ∷ Move 2 ∷ Deliver 1 2 1 ∷ Deliver 1 2 2 ∷ []
+unordered_choices = simp stepping
+
+-- of a fifo channel only the first message
+fifo_choices : choices (program FifoReliable) (system FifoReliable both (second Waiting (knows [] 0))) ≡ Move 1 ∷ Move 2 ∷ Deliver 1 2 1 ∷ []
+fifo_choices = simp stepping
+
+-- nothing is delivered to a process that has ended, and it does not move
+few_choices : choices (program UnorderedUnreliable) (system UnorderedUnreliable both (second Ended (knows [] 0))) ≡ Move 1 ∷ []
+few_choices = simp stepping
+
+-- of five messages the first four
+abbrev five : List Letter
+five = letter 7 1 ∷ letter 8 2 ∷ letter 9 3 ∷ letter 10 4 ∷ letter 11 5 ∷ []
+
+four_of_five : choices (program UnorderedUnreliable) (system UnorderedUnreliable five (second Waiting (knows [] 0))) ≡ Move 1 ∷ Move 2 ∷ Deliver 1 2 1 ∷ Deliver 1 2 2 ∷ Deliver 1 2 3 ∷ Deliver 1 2 4 ∷ []
+four_of_five = simp stepping
+
+-- a new process begins
+new_choices : choices (program UnorderedUnreliable) (start (program UnorderedUnreliable)) ≡ Move 1 ∷ Move 2 ∷ []
+new_choices = refl
+
+-- at an `await` the alternatives that are true, before the deliveries
+abbrev way : Bool → Alt
+way b = roll-Alt (record { cond = cond.Truth (term.Const (literal.Bool b)); found = None; binds = []; body = []; line = 4 })
+
+abbrev awaits : World
+awaits = record { data' = knows [] 0; todo = Do (roll-Item (record { line = 4; kind = it.Await (way true ∷ way false ∷ way true ∷ []) })) ∷ []; phase = Waiting }
+
+await_choices : choices (program FifoReliable) (system FifoReliable both awaits) ≡ Move 1 ∷ Take 2 1 ∷ Take 2 3 ∷ Deliver 1 2 1 ∷ []
+await_choices = simp stepping
+
+-- the first number behind 1
+number_behind_1 : next_number 1 ≡ 25214903928
+number_behind_1 = refl

@@ -1,0 +1,200 @@
+//! The run of a generated schedule, whose events are picked by numbers.
+ghost use Rattle.da_outside.specs.Outside.{Appends, AppendsFront, HasCause, Rose};
+ghost use Rattle.da_system.specs.State.{IsReady, Whichever, is_spent, program_of};
+ghost use Rattle.da_system.specs.StressRun.{next_number as next_lem, number_line, place_in as place_lem, stress_text_from};
+ghost use Rattle.replay_run.specs.Replay.{HasEnded, run_on};
+ghost use Rattle.replay_run.specs.Stress.{HasCome, HasPicked, HasRoom, IsNext, UsesRoom, lines_of, picked_on};
+ghost use Rattle.std.specs.Prelude.{◌≡◌, ◌++◌, ◌<◌, ◌≤◌, ◌^◌, None, false, IfOk, OnErr, OnOk, length};
+
+use crate::counts::Counts;
+use crate::outcome::Outcome;
+use da_outside::{Sink, Trouble, write_all};
+use da_system::{StepFault, System};
+use da_values::{Buf, List, NoMemory, write_number};
+use std::alloc::Global;
+
+/// Carries out at most `n` events, each of which a number picks among those that may be picked, until there are none. The
+/// first number comes behind `start`. Then it writes how many events there were, how many actions of each kind, and the last
+/// number. The system may have made steps before. Where the run ends in `WriteFault` or `Memory`, the system is good for
+/// nothing more: only its program is still known.
+pub fn stress<K: Sink>(
+    alloc: Global,
+    system: &mut System,
+    start: u64,
+    n: u64,
+    sink: &mut K,
+) -> Outcome
+    requires ready { IsReady system.old }
+    requires unspent { is_spent system.old ≡ false }
+
+    // From each state that the system stands for: the sink gained the eight lines, and the system stands where the events that
+    // were picked lead.
+    ensures ran { HasEnded result → Whichever system.old (λ s. HasPicked (program_of system.old) s start n system.new (K.taken sink.old) (K.taken sink.new)) }
+    ensures ready { HasEnded result → IsReady system.new }
+    ensures program { program_of system.new ≡ program_of system.old }
+
+    // Each event that is picked is allowed, and there are at most n of them. So the run is never `Forbidden`.
+    ensures allowed { Whichever system.old (λ s. (run_on (program_of system.old) s (picked_on (program_of system.old) s start n)).stop ≡ None) }
+    ensures few { Whichever system.old (λ s. length (picked_on (program_of system.old) s start n) ≤ n) }
+    ensures done { HasEnded result → result ≡ Outcome.Done }
+
+    // However it ended, no more was written than the front of the eight lines.
+    ensures front { Whichever system.old (λ s. AppendsFront (K.taken sink.old) (K.taken sink.new) (stress_text_from (program_of system.old) s start n)) }
+
+    // A fault has its cause, and the count rises for no other reason.
+    ensures write { result ≡ Outcome.WriteFault → Rose (K.faults sink.old) (K.faults sink.new) }
+    ensures later { K.faults sink.old ≤ K.faults sink.new }
+    ensures rises { K.faults sink.old < K.faults sink.new → result ≡ Outcome.WriteFault }
+{
+    match run_and_tell(alloc, system, start, n, sink) {
+        Ok(()) => Outcome::Done,
+        Err(Trouble::Failed) => Outcome::WriteFault,
+        Err(Trouble::Memory) => Outcome::Memory,
+    }
+}
+
+/// What a run has come to: how many events there were, how many actions of each kind, and the last number.
+#[derive(Clone, Copy, Debug, PartialEq, Eq)]
+struct Summary {
+    events: u64,
+    counts: Counts,
+    last: u64,
+}
+
+// Carries out the events, and writes the eight lines.
+fn run_and_tell<K: Sink>(
+    alloc: Global,
+    system: &mut System,
+    start: u64,
+    n: u64,
+    sink: &mut K,
+) -> Result<(), Trouble>
+    requires { IsReady system.old }
+    ensures ran { OnOk result (Whichever system.old (λ s. HasPicked (program_of system.old) s start n system.new (K.taken sink.old) (K.taken sink.new))) }
+    ensures ready { OnOk result (IsReady system.new) }
+    ensures program { program_of system.new ≡ program_of system.old }
+    ensures front { OnErr result (Whichever system.old (λ s. AppendsFront (K.taken sink.old) (K.taken sink.new) (stress_text_from (program_of system.old) s start n))) }
+    ensures cause { HasCause (K.faults sink.old) (K.faults sink.new) result }
+{
+    let summary = run_picked(alloc, system, start, n)?;
+    match write_summary(alloc, &summary, sink) {
+        Ok(()) => Ok(()),
+        Err(trouble) => Err(trouble),
+    }
+}
+
+// Writes the eight lines of a summary.
+fn write_summary<K: Sink>(alloc: Global, summary: &Summary, sink: &mut K) -> Result<(), Trouble>
+    ensures written { OnOk result (Appends (K.taken sink.old) (K.taken sink.new) (lines_of summary.now)) }
+    ensures front { OnErr result (AppendsFront (K.taken sink.old) (K.taken sink.new) (lines_of summary.now)) }
+    ensures cause { HasCause (K.faults sink.old) (K.faults sink.new) result }
+{
+    let mut text = List::new(alloc);
+    put_summary(summary, &mut text)?;
+    write_all(sink, text.as_slice())
+}
+
+// Carries out at most `n` events that numbers pick behind `start`.
+fn run_picked(alloc: Global, system: &mut System, start: u64, n: u64) -> Result<Summary, NoMemory>
+    requires { IsReady system.old }
+    ensures ran { IfOk result (λ summary. Whichever system.old (λ s. HasCome (program_of system.old) s start n summary system.new)) }
+    ensures ready { OnOk result (IsReady system.new) }
+    ensures program { program_of system.new ≡ program_of system.old }
+{
+    let mut counts = Counts::new();
+    let mut last = start;
+    for events in 0..n {
+        let next = run_next(alloc, system, last, &mut counts)?;
+        let Some(number) = next else {
+            return Ok(Summary {
+                events,
+                counts,
+                last,
+            });
+        };
+        last = number;
+    }
+    Ok(Summary {
+        events: n,
+        counts,
+        last,
+    })
+}
+
+// Carries out the event that the number behind `last` picks, and counts its actions. It answers that number, or `None` where
+// there is no event to pick.
+fn run_next(
+    alloc: Global,
+    system: &mut System,
+    last: u64,
+    counts: &mut Counts,
+) -> Result<Option<u64>, NoMemory>
+    requires ready { IsReady system.old }
+    requires room { HasRoom counts.old (2 ^ 64) }
+    ensures next { IfOk result (λ number. Whichever system.old (λ s. IsNext (program_of system.old) s last number counts.old counts.new system.new)) }
+    ensures room { OnOk result (UsesRoom (2 ^ 64) counts.old counts.new) }
+    ensures ready { OnOk result (IsReady system.new) }
+    ensures program { program_of system.new ≡ program_of system.old }
+{
+    let choices = system.choices();
+    if choices == 0 {
+        return Ok(None);
+    }
+    let number = next_number(last);
+    let event = system.choice(place_in(choices, number));
+    let mut actions = List::new(alloc);
+    match system.step(&event, &mut actions) {
+        Ok(()) => {}
+        Err(StepFault::Memory) => return Err(NoMemory),
+        Err(StepFault::Forbidden | StepFault::Spent) => unreachable!(),
+    }
+    counts.add(actions.as_slice());
+    Ok(Some(number))
+}
+
+const FACTOR: u128 = 25_214_903_917;
+
+const SUMMAND: u128 = 11;
+
+const MODULUS: u128 = 281_474_976_710_656;
+
+// The number that comes next.
+fn next_number(x: u64) -> u64
+    ensures { result ≡ next_lem x }
+{
+    ((FACTOR * u128::from(x) + SUMMAND) % MODULUS) as u64
+}
+
+// The place, counted from 0, that a number picks in a list of this length.
+fn place_in(count: usize, x: u64) -> usize
+    requires { 0 < count }
+    ensures place { result ≡ place_lem count x }
+    ensures within { result < count }
+{
+    (x / 65_536) as usize % count
+}
+
+// Appends the eight lines of a summary.
+fn put_summary(summary: &Summary, out: &mut Buf) -> Result<(), NoMemory>
+    ensures { OnOk result (out.new ≡ out.old ++ lines_of summary.now) }
+{
+    put_line(b"events", u128::from(summary.events), out)?;
+    put_line(b"took", summary.counts.took, out)?;
+    put_line(b"sent", summary.counts.sent, out)?;
+    put_line(b"got", summary.counts.got, out)?;
+    put_line(b"out", summary.counts.out, out)?;
+    put_line(b"end", summary.counts.end, out)?;
+    put_line(b"fault", summary.counts.fault, out)?;
+    put_line(b"state", u128::from(summary.last), out)
+}
+
+// Appends the line of a word and a number.
+#[tactic(auto, unfolding(da_system::specs::StressRun::number_line))]
+fn put_line(word: &[u8], number: u128, out: &mut Buf) -> Result<(), NoMemory>
+    ensures { OnOk result (out.new ≡ out.old ++ number_line word.now number) }
+{
+    out.append(word)?;
+    out.append(b" ")?;
+    write_number(number, out)?;
+    out.append(b"\n")
+}
