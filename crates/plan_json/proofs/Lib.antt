@@ -1,0 +1,4 @@
+mod NamedAt
+mod ClassesAt
+pub mod Floatless
+mod examples

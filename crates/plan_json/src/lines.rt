@@ -1,0 +1,56 @@
+//! JSON of texts and numbers.
+ghost use Rattle.plan_json.specs.PlanJson.{numbers as numbers_lem, texts as texts_lem};
+ghost use Rattle.serde_json.specs.Data.{string};
+ghost use Rattle.serde_json.specs.View.{view};
+ghost use Rattle.std.specs.Prelude.{◌≡◌, [], ◌∷◌, ◌++◌, IfOk, OnOk};
+
+use da_values::{Buf, NoMemory};
+use serde_json::{Value, push};
+use std::alloc::Global;
+use std::str;
+
+/// A text as a JSON string. Bytes that are not UTF-8 are answered as want of memory; the texts of a plan are printable
+/// ASCII.
+pub fn text(alloc: Global, bytes: &[u8]) -> Result<Value, NoMemory>
+    ensures { IfOk result (λ v. view v ≡ string bytes.now) }
+{
+    let Ok(text) = str::from_utf8(bytes) else {
+        return Err(NoMemory);
+    };
+    match Value::try_from_str(alloc, text) {
+        Ok(value) => Ok(value),
+        Err(_) => Err(NoMemory),
+    }
+}
+
+/// Texts as a JSON array.
+pub fn texts(alloc: Global, lines: &[Buf]) -> Result<Value, NoMemory>
+    ensures { IfOk result (λ v. view v ≡ texts_lem lines.now) }
+{
+    let mut values = Vec::new(alloc);
+    for line in lines {
+        put_value(text(alloc, line.as_slice())?, &mut values)?;
+    }
+    Ok(Value::Array(values))
+}
+
+/// Numbers as a JSON array.
+pub fn numbers(alloc: Global, list: &[u32]) -> Result<Value, NoMemory>
+    ensures { IfOk result (λ v. view v ≡ numbers_lem list.now) }
+{
+    let mut values = Vec::new(alloc);
+    for number in list {
+        put_value(Value::from(*number), &mut values)?;
+    }
+    Ok(Value::Array(values))
+}
+
+/// Puts a value behind the others.
+pub fn put_value(value: Value, values: &mut Vec<Value>) -> Result<(), NoMemory>
+    ensures { OnOk result (values.new.items ≡ values.old.items ++ value ∷ []) }
+{
+    match push(values, value) {
+        Ok(()) => Ok(()),
+        Err(_) => Err(NoMemory),
+    }
+}
