@@ -1,0 +1,344 @@
+-- What may be given behind an event, and what a node does at any answer.
+use Rattle.std.specs.Prelude.{◌≡◌, refl, ℕ, zero, suc, ◌+◌, ◌<◌, ◌≤◌, ◌⊎◌, ◌↔◌, nat_le, nat_lt, Bool, true, false, ◌&&◌, List, [], ◌∷◌, ◌++◌, length, Option, Some, None, IsSome, is_some, Result, Ok, Err, IfErr, IsErrAnd, OnOk}
+use Rattle.std.specs.List.{All}
+use Rattle.std.proofs.Common.{◌∙◌, ap, sym, subst, subst₂, arith, inl, inr, append-nil, ltb-true, ltb-false, leb-true, leb-false}
+use Rattle.std.proofs.lemmas.Bool.{true≢false, false≢true, and_parts}
+use Rattle.std.proofs.lemmas.List.Elements.{All-head, All-tail}
+use Rattle.std.proofs.lemmas.Result.{IfErr-weaker}
+use Rattle.da_values.specs.declared.val.Val.{Val}
+use Rattle.da_values.specs.declared.value.Value.{Value}
+use Rattle.da_values.specs.Narrow.{is_narrow}
+use Rattle.da_values.specs.Value.{val_of}
+use Rattle.da_lang.specs.declared.event.Action.{Action}
+use Rattle.da_lang.specs.declared.event.Action.TheVariants.{Sent}
+use Rattle.da_lang.specs.declared.program.Program.{Program}
+use Rattle.da_lang.specs.Accepted.{IsAccepted}
+use Rattle.da_lang.specs.Shaped.{IsProcess, Shaped, has_processes, is_declared, well_typed}
+use Rattle.da_lang.specs.Steps.{Step, Stepped, move_step, proc_step}
+use Rattle.da_lang.specs.Turns.{max_packet}
+use Rattle.da_lang.specs.World.{World, Waiting, opening}
+use Rattle.da_outside.specs.declared.link.LinkAnswer.{LinkAnswer}
+use Rattle.da_outside.specs.declared.link.LinkAnswer.TheVariants.{Datagram, Nothing}
+use Rattle.da_outside.specs.declared.link.LinkEntry.{LinkEntry}
+use Rattle.da_outside.specs.Link.{Gains}
+use Rattle.da_outside.specs.Outside.{Appends}
+use Rattle.da_outside.proofs.OutsideLemmas.{front_none}
+use Rattle.da_types.specs.KeepsShaped.{IsSending, MayStep, MayTell}
+use Rattle.da_types.proofs.sound.AcceptedShaped.{keeps_shaped}
+use Rattle.da_core.specs.declared.place.Stopped.{Stopped}
+use Rattle.da_core.specs.declared.place.Stopped.TheVariants as stopped
+use Rattle.da_core.specs.declared.process.Core.{Core}
+use Rattle.da_core.specs.Arrivals.{MayArrive, arrival}
+use Rattle.da_core.specs.Made.{HasMade, phase_of}
+use Rattle.da_core.specs.StandsFor as process
+use Rattle.msg_codec.specs.Packets.{IsPacket}
+use Rattle.msg_codec.proofs.Decided.{packet_once, packet_or_none}
+use Rattle.msg_codec.proofs.SizeLaws.{packet_size}
+use Rattle.sched_text.specs.ActionText.{action_text}
+use Rattle.node_run.specs.declared.hearing.Running.{Running}
+use Rattle.node_run.specs.declared.outcome.NodeFault.{NodeFault}
+use Rattle.node_run.specs.declared.outcome.NodeFault.TheVariants.{Memory}
+use Rattle.node_run.specs.Gifts.{IsCutShort, IsGift, MayGive, MayGiveAll, due}
+use Rattle.node_run.specs.Hearing.{HasActed, IsListening, StandsAs, WasCutActing, WasCutBeginning}
+use Rattle.node_run.specs.NodeRun.{Hears, delivers, drops, moves, idles, IsMessage, Node, after_drop, after_event, after_idle_turn, gifts, move_of}
+use Rattle.node_run.proofs.FewParts.{few_parts}
+use Rattle.node_run.proofs.MoveLaws.{each_delivery_allowed, own_move_allowed, start_allowed}
+use Rattle.node_run.proofs.RunLaws.{gains_nothing}
+
+-- WHAT MAY BE GIVEN
+
+module _ (p : Program) (accepted : IsAccepted p) (me : ℕ) where
+  gift_allowed : (sender recipient time : ℕ) (m : Value) → IsSending p me sender recipient time (val_of m) → IsGift (length p.procs) sender recipient time m
+  unfolding max_packet
+  gift_allowed sender recipient time m sending =
+      let v = val_of m in
+      let first = and_parts (is_declared p.messages v && is_narrow v) (has_processes (length p.procs) v) sending.typed in
+      let narrow = and_parts (is_declared p.messages v) (is_narrow v) first.0 in
+      record {
+        there = sending.there;
+        narrow = narrow.1;
+        few_parts = few_parts p accepted v sending.typed;
+        in_time = sending.in_time;
+        small = omega (arith, packet_size sender time v, sending.small);
+      }
+
+  told_given : (a : Action) → MayTell p me a → MayGive (length p.procs) a
+  told_given (Sent sender recipient time m) may = gift_allowed sender recipient time m may
+  told_given _ may = tt
+
+  -- what a process of an accepted program may tell may be given
+  pub all_given : (actions : List Action) → All (MayTell p me) actions → MayGiveAll (length p.procs) actions
+  all_given [] tells = tt
+  all_given (a ∷ others) tells = (told_given a (All-head (MayTell p me) a others tells), all_given others (All-tail (MayTell p me) a others tells))
+
+-- WHAT A CALL LEAVES
+
+both_ok : {T E P Q R : Type 0} (r : Result T E) → OnOk r P → OnOk r Q → (P → Q → R) → OnOk r R
+both_ok (Ok x) p q go = go p q
+both_ok (Err y) p q go = tt
+
+pub err_as : {T E : Type 0} (r : Result T E) (e : E) (P : E → Type 0) → IsErrAnd r (λ y. y ≡ e) → P e → IfErr r P
+err_as (Ok x) e P is p = absurd is
+err_as (Err y) e P is p = subst P (sym is) p
+
+-- nothing is written
+appends_nothing : (taken : Option (List ℕ)) → Appends taken taken []
+appends_nothing None = refl
+appends_nothing (Some told) = ap Some (sym (append-nil told))
+
+-- memory is refused before anything is given
+pub nothing_given : (actions : List Action) (told : Option (List LinkEntry)) (taken : Option (List ℕ)) → IsCutShort Memory actions told told taken taken
+nothing_given actions told taken = record {
+  gained = record { given = []; left = gifts actions; told = gains_nothing told; whole = refl };
+  left = tt;
+  written = front_none taken (due (gifts actions) (action_text actions));
+}
+
+-- MESSAGES
+
+-- these bytes are delivered
+abbrev pub MessageIn : Program → List ℕ → Type 0
+MessageIn p bytes = (m : Val) × (sender : ℕ) × (time : ℕ) × IsMessage p bytes m sender time
+
+-- they are dropped
+abbrev pub NoMessage : Program → List ℕ → Type 0
+NoMessage p bytes = (m : Val) (sender time : ℕ) → IsMessage p bytes m sender time → ⊥
+
+-- bytes that are no packet are no message
+pub no_packet : (p : Program) (bytes : List ℕ) → ((sender time : ℕ) (v : Val) → IsPacket sender time v bytes → ⊥) → NoMessage p bytes
+no_packet p bytes none m sender time is = none sender time m is.packet
+
+module _ (p : Program) (bytes : List ℕ) (sender time : ℕ) (v : Val) (packet : IsPacket sender time v bytes) where
+  -- and neither is a packet from no process of the program or of other types
+  pub other_packet : (IsProcess p sender × (well_typed p v ≡ true) → ⊥) → NoMessage p bytes
+  other_packet never m from at is =
+      let once = packet_once packet is.packet in
+      never (subst (IsProcess p) (sym once.0) is.from, subst (λ x. well_typed p x ≡ true) (sym once.2) is.typed)
+
+  pub this_packet : IsProcess p sender × (well_typed p v ≡ true) → IsMessage p bytes v sender time
+  this_packet both = record { packet = packet; from = both.0; typed = both.1 }
+
+  packet_by : (some within typed : Bool) → nat_lt 0 sender ≡ some → nat_le sender (length p.procs) ≡ within → well_typed p v ≡ typed → NoMessage p bytes ⊎ MessageIn p bytes
+  packet_by true true true some within typed = inr (v, sender, time, this_packet ((ltb-true 0 sender some, leb-true sender (length p.procs) within), typed))
+  packet_by false _ _ some within typed = inl (other_packet (λ both. let first : 0 < sender = both.0.0 in let none : sender ≤ 0 = ltb-false 0 sender some in omega arith))
+  packet_by true false _ some within typed = inl (other_packet (λ both. let last : sender ≤ length p.procs = both.0.1 in let far : length p.procs < sender = leb-false sender (length p.procs) within in omega arith))
+  packet_by true true false some within typed = inl (other_packet (λ both. true≢false (sym both.1 ∙ typed)))
+
+  message_at : NoMessage p bytes ⊎ MessageIn p bytes
+  message_at = packet_by (nat_lt 0 sender) (nat_le sender (length p.procs)) (well_typed p v) refl refl refl
+
+-- a test of the packet has failed
+pub not_delivered : (p : Program) (bytes : List ℕ) (sender time : ℕ) (v : Val) (passes : Bool) → IsPacket sender time v bytes → ((passes ≡ true) ↔ (IsProcess p sender × (well_typed p v ≡ true))) → passes ≡ false → NoMessage p bytes
+not_delivered p bytes sender time v passes packet exactly fails = other_packet p bytes sender time v packet (λ both. true≢false (sym (exactly.1 both) ∙ fails))
+
+-- whether bytes are delivered is decided
+pub message_or_none : (p : Program) (bytes : List ℕ) → NoMessage p bytes ⊎ MessageIn p bytes
+message_or_none p bytes = go (packet_or_none bytes)
+  where
+    go : ((sender time : ℕ) (v : Val) → IsPacket sender time v bytes → ⊥) ⊎ ((sender : ℕ) × (time : ℕ) × (v : Val) × IsPacket sender time v bytes) → NoMessage p bytes ⊎ MessageIn p bytes
+    go (inl none) = inl (no_packet p bytes none)
+    go (inr found) = message_at p bytes found.0 found.1 found.2 found.3
+
+-- WHAT A NODE THAT WAITS DOES
+
+some_of : (o : Option Stepped) → IsSome o → (after : Stepped) × (o ≡ Some after)
+some_of None some = absurd (false≢true some)
+some_of (Some after) some = (after, refl)
+
+-- it does something at this answer
+pub record HearsSome (program : Program) (node : Node) (answer : LinkAnswer) : Type 0 where
+  pub actions : List Action
+  pub then' : Node
+  pub hears : Hears program node answer actions then'
+
+module _ (core : Core) (node : Node) (stands : process.StandsFor core node.process) (waits : node.process.phase ≡ Waiting) where
+  at_datagram : (bytes : List ℕ) → NoMessage (process.program_of core) bytes ⊎ MessageIn (process.program_of core) bytes → HearsSome (process.program_of core) node (Datagram bytes)
+  at_datagram bytes (inl none) = record { actions = []; then' = after_drop node; hears = drops bytes none }
+  at_datagram bytes (inr found) =
+      let next = some_of _ (each_delivery_allowed core node.process stands waits found.0 found.1 found.2) in
+      record { actions = next.0.actions; then' = after_event node next.0.world; hears = delivers bytes found.0 found.1 found.2 next.0 found.3 next.1 }
+
+  at_nothing : (move : Option ℕ) → move_of node.process ≡ move → HearsSome (process.program_of core) node Nothing
+  at_nothing None is = record { actions = []; then' = after_idle_turn node; hears = idles is }
+  at_nothing (Some k) is =
+      let next = some_of _ (own_move_allowed core node.process stands waits k is) in
+      record { actions = next.0.actions; then' = after_event node next.0.world; hears = moves k next.0 is next.1 }
+
+  pub hears_some : (answer : LinkAnswer) → HearsSome (process.program_of core) node answer
+  hears_some (Datagram bytes) = at_datagram bytes (message_or_none (process.program_of core) bytes)
+  hears_some Nothing = at_nothing (move_of node.process) refl
+
+-- what it sent in a step may be given
+module _ (core : Core) (w : World) (stands : process.StandsFor core w) (step : Step) (after : Stepped) (may : MayStep (process.program_of core) step) (leads : proc_step (process.program_of core) w step ≡ Some after) where
+  pub gifts_allowed : MayGiveAll (length (process.program_of core).procs) after.actions
+  gifts_allowed =
+      let shaped : Shaped (process.program_of core) w = record { class = stands.class; knows = stands.knows; todo = stands.tasks } in
+      all_given (process.program_of core) stands.compiled.accepted w.data'.me after.actions ((keeps_shaped (process.program_of core) stands.compiled.accepted).steps w step after shaped may leads).tells
+
+-- A NODE THAT MAKES A STEP
+
+pub waits_so : (program : Program) (running : Running) (node : Node) → StandsAs program running node → running.stopped ≡ stopped.AtYield → node.process.phase ≡ Waiting
+waits_so program running node stood is = sym stood.stopped ∙ ap phase_of is
+
+-- its core made the step, of which these are the actions, and it stands so behind it
+pub record HasStepped (running next : Running) (step : Step) (actions : List Action) : Type 0 where
+  pub made : process.Whichever running.core (λ w. HasMade running.core w step next.core next.stopped [] actions)
+  pub same : process.program_of next.core ≡ process.program_of running.core
+  pub idle : next.idle ≡ 0
+
+pub has_stepped : (running : Running) (step : Step) (core : Core) (answer : Stopped) (old out actions : List Action) → old ≡ [] → actions ≡ out → process.program_of core ≡ process.program_of running.core
+    → process.Whichever running.core (λ w. HasMade running.core w step core answer old out) → HasStepped running (record { core = core; stopped = answer; idle = 0 }) step actions
+has_stepped running step core answer old out actions none shown same made = record {
+  made = λ w stands. subst₂ (λ old out. HasMade running.core w step core answer old out) none (sym shown) (made w stands);
+  same = same;
+  idle = refl;
+}
+
+-- what it sent may be given
+pub step_given : (running next : Running) (step : Step) (actions : List Action) → HasStepped running next step actions → IsListening (process.program_of running.core) running → MayStep (process.program_of running.core) step
+    → (count : ℕ) → count ≡ length (process.program_of running.core).procs → MayGiveAll count actions
+step_given running next step actions stepped listening may count bound =
+    let stands = listening.stands.stands in
+    let has = stepped.made listening.node.process stands in
+    subst₂ MayGiveAll (sym bound) (sym has.added) (gifts_allowed running.core listening.node.process stands step has.after may has.leads)
+
+-- it has done what the rules say where the step is what this answer asks for
+module _ (running next : Running) (step : Step) (actions : List Action) (stepped : HasStepped running next step actions) (node : Node) (stood : StandsAs (process.program_of running.core) running node) where
+  abbrev its : HasMade running.core node.process step next.core next.stopped [] actions
+  its = stepped.made node.process stood.stands
+
+  module _ (answer : LinkAnswer) (hears : Hears (process.program_of running.core) node answer its.after.actions (after_event node its.after.world)) (told_before told_after : Option (List LinkEntry)) (before after : Option (List ℕ)) where
+    step_acted : Gains told_before told_after (gifts actions) → Appends before after (action_text actions) → HasActed (process.program_of running.core) node answer next told_before told_after before after
+    step_acted gave written = record {
+      actions = its.after.actions;
+      then' = after_event node its.after.world;
+      hears = hears;
+      stands = record { stands = its.stands; same = stepped.same; stopped = its.stopped; idle = stepped.idle };
+      gave = subst (λ l. Gains told_before told_after (gifts l)) its.added gave;
+      written = subst (λ l. Appends before after (action_text l)) its.added written;
+    }
+
+    step_cut : (fault : NodeFault) → IsCutShort fault actions told_before told_after before after → WasCutActing fault (process.program_of running.core) node answer told_before told_after before after
+    step_cut fault cut = record {
+      actions = its.after.actions;
+      then' = after_event node its.after.world;
+      hears = hears;
+      cut = subst (λ l. IsCutShort fault l told_before told_after before after) its.added cut;
+    }
+
+-- what was told of it has this result
+module _ {T : Type 0} (told_before told_after : Option (List LinkEntry)) (before after : Option (List ℕ)) (result : Result T NodeFault) where
+  -- the delivery of a message
+  module _ (running next : Running) (m : Value) (sender time : ℕ) (actions : List Action) (arrives : MayArrive (process.program_of running.core) m sender time) (stepped : HasStepped running next (arrival m sender time) actions) where
+    delivers_so : (bytes : List ℕ) → IsPacket sender time (val_of m) bytes → (node : Node) (stood : StandsAs (process.program_of running.core) running node)
+        → let has = stepped.made node.process stood.stands in Hears (process.program_of running.core) node (Datagram bytes) has.after.actions (after_event node has.after.world)
+    delivers_so bytes packet node stood =
+        delivers bytes (val_of m) sender time _ (record { packet = packet; from = arrives.peer; typed = arrives.typed }) (stepped.made node.process stood.stands).leads
+
+    pub delivery_acted : OnOk result (Gains told_before told_after (gifts actions)) → OnOk result (Appends before after (action_text actions))
+        → OnOk result ((bytes : List ℕ) → IsPacket sender time (val_of m) bytes → (node : Node) → StandsAs (process.program_of running.core) running node
+        → HasActed (process.program_of running.core) node (Datagram bytes) next told_before told_after before after)
+    delivery_acted gave written = both_ok result gave written (λ gave written bytes packet node stood.
+        step_acted running next (arrival m sender time) actions stepped node stood (Datagram bytes) (delivers_so bytes packet node stood) told_before told_after before after gave written)
+
+    pub delivery_cut : IfErr result (λ fault. IsCutShort fault actions told_before told_after before after)
+        → IfErr result (λ fault. (bytes : List ℕ) → IsPacket sender time (val_of m) bytes → (node : Node) → StandsAs (process.program_of running.core) running node
+        → WasCutActing fault (process.program_of running.core) node (Datagram bytes) told_before told_after before after)
+    delivery_cut cut = IfErr-weaker result _ _ (λ fault cut bytes packet node stood.
+        step_cut running next (arrival m sender time) actions stepped node stood (Datagram bytes) (delivers_so bytes packet node stood) told_before told_after before after fault cut) cut
+
+  -- the move that it makes
+  module _ (running next : Running) (k : ℕ) (actions : List Action) (waits : running.stopped ≡ stopped.AtYield) (chosen : process.Whichever running.core (λ w. w.phase ≡ Waiting → Some k ≡ move_of w))
+      (stepped : HasStepped running next (move_step k) actions) where
+    moves_so : (node : Node) (stood : StandsAs (process.program_of running.core) running node)
+        → let has = stepped.made node.process stood.stands in Hears (process.program_of running.core) node Nothing has.after.actions (after_event node has.after.world)
+    moves_so node stood =
+        moves k _ (sym (chosen node.process stood.stands (waits_so (process.program_of running.core) running node stood waits))) (stepped.made node.process stood.stands).leads
+
+    pub move_acted : OnOk result (Gains told_before told_after (gifts actions)) → OnOk result (Appends before after (action_text actions))
+        → OnOk result ((node : Node) → StandsAs (process.program_of running.core) running node → HasActed (process.program_of running.core) node Nothing next told_before told_after before after)
+    move_acted gave written = both_ok result gave written (λ gave written node stood.
+        step_acted running next (move_step k) actions stepped node stood Nothing (moves_so node stood) told_before told_after before after gave written)
+
+    pub move_cut : IfErr result (λ fault. IsCutShort fault actions told_before told_after before after)
+        → IfErr result (λ fault. (node : Node) → StandsAs (process.program_of running.core) running node → WasCutActing fault (process.program_of running.core) node Nothing told_before told_after before after)
+    move_cut cut = IfErr-weaker result _ _ (λ fault cut node stood.
+        step_cut running next (move_step k) actions stepped node stood Nothing (moves_so node stood) told_before told_after before after fault cut) cut
+
+-- any move may be made, as far as messages go
+pub move_may : (program : Program) (k : ℕ) → MayStep program (move_step k)
+move_may program zero = tt
+move_may program (suc k) = tt
+
+-- the move that it makes is allowed
+pub not_forbidden : (running : Running) → IsListening (process.program_of running.core) running → (k : ℕ) → process.Whichever running.core (λ w. w.phase ≡ Waiting → Some k ≡ move_of w)
+    → process.Whichever running.core (λ w. proc_step (process.program_of running.core) w (move_step k) ≡ None) → ⊥
+not_forbidden running listening k chosen none =
+    let w = listening.node.process in
+    let stands = listening.stands.stands in
+    let waits = waits_so (process.program_of running.core) running listening.node listening.stands listening.waits in
+    false≢true (sym (ap is_some (none w stands)) ∙ own_move_allowed running.core w stands waits k (sym (chosen w stands waits)))
+
+-- a datagram that is dropped, and an idle turn
+module _ (program : Program) (running : Running) (node : Node) (stood : StandsAs program running node) (told : Option (List LinkEntry)) (taken : Option (List ℕ)) where
+  pub drop_acted : (bytes : List ℕ) → NoMessage program bytes → HasActed program node (Datagram bytes) (record { core = running.core; stopped = running.stopped; idle = 0 }) told told taken taken
+  drop_acted bytes none = record {
+    actions = [];
+    then' = after_drop node;
+    hears = drops bytes none;
+    stands = record { stands = stood.stands; same = stood.same; stopped = stood.stopped; idle = refl };
+    gave = gains_nothing told;
+    written = appends_nothing taken;
+  }
+
+  pub idle_acted : (idle : ℕ) → idle ≡ running.idle + 1 → move_of node.process ≡ None → HasActed program node Nothing (record { core = running.core; stopped = running.stopped; idle = idle }) told told taken taken
+  idle_acted idle more none = record {
+    actions = [];
+    then' = after_idle_turn node;
+    hears = idles none;
+    stands = record { stands = stood.stands; same = stood.same; stopped = stood.stopped; idle = more ∙ ap (λ n. n + 1) stood.idle };
+    gave = gains_nothing told;
+    written = appends_nothing taken;
+  }
+
+-- where memory is refused before anything is given
+module _ (program : Program) (running : Running) (node : Node) (stood : StandsAs program running node) (told : Option (List LinkEntry)) (taken : Option (List ℕ)) where
+  pub refused : running.stopped ≡ stopped.AtYield → (answer : LinkAnswer) → WasCutActing Memory program node answer told told taken taken
+  refused waits answer =
+      let some = hears_some running.core node stood.stands (waits_so program running node stood waits) answer in
+      record { actions = some.actions; then' = some.then'; hears = subst (λ p. Hears p node answer some.actions some.then') stood.same some.hears; cut = nothing_given some.actions told taken }
+
+-- A NODE THAT BEGINS
+
+module _ (program : Program) (me : ℕ) (core : Core) (stands : process.StandsFor core (opening program me)) (same : process.program_of core ≡ program)
+    (next : Core) (answer : Stopped) (old out actions : List Action) (none : old ≡ []) (shown : actions ≡ out) (made : HasMade core (opening program me) (move_step 0) next answer old out) where
+  first_actions : actions ≡ made.after.actions
+  first_actions = shown ∙ made.added ∙ ap (λ l. l ++ made.after.actions) none
+
+  -- what it sends at first may be given
+  pub first_given : (count : ℕ) → count ≡ length program.procs → MayGiveAll count actions
+  first_given count bound =
+      let all : length (process.program_of core).procs ≡ count = ap (λ (p : Program). length p.procs) same ∙ sym bound in
+      subst₂ MayGiveAll all (sym first_actions) (gifts_allowed core (opening program me) stands (move_step 0) made.after tt made.leads)
+
+  -- a fault cut it short
+  pub first_cut : {T : Type 0} (result : Result T NodeFault) (fault : NodeFault) (told_before told_after : Option (List LinkEntry)) (before after : Option (List ℕ)) → IsErrAnd result (λ why. why ≡ fault)
+      → IsCutShort fault actions told_before told_after before after → IfErr result (λ why. WasCutBeginning why program me told_before told_after before after)
+  first_cut result fault told_before told_after before after is cut = err_as result fault (λ why. WasCutBeginning why program me told_before told_after before after) is (record {
+    started = made.after;
+    start = subst (λ p. proc_step p (opening program me) (move_step 0) ≡ Some made.after) same made.leads;
+    cut = subst (λ l. IsCutShort fault l told_before told_after before after) first_actions cut;
+  })
+
+-- where memory is refused before anything is given
+pub refused_beginning : (program : Program) (me : ℕ) → IsAccepted program → IsProcess program me → (told : Option (List LinkEntry)) (taken : Option (List ℕ)) → WasCutBeginning Memory program me told told taken taken
+refused_beginning program me accepted there told taken =
+    let started = start_allowed program me accepted there in
+    record { started = started.0; start = started.1; cut = nothing_given started.0.actions told taken }
+
+-- what a call leaves of a node of the program of its core, it leaves of one of this program
+pub cut_so : (program : Program) (running : Running) (node : Node) (fault : NodeFault) (answer : LinkAnswer) (told_before told_after : Option (List LinkEntry)) (before after : Option (List ℕ)) → StandsAs program running node
+    → ((other : Node) → StandsAs (process.program_of running.core) running other → WasCutActing fault (process.program_of running.core) other answer told_before told_after before after)
+    → WasCutActing fault program node answer told_before told_after before after
+cut_so program running node fault answer told_before told_after before after stood cut =
+    subst (λ p. WasCutActing fault p node answer told_before told_after before after) stood.same (cut node (subst (λ p. StandsAs p running node) (sym stood.same) stood))

@@ -1,0 +1,6 @@
+pub mod EndLaws
+pub mod FewParts
+pub mod GivingLaws
+pub mod HearingLaws
+pub mod MoveLaws
+pub mod RunLaws

@@ -1,0 +1,11 @@
+use Rattle.std.proofs.Common.{rules}
+use Rattle.node_run.specs.Gifts.{GainsSome}
+use Rattle.node_run.specs.NodeRun.{gifts}
+use Rattle.node_run.proofs.GivingLaws.{gave_some}
+use Rattle.node_run.proofs.giving.give_all.Goals as goal
+
+pub returns-in_err-give-clause-front : goal.returns-in_err-give-clause-front
+returns-in_err-give-clause-front g c =
+    let some : GainsSome (g.L.Link.told c.args.link.now) (g.L.Link.told c.give.new.link) (gifts c.args.actions.now) =
+    gave_some _ _ _ _ _ _ c.loop-action-test.true c.action-item.is c.loop-action.invariant.gave c.in_err-give.ensures.same c.in_err-give.ensures.some in
+    search rules

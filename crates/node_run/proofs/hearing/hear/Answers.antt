@@ -1,0 +1,12 @@
+use Rattle.std.proofs.lemmas.Result.{IfErr-weaker}
+use Rattle.node_run.specs.Hearing.{behind}
+use Rattle.node_run.proofs.HearingLaws.{cut_so}
+use Rattle.node_run.proofs.hearing.hear.Goals as goal
+
+pub returns-in-Ok-Datagram-clause-cut : goal.returns-in-Ok-Datagram-clause-cut
+returns-in-Ok-Datagram-clause-cut g c =
+    IfErr-weaker c.arrive.result _ _ (λ fault cut node stood. behind _ _ (rw c.in-Ok-Datagram.field-0-is at c.in-Ok-Datagram.ensures.adds) (cut node stood)) c.arrive.ensures.cut
+
+pub returns-in-Ok-Nothing-clause-cut : goal.returns-in-Ok-Nothing-clause-cut
+returns-in-Ok-Nothing-clause-cut g c =
+    IfErr-weaker c.move_on.result _ _ (λ fault cut node stood. behind _ _ (rw c.in-Ok-Nothing.field-0-is at c.in-Ok-Nothing.ensures.adds) (cut_so _ c.args.running.now node fault _ _ _ _ _ stood cut)) c.move_on.ensures.cut

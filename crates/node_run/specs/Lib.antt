@@ -1,0 +1,5 @@
+pub mod Faults
+pub mod Gifts
+pub mod Hearing
+pub mod NodeCall
+pub mod NodeRun
