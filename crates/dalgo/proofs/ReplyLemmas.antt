@@ -1,5 +1,5 @@
 -- The replies of the commands.
-use Rattle.std.proofs.Common.{◌≡◌, refl, sym, ◌∙◌, ap, subst, Bool, true, false, ℕ, ◌+◌, ◌<◌, ◌≤◌, inl, inr, ◌⊎◌, List, [], take, length, arith}
+use Rattle.std.proofs.Common.{◌≡◌, refl, sym, ◌∙◌, ap, subst, Bool, true, false, ℕ, ◌+◌, ◌^◌, ◌<◌, ◌≤◌, inl, inr, ◌⊎◌, List, [], take, length, codes, decimal, arith}
 use Rattle.std.specs.Prelude.{◌↔◌, Option, Some, None, Result, Ok, Err, IfErr, IfOk, IsErrOf, IsTrue}
 use Rattle.std.proofs.lemmas.Bool.{false≢true}
 use Rattle.da_lang.specs.declared.event.Event.{Event}
@@ -12,6 +12,7 @@ use Rattle.da_core.specs.PlanLimit.{nodes_fault}
 use Rattle.da_system.specs.declared.system.System.{System}
 use Rattle.da_system.specs.SourceRun.{src_run}
 use Rattle.da_system.specs.State.{Stands, Whichever}
+use Rattle.da_system.specs.StressRun.{stress_text, stress_text_from}
 use Rattle.da_system.specs.SystemStep.{start}
 use Rattle.replay_run.specs.declared.outcome.Outcome.{Outcome}
 use Rattle.replay_run.specs.declared.outcome.Outcome.TheVariants as outcome
@@ -22,11 +23,13 @@ use Rattle.dalgo.specs.declared.program.ProgramFault.TheVariants as fault
 use Rattle.dalgo.specs.declared.status.RefusedKind.{RefusedKind}
 use Rattle.dalgo.specs.declared.status.RefusedKind.TheVariants as kind_is
 use Rattle.dalgo.specs.declared.status.Status.{Status}
-use Rattle.dalgo.specs.declared.status.Status.TheVariants.{BadSchedule, Done, Forbidden, Refused, ReadFault, WriteFault, Memory, Words}
+use Rattle.dalgo.specs.declared.status.Status.TheVariants.{BadSchedule, Done, Faulted, Forbidden, Idle, LinkFault, Memory, ReadFault, Refused, Spent, Words, WriteFault}
 use Rattle.dalgo.specs.declared.endings.Ending.{Ending}
 use Rattle.dalgo.specs.declared.endings.Ending.TheVariants as ending
-use Rattle.dalgo.specs.Lines.{accepted_text}
-use Rattle.dalgo.specs.Replies.{CheckReply, accepted, declined, IsAccepted, IsAnswer, IsCheck, IsRefused, IsReplay, IsReply, MayRead, ReadCause, ReplayReply, refused, answered, RunReply, bad_schedule, ran, RunsWhole, ended_by, run_status, run_text}
+use Rattle.dalgo.specs.declared.words.Task.{Task}
+use Rattle.dalgo.specs.declared.words.Task.TheVariants.{Check, Plan, Stress}
+use Rattle.da_values.proofs.Numerals.{decimal_injective_wide}
+use Rattle.dalgo.specs.Replies.{TaskReply, carried_out, declined, IsAnswer, IsAsking, IsCarriedOut, IsRefused, IsReplay, IsReply, MayRead, ReadCause, ReplayReply, refused, answered, RunReply, bad_schedule, ran, RunsWhole, ended_by, run_status, run_text, task_text, words_of}
 use Rattle.dalgo.specs.Told.{Gains, OfTold}
 use Rattle.dalgo.specs.Top.{status_after}
 use Rattle.dalgo.specs.Verdict.{Accepts, HasTree, IsRefusedAs, Refuses, program_limit}
@@ -85,6 +88,10 @@ is_answer (BadSchedule line) is = tt
 is_answer ReadFault is = absurd is
 is_answer WriteFault is = absurd is
 is_answer Memory is = absurd is
+is_answer LinkFault is = absurd is
+is_answer Idle is = tt
+is_answer Spent is = tt
+is_answer Faulted is = tt
 
 -- what is no answer is an error of the command
 pub after_begun : (Begun : Type 0) (r : Result Status Ending) (status : Status) → status ≡ status_after r → IfOk r IsReply → (IsAnswer status → ⊥) → IfErr r (λ _. Begun) → Begun
@@ -150,26 +157,28 @@ pub ran_front : (program p : Program) (opened : System) (events : List Event) (b
     → Whichever opened (λ s. AppendsFront before after (text_on p s events)) → AppendsFront before after (run_text program events)
 ran_front program p opened events before after same stands front = subst (λ q. AppendsFront before after (text_on q (start program) events)) same (front (start program) stands)
 
--- THE REPLIES OF `check`
+-- THE REPLIES TO TASKS
 
-pub says_accepted : (t : List ℕ) (program : Program) (bytes : List ℕ) → Accepts t program → bytes ≡ accepted_text (length program.classes) (length program.procs) → CheckReply t Done bytes
-says_accepted t program bytes accepts is = subst (CheckReply t Done) (sym is) (accepted program accepts)
+-- what is written of a generated schedule over a system in its opening is a front of what is told of the program
+pub stressed_front : (program p : Program) (opened : System) (first most : ℕ) (before after : Option (List ℕ)) → p ≡ program → Stands opened (start program)
+    → Whichever opened (λ s. AppendsFront before after (stress_text_from p s first most)) → AppendsFront before after (stress_text program first most)
+stressed_front program p opened first most before after same stands front =
+    subst (λ q. AppendsFront before after (stress_text_from q (start program) first most)) same (front (start program) stands)
 
-accepted_reply : (t : List ℕ) (program : Program) (status : Status) (bytes : List ℕ) → Accepts t program → CheckReply t status bytes
-    → (status ≡ Done) × (bytes ≡ accepted_text (length program.classes) (length program.procs))
-accepted_reply t program _ _ accepts (declined kind line refuses) = absurd (accepted_or_not t program kind line accepts refuses)
-accepted_reply t program _ _ accepts (accepted other also) = (refl, ap (λ (p : Program). accepted_text (length p.classes) (length p.procs)) (accepts_one t program other accepts also))
+carried_reply : (task : Task) (t : List ℕ) (program : Program) (status : Status) (bytes : List ℕ) → Accepts t program → TaskReply task t status bytes → (status ≡ Done) × (bytes ≡ task_text task program)
+carried_reply task t program _ _ accepts (declined kind line refuses) = absurd (accepted_or_not t program kind line accepts refuses)
+carried_reply task t program _ _ accepts (carried_out other also) = (refl, ap (task_text task) (accepts_one t program other accepts also))
 
-pub is_accepted : (told : Option (List ℕ)) (t : List ℕ) (program : Program) (r : Result Status Ending) (status : Status) (before after : Option (List ℕ)) → status ≡ status_after r → told ≡ Some t
-    → Accepts t program → (IsErrOf r ending.Read → ⊥) → (IsErrOf r ending.Write → ⊥) → IfOk r (λ status. OfTold told (λ t. Gains (CheckReply t) status before after)) → IsAccepted program status before after
-is_accepted told t program r status before after same told_t accepts read write checks =
-    either (after_quiet (λ o. OfTold told (λ t. Gains (CheckReply t) o before after)) r status same read write checks)
+pub is_carried_out : (task : Task) (told : Option (List ℕ)) (t : List ℕ) (program : Program) (r : Result Status Ending) (status : Status) (before after : Option (List ℕ)) → status ≡ status_after r → told ≡ Some t
+    → Accepts t program → (IsErrOf r ending.Read → ⊥) → (IsErrOf r ending.Write → ⊥) → IfOk r (λ status. OfTold told (λ t. Gains (TaskReply task t) status before after)) → IsCarriedOut task program status before after
+is_carried_out task told t program r status before after same told_t accepts read write replies =
+    either (after_quiet (λ o. OfTold told (λ t. Gains (TaskReply task t) o before after)) r status same read write replies)
   where
-    either : (status ≡ Memory) ⊎ OfTold told (λ t. Gains (CheckReply t) status before after) → IsAccepted program status before after
+    either : (status ≡ Memory) ⊎ OfTold told (λ t. Gains (TaskReply task t) status before after) → IsCarriedOut task program status before after
     either (inl memory) = inl memory
     either (inr holds) =
-        let gains : Gains (CheckReply t) status before after = of_known told (λ t. Gains (CheckReply t) status before after) t told_t holds in
-        let (status_is, bytes_are) = accepted_reply t program status gains.bytes accepts gains.reply in
+        let gains : Gains (TaskReply task t) status before after = of_known told (λ t. Gains (TaskReply task t) status before after) t told_t holds in
+        let (status_is, bytes_are) = carried_reply task t program status gains.bytes accepts gains.reply in
         inr (status_is, subst (Appends before after) bytes_are gains.written)
 
 -- THE NAMES ARE THOSE OF THE WORDS
@@ -187,10 +196,34 @@ not_read told before now p q (inr rose) program schedule = schedule rose.0
 pub same_names : (words : List (List ℕ)) (a b p q : List ℕ) → IsReplay words a b → IsReplay words p q → (p ≡ a) × (q ≡ b)
 same_names words a b p q one other = (cc, cc)
 
-pub same_name : (words : List (List ℕ)) (a p : List ℕ) → IsCheck words a → IsCheck words p → p ≡ a
-same_name words a p one other = cc
+-- two words that are numbers in decimal
+same_numbers : (m n : ℕ) → m ≤ 2 ^ 127 → n ≤ 2 ^ 127 → decimal m ≡ decimal n → m ≡ n
+same_numbers = decimal_injective_wide
 
-pub not_both : (words : List (List ℕ)) (a p q : List ℕ) → IsCheck words a → IsReplay words p q → ⊥
-not_both words a p q one other =
-    let sizes : 2 ≡ 3 = sym (ap length one) ∙ ap length other in
+check_or_plan : (p q : List ℕ) → words_of Check p ≡ words_of Plan q → ⊥
+check_or_plan p q same =
+    let first : codes "check" ≡ codes "plan" = cc in
+    let sizes : 5 ≡ 4 = ap length first in
     omega (arith, sizes)
+
+pub same_task : (words : List (List ℕ)) (a b : Task) (p q : List ℕ) → IsAsking words a p → IsAsking words b q → (b ≡ a) × (q ≡ p)
+same_task words Check Check p q one other = (refl, (let both = sym one.0 ∙ other.0 in cc))
+same_task words Plan Plan p q one other = (refl, (let both = sym one.0 ∙ other.0 in cc))
+same_task words (Stress x n) (Stress y m) p q one other =
+    let both : words_of (Stress x n) p ≡ words_of (Stress y m) q = sym one.0 ∙ other.0 in
+    let starts : decimal y ≡ decimal x = cc in
+    let ends : decimal m ≡ decimal n = cc in
+    let start : y ≡ x = same_numbers y x (omega (arith, other.1.0)) (omega (arith, one.1.0)) starts in
+    let most : m ≡ n = same_numbers m n (omega (arith, other.1.2)) (omega (arith, one.1.2)) ends in
+    (ap (λ k. Stress k m) start ∙ ap (Stress x) most, cc)
+same_task words Check Plan p q one other = absurd (check_or_plan p q (sym one.0 ∙ other.0))
+same_task words Plan Check p q one other = absurd (check_or_plan q p (sym other.0 ∙ one.0))
+same_task words Check (Stress y m) p q one other = absurd (let sizes : 2 ≡ 4 = ap length (sym one.0 ∙ other.0) in omega (arith, sizes))
+same_task words Plan (Stress y m) p q one other = absurd (let sizes : 2 ≡ 4 = ap length (sym one.0 ∙ other.0) in omega (arith, sizes))
+same_task words (Stress x n) Check p q one other = absurd (let sizes : 4 ≡ 2 = ap length (sym one.0 ∙ other.0) in omega (arith, sizes))
+same_task words (Stress x n) Plan p q one other = absurd (let sizes : 4 ≡ 2 = ap length (sym one.0 ∙ other.0) in omega (arith, sizes))
+
+pub not_both : (words : List (List ℕ)) (task : Task) (a p q : List ℕ) → IsAsking words task a → IsReplay words p q → ⊥
+not_both words Check a p q one other = let sizes : 2 ≡ 3 = ap length (sym one.0 ∙ other) in omega (arith, sizes)
+not_both words Plan a p q one other = let sizes : 2 ≡ 3 = ap length (sym one.0 ∙ other) in omega (arith, sizes)
+not_both words (Stress x n) a p q one other = let sizes : 4 ≡ 3 = ap length (sym one.0 ∙ other) in omega (arith, sizes)

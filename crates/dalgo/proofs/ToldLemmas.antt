@@ -4,8 +4,9 @@ use Rattle.std.proofs.lemmas.List.{append-nil}
 use Rattle.std.specs.Prelude.{Option, Some, None, Result, Ok, Err, IfErr, IfOk}
 use Rattle.da_outside.specs.Outside.{Appends, AppendsFront, IsWhole}
 use Rattle.dalgo.specs.declared.status.Status.{Status}
+use Rattle.dalgo.specs.declared.words.Task.{Task}
 use Rattle.dalgo.specs.declared.endings.Ending.{Ending}
-use Rattle.dalgo.specs.Replies.{CheckReply, ReplayReply}
+use Rattle.dalgo.specs.Replies.{TaskReply, ReplayReply}
 use Rattle.dalgo.specs.Told.{Begins, Gains, OfTold}
 
 -- a text that was read up to its limit and one byte
@@ -95,8 +96,8 @@ begins_as One Other (Err e) before after becomes begins = either begins
     either (inr (status, bytes, reply, front)) = inr (status, bytes, becomes status bytes reply, front)
 
 -- nothing was written
-pub none_checked : (told x : Option (List ℕ)) → OfTold told (λ t. Begins (CheckReply t) x x)
-none_checked told x = of_any told _ (λ t. begins_nothing (CheckReply t) x)
+pub none_carried : (task : Task) (told x : Option (List ℕ)) → OfTold told (λ t. Begins (TaskReply task t) x x)
+none_carried task told x = of_any told _ (λ t. begins_nothing (TaskReply task t) x)
 
 pub none_begun : (t : List ℕ) (told x : Option (List ℕ)) → OfTold told (λ s. Begins (ReplayReply t s) x x)
 none_begun t told x = of_any told _ (λ s. begins_nothing (ReplayReply t s) x)

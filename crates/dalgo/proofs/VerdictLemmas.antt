@@ -1,5 +1,5 @@
 -- A text is accepted or refused, and gives one program.
-use Rattle.std.proofs.Common.{◌≡◌, refl, sym, ◌∙◌, ap, subst, ℕ, ◌≤◌, inl, inr, List, [], length, arith}
+use Rattle.std.proofs.Common.{◌≡◌, sym, ◌∙◌, ap, subst, ℕ, List, [], arith}
 use Rattle.std.specs.Prelude.{Option, Some, None, Result, Ok, Err}
 use Rattle.da_values.specs.declared.token.Token.{Token}
 use Rattle.da_values.specs.Marks.{toks}
@@ -15,7 +15,7 @@ use Rattle.da_lang.specs.NameRules.{name_fault, name_refusals}
 use Rattle.da_lang.specs.NameRules as names
 use Rattle.da_lang.specs.Resolution.{resolved}
 use Rattle.da_lang.specs.Scopes as scopes
-use Rattle.da_lang.specs.Typing.{Typed, filled, least, type_breaks}
+use Rattle.da_lang.specs.Typing.{filled, least, type_breaks}
 use Rattle.da_parse.specs.declared.whole.ParseFault.{ParseFault}
 use Rattle.da_parse.proofs.WholePrograms.{Spells_unique, SpellsWithin_spells}
 use Rattle.dalgo.specs.declared.status.RefusedKind.{RefusedKind}

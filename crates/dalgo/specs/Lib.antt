@@ -1,6 +1,8 @@
 pub mod ExitCode
 pub mod Faults
 pub mod Lines
+pub mod NodeReplies
+pub mod NodeSteps
 pub mod Replies
 pub mod Told
 pub mod Top

@@ -1,7 +1,7 @@
 -- The lines by which a program is accepted or refused, and a schedule is refused.
 use Rattle.std.specs.Prelude.{ℕ, List, ◌++◌, codes, decimal}
 use Rattle.dalgo.specs.declared.status.RefusedKind.{RefusedKind}
-use Rattle.dalgo.specs.declared.status.RefusedKind.TheVariants.{Size, Byte, Indent, Token, Unclosed, Syntax, Deep, NotYet, Unknown, Twice, Shadow, Recursive, Yield, Setup, NoRun, Arity, Classes, Processes, Items, Blocks, Variables, Parts, Generators, Types, Nodes}
+use Rattle.dalgo.specs.declared.status.RefusedKind.TheVariants.{Size, Byte, Indent, Token, Unclosed, Syntax, Deep, NotYet, Unknown, Twice, Shadow, Recursive, Yield, Setup, NoRun, Arity, Classes, Processes, Items, Blocks, Variables, Parts, Generators, Types, Nodes, Channel, Me}
 
 abbrev pub refused_word : RefusedKind → List ℕ
 refused_word Size = codes "size"
@@ -29,6 +29,8 @@ refused_word Parts = codes "parts"
 refused_word Generators = codes "generators"
 refused_word Types = codes "type"
 refused_word Nodes = codes "nodes"
+refused_word Channel = codes "channel"
+refused_word Me = codes "me"
 
 -- the line of a refusal, and that of a bad schedule
 abbrev pub refused_text : RefusedKind → ℕ → List ℕ

@@ -1,14 +1,20 @@
 -- What the program answers to the text of a program and that of a schedule.
-use Rattle.std.specs.Prelude.{◌≡◌, ℕ, ◌⊎◌, List, [], ◌∷◌, length, codes, Option, Some, None}
+use Rattle.std.specs.Prelude.{◌≡◌, ◌<◌, ◌≤◌, ◌^◌, ℕ, ◌⊎◌, List, [], ◌∷◌, length, codes, decimal, Option, Some, None}
 use Rattle.da_lang.specs.declared.event.Event.{Event}
 use Rattle.da_lang.specs.declared.program.Program.{Program}
 use Rattle.da_system.specs.SourceRun.{src_run}
+use Rattle.da_system.specs.StressRun.{stress_text}
 use Rattle.dalgo.specs.declared.status.RefusedKind.{RefusedKind}
 use Rattle.dalgo.specs.declared.status.Status.{Status}
-use Rattle.dalgo.specs.declared.status.Status.TheVariants.{Done, Refused, Forbidden, BadSchedule, ReadFault, WriteFault, Memory, Words}
+use Rattle.dalgo.specs.declared.status.Status.TheVariants.{Done, Refused, Forbidden, BadSchedule, ReadFault, WriteFault, Memory, LinkFault, Words}
+use Rattle.dalgo.specs.declared.words.Task.{Task}
+use Rattle.dalgo.specs.declared.words.Task.TheVariants.{Check, Plan, Stress}
+use Rattle.dalgo.specs.declared.words.NodeSetting.{NodeSetting}
+use Rattle.dalgo.specs.NodeReplies.{IsNode}
 use Rattle.dalgo.specs.Lines.{accepted_text, badline_text, refused_text}
 use Rattle.da_outside.specs.Outside.{Appends, Rose}
 use Rattle.dalgo.specs.Verdict.{Accepts, Refuses}
+use Rattle.plan_json.specs.PlanJson.{plan_text}
 use Rattle.sched_text.specs.ActionText.{action_text}
 use Rattle.sched_text.specs.ScheduleText.{IsBadSchedule, SpellsSchedule}
 
@@ -44,21 +50,28 @@ abbrev pub RunsWhole : Program → List Event → Status → Option (List ℕ) �
 RunsWhole program events status before after =
     (status ≡ Memory) ⊎ ((status ≡ run_status program events) × Appends before after (run_text program events))
 
--- the status and the bytes with which `check` answers a program's text
-pub data CheckReply (text : List ℕ) : Status → List ℕ → Type 0 where
-  declined : (kind : RefusedKind) (line : ℕ) → Refuses text kind line → CheckReply text (Refused kind line) (refused_text kind line)
-  accepted : (program : Program) → Accepts text program → CheckReply text Done (accepted_text (length program.classes) (length program.procs))
+-- what is answered to a task on an accepted program
+abbrev pub task_text : Task → Program → List ℕ
+task_text Check program = accepted_text (length program.classes) (length program.procs)
+task_text Plan program = plan_text program
+task_text (Stress start most) program = stress_text program start most
 
--- the program was accepted, and that was written; or memory was refused
-abbrev pub IsAccepted : Program → Status → Option (List ℕ) → Option (List ℕ) → Type 0
-IsAccepted program status before after =
-    (status ≡ Memory) ⊎ ((status ≡ Done) × Appends before after (accepted_text (length program.classes) (length program.procs)))
+-- the status and the bytes with which a task on a program's text is answered
+pub data TaskReply (task : Task) (text : List ℕ) : Status → List ℕ → Type 0 where
+  declined : (kind : RefusedKind) (line : ℕ) → Refuses text kind line → TaskReply task text (Refused kind line) (refused_text kind line)
+  carried_out : (program : Program) → Accepts text program → TaskReply task text Done (task_text task program)
+
+-- the task was carried out on the program, and what is answered was written; or memory was refused
+abbrev pub IsCarriedOut : Task → Program → Status → Option (List ℕ) → Option (List ℕ) → Type 0
+IsCarriedOut task program status before after =
+    (status ≡ Memory) ⊎ ((status ≡ Done) × Appends before after (task_text task program))
 
 -- a status that tells of an answer, and not of a fault or of want of memory
 abbrev pub IsAnswer : Status → Type 0
 IsAnswer ReadFault = ⊥
 IsAnswer WriteFault = ⊥
 IsAnswer Memory = ⊥
+IsAnswer LinkFault = ⊥
 IsAnswer _ = Unit {0}
 
 -- the status of an answer to texts
@@ -66,16 +79,30 @@ abbrev pub IsReply : Status → Type 0
 IsReply Words = ⊥
 IsReply status = IsAnswer status
 
--- the words ask to replay these names; to check this one
+-- the words ask to replay these names
 abbrev pub IsReplay : List (List ℕ) → List ℕ → List ℕ → Type 0
 IsReplay words program schedule = words ≡ codes "replay" ∷ program ∷ schedule ∷ []
 
-abbrev pub IsCheck : List (List ℕ) → List ℕ → Type 0
-IsCheck words program = words ≡ codes "check" ∷ program ∷ []
+-- the words of a task on the program of a name
+abbrev pub words_of : Task → List ℕ → List (List ℕ)
+words_of Check program = codes "check" ∷ program ∷ []
+words_of Plan program = codes "plan" ∷ program ∷ []
+words_of (Stress start most) program = codes "stress" ∷ program ∷ decimal start ∷ decimal most ∷ []
 
--- the words ask for neither
+-- the numbers of a task are within their ranges
+abbrev pub IsWithin : Task → Type 0
+IsWithin (Stress start most) = (start < 2 ^ 48) × (1 ≤ most) × (most ≤ 1000000)
+IsWithin _ = Unit {0}
+
+-- the words ask for this task on this name
+abbrev pub IsAsking : List (List ℕ) → Task → List ℕ → Type 0
+IsAsking words task program = (words ≡ words_of task program) × IsWithin task
+
+-- the words ask for nothing that is known
 abbrev pub IsOther : List (List ℕ) → Type 0
-IsOther words = ((p q : List ℕ) → IsReplay words p q → ⊥) × ((p : List ℕ) → IsCheck words p → ⊥)
+IsOther words =
+    ((p q : List ℕ) → IsReplay words p q → ⊥) × ((task : Task) (p : List ℕ) → IsAsking words task p → ⊥)
+    × ((p : List ℕ) (setting : NodeSetting) → IsNode words p setting → ⊥)
 
 -- a schedule is read unless the told program is refused
 abbrev pub MayRead : Option (List ℕ) → Type 0
@@ -91,4 +118,9 @@ ReadCause told before now program schedule =
 abbrev pub HasReadCause : List (List ℕ) → (List ℕ → Option (List ℕ)) → (List ℕ → ℕ) → (List ℕ → ℕ) → Type 0
 HasReadCause words told before now =
     ((p : List ℕ) × (q : List ℕ) × IsReplay words p q × ReadCause (told p) before now p q)
-    ⊎ ((p : List ℕ) × IsCheck words p × Rose (before p) (now p))
+    ⊎ ((task : Task) × (p : List ℕ) × IsAsking words task p × Rose (before p) (now p))
+    ⊎ ((p : List ℕ) × (setting : NodeSetting) × IsNode words p setting × Rose (before p) (now p))
+
+-- a link failed, and the words ask for a node
+abbrev pub HasLinkCause : List (List ℕ) → ℕ → ℕ → Type 0
+HasLinkCause words before now = (p : List ℕ) × (setting : NodeSetting) × IsNode words p setting × Rose before now

@@ -53,7 +53,8 @@ pub fn refuse<K: Sink>(
     kind: RefusedKind,
     line: u32,
 ) -> Result<Status, Ending>
-    ensures said { IfOk result (λ s. (s ≡ Status.Refused kind line) × Appends (K.taken out.old) (K.taken out.new) (refused_text kind line)) }
+    ensures said { IfOk result (λ s. (s ≡ Status.Refused kind line)
+        × Appends (K.taken out.old) (K.taken out.new) (refused_text kind line)) }
     ensures front { IfErr result (λ _. AppendsFront (K.taken out.old) (K.taken out.new) (refused_text kind line)) }
     ensures write { IsErrOf result Ending.Write → Rose (K.faults out.old) (K.faults out.new) }
     ensures read { IsErrOf result Ending.Read → ⊥ }
@@ -67,7 +68,8 @@ pub fn refuse<K: Sink>(
 /// Refuses the schedule.
 #[tactic(auto, using(da_outside::proofs::OutsideLemmas::front_none))]
 pub fn refuse_schedule<K: Sink>(alloc: Global, out: &mut K, line: u64) -> Result<Status, Ending>
-    ensures said { IfOk result (λ s. (s ≡ Status.BadSchedule line) × Appends (K.taken out.old) (K.taken out.new) (badline_text line)) }
+    ensures said { IfOk result (λ s. (s ≡ Status.BadSchedule line)
+        × Appends (K.taken out.old) (K.taken out.new) (badline_text line)) }
     ensures front { IfErr result (λ _. AppendsFront (K.taken out.old) (K.taken out.new) (badline_text line)) }
     ensures write { IsErrOf result Ending.Write → Rose (K.faults out.old) (K.faults out.new) }
     ensures read { IsErrOf result Ending.Read → ⊥ }

@@ -36,6 +36,8 @@ fn refused_word(kind: RefusedKind) -> &'static [u8]
         RefusedKind::Generators => b"generators",
         RefusedKind::Types => b"type",
         RefusedKind::Nodes => b"nodes",
+        RefusedKind::Channel => b"channel",
+        RefusedKind::Me => b"me",
     }
 }
 

@@ -1,15 +1,16 @@
-//! Checks DistAlgo programs, and replays their schedules: writes what their processes do.
+//! Checks DistAlgo programs, replays their schedules, and runs their processes as nodes: writes what they do.
 #![tactic(auto)]
 
 #[cfg(test)]
 mod cases;
-mod checking;
 mod endings;
 mod exit;
 mod lines;
+mod noding;
 mod program;
 mod replaying;
 mod status;
+mod tasks;
 mod top;
 mod words;
 
@@ -18,12 +19,20 @@ use exit::{NoWords, exit_code};
 use std::env;
 use std::process::ExitCode;
 use top::dalgo;
+use udp_link::UdpLink;
 
 fn main(rt: HostRuntime) -> ExitCode {
     exit_code(words_of_call(&rt), |words| {
         let mut files = RealFiles::new(&rt);
         let mut out = RealSink::new(&rt);
-        dalgo(rt.alloc(), words.as_slice(), &mut files, &mut out)
+        let mut link = UdpLink::new(&rt);
+        dalgo(
+            rt.alloc(),
+            words.as_slice(),
+            &mut files,
+            &mut out,
+            &mut link,
+        )
     })
 }
 

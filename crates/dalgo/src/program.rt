@@ -85,9 +85,9 @@ impl From<PlanFault> for ProgramFault {
     }
 }
 
-/// The program of a text of at most 1,048,576 bytes, compiled: its tokens are cut, the tree that they spell is read, the
-/// names of the tree are resolved within the limits, its types are checked, and its classes get code and plans, in this
-/// order. The first of these that fails gives the refusal.
+/// The program of a text of at most 1,048,576 bytes, compiled: its tokens are cut, the tree that they spell is read,
+/// the names of the tree are resolved within the limits, its types are checked, and its classes get code and plans, in
+/// this order. The first of these that fails gives the refusal.
 #[tactic(auto, using(crate::proofs::ProgramLemmas::not_resolved, crate::proofs::ProgramLemmas::not_typed))]
 pub fn read_program(alloc: Global, text: &[u8]) -> Result<Compiled, ProgramFault>
     requires { length text.now ≤ 1048576 }

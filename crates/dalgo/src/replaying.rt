@@ -25,11 +25,14 @@ pub fn replay<F: Files, K: Sink>(
     files: &mut F,
     out: &mut K,
 ) -> Result<Status, Ending>
-    ensures replies { IfOk result (λ status. OfTold (F.told files.old program.now) (λ t. OfTold (F.told files.old schedule.now)
+    ensures replies { IfOk result (λ status. OfTold (F.told files.old program.now)
+        (λ t. OfTold (F.told files.old schedule.now)
         (λ s. Gains (ReplayReply t s) status (K.taken out.old) (K.taken out.new)))) }
-    ensures begun { IfErr result (λ _. OfTold (F.told files.old program.now) (λ t. OfTold (F.told files.old schedule.now)
+    ensures begun { IfErr result (λ _. OfTold (F.told files.old program.now)
+        (λ t. OfTold (F.told files.old schedule.now)
         (λ s. Begins (ReplayReply t s) (K.taken out.old) (K.taken out.new)))) }
-    ensures read { IsErrOf result Ending.Read → ReadCause (F.told files.old program.now) (F.faults files.old) (F.faults files.new) program.now schedule.now }
+    ensures read { IsErrOf result Ending.Read
+        → ReadCause (F.told files.old program.now) (F.faults files.old) (F.faults files.new) program.now schedule.now }
     ensures status { IfOk result IsReply }
     ensures write { IsErrOf result Ending.Write → Rose (K.faults out.old) (K.faults out.new) }
     ensures unread { IsErrOf result Ending.Read → K.taken out.new ≡ K.taken out.old }
@@ -55,11 +58,14 @@ fn answer_program<F: Files, K: Sink>(
     files: &mut F,
     out: &mut K,
 ) -> Result<Status, Ending>
-    ensures replies { (t : List ℕ) → text.now ≡ take (PROGRAM_LIMIT + 1) t → IfOk result (λ status. OfTold (F.told files.old name.now)
+    ensures replies { (t : List ℕ) → text.now ≡ take (PROGRAM_LIMIT + 1) t → IfOk result
+        (λ status. OfTold (F.told files.old name.now)
         (λ s. Gains (ReplayReply t s) status (K.taken out.old) (K.taken out.new))) }
-    ensures begun { (t : List ℕ) → text.now ≡ take (PROGRAM_LIMIT + 1) t → IfErr result (λ _. OfTold (F.told files.old name.now)
+    ensures begun { (t : List ℕ) → text.now ≡ take (PROGRAM_LIMIT + 1) t → IfErr result
+        (λ _. OfTold (F.told files.old name.now)
         (λ s. Begins (ReplayReply t s) (K.taken out.old) (K.taken out.new))) }
-    ensures refused { (t : List ℕ) → text.now ≡ take (PROGRAM_LIMIT + 1) t → IsErrOf result Ending.Read → IsRefused t → ⊥ }
+    ensures refused { (t : List ℕ) → text.now ≡ take (PROGRAM_LIMIT + 1) t → IsErrOf result Ending.Read → IsRefused t
+        → ⊥ }
     ensures read { IsErrOf result Ending.Read → Rose (F.faults files.old name.now) (F.faults files.new name.now) }
     ensures status { IfOk result IsReply }
     ensures write { IsErrOf result Ending.Write → Rose (K.faults out.old) (K.faults out.new) }

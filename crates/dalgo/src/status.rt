@@ -53,6 +53,10 @@ pub enum RefusedKind {
     Types,
     /// The plan of a class has more than 4,096 nodes.
     Nodes,
+    /// A node runs over channels that are unordered and unreliable, and these are not.
+    Channel,
+    /// The program has no process of the number that a node is to run.
+    Me,
 }
 
 /// How a call of the program ends.
@@ -74,6 +78,14 @@ pub enum Status {
     WriteFault,
     /// Memory was refused.
     Memory,
+    /// The link of a node failed.
+    LinkFault,
+    /// The last answers that the link of a node gave were as many idle turns as it may have.
+    Idle,
+    /// A node took as many answers as it may.
+    Spent,
+    /// A fault ended the process of a node.
+    Faulted,
 }
 
 impl Status {
@@ -93,6 +105,10 @@ impl Status {
             Status::ReadFault => 5,
             Status::WriteFault => 6,
             Status::Memory => 7,
+            Status::LinkFault => 8,
+            Status::Idle => 9,
+            Status::Spent => 10,
+            Status::Faulted => 11,
         }
     }
 }

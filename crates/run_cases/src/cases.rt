@@ -3,14 +3,28 @@
 //! Lines that begin with `===` cut a file into parts. Behind `=== program` stands a program. Behind `=== replay SCHEDULE`
 //! stands what the replay of the last program writes, where `; ` stands between the lines of the schedule. Behind
 //! `=== rows SCHEDULE` each line `PART ==> TEXT` is a case: the last program has the part in the place of each `@`, and
-//! `; ` stands between the lines of the text. Behind `=== rows` alone the part is the schedule. Other parts are remarks.
+//! `; ` stands between the lines of the text. Behind `=== rows` alone the part is the schedule. Behind `=== node WORDS`
+//! stands what a node of the last program writes and gives, and behind `=== stress WORDS` what a generated schedule comes
+//! to. Other parts are remarks.
 use std::alloc::{AllocError, Global};
 
-/// A program, a schedule, and what its replay is to write.
+/// What is done with a program.
+#[derive(Clone, Copy, Debug)]
+pub enum Task {
+    /// A schedule is replayed.
+    Replay,
+    /// A process of it is run as a node.
+    Node,
+    /// A generated schedule is run.
+    Stress,
+}
+
+/// A program, what is done with it, the schedule or the words of that, and what it is to write.
 #[derive(Debug, Drop)]
 pub struct Case {
     pub program: String,
-    pub schedule: String,
+    pub task: Task,
+    pub words: String,
     pub expected: String,
 }
 
@@ -20,11 +34,13 @@ pub fn cases_of(alloc: Global, file: &str) -> Result<Vec<Case>, AllocError> {
     let mut program = "";
     for part in file.split("=== ") {
         let (head, text) = part.split_once('\n').unwrap_or((part, ""));
-        let (kind, schedule) = head.split_once(' ').unwrap_or((head, ""));
+        let (kind, words) = head.split_once(' ').unwrap_or((head, ""));
         match kind {
             "program" => program = text,
-            "replay" => cases.push(case_of(alloc, program, "", schedule, text)?)?,
-            "rows" => push_rows(alloc, program, schedule, text, &mut cases)?,
+            "replay" => cases.push(case_of(alloc, program, "", words, text)?)?,
+            "rows" => push_rows(alloc, program, words, text, &mut cases)?,
+            "node" => cases.push(task_case(alloc, program, Task::Node, words, text)?)?,
+            "stress" => cases.push(task_case(alloc, program, Task::Stress, words, text)?)?,
             _ => {}
         }
     }
@@ -64,7 +80,8 @@ fn case_of(
 ) -> Result<Case, AllocError> {
     let mut case = Case {
         program: String::new(alloc),
-        schedule: String::new(alloc),
+        task: Task::Replay,
+        words: String::new(alloc),
         expected: String::new(alloc),
     };
     for (place, piece) in program.split('@').enumerate() {
@@ -73,7 +90,27 @@ fn case_of(
         }
         case.program.push_str(piece)?;
     }
-    push_lines(schedule, &mut case.schedule)?;
+    push_lines(schedule, &mut case.words)?;
+    case.expected.push_str(expected)?;
+    Ok(case)
+}
+
+// A case of another task, by its words.
+fn task_case(
+    alloc: Global,
+    program: &str,
+    task: Task,
+    words: &str,
+    expected: &str,
+) -> Result<Case, AllocError> {
+    let mut case = Case {
+        program: String::new(alloc),
+        task,
+        words: String::new(alloc),
+        expected: String::new(alloc),
+    };
+    case.program.push_str(program)?;
+    case.words.push_str(words)?;
     case.expected.push_str(expected)?;
     Ok(case)
 }

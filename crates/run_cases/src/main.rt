@@ -1,17 +1,23 @@
-//! Replays the programs in files, and prints for each file how many cases it has and how many of them differ from what
-//! was expected, and before that what these wrote.
+//! Replays the programs in files, runs their nodes and generated schedules, and prints for each file how many cases it has
+//! and how many of them differ from what was expected, and before that what these wrote.
 #![tactic(auto)]
 
 mod cases;
+mod compiling;
+mod nodes;
 mod replays;
+mod stresses;
 
 use anyhow::Context;
-use cases::{Case, cases_of};
-use replays::reply;
+use cases::{Case, Task, cases_of};
+use nodes::node_reply;
+use replays::replay_reply;
+use std::alloc::Global;
 use std::{fs, rt};
+use stresses::stress_reply;
 
 /// The files of cases, in the order of the answers.
-const FILES: [&str; 23] = [
+const FILES: [&str; 25] = [
     "operators",
     "statements",
     "turns",
@@ -35,6 +41,8 @@ const FILES: [&str; 23] = [
     "handlers",
     "clocks",
     "sends",
+    "links",
+    "stresses",
 ];
 
 fn main(rt: HostRuntime) -> anyhow::Result<()> {
@@ -59,21 +67,31 @@ fn answer_file<R: rt::Files + Print + AllocGlobal>(rt: &R, name: &str) -> anyhow
     Ok(())
 }
 
-// Whether a replay writes what is expected. If not, what it writes is printed.
+// Whether what is written is what is expected. If not, it is printed.
 fn agrees<R: Print + AllocGlobal>(
     rt: &R,
     name: &str,
     number: usize,
     case: &Case,
 ) -> anyhow::Result<bool> {
-    let (program, schedule) = (case.program.as_str(), case.schedule.as_str());
-    let found = reply(rt.alloc(), program.as_bytes(), schedule.as_bytes()).context(format_args!(
-        "{name} {number}"
-    ))?;
+    let found = reply(rt.alloc(), case).context(format_args!("{name} {number}"))?;
     if found.as_str() == case.expected.as_str() {
         return Ok(true);
     }
-    println!(rt; "{name} {number}:\n{program}{schedule}wrote:\n{found}")?;
+    println!(rt;
+        "{name} {number}:\n{}{}wrote:\n{found}",
+        case.program, case.words
+    )?;
     println!(rt; "where this was expected:\n{}", case.expected)?;
     Ok(false)
+}
+
+// What is written for a case.
+fn reply(alloc: Global, case: &Case) -> anyhow::Result<String> {
+    let (program, words) = (case.program.as_str(), case.words.as_str());
+    match case.task {
+        Task::Replay => replay_reply(alloc, program.as_bytes(), words.as_bytes()),
+        Task::Node => node_reply(alloc, program.as_bytes(), words),
+        Task::Stress => stress_reply(alloc, program.as_bytes(), words),
+    }
 }

@@ -1,17 +1,12 @@
 //! Replays in memory.
 ghost use Rattle.da_core.specs.Compiled.{IsCompiled};
-ghost use Rattle.da_lang.specs.Accepted.{IsWritten};
-ghost use Rattle.std.specs.Prelude.{IfOk};
 
+use crate::compiling::typed_of;
 use anyhow::anyhow;
 use da_core::{Compiled, compile};
-use da_lang::{Event, Tree};
-use da_lex::lex;
+use da_lang::Event;
 use da_outside::MemSink;
-use da_parse::parse;
-use da_scope::resolve;
 use da_system::System;
-use da_types::{Typed, check_types};
 use da_values::{List, NoMemory};
 use quant_norm::PlanFault;
 use replay_run::{Outcome, replay};
@@ -19,11 +14,8 @@ use sched_text::{SchedFault, read_schedule};
 use std::alloc::Global;
 use std::str;
 
-/// The most bytes of a program's text.
-const MOST_BYTES: usize = 1_048_576;
-
 /// What the replay of a schedule writes, with the status on a line behind it where that is not 0.
-pub fn reply(alloc: Global, program: &[u8], schedule: &[u8]) -> anyhow::Result<String> {
+pub fn replay_reply(alloc: Global, program: &[u8], schedule: &[u8]) -> anyhow::Result<String> {
     let typed = typed_of(alloc, program)?;
     let compiled = match compile(alloc, typed) {
         Ok(compiled) => compiled,
@@ -37,25 +29,6 @@ pub fn reply(alloc: Global, program: &[u8], schedule: &[u8]) -> anyhow::Result<S
         Err(SchedFault::BadLine(line)) => Ok(format!(in alloc; "badline {line}\nstatus 4\n")?),
         Err(SchedFault::Memory) => Err(NoMemory.into()),
     }
-}
-
-// The program of a text.
-fn typed_of(alloc: Global, text: &[u8]) -> anyhow::Result<Typed> {
-    let tree = tree_of(alloc, text)?;
-    let program = resolve(alloc, &tree)?;
-    Ok(check_types(alloc, program)?)
-}
-
-// The tree of a text.
-#[tactic(auto, using(da_parse::proofs::WrittenTrees::written_tree))]
-fn tree_of(alloc: Global, text: &[u8]) -> anyhow::Result<Tree>
-    ensures { IfOk result IsWritten }
-{
-    if text.len() > MOST_BYTES {
-        return Err(anyhow!("the text of a program is too long"));
-    }
-    let tokens = lex(alloc, text)?;
-    Ok(parse(alloc, &tokens)?)
 }
 
 // Runs the events over the processes of a program. What runs to its end is run once more in two parts, over one system
