@@ -1,9 +1,14 @@
 //! Worked rows: what schedules spell, and the lines of events and actions.
 use da_lang::{Action, Event, FaultKind};
 use da_values::{List, NoMemory, Row, SetVal, Str, Value, set_insert};
-use sched_text::{SchedFault, read_schedule, write_action, write_event};
+use sched_text::{
+    SchedFault, line_of_event, line_of_number, read_schedule, write_action, write_event,
+};
 use std::alloc::Global;
 use std::test::Fail;
+
+// A schedule of two events, on lines 3 and 5.
+const TWO_EVENTS: &[u8] = b"# two\n\nmove 1\r\n#\nmove 2 3";
 
 // Schedules, and their events.
 #[test]
@@ -61,6 +66,37 @@ fn bad_lines(rt: HostRuntime) {
             Err(SchedFault::BadLine(number)) => assert_eq!(rt; number, line, "{text:?}"),
             _ => assert!(rt; false, "{text:?}"),
         }
+    }
+}
+
+// Lines by their numbers.
+#[test]
+fn numbered_lines(rt: HostRuntime) {
+    let rows: [(u64, Option<&[u8]>); 6] = [
+        (0, None),
+        (1, Some(b"# two")),
+        (2, Some(b"")),
+        (3, Some(b"move 1")),
+        (5, Some(b"move 2 3")),
+        (6, None),
+    ];
+    for (number, line) in rows {
+        assert!(rt; line_of_number(TWO_EVENTS, number) == line, "{number}");
+    }
+}
+
+// Where events stand.
+#[test]
+fn places_of_events(rt: HostRuntime) {
+    let rows: [(u64, Option<(u64, &[u8])>); 4] = [
+        (0, None),
+        (1, Some((3, b"move 1"))),
+        (2, Some((5, b"move 2 3"))),
+        (3, None),
+    ];
+    for (event, wanted) in rows {
+        let found = line_of_event(TWO_EVENTS, event).map(|place| (place.number, place.line));
+        assert!(rt; found == wanted, "{event}");
     }
 }
 

@@ -1,14 +1,12 @@
 -- A line is one event at most, and then it is not passed over.
-use Rattle.std.proofs.Common.{◌≡◌, ◌≢◌, refl, sym, ◌∙◌, ap, subst, ℕ, ◌≤◌, Bool, true, false, List, [], ◌∷◌, ◌++◌, length, arith}
+use Rattle.std.proofs.Common.{◌≡◌, refl, sym, ◌∙◌, ap, subst, ℕ, true, false, List, ◌++◌, arith}
 use Rattle.std.proofs.lemmas.List.Sums.{AllPass-from_list_all}
 use Rattle.std.specs.List.{All, list_all}
-use Rattle.std.specs.Prelude.{◌==◌, if◌then◌else◌, not, Option, Some, None, IfNone, IfSome, codes, slice_index_or}
-use Rattle.std.proofs.lemmas.Slice.Eq.{bytes_eq-Decides}
-use Rattle.std.specs.Str.{bytes_eq}
+use Rattle.std.specs.Prelude.{◌==◌, not, Option, Some, None, IfNone, codes, slice_index_or}
 use Rattle.da_lang.specs.declared.event.Event.{Event}
 use Rattle.da_lang.specs.declared.event.Event.TheVariants.{Move, Take, Deliver, Lose, Repeat, Show, Stat}
 use Rattle.sched_text.specs.EventText.{HasNames, IsNamed, event_numbers, event_text, event_word, spaced}
-use Rattle.sched_text.specs.Reading.{AreNumbers, Stops, event_named, one_named, three_named}
+use Rattle.sched_text.specs.Reading.{AreNumbers, Stops, event_named}
 use Rattle.sched_text.specs.ScheduleText.{IsLineOf, IsSkipped}
 use Rattle.sched_text.proofs.WordLemmas.{IsWord, one_cut, one_list, stops_spaced}
 

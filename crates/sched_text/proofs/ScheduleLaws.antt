@@ -1,15 +1,13 @@
 -- A text is one schedule at most, or has one first bad line.
-use Rattle.std.proofs.Common.{◌≡◌, refl, sym, ◌∙◌, ap, subst, ℕ, zero, suc, ◌+◌, ◌≤◌, ◌<◌, inl, inr, List, [], ◌∷◌, ◌++◌, length, arith}
+use Rattle.std.proofs.Common.{◌≡◌, refl, sym, ◌∙◌, ap, subst, ℕ, suc, ◌+◌, inl, inr, List, [], ◌∷◌, ◌++◌, length, arith}
 use Rattle.std.specs.List.{All}
-use Rattle.std.specs.Prelude.{MatchResult, Option, Some, Result, Ok, Err, ◌⊎◌}
+use Rattle.std.specs.Prelude.{MatchResult, Result, Ok, Err, ◌⊎◌}
 use Rattle.std.specs.Str.Lines.{lines}
 use Rattle.da_lang.specs.declared.event.Event.{Event}
-use Rattle.da_lang.specs.declared.event.Event.TheVariants.{Move, Take, Deliver, Lose, Repeat, Show, Stat}
 use Rattle.sched_text.specs.declared.schedule.SchedFault.{SchedFault}
 use Rattle.sched_text.specs.declared.schedule.SchedFault.TheVariants.{BadLine, Memory}
-use Rattle.sched_text.specs.EventText.{HasNames, event_numbers, event_text, event_word, spaced}
 use Rattle.sched_text.specs.Reading.{IsRead}
-use Rattle.sched_text.specs.ScheduleText.{IsBadSchedule, IsFirstBad, IsLine, IsLineOf, IsSkipped, SpellsLines, SpellsSchedule, event, none, schedule_limit, skipped}
+use Rattle.sched_text.specs.ScheduleText.{IsBadSchedule, IsLine, SpellsLines, SpellsSchedule, event, none, skipped}
 use Rattle.sched_text.proofs.EventLaws.{one_event, not_skipped}
 
 pub one_list_of : (all : List (List ℕ)) (events others : List Event) → SpellsLines all events → SpellsLines all others → events ≡ others

@@ -1,5 +1,5 @@
 -- How far a schedule was read.
-use Rattle.std.proofs.Common.{◌≡◌, refl, sym, ◌∙◌, ap, subst, ℕ, ◌+◌, ◌≤◌, ◌<◌, inl, inr, List, [], ◌∷◌, ◌++◌, length, arith, append_assoc, append-nil, length-append}
+use Rattle.std.proofs.Common.{◌≡◌, refl, sym, ◌∙◌, ap, subst, ℕ, ◌+◌, ◌≤◌, inl, inr, List, [], ◌∷◌, ◌++◌, length, arith, append_assoc, append-nil, length-append}
 use Rattle.std.proofs.lemmas.List.Elements.{All-cons, All-nil}
 use Rattle.std.specs.List.{All}
 use Rattle.std.specs.Prelude.{Err}
@@ -8,7 +8,7 @@ use Rattle.da_lang.specs.declared.event.Event.{Event}
 use Rattle.sched_text.specs.declared.schedule.SchedFault.{SchedFault}
 use Rattle.sched_text.specs.declared.schedule.SchedFault.TheVariants.{BadLine, Memory}
 use Rattle.sched_text.specs.Reading.{Adds, IsFaultAt, IsRead, added, passed_over}
-use Rattle.sched_text.specs.ScheduleText.{IsBadSchedule, IsFirstBad, IsLine, IsLineOf, IsSkipped, SpellsLines, SpellsSchedule, event, none, schedule_limit, skipped}
+use Rattle.sched_text.specs.ScheduleText.{IsBadSchedule, IsLine, IsLineOf, IsSkipped, SpellsLines, SpellsSchedule, event, none, schedule_limit, skipped}
 
 -- the lines that were passed spell these events, and these bytes are left
 pub record Came (text rest : List ℕ) (events : List Event) (number : ℕ) : Type 0 where

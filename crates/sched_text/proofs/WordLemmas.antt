@@ -1,14 +1,12 @@
 -- Words behind single spaces: they are cut in one way.
-use Rattle.std.proofs.Common.{◌≡◌, ◌≢◌, refl, sym, ◌∙◌, ap, subst, ℕ, zero, suc, ◌+◌, ◌≤◌, ◌<◌, List, [], ◌∷◌, ◌++◌, length, arith, append-nil}
+use Rattle.std.proofs.Common.{◌≡◌, ◌≢◌, refl, sym, ◌∙◌, ap, ℕ, suc, ◌+◌, ◌≤◌, ◌<◌, List, [], ◌∷◌, ◌++◌, length, arith}
 use Rattle.std.specs.List.{All}
-use Rattle.std.specs.Prelude.{codes, decimal, slice_index_or}
+use Rattle.std.specs.Prelude.{codes, decimal}
 use Rattle.std.specs.Str.Parse.{AllDigits, digits_value}
 use Rattle.std.proofs.lemmas.List.Elements.{All-cons}
 use Rattle.std.proofs.lemmas.Fmt.{decimal_is_IsNumeral}
 use Rattle.std.proofs.lemmas.Str.Parse.{digit_from_value}
-use Rattle.da_lang.specs.declared.event.Event.{Event}
-use Rattle.da_lang.specs.declared.event.Event.TheVariants.{Move, Take, Deliver, Lose, Repeat, Show, Stat}
-use Rattle.sched_text.specs.EventText.{HasNames, IsNamed, event_numbers, event_text, event_word, spaced}
+use Rattle.sched_text.specs.EventText.{IsNamed, spaced}
 use Rattle.sched_text.specs.Reading.{AreNumbers, Stops}
 
 -- no space stands in a word

@@ -1,5 +1,5 @@
 -- Events that are written are read back.
-use Rattle.std.proofs.Common.{◌≡◌, ◌≢◌, refl, sym, ◌∙◌, ap, subst, ℕ, zero, suc, ◌+◌, ◌*◌, ◌-◌, ◌≤◌, ◌<◌, ◌^◌, Bool, true, false, List, [], ◌∷◌, ◌++◌, length, arith, append_assoc, append-nil, length-append, lit≤}
+use Rattle.std.proofs.Common.{◌≡◌, ◌≢◌, refl, sym, ◌∙◌, ap, subst, ℕ, suc, ◌*◌, ◌-◌, ◌≤◌, true, false, List, [], ◌∷◌, ◌++◌, length, arith, append_assoc, append-nil, length-append, lit≤}
 use Rattle.std.proofs.lemmas.Bool.Decides.{nat_tests}
 use Rattle.std.proofs.lemmas.Fmt.{decimal_is_IsNumeral, length-decimal-le}
 use Rattle.std.proofs.lemmas.List.Elements.{All-append, All-cons, All-nil}
@@ -12,7 +12,7 @@ use Rattle.std.specs.Str.Parse.{AllDigits}
 use Rattle.da_lang.specs.declared.event.Event.{Event}
 use Rattle.da_lang.specs.declared.event.Event.TheVariants.{Move, Take, Deliver, Lose, Repeat, Show, Stat}
 use Rattle.sched_text.specs.EventText.{HasNames, IsNamed, event_line, event_numbers, event_text, event_word, spaced}
-use Rattle.sched_text.specs.ScheduleText.{IsLineOf, SpellsLines, SpellsSchedule, event, none, schedule_limit}
+use Rattle.sched_text.specs.ScheduleText.{SpellsLines, SpellsSchedule, event, none, schedule_limit}
 use Rattle.sched_text.proofs.LineLemmas.{line_first}
 
 -- bytes of which none ends a line

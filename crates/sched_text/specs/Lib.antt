@@ -1,4 +1,5 @@
 pub mod ActionText
 pub mod EventText
+pub mod Places
 pub mod Reading
 pub mod ScheduleText

@@ -89,8 +89,8 @@ fn read_line(line: &[u8], number: u64, events: &mut List<Event>) -> Result<(), S
     }
 }
 
-// Whether a line is passed over: it is empty, or a comment.
-fn is_skipped(line: &[u8]) -> bool
+/// Whether a line is passed over: it is empty, or a comment.
+pub(crate) fn is_skipped(line: &[u8]) -> bool
     ensures { MatchBool result (IsSkipped line.now) (IsSkipped line.now → ⊥) }
 {
     match line {

@@ -1,4 +1,4 @@
-use Rattle.std.specs.Prelude.{◌≡◌, ℕ, Bool, true, false, List, Ok, Result, decimal}
+use Rattle.std.specs.Prelude.{◌≡◌, ℕ, false, List, Ok, decimal}
 use Rattle.std.specs.Cmp.Lexicographic.{pointwise}
 use Rattle.std.specs.Str.{IsAscii}
 use Rattle.std.proofs.Common.{◌∙◌, ap, sym, subst, arith, eqb, true≢false}
