@@ -1,14 +1,17 @@
 //! Checks DistAlgo programs, replays their schedules, and runs their processes as nodes: writes what they do.
 #![tactic(auto)]
 
+mod again;
 #[cfg(test)]
 mod cases;
 mod endings;
 mod exit;
 mod lines;
+mod needs;
 mod noding;
 mod program;
 mod replaying;
+mod report;
 mod status;
 mod tasks;
 mod top;
@@ -16,23 +19,31 @@ mod words;
 
 use da_outside::{RealFiles, RealSink};
 use exit::{NoWords, exit_code};
+use report::report;
+use status::Status;
 use std::env;
 use std::process::ExitCode;
 use top::dalgo;
 use udp_link::UdpLink;
 
 fn main(rt: HostRuntime) -> ExitCode {
-    exit_code(words_of_call(&rt), |words| {
+    let words = words_of_call(&rt);
+    if matches!(words, Err(NoWords::Memory)) {
+        report(&rt, &[], Status::Memory);
+    }
+    exit_code(words, |words| {
         let mut files = RealFiles::new(&rt);
         let mut out = RealSink::new(&rt);
         let mut link = UdpLink::new(&rt);
-        dalgo(
+        let status = dalgo(
             rt.alloc(),
             words.as_slice(),
             &mut files,
             &mut out,
             &mut link,
-        )
+        );
+        report(&rt, words.as_slice(), status);
+        status
     })
 }
 
