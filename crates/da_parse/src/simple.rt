@@ -1,11 +1,13 @@
 //! Statements without blocks.
 ghost use Rattle.std.specs.Prelude.{[], ◌∷◌, ◌≡◌, ◌≤◌, ◌<◌};
-ghost use Rattle.da_phrases.specs.Exprs.{at_depth, expression};
-ghost use Rattle.da_phrases.specs.Reader.{Reads};
+ghost use Rattle.da_parse.specs.Exprs.{at_depth, expression};
+ghost use Rattle.da_parse.specs.Reader.{Reads};
 ghost use Rattle.da_parse.specs.Stmts as spec;
 
+use crate::cursor::{Cursor, Stop};
+use crate::patterns::{expr_at, pattern_at};
+use crate::place::{Level, Rules, opening};
 use da_lang::{Expr, Name, Stmt};
-use da_phrases::{Cursor, Level, Rules, Stop, expr_at, opening, pattern_at};
 use da_values::{Boxed, List, Mark, copy_bytes};
 use std::alloc::Global;
 
@@ -19,7 +21,7 @@ pub fn expression(alloc: Global, tokens: &mut Cursor<'_>, depth: usize) -> Resul
 }
 
 /// `(EXPR)`, where the expression may be a quantification.
-#[tactic(auto, unfolding(crate::specs::Stmts::in_parens), using(da_phrases::proofs::Depth::expr_there))]
+#[tactic(auto, unfolding(crate::specs::Stmts::in_parens), using(crate::proofs::Depth::expr_there))]
 fn in_parens(alloc: Global, tokens: &mut Cursor<'_>, depth: usize) -> Result<Boxed<Expr>, Stop>
     ensures { Reads (spec.in_parens (at_depth depth) tokens.old) result tokens.new }
 {
@@ -30,7 +32,7 @@ fn in_parens(alloc: Global, tokens: &mut Cursor<'_>, depth: usize) -> Result<Box
 }
 
 /// Arguments behind `(`.
-#[tactic(auto, using(da_phrases::proofs::Depth::expr_there, da_phrases::proofs::Depth::pattern_there))]
+#[tactic(auto, using(crate::proofs::Depth::expr_there, crate::proofs::Depth::pattern_there))]
 fn behind_paren(alloc: Global, tokens: &mut Cursor<'_>, depth: usize) -> Result<List<Expr>, Stop>
     requires { depth < 32 }
     ensures { Reads (spec.behind_paren (at_depth depth) tokens.old) result tokens.new }
