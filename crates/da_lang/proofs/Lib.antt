@@ -29,7 +29,6 @@ pub mod StatingAt
 pub mod StepLaws
 pub mod StmtInduction
 pub mod StmtNamesAt
-pub mod Taken
 pub mod TermInduction
 pub mod ToldLaws
 pub mod TreeInduction

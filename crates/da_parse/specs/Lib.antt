@@ -1,6 +1,13 @@
+pub mod Exprs
 pub mod FirstFault
-pub mod HoldsBody
+pub mod Holds
+pub mod Lists
 pub mod Members
+pub mod Nests
 pub mod Parse
+pub mod Place
 pub mod Programs
+pub mod Reader
 pub mod Stmts
+pub mod Types
+pub mod View

@@ -1,19 +1,7 @@
 //! From the tree of a program to its resolved form, or to the rule of names or the limit that refuses it.
 #![tactic(auto)]
 
-mod arguments;
-mod awaiting;
-mod bodies;
-mod class;
-mod copying;
-mod handler;
-mod home;
-mod inliner;
-mod making;
-mod methods;
-mod program;
-mod slots;
+mod meaning;
 mod top;
-mod variables;
 
 pub use top::{ScopeFault, resolve};

@@ -4,6 +4,10 @@
 mod cases;
 mod code;
 mod front;
+#[cfg(test)]
+mod graphs;
+#[cfg(test)]
+mod parsing;
 mod plans;
 mod words;
 

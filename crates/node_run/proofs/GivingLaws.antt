@@ -11,7 +11,7 @@ use Rattle.da_outside.specs.Outside.{Appends, AppendsFront}
 use Rattle.da_outside.proofs.OutsideLemmas.{front_none}
 use Rattle.sched_text.specs.ActionText.{action_text}
 use Rattle.node_run.specs.Faults.{link_fault, sink_fault}
-use Rattle.node_run.specs.Gifts.{CutText, GainsSome, IsCutShort, due}
+use Rattle.node_run.specs.Gifts.{CutText, GainsSome, IsCutShort, MayLeave, due}
 use Rattle.node_run.specs.NodeRun.{gift_of, gifts}
 use Rattle.node_run.proofs.RunLaws.{gains_then}
 
@@ -36,9 +36,14 @@ pub link_cut : (why : Trouble) (actions : List Action) (told_before told_after :
     → IsCutShort (link_fault why) actions told_before told_after taken taken
 link_cut why actions told_before told_after taken some = record {
   gained = some.front;
+  left = by_trouble why;
   written = unwritten why some.front.left some.some_left;
 }
   where
+    by_trouble : (why : Trouble) → MayLeave (link_fault why) some.front.left
+    by_trouble trouble.Failed = some.some_left
+    by_trouble trouble.Memory = tt
+
     nothing : (taken : Option (List ℕ)) → Appends taken taken []
     nothing None = refl
     nothing (Some told) = ap Some (sym (append-nil told))
@@ -53,9 +58,14 @@ pub sink_cut : (why : Trouble) (actions : List Action) (told_before told_after :
     → AppendsFront before after (action_text actions) → IsCutShort (sink_fault why) actions told_before told_after before after
 sink_cut why actions told_before told_after before after gave front = record {
   gained = record { given = gifts actions; left = []; told = gave; whole = sym (append-nil (gifts actions)) };
+  left = by_trouble why;
   written = written_so why;
 }
   where
+    by_trouble : (why : Trouble) → MayLeave (sink_fault why) []
+    by_trouble trouble.Failed = tt
+    by_trouble trouble.Memory = tt
+
     written_so : (why : Trouble) → CutText (sink_fault why) before after (action_text actions)
     written_so trouble.Failed = front
     written_so trouble.Memory = front

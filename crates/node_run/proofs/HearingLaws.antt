@@ -90,6 +90,7 @@ appends_nothing (Some told) = ap Some (sym (append-nil told))
 pub nothing_given : (actions : List Action) (told : Option (List LinkEntry)) (taken : Option (List ℕ)) → IsCutShort Memory actions told told taken taken
 nothing_given actions told taken = record {
   gained = record { given = []; left = gifts actions; told = gains_nothing told; whole = refl };
+  left = tt;
   written = front_none taken (due (gifts actions) (action_text actions));
 }
 

@@ -3,5 +3,4 @@ pub mod FewParts
 pub mod GivingLaws
 pub mod HearingLaws
 pub mod MoveLaws
-pub mod OneRun
 pub mod RunLaws

@@ -54,8 +54,15 @@ CutText Link before after text = Appends before after text
 CutText Write before after text = AppendsFront before after text
 CutText Memory before after text = AppendsFront before after text
 
+-- by a link that failed something is left
+abbrev pub MayLeave : NodeFault → List LinkEntry → Type 0
+MayLeave Link left = 0 < length left
+MayLeave Write left = Unit {0}
+MayLeave Memory left = Unit {0}
+
 -- The packets of some actions were given, and their lines written, up to a fault: a link gained a front of the gifts, and the
 -- lines were written, or a front of them, where none was left.
 pub record IsCutShort (fault : NodeFault) (actions : List Action) (told_before told_after : Option (List LinkEntry)) (before after : Option (List ℕ)) : Type 0 where
   pub gained : GainsFront told_before told_after (gifts actions)
+  pub left : MayLeave fault gained.left
   pub written : CutText fault before after (due gained.left (action_text actions))

@@ -1,3 +1,0 @@
-pub mod MeaningView
-pub mod ScopeIndex
-pub mod SlotScope

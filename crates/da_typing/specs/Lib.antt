@@ -1,4 +1,0 @@
-pub mod Aggregates
-pub mod Chains
-pub mod KnownView
-pub mod SideView
