@@ -29,6 +29,7 @@ pub mod StatingAt
 pub mod StepLaws
 pub mod StmtInduction
 pub mod StmtNamesAt
+pub mod Taken
 pub mod TermInduction
 pub mod ToldLaws
 pub mod TreeInduction

@@ -2,9 +2,9 @@
 use Rattle.std.specs.Prelude.{◌≡◌, refl, List, [], ◌++◌, flat_map, Option}
 use Rattle.std.proofs.Common.{◌∙◌, sym, ap}
 use Rattle.da_lang.specs.Limits.{rank}
-use Rattle.da_names.specs.Telling.{LimitRefusal as Refusal, telling_limits as telling}
-use Rattle.da_names.proofs.KindOrders.{limit_order}
-use Rattle.da_names.proofs.TellingLaws.{telling_by-append, telling_by-nil, telling-both, telling-swap}
+use Rattle.da_bodies.specs.Telling.{LimitRefusal as Refusal, telling_limits as telling}
+use Rattle.da_bodies.proofs.KindOrders.{limit_order}
+use Rattle.da_bodies.proofs.TellingLaws.{telling_by-append, telling_by-nil, telling-both, telling-swap}
 
 pub telling-nil : (found : Option Refusal) → telling found [] ≡ found
 telling-nil = telling_by-nil rank

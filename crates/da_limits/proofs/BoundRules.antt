@@ -19,7 +19,7 @@ use Rattle.da_lang.specs.ExprNames.{Part, pattern_part, peer_part, gen_part, sou
 use Rattle.da_lang.proofs.MeantAt.{matching-Wild, matching-Name, matching-Int, matching-Text, matching-Truth, matching-Me, matching-Equal, matching-Tuple}
 use Rattle.da_lang.proofs.NamesAt.{pattern_part-Wild, pattern_part-Name, pattern_part-Int, pattern_part-Text, pattern_part-Truth, pattern_part-Me, pattern_part-Equal, pattern_part-Tuple, peer_part-From, peer_part-To, gen_part-of}
 use Rattle.da_lang.proofs.TreeInduction.{Cases, pattern_induction}
-use Rattle.da_limits.proofs.Taken.{taken}
+use Rattle.da_lang.proofs.Taken.{taken}
 use Rattle.da_limits.specs.Bound.{bound_by, bound, bound_in_all, bound_by_from, bound_by_peer, bound_by_gen, bound_by_all, found}
 use Rattle.da_limits.specs.Capped.{capped}
 

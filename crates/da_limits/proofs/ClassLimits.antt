@@ -15,7 +15,7 @@ use Rattle.da_lang.specs.Resolution.{handler_binds, resolved_class}
 use Rattle.da_limits.specs.declared.extent.Extent.{Extent}
 use Rattle.da_limits.specs.Extents.{Called, beside, wider, as_block, body_extent_if, class_extent, class_extent_by, extent, handler_extent, method_extent, run_extent}
 use Rattle.da_limits.specs.LimitLines.{told_at}
-use Rattle.da_names.specs.Telling.{LimitRefusal as Refusal}
+use Rattle.da_bodies.specs.Telling.{LimitRefusal as Refusal}
 use Rattle.da_limits.specs.LimitWalk.{IsKnown, class_told, many_in, member_many, member_told, members_told}
 use Rattle.da_calls.proofs.CallBounds.{in_cases, in_filter_map, in_none, false_true}
 use Rattle.da_calls.proofs.CallNames.{name_same}

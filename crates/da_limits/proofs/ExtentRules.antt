@@ -12,7 +12,7 @@ use Rattle.da_limits.specs.Capped.{capped}
 use Rattle.da_limits.specs.declared.extent.Extent.{Extent}
 use Rattle.da_limits.specs.Extents.{Called, nothing, beside, together, one, deeper, wider, as_block, else_extent, extent, extent_of_branch}
 use Rattle.da_limits.proofs.ExtentsAt.{extent-Assign, extent-Add, extent-Del, extent-Send, extent-Output, extent-Pass, extent-Label, extent-Call, extent-If, extent-While, extent-For, extent-AwaitOne, extent-Await, extent_of_branch-of}
-use Rattle.da_limits.proofs.Taken.{taken}
+use Rattle.da_lang.proofs.Taken.{taken}
 
 -- so many slots, counted up to the greatest number
 pub wider-capped : (n : ℕ) (x : Extent) → wider (capped n) x ≡ wider n x

@@ -20,6 +20,5 @@ pub mod NoneBack
 pub mod Numbered
 pub mod SizesAt
 pub mod SlotsKept
-pub mod Taken
 pub mod TypeWidths
 pub mod WritingRules

@@ -8,12 +8,12 @@ use Rattle.da_lang.specs.Limits.{line_if, most_parts, most_generators, most_vari
 use Rattle.da_lang.specs.Scopes.{Refused, at_lines}
 use Rattle.da_limits.specs.declared.sizes.DeedSize.{DeedSize}
 use Rattle.da_limits.specs.LimitLines.{told_at, wide_lines, gen_lines}
-use Rattle.da_names.specs.Telling.{LimitRefusal as Refusal, telling_limits as telling}
+use Rattle.da_bodies.specs.Telling.{LimitRefusal as Refusal, telling_limits as telling}
 use Rattle.da_limits.proofs.Alike.{telling-nil, telling-append}
 use Rattle.std.specs.List.{list_any}
 use Rattle.std.proofs.lemmas.Bool.{lt-ltb, le-ltb}
 use Rattle.da_limits.proofs.ClassMembersAt.{dropped, dropped_all}
-use Rattle.da_limits.proofs.Taken.{taken}
+use Rattle.da_lang.proofs.Taken.{taken}
 
 pub told-none : (kind : LimitKind) (found : Option Refusal) → told_at kind found [] ≡ found
 unfolding told_at

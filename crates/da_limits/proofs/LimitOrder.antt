@@ -17,15 +17,15 @@ use Rattle.da_lang.specs.Deeds.{Deed, deeds}
 use Rattle.da_lang.specs.Limits.{line_if, has_query, is_reached, most_classes, wide_exprs, most_generators, classes_over, processes_over, items_over, blocks_over, variables_over, generators_over, wide_header, parts_in_body, parts_in_class, parts_in_main, parts_in_message, parts_in_variable, parts_over, limit_refusals, rank}
 use Rattle.da_lang.specs.Scopes.{Refused, at_lines, told}
 use Rattle.da_limits.specs.LimitLines.{told_at, wide_lines, gen_lines}
-use Rattle.da_names.specs.Telling.{LimitRefusal as Refusal, telling_limits as telling}
+use Rattle.da_bodies.specs.Telling.{LimitRefusal as Refusal, telling_limits as telling}
 use Rattle.da_limits.specs.LimitTree.{classes_told, main_lines, message_lines}
 use Rattle.da_limits.specs.LimitWalk.{class_told, member_told, members_told, stmts_told, wide_params, wide_patterns}
 use Rattle.da_limits.specs.Sizes.{sizes}
 use Rattle.da_limits.proofs.ClassMembersAt.{dropped, dropped_all}
 use Rattle.da_limits.proofs.DeedLimits.{lines-wide, lines-gens}
 use Rattle.da_limits.proofs.Alike.{Alike, alike-refl, alike-trans, alike-sym, alike-is, alike-both, alike-flat, telling-nil, telling-append}
-use Rattle.da_names.proofs.KindOrders.{limit_order}
-use Rattle.da_names.proofs.TellingLaws.{telling-swap, told-telling}
+use Rattle.da_bodies.proofs.KindOrders.{limit_order}
+use Rattle.da_bodies.proofs.TellingLaws.{telling-swap, told-telling}
 
 -- refusals of one kind
 abbrev At : LimitKind → List ℕ → List Refusal

@@ -13,7 +13,7 @@ use Rattle.da_lang.specs.Resolution.{made_count}
 use Rattle.da_lang.specs.Written.{type_width}
 use Rattle.da_limits.specs.Capped.{capped}
 use Rattle.da_limits.specs.LimitLines.{told_at}
-use Rattle.da_names.specs.Telling.{LimitRefusal as Refusal}
+use Rattle.da_bodies.specs.Telling.{LimitRefusal as Refusal}
 use Rattle.da_limits.specs.LimitTree.{main_lines, message_lines}
 use Rattle.da_limits.proofs.ClassMembersAt.{dropped, dropped_all}
 use Rattle.da_limits.proofs.LimitLinesAt.{classes-is, processes-is, told-none, told-one}

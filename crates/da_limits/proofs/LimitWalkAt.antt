@@ -15,7 +15,7 @@ use Rattle.da_lang.specs.Limits.{line_if, wide, is_reached, most_parts, most_var
 use Rattle.da_lang.specs.Written.{Writing, pattern_written, type_width}
 use Rattle.da_limits.specs.Capped.{capped}
 use Rattle.da_limits.specs.LimitLines.{told_at, wide_lines, gen_lines}
-use Rattle.da_names.specs.Telling.{LimitRefusal as Refusal}
+use Rattle.da_bodies.specs.Telling.{LimitRefusal as Refusal}
 use Rattle.da_limits.specs.LimitWalk.{stmts_told, many_in, member_told, member_many, wide_params, wide_patterns}
 use Rattle.da_limits.specs.Sizes.{sizes}
 use Rattle.da_limits.specs.Writings.{seen}

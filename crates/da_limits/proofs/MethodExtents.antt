@@ -16,7 +16,7 @@ use Rattle.da_limits.specs.Loops.{NoneLeadsBack}
 use Rattle.da_calls.proofs.CallBounds.{in_first, in_later, in_cases, in_none}
 use Rattle.da_limits.proofs.ExtentsAgree.{blocks_agree}
 use Rattle.da_limits.proofs.Numbered.{order_short}
-use Rattle.da_limits.proofs.Taken.{taken}
+use Rattle.da_lang.proofs.Taken.{taken}
 
 -- the extents of the methods in the front of the order stand
 pub record Filled (c : ClassTree) (methods : List Body) (number : List ℕ → Option ℕ) (order : List ℕ) (i : ℕ) (extents : List Extent) : Type 0 where

@@ -7,7 +7,7 @@ use Rattle.da_lang.specs.declared.ty.Ty.TheVariants as t
 use Rattle.da_lang.specs.Written.{greatest, type_width}
 use Rattle.da_lang.proofs.typing.TypesAt.{type_width-Int, type_width-Bool, type_width-Text, type_width-Proc, type_width-Tuple, type_width-Set}
 use Rattle.da_limits.specs.Capped.{capped}
-use Rattle.da_limits.proofs.Taken.{taken}
+use Rattle.da_lang.proofs.Taken.{taken}
 
 pub width-Int : capped (type_width t.Int) ≡ 0
 width-Int = ap capped type_width-Int

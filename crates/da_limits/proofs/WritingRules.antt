@@ -15,7 +15,7 @@ use Rattle.da_lang.specs.declared.tree.PeerTree.TheVariants as peer
 use Rattle.da_lang.specs.Written as lang
 use Rattle.da_lang.specs.Written.{Size, Writing, of, tuple, query, argument, greatest, sizes, writing, pattern_written, peer_written, chain_written, gen_written}
 use Rattle.da_lang.proofs.WritingAt as at
-use Rattle.da_limits.proofs.Taken.{taken}
+use Rattle.da_lang.proofs.Taken.{taken}
 use Rattle.da_limits.specs.Capped.{capped}
 use Rattle.da_limits.specs.declared.written.Written.{Written}
 use Rattle.da_limits.specs.Writings.{seen, counted, named, nothing, beside, as_query, as_tuple, ranged}

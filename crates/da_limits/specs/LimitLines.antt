@@ -4,7 +4,7 @@ use Rattle.da_lang.specs.declared.refusal.LimitKind.{LimitKind}
 use Rattle.da_lang.specs.Limits.{line_if, most_parts, most_generators}
 use Rattle.da_lang.specs.Scopes.{at_lines}
 use Rattle.da_limits.specs.declared.sizes.DeedSize.{DeedSize}
-use Rattle.da_names.specs.Telling.{LimitRefusal as Refusal, telling_limits as telling}
+use Rattle.da_bodies.specs.Telling.{LimitRefusal as Refusal, telling_limits as telling}
 
 -- a limit is exceeded at these lines
 unfoldable pub told_at : LimitKind → Option Refusal → List ℕ → Option Refusal

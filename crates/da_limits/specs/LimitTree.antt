@@ -4,7 +4,7 @@ use Rattle.da_lang.specs.declared.tree.ClassTree.{ClassTree}
 use Rattle.da_lang.specs.declared.tree.MainLine.{MainLine}
 use Rattle.da_lang.specs.declared.tree.MessageDecl.{MessageDecl}
 use Rattle.da_lang.specs.Limits.{parts_in_main, parts_in_message}
-use Rattle.da_names.specs.Telling.{LimitRefusal as Refusal}
+use Rattle.da_bodies.specs.Telling.{LimitRefusal as Refusal}
 use Rattle.da_limits.specs.LimitWalk.{class_told}
 use Rattle.da_limits.specs.Loops.{NoneLeadsBack}
 

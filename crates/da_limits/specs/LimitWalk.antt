@@ -12,7 +12,7 @@ use Rattle.da_lang.specs.ClassParts.{InMethod, method_of}
 use Rattle.da_lang.specs.Limits.{line_if, wide, is_reached, most_variables, items_over, blocks_over, variables_over}
 use Rattle.da_lang.specs.Written.{pattern_written, type_width}
 use Rattle.da_limits.specs.LimitLines.{told_at, wide_lines, gen_lines}
-use Rattle.da_names.specs.Telling.{LimitRefusal as Refusal}
+use Rattle.da_bodies.specs.Telling.{LimitRefusal as Refusal}
 use Rattle.da_limits.specs.Sizes.{sizes}
 
 abbrev pub wide_params : List Param → Bool

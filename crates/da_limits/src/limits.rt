@@ -1,14 +1,14 @@
 //! Limits: the refusal of a program that exceeds one.
 ghost use Rattle.da_lang.specs.Limits.{limit_fault};
 ghost use Rattle.da_lang.specs.NameRules.{name_refusals};
-ghost use Rattle.da_names.specs.Telling.{refusal_of};
+ghost use Rattle.da_bodies.specs.Telling.{refusal_of};
 ghost use Rattle.da_limits.specs.LimitTree.{NoneLeadBack, classes_told};
 ghost use Rattle.std.specs.Prelude.{◌≡◌, [], IfOk, OnOk, option_map};
 
 use crate::tree::{tell_count, tell_main, tell_messages, tell_processes};
 use crate::walk::tell_class;
+use da_bodies::{Least, LimitFault};
 use da_lang::{ClassTree, LimitKind, Tree};
-use da_names::{Least, LimitFault};
 use da_values::NoMemory;
 use std::alloc::Global;
 

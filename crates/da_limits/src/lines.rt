@@ -7,8 +7,8 @@ ghost use Rattle.std.specs.Prelude.{◌≡◌, nat_lt};
 
 use crate::numbers::{MOST_GENERATORS, MOST_PARTS, MOST_VARIABLES};
 use crate::sizes::DeedSize;
+use da_bodies::Least;
 use da_lang::LimitKind;
-use da_names::Least;
 
 /// A limit is exceeded at a line, if it is.
 #[tactic(auto, using(crate::proofs::LimitLinesAt::if_rules))]

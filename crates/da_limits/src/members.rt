@@ -9,9 +9,9 @@ use crate::lines::{is_wide, some_many_variables, tell_generators, tell_if, tell_
 use crate::sizes::put_sizes;
 use crate::types::type_width;
 use crate::written::pattern_written;
+use da_bodies::Least;
 use da_calls::CallGraph;
 use da_lang::{LimitKind, Member, Param, PatternTree, Stmt, Ty};
-use da_names::Least;
 use da_values::{List, NoMemory};
 use std::alloc::Global;
 

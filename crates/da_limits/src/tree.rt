@@ -12,8 +12,8 @@ use crate::lines::{is_wide, tell_if};
 use crate::members::is_wide_type;
 use crate::numbers::{MOST_CLASSES, MOST_PROCESSES, capped};
 use crate::written::all_written;
+use da_bodies::Least;
 use da_lang::{ClassTree, LimitKind, MainLine, MessageDecl, Ty};
-use da_names::Least;
 
 /// The lines of the classes past the limit.
 #[tactic(auto, using(crate::proofs::LimitTreeAt::class_rules))]

@@ -13,9 +13,9 @@ use crate::extent::Extent;
 use crate::lines::tell_if;
 use crate::members::tell_member;
 use crate::methods::copies_of;
+use da_bodies::Least;
 use da_calls::CallGraph;
 use da_lang::{ClassTree, LimitKind};
-use da_names::Least;
 use da_values::NoMemory;
 use std::alloc::Global;
 

@@ -12,12 +12,12 @@ use Rattle.da_lang.specs.ExprNames.{Role}
 use Rattle.da_lang.specs.NameRules as rules_of
 use Rattle.da_lang.specs.Scopes.{Scope, at_lines}
 use Rattle.da_names.specs.ClassRules.{body_refusals, deed_refusals, member_refusals, deeds_by, label_lines, label_names, lines_behind, no_run_line}
-use Rattle.da_names.specs.Telling.{Refusal, telling}
-use Rattle.da_names.proofs.AgainLaws.{at_lines-append}
+use Rattle.da_bodies.specs.Telling.{Refusal, telling}
+use Rattle.da_bodies.proofs.AgainLaws.{at_lines-append}
 use Rattle.da_names.proofs.SameBody.{flat_map-same, scope_refusals-same}
-use Rattle.da_names.proofs.SameLook.{SameLook}
-use Rattle.da_names.proofs.KindOrders.{name_order}
-use Rattle.da_names.proofs.TellingLaws.{telling-append, telling-both, telling-swap}
+use Rattle.da_bodies.proofs.SameLook.{SameLook}
+use Rattle.da_bodies.proofs.KindOrders.{name_order}
+use Rattle.da_bodies.proofs.TellingLaws.{telling-append, telling-both, telling-swap}
 
 -- lists that are found one after the other
 abbrev pub tells : Option Refusal → List (List Refusal) → Option Refusal

@@ -11,12 +11,12 @@ use Rattle.da_lang.specs.declared.tree.Member.{Member}
 use Rattle.da_lang.specs.declared.tree.Member.TheVariants as member
 use Rattle.da_lang.specs.ClassParts.{Declared, Place, Body, Variable, is_run, variable_in}
 use Rattle.da_lang.specs.Scopes.{at_lines}
-use Rattle.da_names.specs.declared.bodies.Body as code
-use Rattle.da_names.specs.BodyView.{body_view, place_view}
+use Rattle.da_bodies.specs.declared.bodies.Body as code
+use Rattle.da_bodies.specs.BodyView.{body_view, place_view}
 use Rattle.da_names.specs.ClassRules.{bodies_in, has_some, lines_behind, no_run_line, those, variable_name}
-use Rattle.da_names.specs.Telling.{Refusal, telling}
-use Rattle.da_names.proofs.AgainLaws.{if_any, at_lines-append, tells_by}
-use Rattle.da_names.proofs.TellingLaws.{telling-append, telling-nil}
+use Rattle.da_bodies.specs.Telling.{Refusal, telling}
+use Rattle.da_bodies.proofs.AgainLaws.{if_any, at_lines-append, tells_by}
+use Rattle.da_bodies.proofs.TellingLaws.{telling-append, telling-nil}
 
 one_more : {A : Type 0} (xs : List A) (i : ℕ) (x : A) → i < length xs → x ≡ get_or xs i x → take (i + 1) xs ≡ take i xs ++ x ∷ []
 one_more xs i x within is = take_more xs i x within ∙ ap (λ y. take i xs ++ y ∷ []) (sym is)

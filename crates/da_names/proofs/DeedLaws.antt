@@ -12,9 +12,9 @@ use Rattle.da_lang.specs.Written.{asks}
 use Rattle.da_names.specs.DeedView.{deed_of, deeds_in}
 use Rattle.da_names.specs.declared.deeds.Deed as code
 use Rattle.da_names.specs.Early.{asks_early}
-use Rattle.da_names.specs.Telling.{Refusal, telling}
-use Rattle.da_names.proofs.AgainLaws.{if_any, tells_by, told_if, at_lines-append}
-use Rattle.da_names.proofs.TellingLaws.{telling-nil, telling-append}
+use Rattle.da_bodies.specs.Telling.{Refusal, telling}
+use Rattle.da_bodies.proofs.AgainLaws.{if_any, tells_by, told_if, at_lines-append}
+use Rattle.da_bodies.proofs.TellingLaws.{telling-nil, telling-append}
 
 snoc_by : (test : Deed → Bool) (d e : Deed) (ds : List Deed) (b : Bool) → test d ≡ b → lines_where test (ds ++ e ∷ []) ≡ lines_where test ds ++ if_any (test e) e.line → lines_where test ((d ∷ ds) ++ e ∷ []) ≡ lines_where test (d ∷ ds) ++ if_any (test e) e.line
 snoc_by test d e ds true is h = rw is (ap (λ ls. d.line ∷ ls) h)

@@ -21,17 +21,17 @@ use Rattle.da_lang.specs.Scopes.{Scope, look, at_line, at_lines, told}
 use Rattle.da_lang.specs.Written.{asks, reads_clock}
 use Rattle.da_names.specs.Early.{asks_early}
 use Rattle.da_names.specs.MainView.{setup_arity, setup_kinds_by, told_line}
-use Rattle.da_names.specs.Repeats.{declared_in}
-use Rattle.da_names.specs.declared.repeats.Declared as code
-use Rattle.da_names.specs.Telling.{Refusal, telling}
-use Rattle.da_names.specs.Told.{entered_each, told_kinds, told_expr}
-use Rattle.da_names.proofs.AgainLaws.{at_lines-append}
-use Rattle.da_names.proofs.PartLaws.{expr_plain}
-use Rattle.da_names.proofs.SameLook.{SameLook, same_each, entered_each-append}
-use Rattle.da_names.proofs.KindOrders.{name_order}
-use Rattle.da_names.proofs.TellingLaws.{telling-append, told-telling}
-use Rattle.da_names.proofs.ToldExprs.{told_expr-Name}
-use Rattle.da_names.proofs.ToldParts.{told_kinds-nil, told_kinds-append}
+use Rattle.da_bodies.specs.Repeats.{declared_in}
+use Rattle.da_bodies.specs.declared.repeats.Declared as code
+use Rattle.da_bodies.specs.Telling.{Refusal, telling}
+use Rattle.da_bodies.specs.Told.{entered_each, told_kinds, told_expr}
+use Rattle.da_bodies.proofs.AgainLaws.{at_lines-append}
+use Rattle.da_bodies.proofs.PartLaws.{expr_plain}
+use Rattle.da_bodies.proofs.SameLook.{SameLook, same_each, entered_each-append}
+use Rattle.da_bodies.proofs.KindOrders.{name_order}
+use Rattle.da_bodies.proofs.TellingLaws.{telling-append, told-telling}
+use Rattle.da_bodies.proofs.ToldExprs.{told_expr-Name}
+use Rattle.da_bodies.proofs.ToldParts.{told_kinds-nil, told_kinds-append}
 
 -- one more line that may declare a name
 one_of : {A : Type 0} (o : Option A) → filter_map (λ (y : Option A). y) (o ∷ []) ≡ option_to_list o

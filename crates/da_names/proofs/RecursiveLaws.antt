@@ -16,14 +16,14 @@ use Rattle.da_names.specs.declared.deeds.Deed as code
 use Rattle.da_calls.specs.CallMethods.{Numbering, body_of}
 use Rattle.da_names.specs.ClassRules.{goes_round}
 use Rattle.da_names.specs.DeedView as view
-use Rattle.da_names.specs.Telling.{Refusal, telling}
+use Rattle.da_bodies.specs.Telling.{Refusal, telling}
 use Rattle.da_calls.proofs.CallAnswers.{leads_back-call}
 use Rattle.da_calls.proofs.CallBounds.{false_true, none_is_some, some_same, in_first, in_later, in_cases, in_none, in_filter_map, filter_map_in, find_in, method_in_names}
 use Rattle.da_calls.proofs.CallNames.{same_name, name_same}
 use Rattle.da_calls.proofs.CallRows.{method_read}
-use Rattle.da_names.proofs.KindOrders.{name_order}
-use Rattle.da_names.proofs.TellingLaws.{telling-append, telling-same}
-use Rattle.da_names.proofs.AgainLaws.{at_lines-append}
+use Rattle.da_bodies.proofs.KindOrders.{name_order}
+use Rattle.da_bodies.proofs.TellingLaws.{telling-append, telling-same}
+use Rattle.da_bodies.proofs.AgainLaws.{at_lines-append}
 
 abbrev pub name_of : Method → List ℕ
 name_of m = m.name.now

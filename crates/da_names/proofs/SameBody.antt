@@ -9,9 +9,9 @@ use Rattle.da_lang.specs.ExprNames.{Role, Local, in_order, taken}
 use Rattle.da_lang.specs.NameRules.{doubled, locals_of, patterns_at, scope_refusals, shadowed_params}
 use Rattle.da_lang.specs.Scopes.{Scope, at_line, entered, look}
 use Rattle.da_lang.specs.StmtNames.{refused_in_body}
-use Rattle.da_names.proofs.PartLaws.{Steady, in_order-same, pattern_steady}
-use Rattle.da_names.proofs.SameLook.{SameLook, same_entered}
-use Rattle.da_names.proofs.StmtLaws.{body_same}
+use Rattle.da_bodies.proofs.PartLaws.{Steady, in_order-same, pattern_steady}
+use Rattle.da_bodies.proofs.SameLook.{SameLook, same_entered}
+use Rattle.da_bodies.proofs.StmtLaws.{body_same}
 
 pub flat_map-same : {A B : Type 0} (f g : A → List B) (xs : List A) → ((x : A) → f x ≡ g x) → flat_map f xs ≡ flat_map g xs
 flat_map-same f g [] same = refl

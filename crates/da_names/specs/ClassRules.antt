@@ -11,11 +11,11 @@ use Rattle.da_lang.specs.Deeds.{Doing, Calls, Deed, deeds}
 use Rattle.da_lang.specs.ExprNames.{Role}
 use Rattle.da_lang.specs.NameRules.{again, calls_none, has_labels, labelled, lines_where, misfits, named_body, params_again, scope_refusals, setup_in, times_out, yield_in}
 use Rattle.da_lang.specs.Scopes.{Scope, at_lines}
-use Rattle.da_names.specs.declared.bodies.Body as code
+use Rattle.da_bodies.specs.declared.bodies.Body as code
 use Rattle.da_names.specs.declared.classes.Once.{Once}
 use Rattle.da_names.specs.declared.classes.Once.TheVariants as once
-use Rattle.da_names.specs.BodyView.{body_view}
-use Rattle.da_names.specs.Telling.{Refusal}
+use Rattle.da_bodies.specs.BodyView.{body_view}
+use Rattle.da_bodies.specs.Telling.{Refusal}
 
 unfoldable pub bodies_in : List code.Body → List Body
 bodies_in bs = map body_view bs

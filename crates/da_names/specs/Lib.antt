@@ -1,11 +1,4 @@
-pub mod BodyView
 pub mod ClassRules
 pub mod DeedView
 pub mod Early
 pub mod MainView
-pub mod Repeats
-pub mod ScopeView
-pub mod Telling
-pub mod Told
-pub mod ToldStmts
-pub mod Variables

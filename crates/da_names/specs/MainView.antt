@@ -16,8 +16,8 @@ use Rattle.da_lang.specs.ClassParts.{params_if, setup_of}
 use Rattle.da_lang.specs.ExprNames.{Role, refused_in}
 use Rattle.da_lang.specs.Scopes.{Scope}
 use Rattle.da_lang.specs.Written.{asks, reads_clock}
-use Rattle.da_names.specs.Telling.{Refusal}
-use Rattle.da_names.specs.Told.{told_kinds}
+use Rattle.da_bodies.specs.Telling.{Refusal}
+use Rattle.da_bodies.specs.Told.{told_kinds}
 
 -- what a map has at a name
 abbrev pub at_name : {A : Type 0} → BTreeMap (Bor (List ℕ)) A → List ℕ → Option A

@@ -7,13 +7,13 @@ ghost use Rattle.da_lang.specs.Scopes.{at_lines};
 ghost use Rattle.da_calls.specs.CallGraph.{IsCallGraph, class_in};
 ghost use Rattle.da_names.specs.ClassRules.{goes_round as goes_round_of};
 ghost use Rattle.da_names.specs.DeedView.{deed_of, deeds_in, doing_of, said_of};
-ghost use Rattle.da_names.specs.Telling.{telling};
+ghost use Rattle.da_bodies.specs.Telling.{telling};
 ghost use Rattle.std.specs.List.{flat_map, list_any};
 ghost use Rattle.std.specs.Option.{option_to_list};
 ghost use Rattle.std.specs.Prelude.{◌≡◌, length, not, OnOk};
 
 use crate::deeds::{Deed, Doing, Said, deeds_of_body};
-use crate::least::Least;
+use da_bodies::Least;
 use da_calls::CallGraph;
 use da_lang::ScopeKind;
 use da_values::NoMemory;

@@ -4,24 +4,20 @@ ghost use Rattle.da_lang.specs.declared.refusal.ScopeKind.TheVariants.{NotYet, S
 ghost use Rattle.da_lang.specs.ExprNames.{ClassVariable};
 ghost use Rattle.da_lang.specs.NameRules.{class_refusals, has_labels as has_labels_of, params_again, setup_in, variables_again, yield_in};
 ghost use Rattle.da_lang.specs.Scopes.{at_lines};
-ghost use Rattle.da_names.specs.BodyView.{body_view, place_view};
+ghost use Rattle.da_bodies.specs.BodyView.{body_view, place_view};
 ghost use Rattle.da_calls.specs.CallGraph.{IsCallGraph, class_in};
 ghost use Rattle.da_names.specs.ClassRules.{bodies_in, body_refusals, deed_refusals, deeds_by, has_some, is_once, label_lines, lines_behind, member_refusals};
 ghost use Rattle.da_names.specs.DeedView.{deeds_in};
-ghost use Rattle.da_names.specs.Telling.{telling};
-ghost use Rattle.da_names.specs.Told.{entered_each};
+ghost use Rattle.da_bodies.specs.Telling.{telling};
+ghost use Rattle.da_bodies.specs.Told.{entered_each};
 ghost use Rattle.std.specs.List.{flat_map};
 ghost use Rattle.std.specs.Prelude.{◌≡◌, IfOk, OnOk, map};
 
-use crate::bodies::{Body, Place, body_of, check_body};
 use crate::call_rules::{tell_misfits, tell_recursive, tell_unknown, tell_yields};
 use crate::declared::{labels_of, methods_of, params_of, variables_of};
 use crate::deed_rules::{tell_early, tell_timeouts};
 use crate::deeds::{Deed, deeds_of_body, put_body};
-use crate::least::Least;
-use crate::repeats::tell_again;
-use crate::scope::{Names, Role};
-use crate::variables::enter_all;
+use da_bodies::{Body, Least, Names, Place, Role, body_of, check_body, enter_all, tell_again};
 use da_calls::CallGraph;
 use da_lang::{ClassTree, ScopeKind};
 use da_values::{List, NoMemory};

@@ -1,14 +1,13 @@
 //! What a class declares: variables, methods, parameters and labels.
 ghost use Rattle.da_lang.specs.NameRules.{labelled, named_body};
-ghost use Rattle.da_names.specs.BodyView.{body_view};
+ghost use Rattle.da_bodies.specs.BodyView.{body_view};
 ghost use Rattle.da_names.specs.ClassRules.{bodies_in, label_names, param_names, variable_name, variable_names};
 ghost use Rattle.da_names.specs.DeedView.{deeds_in, doing_of};
-ghost use Rattle.da_names.specs.Repeats.{declared_in, declared_of};
+ghost use Rattle.da_bodies.specs.Repeats.{declared_in, declared_of};
 ghost use Rattle.std.specs.Prelude.{◌≡◌, IfOk, filter_map, option_map};
 
-use crate::bodies::{Body, Place};
 use crate::deeds::{Deed, Doing};
-use crate::repeats::Declared;
+use da_bodies::{Body, Declared, Place};
 use da_lang::{ClassTree, Member, Param};
 use da_values::{List, NoMemory};
 use std::alloc::Global;

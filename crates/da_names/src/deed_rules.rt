@@ -5,13 +5,13 @@ ghost use Rattle.da_lang.specs.Scopes.{at_lines};
 ghost use Rattle.da_lang.specs.Written.{asks};
 ghost use Rattle.da_names.specs.DeedView.{deeds_in, doing_of, said_of};
 ghost use Rattle.da_names.specs.Early.{asks_early as asks_early_of};
-ghost use Rattle.da_names.specs.Telling.{telling};
+ghost use Rattle.da_bodies.specs.Telling.{telling};
 ghost use Rattle.std.specs.List.{list_any};
 ghost use Rattle.std.specs.Prelude.{◌≡◌, ◌||◌};
 
 use crate::deeds::{Deed, Doing, Said};
 use crate::early::{asks_early, some_asks_early};
-use crate::least::Least;
+use da_bodies::Least;
 use da_lang::ScopeKind;
 
 /// Tells the lines of `timeout`.

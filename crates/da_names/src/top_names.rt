@@ -2,12 +2,11 @@
 ghost use Rattle.da_lang.specs.declared.refusal.ScopeKind.TheVariants.{Twice};
 ghost use Rattle.da_lang.specs.NameRules.{made_at as made_in, set_up_at as set_up_in, twice_of};
 ghost use Rattle.da_lang.specs.Scopes.{at_lines};
-ghost use Rattle.da_names.specs.Repeats.{declared_in, declared_of};
-ghost use Rattle.da_names.specs.Telling.{telling};
+ghost use Rattle.da_bodies.specs.Repeats.{declared_in, declared_of};
+ghost use Rattle.da_bodies.specs.Telling.{telling};
 ghost use Rattle.std.specs.Prelude.{◌≡◌, IfOk, OnOk, filter_map, map, option_map};
 
-use crate::least::Least;
-use crate::repeats::{Declared, tell_again};
+use da_bodies::{Declared, Least, tell_again};
 use da_lang::{ClassTree, MainLine, MessageDecl, ScopeKind, Tree};
 use da_values::{List, NoMemory};
 use std::alloc::Global;

@@ -1,12 +1,12 @@
 //! The refusal by names of a whole program.
 ghost use Rattle.da_lang.specs.NameRules.{class_refusals, name_fault as name_fault_of};
-ghost use Rattle.da_names.specs.Telling.{refusal_of, telling};
+ghost use Rattle.da_bodies.specs.Telling.{refusal_of, telling};
 ghost use Rattle.std.specs.Prelude.{◌≡◌, IfOk, OnOk, flat_map, option_map};
 
 use crate::classes::check_class;
-use crate::least::{Least, NameFault};
 use crate::main_lines::check_main;
 use crate::top_names::tell_twice;
+use da_bodies::{Least, NameFault};
 use da_lang::{ClassTree, ScopeKind, Tree};
 use da_values::NoMemory;
 use std::alloc::Global;

@@ -14,20 +14,20 @@ use Rattle.da_lang.specs.TypeGrammar.{TypeIn}
 use Rattle.da_lang.specs.ExprGrammar.{IsPattern, deeper}
 use Rattle.da_lang.specs.StmtGrammar.{IsBlock, BodyIn}
 use Rattle.da_lang.specs.Grammar.{IsParam, IsFrom, IsAt, IsMember, TypedParam, IsParams}
-use Rattle.da_parse.specs.Reader as reader
-use Rattle.da_parse.specs.Reader.{mark, text, rest, same, sees, Reading, Reader, continued, ◌>>=◌, ◌>>◌, pure, refuse, expect, word}
-use Rattle.da_parse.specs.Place.{Limit}
-use Rattle.da_parse.specs.Types.{types}
-use Rattle.da_parse.specs.Exprs.{pattern}
+use Rattle.da_phrases.specs.Reader as reader
+use Rattle.da_phrases.specs.Reader.{mark, text, rest, same, sees, Reading, Reader, continued, ◌>>=◌, ◌>>◌, pure, refuse, expect, word}
+use Rattle.da_phrases.specs.Place.{Limit}
+use Rattle.da_phrases.specs.Types.{types}
+use Rattle.da_phrases.specs.Exprs.{pattern}
 use Rattle.da_parse.specs.Members.{Parts, typed_param, parts_in, params, variable, setup, run, method, definition_by, definition, sender, labels, handler, member_by, member, members}
-use Rattle.da_parse.proofs.Steps.{mark-At, mark-Named, behind_is, behind_not, expect_is, not_seen, room-Opens, opening_is, word_is, taking_is, past_is}
-use Rattle.da_parse.proofs.Laws.{IsComplete, Shrinks, Begins, Lacks, Anything, goes_on_param}
-use Rattle.da_parse.proofs.Firsts.{never_seen, next-At}
+use Rattle.da_phrases.proofs.Steps.{mark-At, mark-Named, behind_is, behind_not, expect_is, not_seen, room-Opens, opening_is, word_is, taking_is, past_is}
+use Rattle.da_phrases.proofs.Laws.{IsComplete, Shrinks, Begins, Lacks, Anything, goes_on_param}
+use Rattle.da_phrases.proofs.Firsts.{never_seen, next-At}
 use Rattle.da_parse.proofs.ShorterStmts.{begins_name, begins_member, IsParam-begins, IsParam-shrinks, Named-shrinks, IsMember-begins, member_shrinks}
-use Rattle.da_parse.proofs.ListComplete.{separated-complete, closed-complete, ended-complete}
-use Rattle.da_parse.proofs.Shorter.{TypeIn-shrinks}
-use Rattle.da_parse.proofs.CompleteTypes.{Enough, types-complete, type_at-complete}
-use Rattle.da_parse.proofs.CompletePlaces.{place-complete, pattern_there-complete}
+use Rattle.da_phrases.proofs.ListComplete.{separated-complete, closed-complete, ended-complete}
+use Rattle.da_phrases.proofs.Shorter.{TypeIn-shrinks}
+use Rattle.da_phrases.proofs.CompleteTypes.{Enough, types-complete, type_at-complete}
+use Rattle.da_phrases.proofs.CompletePlaces.{place-complete, pattern_there-complete}
 use Rattle.da_parse.proofs.CompleteStmts.{block_there-complete}
 use Rattle.da_parse.proofs.SoundStmts.{same_line}
 

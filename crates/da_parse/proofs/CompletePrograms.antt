@@ -17,20 +17,20 @@ use Rattle.da_lang.specs.TypeGrammar.{TypeIn}
 use Rattle.da_lang.specs.ExprGrammar.{IsPattern, deeper}
 use Rattle.da_lang.specs.StmtGrammar.{IsBlock, BodyIn}
 use Rattle.da_lang.specs.Grammar.{IsMember, IsCount, IsMline, IsKind, TypedParam, IsParams, IsMessage, IsClass, IsDecls, IsMain, IsProgram, IsTypedProgram}
-use Rattle.da_parse.specs.Reader as reader
-use Rattle.da_parse.specs.Reader.{mark, text, rest, same, is_mark, sees, Reading, Reader, continued, ◌>>=◌, ◌>>◌, pure, refuse, expect, word, number}
-use Rattle.da_parse.specs.Place.{Limit}
-use Rattle.da_parse.specs.Types.{types}
+use Rattle.da_phrases.specs.Reader as reader
+use Rattle.da_phrases.specs.Reader.{mark, text, rest, same, is_mark, sees, Reading, Reader, continued, ◌>>=◌, ◌>>◌, pure, refuse, expect, word, number}
+use Rattle.da_phrases.specs.Place.{Limit}
+use Rattle.da_phrases.specs.Types.{types}
 use Rattle.da_parse.specs.Members.{typed_param, members}
 use Rattle.da_parse.specs.Programs.{Outer, outer_in, typed_in, count, one_of, kind, header_end, message, class, new_line, setup_line, line_by, main_line, main, program_end, decls_by, decls_from, decls, program}
-use Rattle.da_parse.proofs.Steps.{mark-At, mark-Named, rest-At, behind_is, behind_not, expect_is, not_seen, room-Opens, opening_is, word_is, number_is, taking_is, past_is}
-use Rattle.da_parse.proofs.Laws.{IsComplete, Shrinks, Anything, Completes, goes_on_disj}
-use Rattle.da_parse.proofs.Firsts.{begins_type, never_seen, next-At, TypeIn-begins}
-use Rattle.da_parse.proofs.Shorter.{TypeIn-shrinks, deeper-shrinks}
+use Rattle.da_phrases.proofs.Steps.{mark-At, mark-Named, rest-At, behind_is, behind_not, expect_is, not_seen, room-Opens, opening_is, word_is, number_is, taking_is, past_is}
+use Rattle.da_phrases.proofs.Laws.{IsComplete, Shrinks, Anything, Completes, goes_on_disj}
+use Rattle.da_phrases.proofs.Firsts.{begins_type, never_seen, next-At, TypeIn-begins}
+use Rattle.da_phrases.proofs.Shorter.{TypeIn-shrinks, deeper-shrinks}
 use Rattle.da_parse.proofs.ShorterStmts.{begins_line, IsMline-begins, IsMline-shrinks, IsParam-shrinks, IsMessage-shrinks, IsClass-shrinks}
-use Rattle.da_parse.proofs.ListComplete.{closed-complete, behind-complete, ended-complete}
-use Rattle.da_parse.proofs.CompleteTypes.{Enough, enough_fewer, enough_below, types-complete}
-use Rattle.da_parse.proofs.CompletePlaces.{place-complete}
+use Rattle.da_phrases.proofs.ListComplete.{closed-complete, behind-complete, ended-complete}
+use Rattle.da_phrases.proofs.CompleteTypes.{Enough, enough_fewer, enough_below, types-complete}
+use Rattle.da_phrases.proofs.CompletePlaces.{place-complete}
 use Rattle.da_parse.proofs.CompleteMembers.{ParamCompletes, typed_params-complete, members_inside-complete}
 use Rattle.da_parse.proofs.SoundStmts.{same_line}
 

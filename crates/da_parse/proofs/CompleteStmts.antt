@@ -12,19 +12,19 @@ use Rattle.da_lang.specs.Spelling as sp
 use Rattle.da_lang.specs.Spelling.{Spelling, Room, At, Opens, Named, Closed, Many, Ended}
 use Rattle.da_lang.specs.ExprGrammar.{Deeper, IsExpr, deeper}
 use Rattle.da_lang.specs.StmtGrammar.{IsBlock, IsBranch, IsElse, IsTimeout, IsStmt, BodyIn}
-use Rattle.da_parse.specs.Reader as reader
-use Rattle.da_parse.specs.Reader.{mark, text, rest, same, sees, Reading, Reader, continued, ◌>>=◌, ◌>>◌, pure, refuse, expect, word}
-use Rattle.da_parse.specs.Place.{Limit, Place}
-use Rattle.da_parse.specs.Exprs.{place, expression}
+use Rattle.da_phrases.specs.Reader as reader
+use Rattle.da_phrases.specs.Reader.{mark, text, rest, same, sees, Reading, Reader, continued, ◌>>=◌, ◌>>◌, pure, refuse, expect, word}
+use Rattle.da_phrases.specs.Place.{Limit, Place}
+use Rattle.da_phrases.specs.Exprs.{place, expression}
 use Rattle.da_parse.specs.Stmts.{branch_of, in_parens, arguments, assigned, changed, called, named, sending, output, passing, label, block, block_behind_colon, branch, otherwise, timeout, conditional, while_loop, for_loop, alternatives, awaiting, stmt_by, stmt, stmts, bodies}
-use Rattle.da_parse.proofs.Steps.{mark-At, mark-Named, sees-At, rest-At, behind_is, behind_not, expect_is, not_seen, At-Opens, room-Opens, opening_is, word_is, taking_is}
-use Rattle.da_parse.proofs.Laws.{IsComplete, Shrinks, Lacks, Anything, Completes, goes_on_expr, goes_on_disj}
-use Rattle.da_parse.proofs.Firsts.{Beginning, deeper-begins, begins_disj, never_seen, lacked, apart, next-At}
-use Rattle.da_parse.proofs.Shorter.{Shrinking, deeper-shrinks}
-use Rattle.da_parse.proofs.CompleteTypes.{Enough, enough_inside, enough_any}
-use Rattle.da_parse.proofs.CompletePlaces.{place-complete, expression_there-complete}
+use Rattle.da_phrases.proofs.Steps.{mark-At, mark-Named, sees-At, rest-At, behind_is, behind_not, expect_is, not_seen, At-Opens, room-Opens, opening_is, word_is, taking_is}
+use Rattle.da_phrases.proofs.Laws.{IsComplete, Shrinks, Lacks, Anything, Completes, goes_on_expr, goes_on_disj}
+use Rattle.da_phrases.proofs.Firsts.{Beginning, deeper-begins, begins_disj, never_seen, lacked, apart, next-At}
+use Rattle.da_phrases.proofs.Shorter.{Shrinking, deeper-shrinks}
+use Rattle.da_phrases.proofs.CompleteTypes.{Enough, enough_inside, enough_any}
+use Rattle.da_phrases.proofs.CompletePlaces.{place-complete, expression_there-complete}
 use Rattle.da_parse.proofs.ShorterStmts.{begins_stmt, goes_on_stmt, next_stmt, IsStmt-begins, IsStmt-shrinks, IsBranch-shrinks, BodyIn-shrinks}
-use Rattle.da_parse.proofs.ListComplete.{closed-complete, begun-complete, ended-complete}
+use Rattle.da_phrases.proofs.ListComplete.{closed-complete, begun-complete, ended-complete}
 use Rattle.da_parse.proofs.SoundStmts.{same_line}
 
 mark-Branch : {room : Room} {deep : Deeper} {Body : Spelling (List Stmt)} {word : Mark} {b : Branch} {i r : List Tok} → IsBranch room deep Body word b i r → mark i ≡ Some word

@@ -4,7 +4,7 @@ use Rattle.da_values.specs.Marks.{Tok}
 use Rattle.da_lang.specs.declared.tree.ClassTree.{ClassTree}
 use Rattle.da_lang.specs.declared.tree.MessageDecl.{MessageDecl}
 use Rattle.da_lang.specs.declared.ty.ChannelKind.{ChannelKind}
-use Rattle.da_parse.specs.Reader.{by_mark}
+use Rattle.da_phrases.specs.Reader.{by_mark}
 use Rattle.da_parse.specs.Programs.{Outer, decls, decls_from, decls_by, program_end}
 
 module _ (o : Outer) (k : ChannelKind) where

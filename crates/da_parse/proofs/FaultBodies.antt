@@ -9,21 +9,21 @@ use Rattle.da_lang.specs.Spelling.{Room, at, Ended, ends}
 use Rattle.da_lang.specs.ExprGrammar.{Deeper, IsExpr, deeper}
 use Rattle.da_lang.specs.StmtGrammar.{IsBlock, IsStmt, BodyIn}
 use Rattle.da_lang.specs.StmtGrammar as g
-use Rattle.da_parse.specs.Reader.{sees, Reader}
-use Rattle.da_parse.specs.Place.{Limit, Place}
-use Rattle.da_parse.specs.Exprs.{place, expression}
+use Rattle.da_phrases.specs.Reader.{sees, Reader}
+use Rattle.da_phrases.specs.Place.{Limit, Place}
+use Rattle.da_phrases.specs.Exprs.{place, expression}
 use Rattle.da_parse.specs.Stmts.{block_behind_colon, branch, stmt, stmts, bodies}
-use Rattle.da_parse.proofs.Laws.{IsSound, Sounds}
-use Rattle.da_parse.proofs.Steps.{At-sees}
-use Rattle.da_parse.proofs.Shorter.{Shrinking, deeper-shrinks}
+use Rattle.da_phrases.proofs.Laws.{IsSound, Sounds}
+use Rattle.da_phrases.proofs.Steps.{At-sees}
+use Rattle.da_phrases.proofs.Shorter.{Shrinking, deeper-shrinks}
 use Rattle.da_parse.proofs.ShorterStmts.{IsBranch-shrinks, IsStmt-shrinks, BodyIn-shrinks}
-use Rattle.da_parse.proofs.SoundPlaces.{places-sound, expression_there-sound}
+use Rattle.da_phrases.proofs.SoundPlaces.{places-sound, expression_there-sound}
 use Rattle.da_parse.proofs.SoundStmts.{BehindColon, branch-sound, stmt-sound, bodies-sound}
-use Rattle.da_parse.proofs.Faults.{Rule, Makes, Cut, Good, Whole}
-use Rattle.da_parse.proofs.FaultLists.{Strict}
-use Rattle.da_parse.proofs.FaultTypes.{below}
-use Rattle.da_parse.proofs.FaultExprs.{Exact}
-use Rattle.da_parse.proofs.FaultPlaces.{by_parts, levels, places}
+use Rattle.da_phrases.proofs.Faults.{Rule, Makes, Cut, Good, Whole}
+use Rattle.da_phrases.proofs.FaultLists.{Strict}
+use Rattle.da_phrases.proofs.FaultTypes.{below}
+use Rattle.da_phrases.proofs.FaultExprs.{Exact}
+use Rattle.da_phrases.proofs.FaultPlaces.{by_parts, levels, places}
 use Rattle.da_parse.proofs.FaultStmts.{stmts-whole, block_behind_colon-whole}
 
 abbrev Any : ℕ → Room

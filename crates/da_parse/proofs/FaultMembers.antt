@@ -15,18 +15,18 @@ use Rattle.da_lang.specs.Spelling as sp
 use Rattle.da_lang.specs.Spelling.{Spelling, Room, At, at, Opens, Named, named, Closed, Ended}
 use Rattle.da_lang.specs.Grammar as g
 use Rattle.da_lang.specs.Grammar.{IsParam, IsFrom, IsAt, IsMember, IsParams}
-use Rattle.da_parse.specs.declared.place.Level.{Level}
-use Rattle.da_parse.specs.Reader.{mark, line, Reader, refuse, word}
-use Rattle.da_parse.specs.Place.{Limit, Place}
-use Rattle.da_parse.specs.Exprs.{pattern}
+use Rattle.da_phrases.specs.declared.place.Level.{Level}
+use Rattle.da_phrases.specs.Reader.{mark, line, Reader, refuse, word}
+use Rattle.da_phrases.specs.Place.{Limit, Place}
+use Rattle.da_phrases.specs.Exprs.{pattern}
 use Rattle.da_parse.specs.Members.{Parts, typed_param, params, variable, setup, run, method, definition_by, definition, sender, labels, handler, member_by, member, members}
-use Rattle.da_parse.proofs.Steps.{word_ok}
+use Rattle.da_phrases.proofs.Steps.{word_ok}
 use Rattle.da_parse.proofs.ShorterStmts.{Named-shrinks}
 use Rattle.da_parse.proofs.SoundStmts.{BehindColon}
-use Rattle.da_parse.proofs.Samples.{sample, onto}
-use Rattle.da_parse.proofs.Faults.{Rule, Anywhere, Makes, Cut, Good, Whole}
-use Rattle.da_parse.proofs.FaultSteps.{bind, bind_good, pure_good, pure_whole, refuse_good, by_mark_good, at_line_good, good_as, good_on, whole_as, past_mark, past_line, taking_name, behind_good, opening_whole, expect_whole, word_whole}
-use Rattle.da_parse.proofs.FaultLists.{Strict, all_separated, all_closed, ended_whole}
+use Rattle.da_phrases.proofs.Samples.{sample, onto}
+use Rattle.da_phrases.proofs.Faults.{Rule, Anywhere, Makes, Cut, Good, Whole}
+use Rattle.da_phrases.proofs.FaultSteps.{bind, bind_good, pure_good, pure_whole, refuse_good, by_mark_good, at_line_good, good_as, good_on, whole_as, past_mark, past_line, taking_name, behind_good, opening_whole, expect_whole, word_whole}
+use Rattle.da_phrases.proofs.FaultLists.{Strict, all_separated, all_closed, ended_whole}
 
 word_strict : Strict (word m.Name)
 word_strict i y e = Named-shrinks _ _ _ (word_ok i y e)

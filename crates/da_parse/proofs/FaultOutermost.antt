@@ -19,26 +19,26 @@ use Rattle.da_lang.specs.TypeGrammar.{TypeIn}
 use Rattle.da_lang.specs.ExprGrammar.{IsPattern, deeper}
 use Rattle.da_lang.specs.StmtGrammar.{IsBlock, BodyIn}
 use Rattle.da_lang.specs.Grammar.{IsMember, IsMline, IsParams, IsParam, TypedParam, IsTypedProgram}
-use Rattle.da_parse.specs.declared.place.Level.TheVariants as level
-use Rattle.da_parse.specs.Reader.{Reader}
-use Rattle.da_parse.specs.Place.{Limit, Place}
-use Rattle.da_parse.specs.Types.{types, type_in}
-use Rattle.da_parse.specs.Exprs.{place, pattern}
+use Rattle.da_phrases.specs.declared.place.Level.TheVariants as level
+use Rattle.da_phrases.specs.Reader.{Reader}
+use Rattle.da_phrases.specs.Place.{Limit, Place}
+use Rattle.da_phrases.specs.Types.{types, type_in}
+use Rattle.da_phrases.specs.Exprs.{place, pattern}
 use Rattle.da_parse.specs.Stmts.{bodies, block_behind_colon}
 use Rattle.da_parse.specs.Members.{Parts, typed_param, parts_in, member, members}
 use Rattle.da_parse.specs.Programs.{Outer, outer_in, typed_in, message, class, main_line, main, program}
-use Rattle.da_parse.proofs.Laws.{IsSound, Sounds}
-use Rattle.da_parse.proofs.Shorter.{TypeIn-shrinks, deeper-shrinks}
+use Rattle.da_phrases.proofs.Laws.{IsSound, Sounds}
+use Rattle.da_phrases.proofs.Shorter.{TypeIn-shrinks, deeper-shrinks}
 use Rattle.da_parse.proofs.ShorterStmts.{IsParam-shrinks, IsMline-shrinks, IsMessage-shrinks, IsClass-shrinks, member_shrinks}
-use Rattle.da_parse.proofs.SoundTypes.{types-sound, type_here-sound}
-use Rattle.da_parse.proofs.SoundPlaces.{places-sound, pattern_there-sound}
+use Rattle.da_phrases.proofs.SoundTypes.{types-sound, type_here-sound}
+use Rattle.da_phrases.proofs.SoundPlaces.{places-sound, pattern_there-sound}
 use Rattle.da_parse.proofs.SoundStmts.{BehindColon, block_there-sound}
 use Rattle.da_parse.proofs.SoundMembers.{typed_param-sound, member-sound}
 use Rattle.da_parse.proofs.SoundPrograms.{OuterSounds, outer_sound, message-sound, class-sound, main_line-sound}
-use Rattle.da_parse.proofs.Faults.{Rule, Anywhere, Cut, Good, Whole}
-use Rattle.da_parse.proofs.FaultLists.{Strict}
-use Rattle.da_parse.proofs.FaultTypes.{below, type_in-whole, types-whole, types-strict}
-use Rattle.da_parse.proofs.FaultPlaces.{by_parts, disj-strict, levels, places}
+use Rattle.da_phrases.proofs.Faults.{Rule, Anywhere, Cut, Good, Whole}
+use Rattle.da_phrases.proofs.FaultLists.{Strict}
+use Rattle.da_phrases.proofs.FaultTypes.{below, type_in-whole, types-whole, types-strict}
+use Rattle.da_phrases.proofs.FaultPlaces.{by_parts, disj-strict, levels, places}
 use Rattle.da_parse.proofs.FaultBodies.{bodies-whole, block_whole}
 use Rattle.da_parse.proofs.FaultMembers.{typed_param-whole, members-whole}
 use Rattle.da_parse.proofs.FaultPrograms.{main_marks, main_line-whole, main-whole, message-good, class-good}

@@ -24,21 +24,21 @@ use Rattle.da_lang.specs.ExprGrammar.{IsPattern, deeper}
 use Rattle.da_lang.specs.StmtGrammar.{IsBlock, BodyIn}
 use Rattle.da_lang.specs.Grammar as g
 use Rattle.da_lang.specs.Grammar.{IsMember, IsCount, IsMline, IsKind, IsParams, IsMessage, IsClass, IsDecls, IsMain, IsProgram}
-use Rattle.da_parse.specs.declared.cursor.Stop.{Stop}
-use Rattle.da_parse.specs.declared.place.Level.{Level}
-use Rattle.da_parse.specs.declared.place.Level.TheVariants as level
-use Rattle.da_parse.specs.Reader.{mark, line, rest, sees, Reading, Reader, continued, refuse, expect, past, by_mark, at_line, ◌>>=◌, ◌>>◌, pure}
-use Rattle.da_parse.specs.Lists.{begun}
-use Rattle.da_parse.specs.Place.{Limit, Place, opening}
+use Rattle.da_phrases.specs.declared.cursor.Stop.{Stop}
+use Rattle.da_phrases.specs.declared.place.Level.{Level}
+use Rattle.da_phrases.specs.declared.place.Level.TheVariants as level
+use Rattle.da_phrases.specs.Reader.{mark, line, rest, sees, Reading, Reader, continued, refuse, expect, past, by_mark, at_line, ◌>>=◌, ◌>>◌, pure}
+use Rattle.da_phrases.specs.Lists.{begun}
+use Rattle.da_phrases.specs.Place.{Limit, Place, opening}
 use Rattle.da_parse.specs.Members.{Parts, members}
 use Rattle.da_parse.specs.Programs.{Outer, count, kind_from, one_of, kind, finish, header_end, message, class, new_line, argument, setup_line, line_by, main_line, main, program_end, decls_by, decls_from, decls, program}
-use Rattle.da_parse.proofs.Laws.{Led, led}
-use Rattle.da_parse.proofs.Samples.{sample, onto}
-use Rattle.da_parse.proofs.Faults as f
-use Rattle.da_parse.proofs.Faults.{Shifted, Placed, Completed, room_of, room_late, Rule, Anywhere, Makes, Cut, Follows, Good, Whole, ahead, same_ahead, not_longer}
-use Rattle.da_parse.proofs.FaultSteps.{bind, bind_good, bind_makes, pure_good, pure_whole, refuse_good, refuse_stops, by_mark_good, at_line_good, good_as, good_on, whole_as, whole_same, mark_sees, past_mark, past_line, taking_line, behind_good, opening_whole, expect_whole, word_whole, number_whole, first_sees}
-use Rattle.da_parse.proofs.FaultExprs.{joins}
-use Rattle.da_parse.proofs.FaultLists.{Strict, Finds, continued_same, none_left, rest_shorter, all_closed, begun_whole, ended_whole}
+use Rattle.da_phrases.proofs.Laws.{Led, led}
+use Rattle.da_phrases.proofs.Samples.{sample, onto}
+use Rattle.da_phrases.proofs.Faults as f
+use Rattle.da_phrases.proofs.Faults.{Shifted, Placed, Completed, room_of, room_late, Rule, Anywhere, Makes, Cut, Follows, Good, Whole, ahead, same_ahead, not_longer}
+use Rattle.da_phrases.proofs.FaultSteps.{bind, bind_good, bind_makes, pure_good, pure_whole, refuse_good, refuse_stops, by_mark_good, at_line_good, good_as, good_on, whole_as, whole_same, mark_sees, past_mark, past_line, taking_line, behind_good, opening_whole, expect_whole, word_whole, number_whole, first_sees}
+use Rattle.da_phrases.proofs.FaultExprs.{joins}
+use Rattle.da_phrases.proofs.FaultLists.{Strict, Finds, continued_same, none_left, rest_shorter, all_closed, begun_whole, ended_whole}
 
 -- arguments that each stand behind a comma
 Many-Behind : {A : Type 0} {k : Mark} {Item : Spelling A} {xs : List A} {t r : List Tok} → Many (Led k Item) xs t r → Behind k Item xs t r

@@ -15,19 +15,19 @@ use Rattle.da_lang.specs.Spelling.{Spelling, Room, At, at, Opens, Named, Closed,
 use Rattle.da_lang.specs.ExprGrammar.{Deeper, IsExpr, deeper}
 use Rattle.da_lang.specs.StmtGrammar as g
 use Rattle.da_lang.specs.StmtGrammar.{IsBlock, IsBranch, IsElse, IsTimeout, IsStmt, BodyIn}
-use Rattle.da_parse.specs.declared.place.Level.{Level}
-use Rattle.da_parse.specs.declared.place.Level.TheVariants as level
-use Rattle.da_parse.specs.Reader as reader
-use Rattle.da_parse.specs.Reader.{mark, line, sees, Reader, past, taking, refuse}
-use Rattle.da_parse.specs.Lists.{begun}
-use Rattle.da_parse.specs.Place.{Limit, Place}
-use Rattle.da_parse.specs.Exprs.{place, expression}
+use Rattle.da_phrases.specs.declared.place.Level.{Level}
+use Rattle.da_phrases.specs.declared.place.Level.TheVariants as level
+use Rattle.da_phrases.specs.Reader as reader
+use Rattle.da_phrases.specs.Reader.{mark, line, sees, Reader, past, taking, refuse}
+use Rattle.da_phrases.specs.Lists.{begun}
+use Rattle.da_phrases.specs.Place.{Limit, Place}
+use Rattle.da_phrases.specs.Exprs.{place, expression}
 use Rattle.da_parse.specs.Stmts.{branch_of, in_parens, behind_paren, arguments, assigned, changed, called, named, sending, output, passing, label, simple_by, block, block_behind_colon, branch, otherwise, timeout, conditional, while_loop, for_loop, alternatives, awaiting, stmt_by, stmt, stmts, bodies}
 use Rattle.da_parse.proofs.SoundStmts.{BehindColon}
-use Rattle.da_parse.proofs.Faults.{room_of, Rule, Anywhere, Makes, Cut, Good, Whole}
-use Rattle.da_parse.proofs.FaultSteps.{First, leads, mark_sees, by_line_good, bind, bind_good, bind_makes, pure_good, pure_whole, refuse_good, by_mark_good, at_line_good, if_good, good_same, good_as, good_on, whole_as, past_good, past_mark, past_line, taking_line, behind_good, behind_line, opening_whole, expect_whole, word_whole, first_mark}
-use Rattle.da_parse.proofs.FaultLists.{Strict, all_closed, begun_whole, ended_whole}
-use Rattle.da_parse.proofs.FaultExprs.{Exact, Here, There}
+use Rattle.da_phrases.proofs.Faults.{room_of, Rule, Anywhere, Makes, Cut, Good, Whole}
+use Rattle.da_phrases.proofs.FaultSteps.{First, leads, mark_sees, by_line_good, bind, bind_good, bind_makes, pure_good, pure_whole, refuse_good, by_mark_good, at_line_good, if_good, good_same, good_as, good_on, whole_as, past_good, past_mark, past_line, taking_line, behind_good, behind_line, opening_whole, expect_whole, word_whole, first_mark}
+use Rattle.da_phrases.proofs.FaultLists.{Strict, all_closed, begun_whole, ended_whole}
+use Rattle.da_phrases.proofs.FaultExprs.{Exact, Here, There}
 
 first_three : {k : Mark} {here at_it : ℕ} (i : List Tok) → mark i ≡ Some k → line i ≡ here → line i ≡ at_it → First (λ t. (t.mark ≡ k) × (t.line ≡ here) × (t.line ≡ at_it)) i
 first_three [] is a b = cc

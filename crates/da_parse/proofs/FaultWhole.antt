@@ -15,11 +15,11 @@ use Rattle.da_lang.specs.Spelling.{Spelling, Room, At, Ended}
 use Rattle.da_lang.specs.ExprGrammar.{deeper}
 use Rattle.da_lang.specs.Grammar as g
 use Rattle.da_lang.specs.Grammar.{IsMline, IsMessage, IsClass, IsDecls, IsMain, IsProgram}
-use Rattle.da_parse.specs.Reader.{mark, line, Reader}
+use Rattle.da_phrases.specs.Reader.{mark, line, Reader}
 use Rattle.da_parse.specs.Programs.{Outer, kind, message, class, main_line, main, program_end, decls_by, decls_from, decls, program}
-use Rattle.da_parse.proofs.Faults.{Rule, Anywhere, Makes, Cut, Follows, Good, Whole}
-use Rattle.da_parse.proofs.FaultSteps.{bind, bind_good, pure_whole, by_mark_good, at_line_good, good_on, whole_as, past_line, opening_whole, expect_whole}
-use Rattle.da_parse.proofs.FaultLists.{ended_whole}
+use Rattle.da_phrases.proofs.Faults.{Rule, Anywhere, Makes, Cut, Follows, Good, Whole}
+use Rattle.da_phrases.proofs.FaultSteps.{bind, bind_good, pure_whole, by_mark_good, at_line_good, good_on, whole_as, past_line, opening_whole, expect_whole}
+use Rattle.da_phrases.proofs.FaultLists.{ended_whole}
 use Rattle.da_parse.proofs.FaultPrograms.{kind-whole, finish-whole, decls_enough, main_marks}
 
 -- of two readers of the parts of programs

@@ -10,21 +10,21 @@ use Rattle.da_lang.specs.declared.tree.Tree.{Tree}
 use Rattle.da_lang.specs.Begins.{Begins, BeginsWithin, front_room}
 use Rattle.da_lang.specs.Grammar.{IsTypedProgram, Spells}
 use Rattle.da_lang.specs.Spelling.{IsSpelled, Room}
-use Rattle.da_parse.specs.declared.cursor.Stop.{Stop}
-use Rattle.da_parse.specs.declared.cursor.Stop.TheVariants.{Syntax, Deep, Memory}
+use Rattle.da_phrases.specs.declared.cursor.Stop.{Stop}
+use Rattle.da_phrases.specs.declared.cursor.Stop.TheVariants.{Syntax, Deep, Memory}
 use Rattle.da_parse.specs.FirstFault.{NoneGoesOn, IsSyntax, IsDeep}
 use Rattle.da_parse.specs.Parse.{line_at}
-use Rattle.da_parse.specs.Place.{Limit}
-use Rattle.da_parse.specs.Reader.{Reading}
+use Rattle.da_phrases.specs.Place.{Limit}
+use Rattle.da_phrases.specs.Reader.{Reading}
 use Rattle.da_parse.specs.Programs.{outermost, typed_in, program}
 use Rattle.da_parse.proofs.CompletePrograms.{program_in-complete}
 use Rattle.da_parse.proofs.SoundPrograms.{outermost_is}
 use Rattle.da_parse.proofs.WholePrograms.{Always, always}
-use Rattle.da_parse.proofs.Samples.{onto}
-use Rattle.da_parse.proofs.SampleLaws.{onto-spelled}
-use Rattle.da_parse.proofs.Faults as f
-use Rattle.da_parse.proofs.Faults.{Shifted, not_longer, Placed, room_of, Cut, Told, Follows, ahead}
-use Rattle.da_parse.proofs.FaultTypes.{below}
+use Rattle.da_phrases.proofs.Samples.{onto}
+use Rattle.da_phrases.proofs.SampleLaws.{onto-spelled}
+use Rattle.da_phrases.proofs.Faults as f
+use Rattle.da_phrases.proofs.Faults.{Shifted, not_longer, Placed, room_of, Cut, Told, Follows, ahead}
+use Rattle.da_phrases.proofs.FaultTypes.{below}
 use Rattle.da_parse.proofs.FaultOutermost.{programs-whole}
 
 -- ---- lists

@@ -6,14 +6,14 @@ use Rattle.da_values.specs.Marks.{Tok}
 use Rattle.da_lang.specs.declared.tree.Tree.{Tree}
 use Rattle.da_lang.specs.Grammar.{SpellsWithin}
 use Rattle.da_lang.specs.Spelling.{IsSpelled}
-use Rattle.da_parse.specs.declared.cursor.Stop.{Stop}
-use Rattle.da_parse.specs.declared.cursor.Stop.TheVariants as stop
+use Rattle.da_phrases.specs.declared.cursor.Stop.{Stop}
+use Rattle.da_phrases.specs.declared.cursor.Stop.TheVariants as stop
 use Rattle.da_parse.specs.declared.whole.ParseFault.{ParseFault}
 use Rattle.da_parse.specs.declared.whole.ParseFault.TheVariants as fault
 use Rattle.da_parse.specs.FirstFault.{IsSyntax, IsDeep, IsFirst}
 use Rattle.da_parse.specs.Parse.{answer, line_at, parsed, Answers}
 use Rattle.da_parse.specs.Programs.{outermost, program}
-use Rattle.da_parse.specs.Reader.{Reading}
+use Rattle.da_phrases.specs.Reader.{Reading}
 use Rattle.da_parse.proofs.FirstFaults.{syntax_is_first, deep_is_first}
 use Rattle.da_parse.proofs.FirstOnce.{first_once, first_no_tree}
 use Rattle.da_parse.proofs.WholePrograms.{parsed-sound}

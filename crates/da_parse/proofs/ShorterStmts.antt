@@ -12,11 +12,11 @@ use Rattle.da_lang.specs.TypeGrammar.{TypeIn}
 use Rattle.da_lang.specs.ExprGrammar.{Deeper, IsPattern, deeper}
 use Rattle.da_lang.specs.StmtGrammar.{IsBlock, IsBranch, IsElse, IsTimeout, IsStmt, BodyIn}
 use Rattle.da_lang.specs.Grammar.{IsParam, IsFrom, IsAt, IsMember, IsCount, IsMline, IsParams, IsMessage, IsClass}
-use Rattle.da_parse.specs.Reader.{mark}
-use Rattle.da_parse.proofs.Laws.{Shrinks, Begins, is_next}
-use Rattle.da_parse.proofs.Steps.{mark-Named, shorter-At, shorter-Named, shorter-Number}
-use Rattle.da_parse.proofs.Firsts.{next-At}
-use Rattle.da_parse.proofs.Shorter.{Keeps, shorter-Opens, Separated-shrinks, Closed-shrinks, Behind-keeps, Many-keeps, Ended-shrinks, TypeIn-shrinks, Shrinking, IsExpr-shrinks, IsPattern-shrinks, deeper-shrinks}
+use Rattle.da_phrases.specs.Reader.{mark}
+use Rattle.da_phrases.proofs.Laws.{Shrinks, Begins, is_next}
+use Rattle.da_phrases.proofs.Steps.{mark-Named, shorter-At, shorter-Named, shorter-Number}
+use Rattle.da_phrases.proofs.Firsts.{next-At}
+use Rattle.da_phrases.proofs.Shorter.{Keeps, shorter-Opens, Separated-shrinks, Closed-shrinks, Behind-keeps, Many-keeps, Ended-shrinks, TypeIn-shrinks, Shrinking, IsExpr-shrinks, IsPattern-shrinks, deeper-shrinks}
 
 -- ---- statements
 

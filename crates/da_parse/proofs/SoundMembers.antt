@@ -15,19 +15,19 @@ use Rattle.da_lang.specs.ExprGrammar.{IsPattern, deeper}
 use Rattle.da_lang.specs.StmtGrammar.{IsBlock, BodyIn}
 use Rattle.da_lang.specs.Grammar as g
 use Rattle.da_lang.specs.Grammar.{IsParam, IsFrom, IsAt, IsMember, IsCount, IsMline, IsKind, IsTypes, IsParams, IsMessage, IsClass, IsDecls, IsMain, IsProgram}
-use Rattle.da_parse.specs.Reader.{Reader, mark, text, rest, ◌>>=◌, pure, word}
-use Rattle.da_parse.specs.Lists.{separated}
-use Rattle.da_parse.specs.Place.{Limit}
-use Rattle.da_parse.specs.Types.{types, type_in}
-use Rattle.da_parse.specs.Exprs.{pattern}
+use Rattle.da_phrases.specs.Reader.{Reader, mark, text, rest, ◌>>=◌, pure, word}
+use Rattle.da_phrases.specs.Lists.{separated}
+use Rattle.da_phrases.specs.Place.{Limit}
+use Rattle.da_phrases.specs.Types.{types, type_in}
+use Rattle.da_phrases.specs.Exprs.{pattern}
 use Rattle.da_parse.specs.Members.{Parts, typed_param, parts_in, params, variable, setup, run, method, definition_by, definition, sender, labels, handler, member_by, member, members}
-use Rattle.da_parse.proofs.Steps.{behind_ok, word_ok, At-mark, Named-mark}
-use Rattle.da_parse.proofs.SoundSteps.{reads, made, passes, names, opening_by}
-use Rattle.da_parse.proofs.SoundTypes.{types-sound, type_there-sound}
-use Rattle.da_parse.proofs.SoundPlaces.{places-sound, pattern_there-sound}
-use Rattle.da_parse.proofs.ListSound.{all_separated, all_closed, ended-sound}
+use Rattle.da_phrases.proofs.Steps.{behind_ok, word_ok, At-mark, Named-mark}
+use Rattle.da_phrases.proofs.SoundSteps.{reads, made, passes, names, opening_by}
+use Rattle.da_phrases.proofs.SoundTypes.{types-sound, type_there-sound}
+use Rattle.da_phrases.proofs.SoundPlaces.{places-sound, pattern_there-sound}
+use Rattle.da_phrases.proofs.ListSound.{all_separated, all_closed, ended-sound}
 use Rattle.da_parse.proofs.SoundStmts.{same_line, BehindColon, block_there-sound}
-use Rattle.da_parse.proofs.Laws.{IsSound}
+use Rattle.da_phrases.proofs.Laws.{IsSound}
 
 labels-sound : IsSound labels IsAt
 unfolding labels

@@ -18,24 +18,24 @@ use Rattle.da_lang.specs.ExprGrammar.{IsPattern, deeper}
 use Rattle.da_lang.specs.StmtGrammar.{IsBlock, BodyIn}
 use Rattle.da_lang.specs.Grammar as g
 use Rattle.da_lang.specs.Grammar.{IsParam, IsFrom, IsAt, IsMember, IsCount, IsMline, IsKind, IsTypes, TypedParam, IsParams, IsMessage, IsClass, IsDecls, IsMain, IsProgram, IsTypedProgram}
-use Rattle.da_parse.specs.declared.place.Level.TheVariants as level
-use Rattle.da_parse.specs.Reader as reader
-use Rattle.da_parse.specs.Reader.{mark, text, rest, sees, Reading, Reader, continued, ◌>>=◌, ◌>>◌, pure, refuse, expect, word, number}
-use Rattle.da_parse.specs.Lists.{begun, closed}
-use Rattle.da_parse.specs.Place.{Limit, at_most_32}
-use Rattle.da_parse.specs.Types.{types, type_at, type_below}
-use Rattle.da_parse.specs.Exprs.{at_depth}
+use Rattle.da_phrases.specs.declared.place.Level.TheVariants as level
+use Rattle.da_phrases.specs.Reader as reader
+use Rattle.da_phrases.specs.Reader.{mark, text, rest, sees, Reading, Reader, continued, ◌>>=◌, ◌>>◌, pure, refuse, expect, word, number}
+use Rattle.da_phrases.specs.Lists.{begun, closed}
+use Rattle.da_phrases.specs.Place.{Limit, at_most_32}
+use Rattle.da_phrases.specs.Types.{types, type_at, type_below}
+use Rattle.da_phrases.specs.Exprs.{at_depth}
 use Rattle.da_parse.specs.Stmts.{block_at, body_below}
 use Rattle.da_parse.specs.Members.{typed_param, members}
 use Rattle.da_parse.specs.Programs.{Outer, outer_in, typed_in, outermost, count, kind_from, one_of, kind, finish, header_end, message, class, new_line, argument, setup_line, line_by, main_line, main, program_end, decls_by, decls_from, decls, program}
-use Rattle.da_parse.proofs.Steps.{chosen_value, behind_ok, number_ok, opening_ok, left, At-mark, Named-mark}
-use Rattle.da_parse.proofs.SoundSteps.{reads, made, passes, names, opening_by}
-use Rattle.da_parse.proofs.SoundTypes.{types-sound}
-use Rattle.da_parse.proofs.ListSound.{all_closed, all_behind, ended-sound}
+use Rattle.da_phrases.proofs.Steps.{chosen_value, behind_ok, number_ok, opening_ok, left, At-mark, Named-mark}
+use Rattle.da_phrases.proofs.SoundSteps.{reads, made, passes, names, opening_by}
+use Rattle.da_phrases.proofs.SoundTypes.{types-sound}
+use Rattle.da_phrases.proofs.ListSound.{all_closed, all_behind, ended-sound}
 use Rattle.da_parse.proofs.SoundStmts.{same_line}
 use Rattle.da_parse.proofs.SoundMembers.{typed_param-sound, members_there-sound}
-use Rattle.da_parse.proofs.SoundPlaces.{places-sound}
-use Rattle.da_parse.proofs.Laws.{IsSound, Sounds}
+use Rattle.da_phrases.proofs.SoundPlaces.{places-sound}
+use Rattle.da_phrases.proofs.Laws.{IsSound, Sounds}
 
 count-sound : IsSound count IsCount
 unfolding count

@@ -14,18 +14,18 @@ use Rattle.da_lang.specs.Spelling.{Spelling, Room, At, Opens, Named, Closed, Man
 use Rattle.da_lang.specs.ExprGrammar.{Deeper, IsExpr, deeper}
 use Rattle.da_lang.specs.StmtGrammar as g
 use Rattle.da_lang.specs.StmtGrammar.{IsBlock, IsBranch, IsElse, IsTimeout, IsStmt, BodyIn}
-use Rattle.da_parse.specs.declared.place.Level.TheVariants as level
-use Rattle.da_parse.specs.Reader as reader
-use Rattle.da_parse.specs.Reader.{mark, text, rest, sees, Reading, Reader, continued, ◌>>=◌, ◌>>◌, pure, refuse, expect, word, behind}
-use Rattle.da_parse.specs.Lists.{begun}
-use Rattle.da_parse.specs.Place.{Limit, Place}
-use Rattle.da_parse.specs.Exprs.{place, expression}
+use Rattle.da_phrases.specs.declared.place.Level.TheVariants as level
+use Rattle.da_phrases.specs.Reader as reader
+use Rattle.da_phrases.specs.Reader.{mark, text, rest, sees, Reading, Reader, continued, ◌>>=◌, ◌>>◌, pure, refuse, expect, word, behind}
+use Rattle.da_phrases.specs.Lists.{begun}
+use Rattle.da_phrases.specs.Place.{Limit, Place}
+use Rattle.da_phrases.specs.Exprs.{place, expression}
 use Rattle.da_parse.specs.Stmts.{branch_of, in_parens, arguments, assigned, changed, called, named, sending, output, passing, label, simple_by, block, block_behind_colon, branch, otherwise, timeout, conditional, while_loop, for_loop, alternatives, awaiting, stmt_by, stmt, stmts, bodies}
-use Rattle.da_parse.proofs.Steps.{behind_ok, At-mark, Named-mark}
-use Rattle.da_parse.proofs.SoundSteps.{reads, made, passes, names, opening_by}
-use Rattle.da_parse.proofs.SoundPlaces.{places-sound, expression_there-sound}
-use Rattle.da_parse.proofs.ListSound.{IsSoundAt, all_closed, begun-sound, ended-sound}
-use Rattle.da_parse.proofs.Laws.{IsSound, Sounds}
+use Rattle.da_phrases.proofs.Steps.{behind_ok, At-mark, Named-mark}
+use Rattle.da_phrases.proofs.SoundSteps.{reads, made, passes, names, opening_by}
+use Rattle.da_phrases.proofs.SoundPlaces.{places-sound, expression_there-sound}
+use Rattle.da_phrases.proofs.ListSound.{IsSoundAt, all_closed, begun-sound, ended-sound}
+use Rattle.da_phrases.proofs.Laws.{IsSound, Sounds}
 
 -- what stands behind a colon
 abbrev pub BehindColon : {A : Type 0} → Spelling A → Spelling A

@@ -6,12 +6,12 @@ use Rattle.da_values.specs.Marks.{Tok}
 use Rattle.da_lang.specs.declared.tree.Tree.{Tree}
 use Rattle.da_lang.specs.Spelling.{Room}
 use Rattle.da_lang.specs.Grammar.{IsTypedProgram, Spells, SpellsWithin}
-use Rattle.da_parse.specs.declared.cursor.Stop.{Stop}
+use Rattle.da_phrases.specs.declared.cursor.Stop.{Stop}
 use Rattle.da_parse.specs.Parse.{answer, parsed}
-use Rattle.da_parse.specs.Reader.{Reading}
-use Rattle.da_parse.specs.Place.{Limit, at_most_32}
+use Rattle.da_phrases.specs.Reader.{Reading}
+use Rattle.da_phrases.specs.Place.{Limit, at_most_32}
 use Rattle.da_parse.specs.Programs.{outermost, program}
-use Rattle.da_parse.proofs.Steps.{read_or}
+use Rattle.da_phrases.proofs.Steps.{read_or}
 use Rattle.da_parse.proofs.SoundPrograms.{program_in-sound, outermost_is}
 use Rattle.da_parse.proofs.CompletePrograms.{program_in-complete}
 

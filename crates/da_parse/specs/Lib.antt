@@ -1,13 +1,6 @@
-pub mod Exprs
 pub mod FirstFault
-pub mod Holds
-pub mod Lists
+pub mod HoldsBody
 pub mod Members
-pub mod Nests
 pub mod Parse
-pub mod Place
 pub mod Programs
-pub mod Reader
 pub mod Stmts
-pub mod Types
-pub mod View

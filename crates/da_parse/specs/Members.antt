@@ -8,12 +8,12 @@ use Rattle.da_lang.specs.declared.tree.Param.{Param}
 use Rattle.da_lang.specs.declared.tree.PatternTree.{PatternTree}
 use Rattle.da_lang.specs.declared.tree.Stmt.{Stmt}
 use Rattle.da_lang.specs.declared.ty.Ty.{Ty}
-use Rattle.da_parse.specs.Reader.{Reader, ◌>>=◌, ◌>>◌, pure, refuse, past, taking, by_mark, at_line, behind, expect, word}
-use Rattle.da_parse.specs.Lists.{separated, closed, ended}
-use Rattle.da_parse.specs.Place.{Limit, Place, opening}
-use Rattle.da_parse.specs.Exprs.{place, at_depth, pattern}
+use Rattle.da_phrases.specs.Reader.{Reader, ◌>>=◌, ◌>>◌, pure, refuse, past, taking, by_mark, at_line, behind, expect, word}
+use Rattle.da_phrases.specs.Lists.{separated, closed, ended}
+use Rattle.da_phrases.specs.Place.{Limit, Place, opening}
+use Rattle.da_phrases.specs.Exprs.{place, at_depth, pattern}
 use Rattle.da_parse.specs.Stmts.{bodies, block_behind_colon, block_at}
-use Rattle.da_parse.specs.Types.{types, type_in, type_at, type_below}
+use Rattle.da_phrases.specs.Types.{types, type_in, type_at, type_below}
 
 -- what members are made of: a type, a parameter in parentheses, and a block behind its colon
 pub record Parts : Type 0 where

@@ -3,11 +3,11 @@ use Rattle.std.specs.Prelude.{◌≡◌, ℕ, ◌≤◌, max, ◌-◌, List, [],
 use Rattle.da_values.specs.Marks.{Tok}
 use Rattle.da_values.specs.TokenFacts.{line_count}
 use Rattle.da_lang.specs.declared.tree.Tree.{Tree}
-use Rattle.da_parse.specs.declared.cursor.Stop.{Stop}
-use Rattle.da_parse.specs.declared.cursor.Stop.TheVariants as stop
+use Rattle.da_phrases.specs.declared.cursor.Stop.{Stop}
+use Rattle.da_phrases.specs.declared.cursor.Stop.TheVariants as stop
 use Rattle.da_parse.specs.declared.whole.ParseFault.{ParseFault}
 use Rattle.da_parse.specs.declared.whole.ParseFault.TheVariants as fault
-use Rattle.da_parse.specs.Reader.{Reading}
+use Rattle.da_phrases.specs.Reader.{Reading}
 use Rattle.da_parse.specs.Programs.{outermost, program}
 
 abbrev pub line_or_one : List Tok → ℕ

@@ -12,12 +12,12 @@ use Rattle.da_lang.specs.declared.tree.Tree.{Tree}
 use Rattle.da_lang.specs.declared.ty.ChannelKind.{ChannelKind}
 use Rattle.da_lang.specs.declared.ty.ChannelKind.TheVariants as kind_of
 use Rattle.da_lang.specs.declared.ty.Ty.{Ty}
-use Rattle.da_parse.specs.declared.place.Level.TheVariants as level
-use Rattle.da_parse.specs.Reader.{Reader, ◌>>=◌, ◌>>◌, pure, refuse, past, taking, by_mark, at_line, behind, expect, word, number}
-use Rattle.da_parse.specs.Lists.{begun, closed, ended}
-use Rattle.da_parse.specs.Place.{Limit, Place, opening}
-use Rattle.da_parse.specs.Exprs.{place, at_depth}
-use Rattle.da_parse.specs.Types.{types, type_below}
+use Rattle.da_phrases.specs.declared.place.Level.TheVariants as level
+use Rattle.da_phrases.specs.Reader.{Reader, ◌>>=◌, ◌>>◌, pure, refuse, past, taking, by_mark, at_line, behind, expect, word, number}
+use Rattle.da_phrases.specs.Lists.{begun, closed, ended}
+use Rattle.da_phrases.specs.Place.{Limit, Place, opening}
+use Rattle.da_phrases.specs.Exprs.{place, at_depth}
+use Rattle.da_phrases.specs.Types.{types, type_below}
 use Rattle.da_parse.specs.Members.{Parts, typed_param, parts_in, parts_at, members}
 
 -- what programs are made of: where nothing is open, with a type in parentheses, and where one thing is

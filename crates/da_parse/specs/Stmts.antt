@@ -7,11 +7,11 @@ use Rattle.da_lang.specs.declared.tree.Expr.{Expr}
 use Rattle.da_lang.specs.declared.tree.Stmt.{Stmt}
 use Rattle.da_lang.specs.declared.tree.Stmt.TheVariants as stmt_tree
 use Rattle.da_lang.specs.declared.tree.TimeoutTree.{TimeoutTree, roll-TimeoutTree}
-use Rattle.da_parse.specs.declared.place.Level.TheVariants as level
-use Rattle.da_parse.specs.Reader.{Reader, ◌>>=◌, ◌>>◌, pure, refuse, past, taking, by_mark, at_line, behind, expect, word}
-use Rattle.da_parse.specs.Lists.{begun, ended, closed}
-use Rattle.da_parse.specs.Place.{Limit, Place, at_most_32, opening}
-use Rattle.da_parse.specs.Exprs.{place, at_depth, expression}
+use Rattle.da_phrases.specs.declared.place.Level.TheVariants as level
+use Rattle.da_phrases.specs.Reader.{Reader, ◌>>=◌, ◌>>◌, pure, refuse, past, taking, by_mark, at_line, behind, expect, word}
+use Rattle.da_phrases.specs.Lists.{begun, ended, closed}
+use Rattle.da_phrases.specs.Place.{Limit, Place, at_most_32, opening}
+use Rattle.da_phrases.specs.Exprs.{place, at_depth, expression}
 
 abbrev pub branch_of : Expr → List Stmt → ℕ → Branch
 branch_of x b at = roll-Branch (record { cond = x; body = b; line = at })

@@ -1,22 +1,19 @@
 //! The members of a class.
 ghost use Rattle.std.specs.Prelude.{[], ◌∷◌, ◌≡◌, ◌≤◌, ◌<◌};
-ghost use Rattle.da_parse.specs.Lists.{separated};
+ghost use Rattle.da_phrases.specs.Lists.{separated};
 ghost use Rattle.da_parse.specs.Members as spec;
 ghost use Rattle.da_parse.specs.Members.{parts_at, typed_param};
-ghost use Rattle.da_parse.specs.Reader.{Reads, word};
-ghost use Rattle.da_parse.specs.Types.{type_below};
+ghost use Rattle.da_phrases.specs.Reader.{Reads, word};
+ghost use Rattle.da_phrases.specs.Types.{type_below};
 
-use crate::cursor::{Cursor, Stop};
-use crate::patterns::pattern_at;
-use crate::place::opening;
 use crate::stmts::block_at;
-use crate::types::type_at;
 use da_lang::{Member, Name, Param, PatternTree};
+use da_phrases::{Cursor, Stop, opening, pattern_at, type_at};
 use da_values::{List, Mark, copy_bytes};
 use std::alloc::Global;
 
 /// A parameter, in parentheses that were opened where `depth` things are open.
-#[tactic(auto, unfolding(crate::specs::Members::typed_param), using(crate::proofs::Depth::type_there))]
+#[tactic(auto, unfolding(crate::specs::Members::typed_param), using(da_phrases::proofs::Depth::type_there))]
 fn param(alloc: Global, tokens: &mut Cursor<'_>, depth: usize) -> Result<Param, Stop>
     requires { depth < 32 }
     ensures { Reads (typed_param (type_below depth) tokens.old) result tokens.new }
@@ -28,7 +25,7 @@ fn param(alloc: Global, tokens: &mut Cursor<'_>, depth: usize) -> Result<Param, 
 }
 
 /// One or more parameters with commas between.
-#[tactic(auto, using(crate::proofs::Loops::separated_loop))]
+#[tactic(auto, using(da_phrases::proofs::Loops::separated_loop))]
 fn some_params(alloc: Global, tokens: &mut Cursor<'_>, depth: usize) -> Result<List<Param>, Stop>
     requires { depth < 32 }
     ensures { Reads (separated Mark.Comma (typed_param (type_below depth)) [] tokens.old) result tokens.new }
@@ -44,7 +41,7 @@ fn some_params(alloc: Global, tokens: &mut Cursor<'_>, depth: usize) -> Result<L
 }
 
 /// Parameters behind `(`, up to `)`.
-#[tactic(auto, unfolding(crate::specs::Members::params, crate::specs::Lists::closed))]
+#[tactic(auto, unfolding(crate::specs::Members::params, da_phrases::specs::Lists::closed))]
 fn params(alloc: Global, tokens: &mut Cursor<'_>, depth: usize) -> Result<List<Param>, Stop>
     requires { depth < 32 }
     ensures { Reads (spec.params (parts_at depth) tokens.old) result tokens.new }
@@ -154,7 +151,7 @@ fn sender(alloc: Global, tokens: &mut Cursor<'_>, depth: usize) -> Result<Option
 }
 
 /// One or more names with commas between.
-#[tactic(auto, using(crate::proofs::Loops::separated_loop))]
+#[tactic(auto, using(da_phrases::proofs::Loops::separated_loop))]
 fn names(alloc: Global, tokens: &mut Cursor<'_>) -> Result<List<Name>, Stop>
     ensures { Reads (separated Mark.Comma (word Mark.Name) [] tokens.old) result tokens.new }
 {
@@ -223,7 +220,7 @@ fn member(alloc: Global, tokens: &mut Cursor<'_>, depth: usize) -> Result<Member
 }
 
 /// The members of a class and its end.
-#[tactic(auto, unfolding(crate::specs::Members::members), using(crate::proofs::Loops::ended_loop))]
+#[tactic(auto, unfolding(crate::specs::Members::members), using(da_phrases::proofs::Loops::ended_loop))]
 pub fn members(alloc: Global, tokens: &mut Cursor<'_>, depth: usize) -> Result<List<Member>, Stop>
     requires { depth ≤ 32 }
     ensures { Reads (spec.members (parts_at depth) tokens.old) result tokens.new }

@@ -1,16 +1,13 @@
 //! Programs.
 ghost use Rattle.std.specs.Prelude.{[], ◌∷◌, ◌≡◌, ◌≤◌, ◌<◌};
-ghost use Rattle.da_parse.specs.Lists.{begun, ended};
+ghost use Rattle.da_phrases.specs.Lists.{begun, ended};
 ghost use Rattle.da_parse.specs.Programs as spec;
 ghost use Rattle.da_parse.specs.Programs.{outermost};
-ghost use Rattle.da_parse.specs.Reader.{Reads};
+ghost use Rattle.da_phrases.specs.Reader.{Reads};
 
-use crate::cursor::{Cursor, Stop};
 use crate::members::members;
-use crate::patterns::expr_at;
-use crate::place::{Level, opening};
-use crate::types::closed_types;
 use da_lang::{ChannelKind, ClassTree, Expr, MainLine, MessageDecl, Name, Tree};
+use da_phrases::{Cursor, Level, Stop, closed_types, expr_at, opening};
 use da_values::{List, Mark, copy_bytes};
 use std::alloc::Global;
 
@@ -85,7 +82,7 @@ fn new_line(alloc: Global, tokens: &mut Cursor<'_>, name: Name, line: u32) -> Re
 }
 
 /// An argument of `setup`, with the comma before it, which is the next token.
-#[tactic(auto, using(crate::proofs::Depth::expr_there))]
+#[tactic(auto, using(da_phrases::proofs::Depth::expr_there))]
 fn argument(alloc: Global, tokens: &mut Cursor<'_>) -> Result<Expr, Stop>
     ensures { Reads (spec.argument outermost tokens.old) result tokens.new }
 {
@@ -94,7 +91,7 @@ fn argument(alloc: Global, tokens: &mut Cursor<'_>) -> Result<Expr, Stop>
 }
 
 /// Arguments, each with a comma before it.
-#[tactic(auto, using(crate::proofs::Loops::begun_loop))]
+#[tactic(auto, using(da_phrases::proofs::Loops::begun_loop))]
 fn setup_args(alloc: Global, tokens: &mut Cursor<'_>) -> Result<List<Expr>, Stop>
     ensures { Reads (begun Mark.Comma (spec.argument outermost) [] tokens.old) result tokens.new }
 {
@@ -141,7 +138,7 @@ fn main_line(alloc: Global, tokens: &mut Cursor<'_>) -> Result<MainLine, Stop>
 }
 
 /// The lines of `main` and its end.
-#[tactic(auto, using(crate::proofs::Loops::ended_loop))]
+#[tactic(auto, using(da_phrases::proofs::Loops::ended_loop))]
 fn main_lines(alloc: Global, tokens: &mut Cursor<'_>) -> Result<List<MainLine>, Stop>
     ensures { Reads (ended (spec.main_line outermost) tokens.old) result tokens.new }
 {

@@ -1,13 +1,12 @@
 //! Statements without blocks.
 ghost use Rattle.std.specs.Prelude.{[], ◌∷◌, ◌≡◌, ◌≤◌, ◌<◌};
-ghost use Rattle.da_parse.specs.Exprs.{at_depth, expression};
-ghost use Rattle.da_parse.specs.Reader.{Reads};
+ghost use Rattle.da_phrases.specs.Exprs as phrases;
+ghost use Rattle.da_phrases.specs.Exprs.{at_depth, expression};
+ghost use Rattle.da_phrases.specs.Reader.{Reads};
 ghost use Rattle.da_parse.specs.Stmts as spec;
 
-use crate::cursor::{Cursor, Stop};
-use crate::patterns::{expr_at, pattern_at};
-use crate::place::{Level, Rules, opening};
-use da_lang::{Expr, Name, Stmt};
+use da_lang::{Expr, Name, PatternTree, Stmt};
+use da_phrases::{Cursor, Level, Rules, Stop, expr_at, opening, pattern_at};
 use da_values::{Boxed, List, Mark, copy_bytes};
 use std::alloc::Global;
 
@@ -21,7 +20,7 @@ pub fn expression(alloc: Global, tokens: &mut Cursor<'_>, depth: usize) -> Resul
 }
 
 /// `(EXPR)`, where the expression may be a quantification.
-#[tactic(auto, unfolding(crate::specs::Stmts::in_parens), using(crate::proofs::Depth::expr_there))]
+#[tactic(auto, unfolding(crate::specs::Stmts::in_parens), using(da_phrases::proofs::Depth::expr_there))]
 fn in_parens(alloc: Global, tokens: &mut Cursor<'_>, depth: usize) -> Result<Boxed<Expr>, Stop>
     ensures { Reads (spec.in_parens (at_depth depth) tokens.old) result tokens.new }
 {
@@ -31,8 +30,28 @@ fn in_parens(alloc: Global, tokens: &mut Cursor<'_>, depth: usize) -> Result<Box
     Ok(Boxed::new(alloc, found)?)
 }
 
+// The rules of da_phrases as function values of this crate.
+fn expr_below(
+    alloc: Global,
+    tokens: &mut Cursor<'_>,
+    depth: usize,
+    level: Level,
+) -> Result<Expr, Stop>
+    requires { depth ≤ 32 }
+    ensures { Reads (phrases.at_level (at_depth depth) level tokens.old) result tokens.new }
+{
+    expr_at(alloc, tokens, depth, level)
+}
+
+fn pattern_below(alloc: Global, tokens: &mut Cursor<'_>, depth: usize) -> Result<PatternTree, Stop>
+    requires { depth ≤ 32 }
+    ensures { Reads (phrases.pattern (at_depth depth) tokens.old) result tokens.new }
+{
+    pattern_at(alloc, tokens, depth)
+}
+
 /// Arguments behind `(`.
-#[tactic(auto, using(crate::proofs::Depth::expr_there, crate::proofs::Depth::pattern_there))]
+#[tactic(auto, using(da_phrases::proofs::Depth::expr_there, da_phrases::proofs::Depth::pattern_there))]
 fn behind_paren(alloc: Global, tokens: &mut Cursor<'_>, depth: usize) -> Result<List<Expr>, Stop>
     requires { depth < 32 }
     ensures { Reads (spec.behind_paren (at_depth depth) tokens.old) result tokens.new }
@@ -40,8 +59,8 @@ fn behind_paren(alloc: Global, tokens: &mut Cursor<'_>, depth: usize) -> Result<
     Rules {
         alloc,
         depth,
-        expr: expr_at,
-        pattern: pattern_at,
+        expr: expr_below,
+        pattern: pattern_below,
     }
     .closed_exprs(tokens, List::new(alloc))
 }

@@ -1,16 +1,15 @@
 //! Statements and blocks.
 ghost use Rattle.std.specs.Prelude.{[], ◌∷◌, ◌≡◌, ◌≤◌, ◌<◌};
-ghost use Rattle.da_parse.specs.Exprs.{at_depth};
-ghost use Rattle.da_parse.specs.Holds.{HoldsBody};
-ghost use Rattle.da_parse.specs.Lists.{begun};
-ghost use Rattle.da_parse.specs.Reader.{Reads};
+ghost use Rattle.da_phrases.specs.Exprs.{at_depth};
+ghost use Rattle.da_parse.specs.HoldsBody.{HoldsBody};
+ghost use Rattle.da_phrases.specs.Lists.{begun};
+ghost use Rattle.da_phrases.specs.Reader.{Reads};
 ghost use Rattle.da_parse.specs.Stmts as spec;
 ghost use Rattle.da_parse.specs.Stmts.{body_below};
 
-use crate::cursor::{Cursor, Stop};
-use crate::place::opening;
 use crate::simple::{expression, simple};
 use da_lang::{Branch, Expr, Stmt, TimeoutTree};
+use da_phrases::{Cursor, Stop, opening};
 use da_values::{Boxed, List, Mark};
 use std::alloc::Global;
 
@@ -59,7 +58,7 @@ impl<B: Fn(Global, &mut Cursor<'_>, usize) -> Result<List<Stmt>, Stop>> Layer<B>
     }
 
     /// Further branches, each begun by a token of this mark, behind those found.
-    #[tactic(auto, using(crate::proofs::Loops::begun_loop))]
+    #[tactic(auto, using(da_phrases::proofs::Loops::begun_loop))]
     fn branches(
         &self,
         tokens: &mut Cursor<'_>,
@@ -219,7 +218,7 @@ impl<B: Fn(Global, &mut Cursor<'_>, usize) -> Result<List<Stmt>, Stop>> Layer<B>
     }
 
     /// One or more statements, and the end of their block.
-    #[tactic(auto, unfolding(crate::specs::Stmts::stmts), using(crate::proofs::Loops::ended_loop))]
+    #[tactic(auto, unfolding(crate::specs::Stmts::stmts), using(da_phrases::proofs::Loops::ended_loop))]
     fn stmts(&self, tokens: &mut Cursor<'_>) -> Result<List<Stmt>, Stop>
         requires holds { HoldsBody self.now.depth (B.pre self.now.body) (B.post self.now.body) }
         requires within { self.now.depth ≤ 32 }
@@ -237,7 +236,7 @@ impl<B: Fn(Global, &mut Cursor<'_>, usize) -> Result<List<Stmt>, Stop>> Layer<B>
 }
 
 /// The statements of a block where `depth` things are open, and its end.
-#[tactic(auto, unfolding(crate::specs::Stmts::body_at), using(crate::proofs::Depth::body_there))]
+#[tactic(auto, unfolding(crate::specs::Stmts::body_at), using(crate::proofs::BodyDepth::body_there))]
 fn body_at(alloc: Global, tokens: &mut Cursor<'_>, depth: usize) -> Result<List<Stmt>, Stop>
     requires { depth ≤ 32 }
     ensures { Reads (spec.body_at depth tokens.old) result tokens.new }
@@ -251,7 +250,7 @@ fn body_at(alloc: Global, tokens: &mut Cursor<'_>, depth: usize) -> Result<List<
 }
 
 /// A block where `depth` things are open, with the colon before it.
-#[tactic(auto, unfolding(crate::specs::Stmts::block_at), using(crate::proofs::Depth::body_there))]
+#[tactic(auto, unfolding(crate::specs::Stmts::block_at), using(crate::proofs::BodyDepth::body_there))]
 pub fn block_at(alloc: Global, tokens: &mut Cursor<'_>, depth: usize) -> Result<List<Stmt>, Stop>
     ensures { Reads (spec.block_at depth tokens.old) result tokens.new }
 {

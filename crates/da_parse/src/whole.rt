@@ -10,10 +10,10 @@ ghost use Rattle.da_parse.specs.FirstFault.{Fault, IsFirst};
 ghost use Rattle.da_parse.specs.Parse as spec;
 ghost use Rattle.da_parse.specs.Parse.{Answers, IsLineOf, NamesLine};
 
-use crate::cursor::{Cursor, Stop};
 use crate::programs::program;
 use da_lang::Tree;
 use da_lex::Tokens;
+use da_phrases::{Cursor, Stop};
 use da_values::Token;
 use std::alloc::Global;
 use thiserror::Error;

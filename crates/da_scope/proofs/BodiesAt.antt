@@ -6,7 +6,7 @@ use Rattle.da_lang.specs.declared.tree.Param.{Param}
 use Rattle.da_lang.specs.declared.tree.Stmt.{Stmt}
 use Rattle.da_lang.specs.ClassParts.{Body, params_if, stmts_if}
 use Rattle.da_scope.specs.HomeView.{parts}
-use Rattle.da_limits.proofs.Taken.{taken}
+use Rattle.da_lang.proofs.Taken.{taken}
 
 -- the first of two lists
 abbrev or_else : {Y : Type 0} → Option Y → Option Y → Option Y

@@ -7,16 +7,12 @@ use Rattle.da_lang.specs.declared.program.Item.{Item}
 use Rattle.da_lang.specs.declared.query.Query.{Query}
 use Rattle.da_lang.specs.declared.tree.ClassTree.{ClassTree}
 use Rattle.da_lang.specs.declared.tree.Member.{Member}
-use Rattle.da_lang.specs.declared.tree.Param.{Param}
-use Rattle.da_lang.specs.declared.tree.Stmt.{Stmt}
 use Rattle.da_lang.specs.declared.ty.Ty.{Ty}
-use Rattle.da_lang.specs.BodyMeaning.{body_of, class_slots, fresh, param_slots, with_params}
-use Rattle.da_lang.specs.ClassParts.{Body, body_in, is_handler, params_if, run_of, setup_of, stmts_if}
-use Rattle.da_lang.specs.ExprMeaning.{Meaning, Tables}
-use Rattle.da_lang.specs.Resolution.{class_tables, handler, handlers, resolved_class}
-use Rattle.da_lang.specs.Scopes.{Scope}
-use Rattle.da_scope.specs.ClassView.{handlers_in}
-use Rattle.da_limits.proofs.Taken.{taken}
+use Rattle.da_lang.specs.ClassParts.{Body, body_in, is_handler}
+use Rattle.da_lang.specs.ExprMeaning.{Tables}
+use Rattle.da_lang.specs.Resolution.{handler, handlers, resolved_class, run_items, setup_items}
+use Rattle.da_scope.specs.ClassView.{handlers_in, setup_params}
+use Rattle.da_lang.proofs.Taken.{taken}
 
 filter_more : (p : Body → Bool) (xs ys : List Member) → filter p (filter_map body_in (xs ++ ys)) ≡ filter p (filter_map body_in xs) ++ filter p (filter_map body_in ys)
 filter_more p xs ys = ap (filter p) (filter_map-append body_in xs ys) ∙ filter-append p (filter_map body_in xs) (filter_map body_in ys)
@@ -52,41 +48,32 @@ handler_tables_step c members i m before middle after inside here tables one =
     one ∙ ap (λ t. (handlers c more t).1) tables ∙ sym (ap (λ bs. (handlers c bs before).1) (handlers_more members i m inside here) ∙ handler_tables_append c front more before)
 
 -- a class by its parts, for any ways to make them
-assembled : (Body_of : List Stmt → Scope Meaning → Tables → List Item × Tables) (Handled : Tables → List Handler × Tables)
-    (In : List Param → Tables → Scope Meaning → Scope Meaning) (With : List Param → Tables → Tables) (New : Tables → ℕ → List ℕ)
-    (name name' : List ℕ) (line : ℕ) (params params' : List Param) (stmts stmts' main main' : List Stmt) (scope scope' inner : Scope Meaning) (t0 t0' t1 t2 t3 t4 : Tables)
-    (types : List (Option Ty)) (queries : List Query) (slots : List ℕ) (setup run : List Item) (found : List Handler)
-    → name ≡ name' → params ≡ params' → stmts ≡ stmts' → main ≡ main' → scope ≡ scope' → t0 ≡ t0' → slots ≡ New t0 (length params) → inner ≡ In params t0 scope → t1 ≡ With params t0
-    → setup ≡ (Body_of stmts inner t1).0 → t2 ≡ (Body_of stmts inner t1).1 → run ≡ (Body_of main scope t2).0 → t3 ≡ (Body_of main scope t2).1 → found ≡ (Handled t3).0 → t4 ≡ (Handled t3).1
+assembled : (Params : ClassTree → List ℕ) (Setup : ClassTree → List Item × Tables) (Run : ClassTree → Tables → List Item × Tables) (Handled : ClassTree → Tables → List Handler × Tables)
+    (c h : ClassTree) (name : List ℕ) (t2 t3 t4 : Tables) (types : List (Option Ty)) (queries : List Query) (params : List ℕ) (setup run : List Item) (found : List Handler)
+    → h ≡ c → name ≡ c.name → params ≡ Params h → setup ≡ (Setup h).0 → t2 ≡ (Setup h).1 → run ≡ (Run h t2).0 → t3 ≡ (Run h t2).1 → found ≡ (Handled h t3).0 → t4 ≡ (Handled h t3).1
     → types ≡ t4.slots → queries ≡ t4.queries
-    → ◌≡◌ {A = Class} (record { name = name; slots = types; params = slots; setup = setup; run = run; handlers = found; queries = queries; line = line })
-    (let s = Body_of stmts' (In params' t0' scope') (With params' t0') in let r = Body_of main' scope' s.1 in let h = Handled r.1 in
-    record { name = name'; slots = h.1.slots; params = New t0' (length params'); setup = s.0; run = r.0; handlers = h.0; queries = h.1.queries; line = line })
-assembled Body_of Handled In With New name name' line params params' stmts stmts' main main' scope scope' inner t0 t0' t1 t2 t3 t4 types queries slots setup run found a b c d e f g h i j k l m n o p q = cc
+    → ◌≡◌ {A = Class} (record { name = name; slots = types; params = params; setup = setup; run = run; handlers = found; queries = queries; line = c.line })
+    (let s = Setup c in let r = Run c s.1 in let d = Handled c r.1 in
+    record { name = c.name; slots = d.1.slots; params = Params c; setup = s.0; run = r.0; handlers = d.0; queries = d.1.queries; line = c.line })
+assembled Params Setup Run Handled c h name t2 t3 t4 types queries params setup run found a b d e f g i j k l m = cc
 
--- a class, with the bodies of another
-abbrev made_of : ClassTree → ClassTree → Class
-made_of h c =
-    let params = params_if (setup_of c) in
-    let s = body_of h (stmts_if (setup_of c)) (param_slots params (class_tables c) (class_slots c)) (with_params params (class_tables c)) in
-    let r = body_of h (stmts_if (run_of c)) (class_slots c) s.1 in
-    let d = handlers h (handlers_in h.members) r.1 in
-    record { name = c.name; slots = d.1.slots; params = fresh (class_tables c) (length params); setup = s.0; run = r.0; handlers = d.0; queries = d.1.queries; line = c.line }
+-- a class, by the parts that code makes
+abbrev made_of : ClassTree → Class
+made_of c =
+    let s = setup_items c in
+    let r = run_items c s.1 in
+    let d = handlers c (handlers_in c.members) r.1 in
+    record { name = c.name; slots = d.1.slots; params = setup_params c; setup = s.0; run = r.0; handlers = d.0; queries = d.1.queries; line = c.line }
 
-class_is : (c : ClassTree) → made_of c c ≡ resolved_class c
+class_is : (c : ClassTree) → made_of c ≡ resolved_class c
 unfolding resolved_class
 class_is c = refl
 
-pub class_built : (c h : ClassTree) (name : List ℕ) (params : List Param) (stmts main : List Stmt) (scope outer inner : Scope Meaning) (t0 t1 t2 t3 t4 : Tables)
-    (types : List (Option Ty)) (queries : List Query) (slots : List ℕ) (setup run : List Item) (none found : List Handler)
-    → h ≡ c → outer ≡ class_slots h → name ≡ c.name → params ≡ params_if (setup_of c) → stmts ≡ stmts_if (setup_of c) → main ≡ stmts_if (run_of c) → scope ≡ outer → t0 ≡ class_tables c
-    → slots ≡ fresh t0 (length params) → inner ≡ param_slots params t0 scope → t1 ≡ with_params params t0
-    → setup ≡ (body_of h stmts inner t1).0 → t2 ≡ (body_of h stmts inner t1).1 → run ≡ (body_of h main outer t2).0 → t3 ≡ (body_of h main outer t2).1
+pub class_built : (c h : ClassTree) (name : List ℕ) (t2 t3 t4 : Tables) (types : List (Option Ty)) (queries : List Query) (params : List ℕ) (setup run : List Item) (none found : List Handler)
+    → h ≡ c → name ≡ c.name → params ≡ setup_params h → setup ≡ (setup_items h).0 → t2 ≡ (setup_items h).1 → run ≡ (run_items h t2).0 → t3 ≡ (run_items h t2).1
     → none ≡ [] → found ≡ none ++ (handlers h (handlers_in h.members) t3).0 → t4 ≡ (handlers h (handlers_in h.members) t3).1 → types ≡ t4.slots → queries ≡ t4.queries
-    → ◌≡◌ {A = Class} (record { name = name; slots = types; params = slots; setup = setup; run = run; handlers = found; queries = queries; line = c.line }) (resolved_class c)
-class_built c h name params stmts main scope outer inner t0 t1 t2 t3 t4 types queries slots setup run none found same outside a b d z e f g i j k l m n nothing o p q r =
-    let there = outside ∙ ap class_slots same in
-    assembled (body_of h) (handlers h (handlers_in h.members)) param_slots with_params fresh name c.name c.line params (params_if (setup_of c)) stmts (stmts_if (setup_of c)) main (stmts_if (run_of c)) scope (class_slots c) inner
-    t0 (class_tables c) t1 t2 t3 t4 types queries slots setup run found a b d z (e ∙ there) f g i j k l (m ∙ ap (λ s. (body_of h main s t2).0) (sym e)) (n ∙ ap (λ s. (body_of h main s t2).1) (sym e))
-    (o ∙ ap (λ (hs : List Handler). hs ++ (handlers h (handlers_in h.members) t3).0) nothing) p q r
-    ∙ ap (λ (x : ClassTree). made_of x c) same ∙ class_is c
+    → ◌≡◌ {A = Class} (record { name = name; slots = types; params = params; setup = setup; run = run; handlers = found; queries = queries; line = c.line }) (resolved_class c)
+class_built c h name t2 t3 t4 types queries params setup run none found same a b d e f g nothing i j k l =
+    assembled setup_params setup_items run_items (λ (x : ClassTree). handlers x (handlers_in x.members)) c h name t2 t3 t4 types queries params setup run found same a b d e f g
+    (i ∙ ap (λ (hs : List Handler). hs ++ (handlers h (handlers_in h.members) t3).0) nothing) j k l
+    ∙ class_is c

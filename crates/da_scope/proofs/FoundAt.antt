@@ -27,8 +27,8 @@ use Rattle.da_lang.proofs.MeantAt.{generator-of, peer_of-From, peer_of-To}
 use Rattle.da_lang.proofs.NamesAt.{gen_part-of, pattern_part-Wild, pattern_part-Name, pattern_part-Int, pattern_part-Text, pattern_part-Truth, pattern_part-Me, pattern_part-Equal, pattern_part-Tuple, peer_part-From, peer_part-To}
 use Rattle.da_lang.proofs.TreeInduction.{Cases, gen_induction}
 use Rattle.da_scope.specs.NamesView.{texts}
-use Rattle.da_scope.proofs.GensAt.{binds-at}
-use Rattle.da_scope.proofs.PatternsAt.{binds-Wild, binds-Name, binds-Int, binds-Text, binds-Truth, binds-Me, binds-Equal, binds-Tuple}
+use Rattle.da_meaning.proofs.GensAt.{binds-at}
+use Rattle.da_meaning.proofs.PatternsAt.{binds-Wild, binds-Name, binds-Int, binds-Text, binds-Truth, binds-Me, binds-Equal, binds-Tuple}
 
 abbrev named : Part → List (List ℕ)
 named part = part.binds

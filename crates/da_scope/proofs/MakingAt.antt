@@ -12,7 +12,7 @@ use Rattle.da_lang.specs.ExprMeaning.{Meaning}
 use Rattle.da_lang.specs.Resolution.{first_call, made, made_count, made_entry, many, place_of_class, procs_of, setup_call}
 use Rattle.da_lang.specs.Scopes.{Scope}
 use Rattle.da_scope.specs.MakingView.{made_by}
-use Rattle.da_limits.proofs.Taken.{taken}
+use Rattle.da_lang.proofs.Taken.{taken}
 
 made_by-cons : (l : MainLine) (lines : List MainLine) → made_by (l ∷ lines) ≡ made_count l + made_by lines
 made_by-cons l lines = sum_by-cons (λ (n : ℕ). n) (made_count l) (map made_count lines)

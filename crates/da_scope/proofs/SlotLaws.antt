@@ -12,9 +12,9 @@ use Rattle.da_lang.specs.ClassParts.{Variable, variable_in}
 use Rattle.da_lang.specs.ExprMeaning.{Meaning, InSlot, Tables, numbered}
 use Rattle.da_lang.specs.Scopes.{Scope}
 use Rattle.da_scope.specs.NamesView.{texts}
-use Rattle.da_scope.proofs.NumbersOn.{numbers_more}
-use Rattle.da_scope.proofs.SlotScopeLaws.{numbered-append}
-use Rattle.da_limits.proofs.Taken.{taken}
+use Rattle.da_meaning.proofs.NumbersOn.{numbers_more}
+use Rattle.da_meaning.proofs.SlotScopeLaws.{numbered-append}
+use Rattle.da_lang.proofs.Taken.{taken}
 
 -- the slots of one table
 with_types : (old types more : List (Option Ty)) (queries : List Query) → old ++ types ≡ more → ◌≡◌ {A = Tables} (record { slots = old ++ types; queries = queries }) (record { slots = more; queries = queries })

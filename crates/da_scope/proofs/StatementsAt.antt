@@ -10,7 +10,7 @@ use Rattle.da_lang.specs.BodyMeaning.{Becomes, Copy, Guarded, Stating, as_alt, a
 use Rattle.da_lang.specs.ExprMeaning.{Meaning, Tables}
 use Rattle.da_lang.specs.Scopes.{Scope}
 use Rattle.da_lang.proofs.StatingAt.{stating_in, guarding-of}
-use Rattle.da_limits.proofs.Taken.{taken}
+use Rattle.da_lang.proofs.Taken.{taken}
 
 pub ruleset statements_at = (stating_in)
 

@@ -5,9 +5,9 @@ use Rattle.da_lang.specs.declared.tree.Param.{Param}
 use Rattle.da_lang.specs.declared.tree.Stmt.{Stmt}
 use Rattle.da_lang.specs.ClassParts as class
 use Rattle.da_lang.specs.ClassParts.{Place, bodies, is_setup, is_run}
-use Rattle.da_scope.specs.declared.meaning.bodies.Body.{Body}
-use Rattle.da_scope.specs.declared.meaning.bodies.Wanted.{Wanted}
-use Rattle.da_scope.specs.declared.meaning.bodies.Wanted.TheVariants.{Setup, Run}
+use Rattle.da_scope.specs.declared.bodies.Body.{Body}
+use Rattle.da_scope.specs.declared.bodies.Wanted.{Wanted}
+use Rattle.da_scope.specs.declared.bodies.Wanted.TheVariants.{Setup, Run}
 
 abbrev pub wants : Wanted → Place → Bool
 wants Setup = is_setup

@@ -8,7 +8,7 @@ use Rattle.da_lang.specs.declared.program.RExpr.{RExpr}
 use Rattle.da_lang.specs.declared.tree.ClassTree.{ClassTree}
 use Rattle.da_lang.specs.BodyMeaning.{Copy, copies}
 use Rattle.da_lang.specs.ExprMeaning.{Tables}
-use Rattle.da_scope.specs.declared.meaning.home.Home.{Home}
+use Rattle.da_scope.specs.declared.home.Home.{Home}
 use Rattle.da_values.specs.declared.list.NoMemory.{NoMemory}
 
 -- it copies the bodies of this class, in which at most so many calls are within calls

@@ -2,9 +2,6 @@ pub mod ClassView
 pub mod HomeView
 pub mod Inlining
 pub mod MakingView
-pub mod MeaningView
 pub mod MethodsView
 pub mod NamesView
 pub mod Resolving
-pub mod ScopeIndex
-pub mod SlotScope

@@ -1,7 +1,19 @@
 //! From the tree of a program to its resolved form, or to the rule of names or the limit that refuses it.
 #![tactic(auto)]
 
-mod meaning;
+mod arguments;
+mod awaiting;
+mod bodies;
+mod class;
+mod copying;
+mod handler;
+mod home;
+mod inliner;
+mod making;
+mod methods;
+mod program;
+mod slots;
 mod top;
+mod variables;
 
 pub use top::{ScopeFault, resolve};

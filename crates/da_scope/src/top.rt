@@ -6,10 +6,11 @@ ghost use Rattle.da_scope.specs.Resolving.{IsRefusedAs};
 ghost use Rattle.da_scope.specs.declared.top.ScopeFault.TheVariants.{Memory};
 ghost use Rattle.std.specs.Prelude.{◌≡◌, IfErr, IfOk, MatchResult};
 
-use crate::meaning::program::build_program;
+use crate::program::build_program;
+use da_bodies::{LimitFault, NameFault};
 use da_lang::{LimitKind, Program, ScopeKind, Tree};
 use da_limits::{copied_nodes, limit_fault};
-use da_names::{LimitFault, NameFault, name_fault};
+use da_names::name_fault;
 use da_values::NoMemory;
 use std::alloc::Global;
 use thiserror::Error;

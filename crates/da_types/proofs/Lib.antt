@@ -1,15 +1,8 @@
 pub mod BreakForms
 pub mod CheckLaws
-pub mod CondForms
-pub mod ExprForms
 pub mod FlowForms
-pub mod Levels
-pub mod PatternForms
 pub mod SlotLaws
 pub mod TellingLaws
-pub mod TermForms
-pub mod TypeForms
-pub mod Walks
 pub mod resolved
 pub mod shaped
 pub mod sound

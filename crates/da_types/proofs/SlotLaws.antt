@@ -6,7 +6,7 @@ use Rattle.da_lang.specs.declared.ty.Ty.{Ty}
 use Rattle.da_lang.specs.QueryTypes.{type_at}
 use Rattle.da_lang.specs.Typing.{Slots, known_or, with_type, with_types, in_turn}
 use Rattle.da_types.specs.Rows.{unknown_at}
-use Rattle.da_types.proofs.Walks.{at_element, at_end}
+use Rattle.da_typing.proofs.Walks.{at_element, at_end}
 
 taken_in : (slots : Slots) (place : ℕ) (ty : Option Ty) → unknown_at slots place ≡ true → slice_set slots place (known_or (type_at slots (suc place)) ty) ≡ slice_set slots place ty
 taken_in [] place ty none = absurd (false≢true none)

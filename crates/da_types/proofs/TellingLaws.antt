@@ -4,7 +4,7 @@ use Rattle.std.proofs.Common.{◌∙◌, ap, sym, arith, get_or, drop}
 use Rattle.std.proofs.lemmas.Bool.Decides.{nat_tests}
 use Rattle.da_lang.specs.Typing.{all, least, least_of}
 use Rattle.da_types.specs.Telling.{sooner, telling}
-use Rattle.da_types.proofs.Walks.{at_element, at_end}
+use Rattle.da_typing.proofs.Walks.{at_element, at_end}
 
 pub telling_none : (told : Option ℕ) → telling told [] ≡ told
 unfolding telling

@@ -1,12 +1,8 @@
-pub mod Aggregates
-pub mod Chains
 pub mod Constants
 pub mod KeepsShaped
-pub mod KnownView
 pub mod QueryNotes
 pub mod Refusing
 pub mod Rows
-pub mod SideView
 pub mod Sound
 pub mod Telling
 pub mod Totality

@@ -4,11 +4,11 @@ ghost use Rattle.da_types.specs.Telling.{telling};
 ghost use Rattle.std.specs.Prelude.{◌≡◌, IfOk, MatchOption, None, OnOk, Some, flat_map, map, slice_get};
 
 use crate::flow::filled_slots;
-use crate::known::Known;
 use crate::least::Least;
 use crate::lines::tell_class;
 use crate::rules::fits_slot;
 use da_lang::{Class, MessageDecl, ProcDecl, Program, RExpr};
+use da_typing::Known;
 use da_values::{List, NoMemory};
 use std::alloc::Global;
 

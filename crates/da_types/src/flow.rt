@@ -2,18 +2,14 @@
 ghost use Rattle.da_lang.specs.QueryTypes.{given};
 ghost use Rattle.da_lang.specs.Types.{element_of as element_in};
 ghost use Rattle.da_lang.specs.Typing.{alt_flow, branch_flow, filled_slots as slots_filled, found_row as row_found, handler_types as types_of_handler, in_turn, item_types as types_of_item, kind_flow, typed, with_row_types, with_type, with_types};
-ghost use Rattle.da_types.specs.KnownView.{known_of};
+ghost use Rattle.da_typing.specs.KnownView.{known_of};
 ghost use Rattle.da_types.specs.Rows.{found_with, heard_with, unknown_at};
 ghost use Rattle.std.specs.Prelude.{◌≡◌, IfOk, OnOk, map};
 
-use crate::expressions::expr_type;
-use crate::known::{Known, member};
-use crate::patterns::{message_row, pattern_row};
-use crate::queries::query_row;
-use crate::types::element_of;
 use da_lang::{
     Alt, Class, Handler, Item, ItemKind, MessageDecl, Query, RBranch, RExpr, Ty, copy_type,
 };
+use da_typing::{Known, element_of, expr_type, member, message_row, pattern_row, query_row};
 use da_values::{List, NoMemory};
 use std::alloc::Global;
 

@@ -2,18 +2,10 @@
 #![tactic(auto)]
 
 mod check;
-mod conditions;
-mod expressions;
 mod flow;
-mod known;
 mod least;
 mod lines;
-mod patterns;
-mod queries;
 mod rules;
-mod sides;
-mod terms;
 mod top;
-mod types;
 
 pub use top::{TypeFault, Typed, check_types};

@@ -1,18 +1,16 @@
 //! The lines of a class that break a rule of types.
 ghost use Rattle.da_lang.specs.QueryTypes.{holds_of};
 ghost use Rattle.da_lang.specs.Typing.{alt_broken, branch_broken, class_breaks, handler_breaks, have_types, item_breaks, kind_broken};
-ghost use Rattle.da_types.specs.KnownView.{known_of};
+ghost use Rattle.da_typing.specs.KnownView.{known_of};
 ghost use Rattle.da_types.specs.Rows.{heard_with};
 ghost use Rattle.da_types.specs.Telling.{telling};
 ghost use Rattle.std.specs.Prelude.{◌≡◌, IfOk, OnOk, flat_map};
 
-use crate::conditions::cond_holds;
-use crate::expressions::is_truth;
 use crate::flow::handler_row;
-use crate::known::Known;
 use crate::least::Least;
 use crate::rules::{have_found, have_types as slots_have, keeps_rule};
 use da_lang::{Alt, Class, Handler, Item, ItemKind, MessageDecl, Query, RBranch};
+use da_typing::{Known, cond_holds, is_truth};
 use da_values::NoMemory;
 use std::alloc::Global;
 

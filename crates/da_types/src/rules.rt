@@ -3,16 +3,14 @@ ghost use Rattle.da_lang.specs.declared.program.RExpr.{out-RExpr};
 ghost use Rattle.da_lang.specs.ExprTypes.{typing};
 ghost use Rattle.da_lang.specs.QueryTypes.{holds_of, is_typed as typed_as, slot_type as type_of_slot};
 ghost use Rattle.da_lang.specs.Typing.{fits_element as element_fits, fits_params as params_fit, fits_slot as slot_fits, have_found as found_fits, have_types as types_fit, is_element as element_is, is_message as message_is, kind_broken, message_tag as tag_of_message, takes_elements as elements_fit, text_part as text_of_part};
-ghost use Rattle.da_types.specs.KnownView.{known_of};
+ghost use Rattle.da_typing.specs.KnownView.{known_of};
 ghost use Rattle.da_types.specs.Rows.{goes_to};
 ghost use Rattle.std.specs.Option.{option_copied};
 ghost use Rattle.std.specs.Prelude.{◌≡◌, ◌&&◌, IfOk};
 
-use crate::expressions::{expr_fits, expr_type, has_type, is_truth};
 use crate::flow::found_row;
-use crate::known::Known;
-use crate::types::{element_of, is_proc, same_type};
 use da_lang::{BindArg, ItemKind, Query, RExpr, Ty};
+use da_typing::{Known, element_of, expr_fits, expr_type, has_type, is_proc, is_truth, same_type};
 use da_values::{NoMemory, Value};
 use std::alloc::Global;
 

@@ -11,7 +11,7 @@ use Rattle.da_lang.specs.ExprGrammar as eg
 use Rattle.da_lang.specs.ExprGrammar.{Deeper, IsAtom, IsUnary, IsProd, IsSum, IsComp, IsNeg, IsConj, IsDisj, IsExpr, deeper}
 use Rattle.da_unparse.specs.Expressions.{Shown, shown, expr_pieces, at_least}
 use Rattle.da_unparse.specs.Pieces.{Piece, in_parens}
-use Rattle.da_parse.proofs.Steps.{bool_cases}
+use Rattle.da_phrases.proofs.Steps.{bool_cases}
 use Rattle.da_unparse.proofs.AgainMore.{Within, deeper-down, IsExpr-more, IsDisj-more, IsConj-more, IsNeg-more, IsComp-more, IsSum-more, IsProd-more, IsUnary-more, DeepWithin}
 use Rattle.da_unparse.proofs.AgainTools.{put, put-in_parens}
 

@@ -4,10 +4,6 @@
 mod cases;
 mod code;
 mod front;
-#[cfg(test)]
-mod graphs;
-#[cfg(test)]
-mod parsing;
 mod plans;
 mod words;
 

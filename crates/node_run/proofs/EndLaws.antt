@@ -3,7 +3,6 @@ use Rattle.std.proofs.Common.{◌≡◌, refl, sym, ◌∙◌, ap, subst, ℕ, �
 use Rattle.std.specs.Prelude.{Option, Some, None, nat_le, if◌then◌else◌}
 use Rattle.std.proofs.lemmas.Bool.{le-leb, leb-false, lt-leb}
 use Rattle.da_lang.specs.declared.program.Program.{Program}
-use Rattle.da_lang.specs.World.{Phase}
 use Rattle.da_core.specs.declared.place.Stopped.{Stopped}
 use Rattle.da_core.specs.declared.place.Stopped.TheVariants as stopped
 use Rattle.da_core.specs.Made.{phase_of}

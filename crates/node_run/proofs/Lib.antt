@@ -3,4 +3,5 @@ pub mod FewParts
 pub mod GivingLaws
 pub mod HearingLaws
 pub mod MoveLaws
+pub mod OneRun
 pub mod RunLaws

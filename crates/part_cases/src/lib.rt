@@ -1,12 +1,16 @@
-//! Worked cases of the crates that stand at the bottom: values, tokens, the outside, patterns, schedules and packets.
+//! Worked cases of crates whose calls are tried one by one: values, tokens, trees, graphs of calls, the outside, patterns, schedules, packets.
 #![tactic(auto)]
 
+#[cfg(test)]
+mod graphs;
 #[cfg(test)]
 mod marks;
 #[cfg(test)]
 mod outside;
 #[cfg(test)]
 mod packets;
+#[cfg(test)]
+mod parsing;
 #[cfg(test)]
 mod patterns;
 #[cfg(test)]

@@ -9,9 +9,9 @@ use Rattle.da_lang.specs.Scopes.{at_lines}
 use Rattle.da_calls.specs.CallGraph.{class_in, number_of}
 use Rattle.da_calls.specs.CallMethods.{Numbering, body_of}
 use Rattle.da_names.specs.DeedView.{deeds_in}
-use Rattle.da_names.specs.Telling.{telling}
+use Rattle.da_bodies.specs.Telling.{telling}
 use Rattle.da_names.proofs.RecursiveLaws.{first_method, method_deeds, name_of, recursive_more, told_once}
-use Rattle.da_names.proofs.TellingLaws.{telling-nil}
+use Rattle.da_bodies.proofs.TellingLaws.{telling-nil}
 use Rattle.da_names.proofs.call_rules.tell_recursive.Goals as goal
 
 pub loop-method-init : goal.loop-method-init

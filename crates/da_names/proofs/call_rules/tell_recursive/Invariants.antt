@@ -3,7 +3,7 @@ use Rattle.da_lang.specs.declared.refusal.ScopeKind.TheVariants.{Recursive}
 use Rattle.da_lang.specs.NameRules.{recursive_in}
 use Rattle.da_lang.specs.Scopes.{at_lines}
 use Rattle.da_calls.specs.CallGraph.{class_in}
-use Rattle.da_names.specs.Telling.{telling}
+use Rattle.da_bodies.specs.Telling.{telling}
 use Rattle.da_names.proofs.RecursiveLaws.{name_of}
 use Rattle.da_names.proofs.call_rules.tell_recursive.Given as goal
 

@@ -4,7 +4,7 @@ use Rattle.da_lang.specs.NameRules.{calls_none, lines_where}
 use Rattle.da_lang.specs.Scopes.{at_lines}
 use Rattle.da_calls.specs.CallGraph.{class_in}
 use Rattle.da_names.specs.DeedView.{deeds_in}
-use Rattle.da_names.specs.Telling.{telling}
+use Rattle.da_bodies.specs.Telling.{telling}
 use Rattle.da_names.proofs.call_rules.tell_unknown.Given as goal
 
 abbrev pub invariant-loop-deed : goal.invariant-loop-deed

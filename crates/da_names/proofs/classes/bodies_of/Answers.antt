@@ -1,6 +1,6 @@
 use Rattle.std.proofs.Common.{◌∙◌, ap, map}
 use Rattle.da_lang.specs.ClassParts.{body_in}
-use Rattle.da_names.specs.BodyView.{body_view}
+use Rattle.da_bodies.specs.BodyView.{body_view}
 use Rattle.da_names.specs.ClassRules.{bodies_in}
 use Rattle.da_names.proofs.ClassSteps.{kept_none, kept_some}
 use Rattle.da_names.proofs.classes.bodies_of.Goals as goal

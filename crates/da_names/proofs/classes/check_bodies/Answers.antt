@@ -1,13 +1,13 @@
 use Rattle.std.proofs.Common.{◌∙◌, ap, flat_map, refl, sym}
 use Rattle.std.proofs.lemmas.List.{take_all}
 use Rattle.std.proofs.lemmas.List.Folds.{flat_map-map}
-use Rattle.da_names.specs.BodyView.{body_view}
+use Rattle.da_bodies.specs.BodyView.{body_view}
 use Rattle.da_calls.specs.CallGraph.{class_in}
 use Rattle.da_names.specs.ClassRules.{bodies_in, body_refusals}
-use Rattle.da_names.specs.declared.bodies.Body.{Body}
-use Rattle.da_names.specs.Telling.{telling}
+use Rattle.da_bodies.specs.declared.bodies.Body.{Body}
+use Rattle.da_bodies.specs.Telling.{telling}
 use Rattle.da_names.proofs.ClassSteps.{told_more}
-use Rattle.da_names.proofs.TellingLaws.{telling-nil}
+use Rattle.da_bodies.proofs.TellingLaws.{telling-nil}
 use Rattle.da_names.proofs.classes.check_bodies.Goals as goal
 
 pub loop-body-init : goal.loop-body-init

@@ -1,8 +1,8 @@
 use Rattle.std.proofs.Common.{◌≡◌, flat_map, take}
-use Rattle.da_names.specs.BodyView.{body_view}
+use Rattle.da_bodies.specs.BodyView.{body_view}
 use Rattle.da_calls.specs.CallGraph.{class_in}
 use Rattle.da_names.specs.ClassRules.{body_refusals}
-use Rattle.da_names.specs.Telling.{telling}
+use Rattle.da_bodies.specs.Telling.{telling}
 use Rattle.da_names.proofs.classes.check_bodies.Given as goal
 
 abbrev pub invariant-loop-body : goal.invariant-loop-body

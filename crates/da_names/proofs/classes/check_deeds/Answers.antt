@@ -5,10 +5,10 @@ use Rattle.da_lang.specs.Scopes.{at_lines}
 use Rattle.da_calls.specs.CallGraph.{class_in}
 use Rattle.da_names.specs.ClassRules.{bodies_in, deed_refusals, deeds_by, label_names}
 use Rattle.da_names.specs.DeedView.{deeds_in}
-use Rattle.da_names.specs.Repeats.{declared_in}
-use Rattle.da_names.specs.Telling.{telling}
+use Rattle.da_bodies.specs.Repeats.{declared_in}
+use Rattle.da_bodies.specs.Telling.{telling}
 use Rattle.da_names.proofs.ClassSteps.{four_steps}
-use Rattle.da_names.proofs.ListSteps.{on_same}
+use Rattle.da_bodies.proofs.ListSteps.{on_same}
 use Rattle.da_names.proofs.classes.check_deeds.Goals as goal
 
 pub returns : goal.returns

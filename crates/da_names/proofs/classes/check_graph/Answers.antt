@@ -6,11 +6,11 @@ use Rattle.da_lang.specs.NameRules.{class_scope, variables_again}
 use Rattle.da_lang.specs.Scopes.{at_lines}
 use Rattle.da_calls.specs.CallGraph.{class_in}
 use Rattle.da_names.specs.ClassRules.{bodies_in, body_refusals, deed_refusals, deeds_by, member_refusals}
-use Rattle.da_names.specs.Telling.{telling}
-use Rattle.da_names.specs.Told.{entered_each}
+use Rattle.da_bodies.specs.Telling.{telling}
+use Rattle.da_bodies.specs.Told.{entered_each}
 use Rattle.da_names.proofs.ClassLaws.{class_told}
-use Rattle.da_names.proofs.ListSteps.{on_same}
-use Rattle.da_names.proofs.SameLook.{SameLook, same_each}
+use Rattle.da_bodies.proofs.ListSteps.{on_same}
+use Rattle.da_bodies.proofs.SameLook.{SameLook, same_each}
 use Rattle.da_names.proofs.classes.check_graph.Goals as goal
 
 pub returns : goal.returns

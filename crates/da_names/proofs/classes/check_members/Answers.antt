@@ -4,9 +4,9 @@ use Rattle.da_lang.specs.declared.refusal.ScopeKind.TheVariants.{NoRun, Twice}
 use Rattle.da_lang.specs.NameRules.{again}
 use Rattle.da_lang.specs.Scopes.{at_lines}
 use Rattle.da_names.specs.ClassRules.{bodies_in, member_refusals}
-use Rattle.da_names.specs.Repeats.{declared_in}
-use Rattle.da_names.specs.Telling.{telling}
-use Rattle.da_names.proofs.AgainLaws.{told_if}
+use Rattle.da_bodies.specs.Repeats.{declared_in}
+use Rattle.da_bodies.specs.Telling.{telling}
+use Rattle.da_bodies.proofs.AgainLaws.{told_if}
 use Rattle.da_names.proofs.ClassSteps.{four_steps, no_run_told}
 use Rattle.da_names.proofs.classes.check_members.Goals as goal
 use Rattle.da_names.proofs.classes.check_members.Goals.{then-not-tell_behind, else-not-tell_behind}

@@ -1,7 +1,7 @@
-use Rattle.da_names.specs.BodyView.{told_body}
+use Rattle.da_bodies.specs.BodyView.{told_body}
 use Rattle.da_names.specs.ClassRules.{body_refusals}
 use Rattle.da_names.proofs.ClassSteps.{five_steps}
-use Rattle.da_names.proofs.ListSteps.{on_same}
+use Rattle.da_bodies.proofs.ListSteps.{on_same}
 use Rattle.da_names.proofs.classes.check_one.Goals as goal
 
 pub returns-clause-told : goal.returns-clause-told

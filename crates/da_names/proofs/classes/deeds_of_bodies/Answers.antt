@@ -3,12 +3,12 @@ use Rattle.std.proofs.lemmas.List.{take_all}
 use Rattle.std.proofs.lemmas.List.Folds.{flat_map-map}
 use Rattle.da_lang.specs.ClassParts as parts
 use Rattle.da_lang.specs.Deeds.{deeds}
-use Rattle.da_names.specs.BodyView.{body_view}
+use Rattle.da_bodies.specs.BodyView.{body_view}
 use Rattle.da_names.specs.ClassRules.{bodies_in}
-use Rattle.da_names.specs.declared.bodies.Body.{Body}
+use Rattle.da_bodies.specs.declared.bodies.Body.{Body}
 use Rattle.da_names.specs.DeedView.{deeds_in}
 use Rattle.da_names.proofs.DeedRules.{deeds_in-nil}
-use Rattle.da_names.proofs.ListSteps.{flat_more}
+use Rattle.da_bodies.proofs.ListSteps.{flat_more}
 use Rattle.da_names.proofs.classes.deeds_of_bodies.Goals as goal
 
 pub loop-body-init : goal.loop-body-init

@@ -1,11 +1,11 @@
 use Rattle.std.proofs.Common.{◌∙◌, ap, map}
 use Rattle.da_lang.specs.ClassParts.{Declared, variables}
 use Rattle.da_lang.specs.ExprNames.{ClassVariable}
-use Rattle.da_names.specs.Repeats.{declared_in}
-use Rattle.da_names.specs.Told.{entered_each}
+use Rattle.da_bodies.specs.Repeats.{declared_in}
+use Rattle.da_bodies.specs.Told.{entered_each}
 use Rattle.da_names.proofs.ClassSteps.{names_at}
-use Rattle.da_names.proofs.ListSteps.{on_same}
-use Rattle.da_names.proofs.VariablesAt.{names_declared}
+use Rattle.da_bodies.proofs.ListSteps.{on_same}
+use Rattle.da_bodies.proofs.VariablesAt.{names_declared}
 use Rattle.da_names.proofs.classes.enter_variables.Goals as goal
 
 pub returns-clause-entered : goal.returns-clause-entered

@@ -2,7 +2,7 @@ use Rattle.std.proofs.Common.{◌≡◌, take}
 use Rattle.da_lang.specs.declared.refusal.ScopeKind.TheVariants.{Twice}
 use Rattle.da_lang.specs.Scopes.{at_lines}
 use Rattle.da_names.specs.ClassRules.{bodies_in, has_some, is_once, lines_behind}
-use Rattle.da_names.specs.Telling.{telling}
+use Rattle.da_bodies.specs.Telling.{telling}
 use Rattle.da_names.proofs.classes.tell_behind.Given as goal
 
 abbrev pub invariant-loop-body : goal.invariant-loop-body

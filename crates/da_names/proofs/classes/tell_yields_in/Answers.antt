@@ -2,7 +2,7 @@ use Rattle.std.proofs.Common.{◌∙◌, ap, sym}
 use Rattle.std.specs.Prelude.{◌||◌}
 use Rattle.da_lang.specs.declared.refusal.ScopeKind.TheVariants.{Yield}
 use Rattle.da_lang.specs.ClassParts.{is_setup}
-use Rattle.da_names.specs.BodyView.{place_view}
+use Rattle.da_bodies.specs.BodyView.{place_view}
 use Rattle.da_names.proofs.ClassSteps.{told_nothing}
 use Rattle.da_names.proofs.classes.tell_yields_in.Goals as goal
 

@@ -4,7 +4,7 @@ use Rattle.da_lang.specs.Deeds as meaning
 use Rattle.da_lang.specs.NameRules.{labelled}
 use Rattle.da_names.specs.declared.deeds.Deed.{Deed}
 use Rattle.da_names.specs.DeedView.{deed_of, deeds_in, doing_of}
-use Rattle.da_names.specs.Repeats.{declared_of}
+use Rattle.da_bodies.specs.Repeats.{declared_of}
 use Rattle.da_names.proofs.ClassSteps.{kept_none, kept_some, filter_map-map}
 use Rattle.da_names.proofs.declared.labels_of.Goals as goal
 use Rattle.da_names.proofs.declared.labels_of.Goals.{in-Some+in_ok-push, in_default}

@@ -1,10 +1,10 @@
 use Rattle.std.proofs.Common.{◌∙◌, ap, filter_map}
 use Rattle.std.proofs.lemmas.List.{take_all}
 use Rattle.da_lang.specs.NameRules.{named_body}
-use Rattle.da_names.specs.BodyView.{body_view}
+use Rattle.da_bodies.specs.BodyView.{body_view}
 use Rattle.da_names.specs.ClassRules.{bodies_in}
-use Rattle.da_names.specs.declared.bodies.Body.{Body}
-use Rattle.da_names.specs.Repeats.{declared_of}
+use Rattle.da_bodies.specs.declared.bodies.Body.{Body}
+use Rattle.da_bodies.specs.Repeats.{declared_of}
 use Rattle.da_names.proofs.ClassSteps.{kept_none, kept_some, filter_map-map}
 use Rattle.da_names.proofs.declared.methods_of.Goals as goal
 use Rattle.da_names.proofs.declared.methods_of.Goals.{in-Some+in_ok-push, in_default}

@@ -1,6 +1,6 @@
 use Rattle.std.proofs.Common.{◌≡◌, take}
 use Rattle.da_names.specs.ClassRules.{param_names}
-use Rattle.da_names.specs.Repeats.{declared_in}
+use Rattle.da_bodies.specs.Repeats.{declared_in}
 use Rattle.da_names.proofs.declared.params_of.Given as goal
 
 abbrev pub invariant-loop-param : goal.invariant-loop-param

@@ -1,7 +1,7 @@
 use Rattle.std.proofs.Common.{◌∙◌, ap, filter_map}
 use Rattle.std.proofs.lemmas.List.{take_all}
 use Rattle.da_names.specs.ClassRules.{variable_name}
-use Rattle.da_names.specs.Repeats.{declared_of}
+use Rattle.da_bodies.specs.Repeats.{declared_of}
 use Rattle.da_names.proofs.ClassSteps.{kept_none, kept_some, variables_named}
 use Rattle.da_names.proofs.declared.variables_of.Goals as goal
 use Rattle.da_names.proofs.declared.variables_of.Goals.{in-Some+in_ok-push, in_default}

@@ -6,7 +6,7 @@ use Rattle.da_lang.specs.NameRules.{acts, lines_where}
 use Rattle.da_lang.specs.Scopes.{at_lines}
 use Rattle.da_lang.specs.Written.{asks}
 use Rattle.da_names.specs.DeedView.{deeds_in}
-use Rattle.da_names.specs.Telling.{telling}
+use Rattle.da_bodies.specs.Telling.{telling}
 use Rattle.da_names.proofs.deed_rules.tell_early.Given as goal
 
 abbrev pub invariant-loop-deed : goal.invariant-loop-deed

@@ -6,7 +6,7 @@ use Rattle.da_lang.specs.declared.tree.Branch.{out-Branch}
 use Rattle.da_lang.specs.Deeds.{Deed, deed, deeds, deeds_of_branch, deeds_of_timeout, Other, TimesOut}
 use Rattle.da_names.specs.DeedView.{deeds_in}
 use Rattle.da_names.proofs.DeedRules.{branch_deeds_of, timeout_deeds_of}
-use Rattle.da_names.proofs.ListSteps.{appended_both}
+use Rattle.da_bodies.proofs.ListSteps.{appended_both}
 use Rattle.da_names.proofs.deeds.+deeds.Goals as goal
 
 pub put_branch-returns : goal.put_branch-returns

@@ -1,6 +1,6 @@
 use Rattle.std.proofs.Common.{refl}
 use Rattle.da_names.specs.DeedView.{deed_of, deeds_in}
-use Rattle.da_names.proofs.ListSteps.{appended}
+use Rattle.da_bodies.proofs.ListSteps.{appended}
 use Rattle.da_names.proofs.deeds.put_deed.Goals as goal
 
 pub returns : goal.returns

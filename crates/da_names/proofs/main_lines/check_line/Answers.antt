@@ -1,7 +1,7 @@
 use Rattle.std.proofs.Common.{◌∙◌, ap, sym}
 use Rattle.std.specs.Prelude.{is_some}
 use Rattle.da_names.specs.MainView.{at_name, class_at, told_line}
-use Rattle.da_names.proofs.ListSteps.{on_same}
+use Rattle.da_bodies.proofs.ListSteps.{on_same}
 use Rattle.da_names.proofs.MainLaws.{told_new, told_set_up}
 use Rattle.da_names.proofs.main_lines.check_line.Goals as goal
 

@@ -2,9 +2,9 @@ use Rattle.std.proofs.Common.{◌∙◌, ap, sym, bytes_eq, find, option_map, op
 use Rattle.da_lang.specs.ExprNames.{Made}
 use Rattle.da_lang.specs.NameRules.{made_name}
 use Rattle.da_names.specs.MainView.{at_name, class_at, setup_arity}
-use Rattle.da_names.specs.Told.{entered_each}
+use Rattle.da_bodies.specs.Told.{entered_each}
 use Rattle.da_names.proofs.MainLaws.{first_more, made_look, made_more, main_more, told_line-by}
-use Rattle.da_names.proofs.TellingLaws.{telling-nil}
+use Rattle.da_bodies.proofs.TellingLaws.{telling-nil}
 use Rattle.da_names.proofs.main_lines.check_main.Goals as goal
 
 pub loop-line-init : goal.loop-line-init

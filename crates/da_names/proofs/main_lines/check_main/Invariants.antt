@@ -2,8 +2,8 @@ use Rattle.std.proofs.Common.{◌≡◌, ℕ, List, [], take, filter_map}
 use Rattle.da_lang.specs.ExprNames.{Made}
 use Rattle.da_lang.specs.NameRules.{first_class, made_name, main_refusals}
 use Rattle.da_names.specs.MainView.{class_at}
-use Rattle.da_names.specs.Telling.{telling}
-use Rattle.da_names.specs.Told.{entered_each}
+use Rattle.da_bodies.specs.Telling.{telling}
+use Rattle.da_bodies.specs.Told.{entered_each}
 use Rattle.da_names.proofs.main_lines.check_main.Given as goal
 
 abbrev pub invariant-loop-line : goal.invariant-loop-line

@@ -1,6 +1,6 @@
 use Rattle.std.proofs.Common.{◌∙◌}
 use Rattle.da_lang.specs.NameRules.{made_at}
-use Rattle.da_names.specs.Repeats.{declared_of}
+use Rattle.da_bodies.specs.Repeats.{declared_of}
 use Rattle.da_names.proofs.ClassSteps.{kept_none, kept_some}
 use Rattle.da_names.proofs.top_names.names_made.Goals as goal
 use Rattle.da_names.proofs.top_names.names_made.Goals.{in-Some+in_ok-push, in_default}

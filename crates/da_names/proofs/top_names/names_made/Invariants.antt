@@ -1,6 +1,6 @@
 use Rattle.std.proofs.Common.{◌≡◌, take, filter_map}
 use Rattle.da_lang.specs.NameRules.{made_at}
-use Rattle.da_names.specs.Repeats.{declared_in}
+use Rattle.da_bodies.specs.Repeats.{declared_in}
 use Rattle.da_names.proofs.top_names.names_made.Given as goal
 
 abbrev pub invariant-loop-line : goal.invariant-loop-line

@@ -1,6 +1,6 @@
 use Rattle.std.proofs.Common.{◌≡◌, take, filter_map}
 use Rattle.da_lang.specs.NameRules.{set_up_at}
-use Rattle.da_names.specs.Repeats.{declared_in}
+use Rattle.da_bodies.specs.Repeats.{declared_in}
 use Rattle.da_names.proofs.top_names.names_set_up.Given as goal
 
 abbrev pub invariant-loop-line : goal.invariant-loop-line

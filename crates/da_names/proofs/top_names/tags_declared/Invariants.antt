@@ -1,5 +1,5 @@
 use Rattle.std.proofs.Common.{◌≡◌, take, map}
-use Rattle.da_names.specs.Repeats.{declared_in}
+use Rattle.da_bodies.specs.Repeats.{declared_in}
 use Rattle.da_names.proofs.top_names.tags_declared.Given as goal
 
 abbrev pub invariant-loop-message : goal.invariant-loop-message

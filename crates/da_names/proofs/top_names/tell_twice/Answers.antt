@@ -4,8 +4,8 @@ use Rattle.da_lang.specs.declared.tree.ClassTree.{ClassTree}
 use Rattle.da_lang.specs.declared.tree.MessageDecl.{MessageDecl}
 use Rattle.da_lang.specs.NameRules.{again, made_at, set_up_at}
 use Rattle.da_lang.specs.Scopes.{at_lines}
-use Rattle.da_names.specs.Telling.{Refusal, telling}
-use Rattle.da_names.proofs.ListSteps.{on_same}
+use Rattle.da_bodies.specs.Telling.{Refusal, telling}
+use Rattle.da_bodies.proofs.ListSteps.{on_same}
 use Rattle.da_names.proofs.MainLaws.{told_twice, twice_by}
 use Rattle.da_names.proofs.top_names.tell_twice.Goals as goal
 

@@ -1,7 +1,7 @@
 use Rattle.std.proofs.Common.{sym}
 use Rattle.da_lang.specs.NameRules.{class_refusals}
 use Rattle.da_names.proofs.ClassSteps.{told_more}
-use Rattle.da_names.proofs.TellingLaws.{telling-nil}
+use Rattle.da_bodies.proofs.TellingLaws.{telling-nil}
 use Rattle.da_names.proofs.tree.check_classes.Goals as goal
 
 pub loop-class-init : goal.loop-class-init

@@ -1,6 +1,6 @@
 use Rattle.std.proofs.Common.{◌∙◌, ap, flat_map}
 use Rattle.da_lang.specs.NameRules.{class_refusals}
-use Rattle.da_names.specs.Telling.{telling}
+use Rattle.da_bodies.specs.Telling.{telling}
 use Rattle.da_names.proofs.MainLaws.{told_whole}
 use Rattle.da_names.proofs.tree.name_fault.Goals as goal
 

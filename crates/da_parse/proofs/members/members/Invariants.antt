@@ -1,5 +1,5 @@
 use Rattle.std.proofs.Common.{◌≡◌, ◌-◌}
-use Rattle.da_parse.specs.Lists.{ended_from}
+use Rattle.da_phrases.specs.Lists.{ended_from}
 use Rattle.da_parse.specs.Members.{parts_at, member, members}
 use Rattle.da_parse.proofs.members.members.Given as goal
 

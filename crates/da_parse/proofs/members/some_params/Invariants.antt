@@ -1,8 +1,8 @@
 use Rattle.std.proofs.Common.{◌≡◌, ◌-◌, []}
 use Rattle.da_values.specs.declared.token.Mark.TheVariants as m
-use Rattle.da_parse.specs.Lists.{separated, separated_from}
+use Rattle.da_phrases.specs.Lists.{separated, separated_from}
 use Rattle.da_parse.specs.Members.{typed_param}
-use Rattle.da_parse.specs.Types.{type_below}
+use Rattle.da_phrases.specs.Types.{type_below}
 use Rattle.da_parse.proofs.members.some_params.Given as goal
 
 abbrev pub invariant-loop-turn : goal.invariant-loop-turn

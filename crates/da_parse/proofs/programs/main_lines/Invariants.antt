@@ -1,5 +1,5 @@
 use Rattle.std.proofs.Common.{◌≡◌, ◌-◌}
-use Rattle.da_parse.specs.Lists.{ended, ended_from}
+use Rattle.da_phrases.specs.Lists.{ended, ended_from}
 use Rattle.da_parse.specs.Programs.{outermost, main_line}
 use Rattle.da_parse.proofs.programs.main_lines.Given as goal
 

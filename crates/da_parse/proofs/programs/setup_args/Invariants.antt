@@ -1,6 +1,6 @@
 use Rattle.std.proofs.Common.{◌≡◌, ◌-◌, []}
 use Rattle.da_values.specs.declared.token.Mark.TheVariants as m
-use Rattle.da_parse.specs.Lists.{begun, begun_from}
+use Rattle.da_phrases.specs.Lists.{begun, begun_from}
 use Rattle.da_parse.specs.Programs.{outermost, argument}
 use Rattle.da_parse.proofs.programs.setup_args.Given as goal
 

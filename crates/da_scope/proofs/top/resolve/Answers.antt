@@ -1,8 +1,8 @@
 use Rattle.std.proofs.Common.{◌∙◌, ap, option_map, sym}
 use Rattle.da_lang.specs.Limits.{limit_refusals, rank as limit_rank}
 use Rattle.da_lang.specs.NameRules.{name_refusals, rank as name_rank}
-use Rattle.da_names.specs.Telling.{refusal_of}
-use Rattle.da_names.proofs.TellingLaws.{untold}
+use Rattle.da_bodies.specs.Telling.{refusal_of}
+use Rattle.da_bodies.proofs.TellingLaws.{untold}
 use Rattle.da_scope.proofs.top.resolve.Goals as goal
 
 pub limit_fault-requires : goal.limit_fault-requires

@@ -1,7 +1,7 @@
 use Rattle.std.proofs.Common.{◌∙◌, ap, sym, drop}
 use Rattle.da_lang.specs.Typing.{args_fit}
 use Rattle.da_types.proofs.CheckLaws.{no_args}
-use Rattle.da_types.proofs.Walks.{nothing_left}
+use Rattle.da_typing.proofs.Walks.{nothing_left}
 use Rattle.da_types.proofs.check.args_fit.Goals as goal
 
 pub returns-in-empty : goal.returns-in-empty

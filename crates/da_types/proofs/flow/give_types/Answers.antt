@@ -1,5 +1,5 @@
 use Rattle.da_types.proofs.SlotLaws.{bind_short}
-use Rattle.da_types.proofs.Walks.{nothing_left}
+use Rattle.da_typing.proofs.Walks.{nothing_left}
 use Rattle.da_types.proofs.flow.give_types.Goals as goal
 
 pub returns-in-empty : goal.returns-in-empty

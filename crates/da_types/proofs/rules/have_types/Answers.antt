@@ -1,7 +1,7 @@
 use Rattle.std.proofs.Common.{◌∙◌, ap, sym, drop, arith, length-drop}
 use Rattle.da_lang.specs.Typing.{have_types}
 use Rattle.da_types.proofs.CheckLaws.{no_types}
-use Rattle.da_types.proofs.Walks.{nothing_left}
+use Rattle.da_typing.proofs.Walks.{nothing_left}
 use Rattle.da_types.proofs.rules.have_types.Goals as goal
 
 pub returns-in-empty : goal.returns-in-empty

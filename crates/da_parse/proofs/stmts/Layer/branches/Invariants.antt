@@ -1,6 +1,6 @@
 use Rattle.std.proofs.Common.{◌≡◌, ◌-◌}
-use Rattle.da_parse.specs.Lists.{begun, begun_from}
-use Rattle.da_parse.specs.Exprs.{at_depth}
+use Rattle.da_phrases.specs.Lists.{begun, begun_from}
+use Rattle.da_phrases.specs.Exprs.{at_depth}
 use Rattle.da_parse.specs.Stmts.{branch, body_below}
 use Rattle.da_parse.proofs.stmts.Layer.branches.Given as goal
 

@@ -1,6 +1,6 @@
 use Rattle.std.proofs.Common.{◌≡◌, ◌-◌}
-use Rattle.da_parse.specs.Lists.{ended_from}
-use Rattle.da_parse.specs.Exprs.{at_depth}
+use Rattle.da_phrases.specs.Lists.{ended_from}
+use Rattle.da_phrases.specs.Exprs.{at_depth}
 use Rattle.da_parse.specs.Stmts.{stmt, stmts, body_below}
 use Rattle.da_parse.proofs.stmts.Layer.stmts.Given as goal
 

@@ -1,0 +1,15 @@
+pub mod AgainLaws
+pub mod BodyLaws
+pub mod Found
+pub mod KindOrders
+pub mod ListSteps
+pub mod PartLaws
+pub mod Ranges
+pub mod SameLook
+pub mod ScopeLaws
+pub mod StmtLaws
+pub mod TellingLaws
+pub mod ToldExprs
+pub mod ToldLines
+pub mod ToldParts
+pub mod VariablesAt

@@ -1,0 +1,3 @@
+pub mod MeaningView
+pub mod ScopeIndex
+pub mod SlotScope

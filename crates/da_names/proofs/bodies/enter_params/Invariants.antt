@@ -1,7 +1,0 @@
-use Rattle.std.proofs.Common.{◌≡◌, take, map}
-use Rattle.da_lang.specs.ExprNames.{Local}
-use Rattle.da_names.specs.Told.{entered_each}
-use Rattle.da_names.proofs.bodies.enter_params.Given as goal
-
-abbrev pub invariant-loop-param : goal.invariant-loop-param
-invariant-loop-param l = l.names ≡ entered_each Local (map (λ p. p.name) (take l.param-index l.params)) l.initial.names

@@ -1,9 +1,0 @@
-use Rattle.da_names.specs.ScopeView.{role_of}
-use Rattle.da_names.specs.declared.repeats.Declared.{Declared}
-use Rattle.da_names.proofs.ListSteps.{entered_more}
-use Rattle.da_names.proofs.variables.enter_all.Goals as goal
-
-pub loop-one-preserved : goal.loop-one-preserved
-loop-one-preserved c =
-    let l = c.loop-one in
-    entered_more (role_of c.args.role) (λ (d : Declared). d.name.now) c.args.names.now l.names c.enter.new.self c.args.declared.now l.one-index _ c.loop-one-test.true l.invariant c.in_ok-enter.ensures

@@ -1,9 +1,0 @@
-use Rattle.std.proofs.Common.{◌≡◌, ◌-◌}
-use Rattle.da_values.specs.declared.token.Mark.TheVariants as m
-use Rattle.da_parse.specs.declared.place.Level.TheVariants as level
-use Rattle.da_parse.specs.Exprs.{at_depth}
-use Rattle.da_parse.specs.Lists.{separated, separated_from}
-use Rattle.da_parse.proofs.place.Rules.exprs.Given as goal
-
-abbrev pub invariant-loop-turn : goal.invariant-loop-turn
-invariant-loop-turn g l = separated m.Comma ((at_depth l.self.depth).expr level.Disj) l.fn.found l.fn.tokens ≡ separated_from m.Comma ((at_depth l.self.depth).expr level.Disj) (l._turn-end - l._turn) l.found l.tokens

@@ -1,5 +1,0 @@
-use Rattle.std.proofs.Common.{◌-◌}
-use Rattle.da_parse.proofs.types.+type_at.Given as goal
-
-abbrev pub decreases-type_at : goal.decreases-type_at
-decreases-type_at l = 32 - l.depth

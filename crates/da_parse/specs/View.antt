@@ -1,7 +1,0 @@
--- What contracts see of a cursor.
-use Rattle.std.specs.Prelude.{List}
-use Rattle.da_values.specs.Marks.{Tok, toks}
-use Rattle.da_parse.specs.declared.cursor.Cursor.TheInside.{Inside}
-
-abbrev pub shown : Inside → List Tok
-shown c = toks c.text.now c.left.now

@@ -1,4 +1,0 @@
-use Rattle.da_scope.proofs.meaning.copying.+copy_body.Given as goal
-
-abbrev pub decreases-copy_body : goal.decreases-copy_body
-decreases-copy_body l = l.most

@@ -1,0 +1,4 @@
+pub mod Aggregates
+pub mod Chains
+pub mod KnownView
+pub mod SideView
