@@ -1,3 +1,4 @@
+pub mod CaughtLaws
 pub mod ChangeLaws
 pub mod Computing
 pub mod CondInduction
@@ -16,6 +17,7 @@ pub mod MatchingLaws
 pub mod MeantAt
 pub mod MoveLaws
 pub mod NamesAt
+pub mod NamingLaws
 pub mod OnceLaws
 pub mod QueryLaws
 pub mod RowLaws
@@ -36,5 +38,4 @@ pub mod TreeInduction
 pub mod TurnLaws
 pub mod WorldLaws
 pub mod WritingAt
-pub mod examples
 pub mod typing

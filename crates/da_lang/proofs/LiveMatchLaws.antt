@@ -11,6 +11,7 @@ use Rattle.da_values.specs.Value.{val_of}
 use Rattle.da_lang.specs.declared.query.Pattern.{Pattern}
 use Rattle.da_lang.specs.declared.query.Pattern.TheVariants as pattern
 use Rattle.da_lang.specs.declared.query.Term.{Term}
+pub use Rattle.da_lang.specs.Caught.{behind, caught, caught_entry}
 use Rattle.da_lang.specs.Live.{varies, live_pattern}
 use Rattle.da_lang.specs.Matching.{Row, Match, is_same, and_then, where_true, match_parts, match_tuple, matched, matched_entry, term_value}
 use Rattle.da_lang.specs.World.{Data}
@@ -43,11 +44,6 @@ module _ (me : ℕ) where
       (λ parts each still slots others row other. term-Tuple me slots row parts ∙ ap val.Tuple (steady_parts parts each (sym (varies-Tuple parts) ∙ still) slots others row other) ∙ sym (term-Tuple me others other parts))
       (λ still slots others row other. term-Foreign me slots row ∙ sym (term-Foreign me others other))
 
--- the row with what was found behind it
-abbrev pub behind : Row → Option Row → Option Row
-behind row None = None
-behind row (Some found) = Some (row ++ found)
-
 behind_twice : (a b : Row) (found : Option Row) → behind a (behind b found) ≡ behind (a ++ b) found
 behind_twice a b None = refl
 behind_twice a b (Some found) = ap Some (sym (append_assoc a b found))
@@ -57,14 +53,10 @@ behind_where true row = ap Some (sym (append-nil row))
 behind_where false row = refl
 
 module _ (me : ℕ) where
-  -- what a live pattern gives of an element
-  abbrev pub caught : Pattern → Val → Option Row
-  caught p x = matched me [] (live_pattern p) x []
+  abbrev pub Catches : Pattern → Type 0
+  Catches p = (slots : List Val) (x : Val) (row : Row) → matched me slots (live_pattern p) x row ≡ behind row (caught me p x)
 
-  abbrev Catches : Pattern → Type 0
-  Catches p = (slots : List Val) (x : Val) (row : Row) → matched me slots (live_pattern p) x row ≡ behind row (caught p x)
-
-  abbrev live_parts : List Val → List Pattern → List Match
+  abbrev pub live_parts : List Val → List Pattern → List Match
   live_parts slots ps = map (matched me slots) (map live_pattern ps)
 
   first_caught : (found : Option Row) (row : Row) (slots : List Val) (ps : List Pattern) (xs : List Val) → ((slots : List Val) (row : Row) → match_parts (live_parts slots ps) xs row ≡ behind row (match_parts (live_parts [] ps) xs [])) → and_then (behind row found) (match_parts (live_parts slots ps) xs) ≡ behind row (and_then found (match_parts (live_parts [] ps) xs))
@@ -72,13 +64,13 @@ module _ (me : ℕ) where
   first_caught (Some l) row slots ps xs others =
       others slots (row ++ l) ∙ sym (behind_twice row l (match_parts (live_parts [] ps) xs [])) ∙ ap (behind row) (sym (others [] l))
 
-  parts_caught : (ps : List Pattern) → AllByRecursion Catches ps → (xs : List Val) (slots : List Val) (row : Row) → match_parts (live_parts slots ps) xs row ≡ behind row (match_parts (live_parts [] ps) xs [])
+  pub parts_caught : (ps : List Pattern) → AllByRecursion Catches ps → (xs : List Val) (slots : List Val) (row : Row) → match_parts (live_parts slots ps) xs row ≡ behind row (match_parts (live_parts [] ps) xs [])
   parts_caught [] each [] slots row = ap Some (sym (append-nil row))
   parts_caught [] each (x ∷ xs) slots row = refl
   parts_caught (p ∷ ps) each [] slots row = refl
   parts_caught (p ∷ ps) each (x ∷ xs) slots row =
       ap (λ z. and_then z (match_parts (live_parts slots ps) xs)) (each.0 slots x row)
-      ∙ first_caught (caught p x) row slots ps xs (λ others r. parts_caught ps each.1 xs others r)
+      ∙ first_caught (caught me p x) row slots ps xs (λ others r. parts_caught ps each.1 xs others r)
 
   tuple_caught : (ps : List Pattern) → AllByRecursion Catches ps → (x : Val-F Val) (slots : List Val) (row : Row) → match_tuple (live_parts slots ps) x row ≡ behind row (match_tuple (live_parts [] ps) x [])
   tuple_caught ps each (layer.Tuple xs) slots row = parts_caught ps each xs slots row
@@ -113,13 +105,13 @@ module _ (me : ℕ) where
   -- What a pattern matches, in any row and slots, its live pattern catches.
 
   abbrev Wider : Pattern → Type 0
-  Wider p = (slots : List Val) (x : Val) (row r : Row) → matched me slots p x row ≡ Some r → (l : Row) × (caught p x ≡ Some l)
+  Wider p = (slots : List Val) (x : Val) (row r : Row) → matched me slots p x row ≡ Some r → (l : Row) × (caught me p x ≡ Some l)
 
   found_where : (b : Bool) (row r : Row) → where_true b row ≡ Some r → where_true b [] ≡ Some []
   found_where true row r e = refl
   found_where false row r e = absurd (cc)
 
-  all_catch : (ps : List Pattern) → AllByRecursion Catches ps
+  pub all_catch : (ps : List Pattern) → AllByRecursion Catches ps
   all_catch [] = tt
   all_catch (p ∷ ps) = (match_live p, all_catch ps)
 
@@ -146,7 +138,7 @@ module _ (me : ℕ) where
   tuple_wider ps each slots (layer.Set xs) row r e = absurd (cc)
 
   -- from what the live pattern is
-  wider_as : (p q : Pattern) → live_pattern p ≡ q → (x : Val) (l : Row) → matched me [] q x [] ≡ Some l → (l : Row) × (caught p x ≡ Some l)
+  wider_as : (p q : Pattern) → live_pattern p ≡ q → (x : Val) (l : Row) → matched me [] q x [] ≡ Some l → (l : Row) × (caught me p x ≡ Some l)
   wider_as p q is x l e = (l, ap (λ z. matched me [] z x []) is ∙ e)
 
   equal_wider : (t : Term) (b : Bool) → varies t ≡ b → (slots : List Val) (x : Val) (row r : Row) → matched me slots (pattern.Equal t) x row ≡ Some r → (l : Row) × (matched me [] (if b then pattern.Bind else pattern.Equal t) x [] ≡ Some l)
@@ -167,9 +159,6 @@ module _ (me : ℕ) where
       wider_as (pattern.Tuple ps) (pattern.Tuple (map live_pattern ps)) (live-Tuple ps) x l (match-Tuple me [] x [] (map live_pattern ps) ∙ f))
 
 -- The same of a message and the other process.
-
-abbrev pub caught_entry : ℕ → Pattern → Pattern → Val → ℕ → Option Row
-caught_entry me message peer x p = and_then (caught me message x) (matched me [] (live_pattern peer) (val.Proc p))
 
 module _ (d : Data) (message peer : Pattern) (x : Val) (p : ℕ) where
   then_caught : (found : Option Row) (row : Row) → and_then (behind row found) (matched d.me d.slots (live_pattern peer) (val.Proc p)) ≡ behind row (and_then found (matched d.me [] (live_pattern peer) (val.Proc p)))

@@ -4,6 +4,7 @@ pub mod Arithmetic
 pub mod Begins
 pub mod BodyMeaning
 pub mod Calls
+pub mod Caught
 pub mod Changes
 pub mod ClassParts
 pub mod Deeds
@@ -18,6 +19,7 @@ pub mod Literals
 pub mod Live
 pub mod Matching
 pub mod NameRules
+pub mod Naming
 pub mod Queries
 pub mod QueryTypes
 pub mod Resolution

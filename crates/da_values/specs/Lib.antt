@@ -1,10 +1,13 @@
 pub mod Entries
+pub mod Induction
+pub mod Keys
 pub mod Layer
 pub mod Lengths
 pub mod Marks
 pub mod Narrow
 pub mod Nesting
 pub mod Order
+pub mod OrderLaws
 pub mod Piece
 pub mod Places
 pub mod Proper

@@ -7,6 +7,7 @@
 mod boxed;
 mod cmp;
 mod copy;
+mod key;
 mod length;
 mod list;
 mod marks;

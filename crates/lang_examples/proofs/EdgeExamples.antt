@@ -22,7 +22,7 @@ use Rattle.da_lang.specs.Steps.{Go, Deliver, handled, moved, proc_step}
 use Rattle.da_lang.specs.Turns.{last_time}
 use Rattle.da_lang.specs.World.{Data, Task, Do, World, Waiting, Ended, Faulted}
 use Rattle.da_lang.proofs.Computing.{stepping, turning}
-use Rattle.da_lang.proofs.examples.CountExample.{begin, begins, here, leaves, round, round_item, rounds}
+use Rattle.lang_examples.proofs.CountExample.{begin, begins, here, leaves, round, round_item, rounds}
 
 -- two handlers for every message: the first counts x down, the second does nothing
 abbrev counts : Handler

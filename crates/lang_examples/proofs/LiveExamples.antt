@@ -16,7 +16,7 @@ use Rattle.da_lang.specs.declared.query.Source.TheVariants.{Received, Sent}
 use Rattle.da_lang.specs.declared.query.Term.TheVariants as term
 use Rattle.da_lang.specs.Live.{live, live_pattern, kept}
 use Rattle.da_lang.proofs.LiveLaws.{living}
-use Rattle.da_lang.proofs.examples.QueryExamples.{within, ponged, acked, acked_by_all, first_in_line, all_over_3, empty, before_pong, after_pong, lamport, ack}
+use Rattle.lang_examples.proofs.QueryExamples.{within, ponged, acked, acked_by_all, first_in_line, all_over_3, empty, before_pong, after_pong, lamport, ack}
 
 -- Each `=t`.
 

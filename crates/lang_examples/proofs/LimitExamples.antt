@@ -13,8 +13,8 @@ use Rattle.da_lang.specs.Limits.{limit_fault, limit_refusals, most_classes, most
 use Rattle.da_lang.specs.Resolution.{resolved_class}
 use Rattle.da_lang.proofs.Computing.{finding, resolving}
 use Rattle.da_lang.proofs.CountsAt.{counting, measuring_depth}
-use Rattle.da_lang.proofs.examples.NameExamples.{tree_of, run}
-use Rattle.da_lang.proofs.examples.ResolutionExamples.{ping_tree, ping_class_resolved}
+use Rattle.lang_examples.proofs.NameExamples.{tree_of, run}
+use Rattle.lang_examples.proofs.ResolutionExamples.{ping_tree, ping_class_resolved}
 use Rattle.da_lang.proofs.typing.TypesAt.{widening}
 
 -- a class whose `run` does nothing

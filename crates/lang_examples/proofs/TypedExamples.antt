@@ -27,10 +27,10 @@ use Rattle.da_lang.specs.declared.ty.Ty.TheVariants as ty
 use Rattle.da_lang.specs.Shaped.{well_typed}
 use Rattle.da_lang.specs.Types.{most_levels}
 use Rattle.da_lang.specs.Typing.{item_breaks, breaks_in, type_breaks, type_fault, filled, filled_slots, IsTyped}
-use Rattle.da_lang.proofs.examples.ResolutionExamples.{at, ping, ping_tree}
+use Rattle.lang_examples.proofs.ResolutionExamples.{at, ping, ping_tree}
 use Rattle.da_lang.proofs.typing.ShapedAt.{finding_processes, is_declared-of}
 use Rattle.da_lang.proofs.typing.TypesAt.{belonging}
-use Rattle.da_lang.proofs.examples.TypingExamples.{judging, filled_ping_keeps}
+use Rattle.lang_examples.proofs.TypingExamples.{judging, filled_ping_keeps}
 
 -- PING with the types of all its slots
 abbrev typed_ping : Program

@@ -31,7 +31,7 @@ use Rattle.da_lang.specs.QueryTypes.{Known, flat, cond_holds}
 use Rattle.da_lang.specs.Typing.{Slots, message_tag, text_part, item_breaks, breaks_in, type_breaks, filled, filled_slots}
 use Rattle.da_lang.proofs.typing.ExprTypesAt.{typing_exprs}
 use Rattle.da_lang.proofs.typing.QueryTypesAt.{typing_terms, typing_patterns, typing_conds}
-use Rattle.da_lang.proofs.examples.ResolutionExamples.{at, ping, ping_tree, ping_class}
+use Rattle.lang_examples.proofs.ResolutionExamples.{at, ping, ping_tree, ping_class}
 use Rattle.da_lang.proofs.typing.TypesAt.{same_types, ordering, levelling, levels-Set}
 use Rattle.da_lang.proofs.typing.TypingAt.{flowing, breaking}
 

@@ -41,7 +41,7 @@ use Rattle.da_lang.specs.ClassParts.{bodies_where, is_handler}
 use Rattle.da_lang.specs.ExprMeaning.{Meaning, InSlot, Tables}
 use Rattle.da_lang.specs.Resolution.{handlers, resolved_class}
 use Rattle.da_lang.proofs.Computing.{resolving}
-use Rattle.da_lang.proofs.examples.ResolutionExamples.{at}
+use Rattle.lang_examples.proofs.ResolutionExamples.{at}
 
 -- 1 class P extends process:
 -- 2     receive ('m', k, _) from w:

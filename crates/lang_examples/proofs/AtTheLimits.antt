@@ -43,7 +43,7 @@ use Rattle.da_lang.proofs.MeantAt.{meaning}
 use Rattle.da_lang.proofs.StatingAt.{stating-Call, stating-Pass, stating-While}
 use Rattle.da_lang.proofs.typing.TypesAt.{type_width-Int}
 use Rattle.da_lang.proofs.WritingAt.{writing-Int, writing-Tuple, written}
-use Rattle.da_lang.proofs.examples.NameExamples.{tree_of, run}
+use Rattle.lang_examples.proofs.NameExamples.{tree_of, run}
 
 -- a class on line 1 with these members and `run`, and what it becomes with these statements
 abbrev class_of : List Stmt → ClassTree
