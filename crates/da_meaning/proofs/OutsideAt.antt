@@ -11,13 +11,15 @@ use Rattle.da_lang.specs.declared.query.Query.{Query}
 use Rattle.da_lang.specs.declared.query.Query.TheVariants as qu
 use Rattle.da_lang.specs.declared.tree.ChainTree.{ChainTree, out-ChainTree}
 use Rattle.da_lang.specs.declared.tree.CmpOp.{CmpOp}
-use Rattle.da_lang.specs.declared.tree.Expr.{Expr}
+use Rattle.da_lang.specs.declared.tree.Expr.{Expr, out-Expr, roll-Expr, roll-out-Expr}
+use Rattle.da_lang.specs.declared.tree.Expr.TheOpen.{Expr-F}
 use Rattle.da_lang.specs.declared.tree.Expr.TheVariants as ex
 use Rattle.da_lang.specs.declared.tree.GenTree.{GenTree}
 use Rattle.da_lang.specs.ExprMeaning.{Meaning, Meant, Tables, agg_of, all_outside, ask, behind, chain_outside, cond_behind, generator, gens_in, list_outside, meant, name_outside, one_outside, signed_of, signed_outside, two_outside}
 use Rattle.da_lang.specs.Scopes.{Scope, look}
 use Rattle.da_lang.proofs.MeantAt.{meant-Quant, meant-Or, meant-And, meant-Not, meant-Cmp, meant-Member, meant-Chain, meant-Int, meant-Text, meant-Truth, meant-Me, meant-Name, meant-Clock, meant-Range, meant-Tuple, meant-SetOf, meant-Comp, meant-Count, meant-Sum, meant-Min, meant-Max}
-use Rattle.da_meaning.proofs.CondsAt.{signed_is}
+use Rattle.da_meaning.specs.Alone.{IsAlone}
+use Rattle.da_meaning.proofs.CondsAt.{Layer, NoQuant, NoInt, NoText, NoTruth, NoMe, NoName, NoClock, NoComp, NoCount, NoSum, NoMin, NoMax, signed_is}
 use Rattle.da_lang.proofs.Taken.{taken}
 
 pub outside-Quant : (each : Bool) (gens : List GenTree) (cond : Option Expr) (scope : Scope Meaning) (tables : Tables) → ◌≡◌ {A = RExpr × Tables} ((meant (ex.Quant each gens cond)).outside scope tables) (ask (λ (s : Scope Meaning). qu.Quant each (gens_in (map generator gens) s) (cond_behind (map generator gens) (option_map meant cond) s)) scope tables)
@@ -83,7 +85,9 @@ outside-Min x y scope tables = ap (λ (m : Meant). m.outside scope tables) (mean
 pub outside-Max : (x y : Expr) (scope : Scope Meaning) (tables : Tables) → ◌≡◌ {A = RExpr × Tables} ((meant (ex.Max x y)).outside scope tables) (ask (λ (s : Scope Meaning). qu.Agg (agg_of agg.Max ((meant x).range s) (Some ((meant y).term s)))) scope tables)
 outside-Max x y scope tables = ap (λ (m : Meant). m.outside scope tables) (meant-Max x y)
 
-pub ruleset outsides_at = (outside-Quant, outside-Or, outside-And, outside-Not, outside-Cmp, outside-Member, outside-Chain, outside-Int, outside-Text, outside-Truth, outside-Me, outside-Name, outside-Clock, outside-Range, outside-Tuple, outside-SetOf, outside-Comp, outside-Count, outside-Sum, outside-Min, outside-Max)
+pub ruleset outsides_at = (outside-Or, outside-And, outside-Not, outside-Cmp, outside-Member, outside-Chain, outside-Range, outside-Tuple, outside-SetOf)
+
+pub ruleset alone_at = (outside-Quant, outside-Int, outside-Text, outside-Truth, outside-Me, outside-Name, outside-Clock, outside-Comp, outside-Count, outside-Sum, outside-Min, outside-Max)
 
 -- one expression behind others: the values, and the tables
 pub values_more : (xs : List Expr) (x : Expr) (scope : Scope Meaning) (tables : Tables)
@@ -156,15 +160,41 @@ quant_query each gens cond scope = qu.Quant each (gens_in (map generator gens) s
 abbrev comp_query : Expr → List GenTree → Option Expr → Scope Meaning → Query
 comp_query y gens cond scope = qu.Comp ((meant y).term (behind (map generator gens) scope)) (gens_in (map generator gens) scope) (cond_behind (map generator gens) (option_map meant cond) scope)
 
-pub asked_quant : {E : Type 0} (r : Result RExpr E) (x : Expr) (each : Bool) (gens slice : List GenTree) (cond : Option Expr) (scope : Scope Meaning) (before after : Tables) (query : Query)
-    → x ≡ ex.Quant each gens cond → slice ≡ gens → query ≡ quant_query each slice cond scope → OnOk r (after ≡ with_query before query) → OnOk r (after ≡ ((meant x).outside scope before).1)
-asked_quant (Ok v) x each gens slice cond scope before after query is listed made told =
-    told ∙ ap (with_query before) (made ∙ ap (λ hs. quant_query each hs cond scope) listed) ∙ sym (ap (λ (y : Expr). ((meant y).outside scope before).1) is ∙ ap (λ (p : RExpr × Tables). p.1) (outside-Quant each gens cond scope before))
-asked_quant (Err e) x each gens slice cond scope before after query is listed made told = told
+pub asked_quant : {E : Type 0} (r : Result RExpr E) (x : Expr) (each : Bool) (gens : List GenTree) (cond : Option Expr) (scope : Scope Meaning) (before after : Tables) (query : Query)
+    → x ≡ ex.Quant each gens cond → query ≡ quant_query each gens cond scope → OnOk r (after ≡ with_query before query) → OnOk r (after ≡ ((meant x).outside scope before).1)
+asked_quant (Ok v) x each gens cond scope before after query is made told =
+    told ∙ ap (with_query before) made ∙ sym (ap (λ (y : Expr). ((meant y).outside scope before).1) is ∙ ap (λ (p : RExpr × Tables). p.1) (outside-Quant each gens cond scope before))
+asked_quant (Err e) x each gens cond scope before after query is made told = told
 
-pub asked_comp : {E : Type 0} (r : Result RExpr E) (x y z : Expr) (gens slice : List GenTree) (cond : Option Expr) (scope : Scope Meaning) (before after : Tables) (query : Query)
-    → x ≡ ex.Comp y gens cond → z ≡ y → slice ≡ gens → query ≡ comp_query z slice cond scope → OnOk r (after ≡ with_query before query) → OnOk r (after ≡ ((meant x).outside scope before).1)
-asked_comp (Ok v) x y z gens slice cond scope before after query is same listed made told =
-    told ∙ ap (with_query before) (made ∙ ap (λ w. comp_query w slice cond scope) same ∙ ap (λ hs. comp_query y hs cond scope) listed)
-    ∙ sym (ap (λ (w : Expr). ((meant w).outside scope before).1) is ∙ ap (λ (p : RExpr × Tables). p.1) (outside-Comp y gens cond scope before))
-asked_comp (Err e) x y z gens slice cond scope before after query is same listed made told = told
+pub asked_comp : {E : Type 0} (r : Result RExpr E) (x y : Expr) (gens : List GenTree) (cond : Option Expr) (scope : Scope Meaning) (before after : Tables) (query : Query)
+    → x ≡ ex.Comp y gens cond → query ≡ comp_query y gens cond scope → OnOk r (after ≡ with_query before query) → OnOk r (after ≡ ((meant x).outside scope before).1)
+asked_comp (Ok v) x y gens cond scope before after query is made told =
+    told ∙ ap (with_query before) made ∙ sym (ap (λ (w : Expr). ((meant w).outside scope before).1) is ∙ ap (λ (p : RExpr × Tables). p.1) (outside-Comp y gens cond scope before))
+asked_comp (Err e) x y gens cond scope before after query is made told = told
+
+-- no form is left
+nothing : (x : Expr) (f : Layer) → x ≡ roll-Expr f → IsAlone x → NoQuant x → NoInt x → NoText x → NoTruth x → NoMe x → NoName x → NoClock x → NoComp x → NoCount x → NoSum x → NoMin x → NoMax x → ⊥
+nothing x (Expr-F.Quant each gens cond) is a q i t b m n k c o s l g = q each gens cond (is ∙ ex.rolls-Quant each gens cond)
+nothing x (Expr-F.Or xs) is a q i t b m n k c o s l g = a.no_or xs (is ∙ ex.rolls-Or xs)
+nothing x (Expr-F.And xs) is a q i t b m n k c o s l g = a.no_and xs (is ∙ ex.rolls-And xs)
+nothing x (Expr-F.Not y) is a q i t b m n k c o s l g = a.no_not y (is ∙ ex.rolls-Not y)
+nothing x (Expr-F.Cmp op y z) is a q i t b m n k c o s l g = a.no_cmp op y z (is ∙ ex.rolls-Cmp op y z)
+nothing x (Expr-F.Member y z) is a q i t b m n k c o s l g = a.no_member y z (is ∙ ex.rolls-Member y z)
+nothing x (Expr-F.Chain y more) is a q i t b m n k c o s l g = a.no_chain y more (is ∙ ex.rolls-Chain y more)
+nothing x (Expr-F.«Expr::Int» number) is a q i t b m n k c o s l g = i number (is ∙ ex.rolls-Int number)
+nothing x (Expr-F.«Expr::Text» bytes) is a q i t b m n k c o s l g = t bytes (is ∙ ex.rolls-Text bytes)
+nothing x (Expr-F.«Expr::Truth» truth) is a q i t b m n k c o s l g = b truth (is ∙ ex.rolls-Truth truth)
+nothing x Expr-F.«Expr::Me» is a q i t b m n k c o s l g = m (is ∙ ex.rolls-Me)
+nothing x (Expr-F.«Expr::Name» name) is a q i t b m n k c o s l g = n name (is ∙ ex.rolls-Name name)
+nothing x Expr-F.Clock is a q i t b m n k c o s l g = k (is ∙ ex.rolls-Clock)
+nothing x (Expr-F.Range y z) is a q i t b m n k c o s l g = a.no_range y z (is ∙ ex.rolls-Range y z)
+nothing x (Expr-F.«Expr::Tuple» xs) is a q i t b m n k c o s l g = a.no_tuple xs (is ∙ ex.rolls-Tuple xs)
+nothing x (Expr-F.SetOf xs) is a q i t b m n k c o s l g = a.no_set xs (is ∙ ex.rolls-SetOf xs)
+nothing x (Expr-F.Comp y gens cond) is a q i t b m n k c o s l g = c y gens cond (is ∙ ex.rolls-Comp y gens cond)
+nothing x (Expr-F.Count y) is a q i t b m n k c o s l g = o y (is ∙ ex.rolls-Count y)
+nothing x (Expr-F.Sum y) is a q i t b m n k c o s l g = s y (is ∙ ex.rolls-Sum y)
+nothing x (Expr-F.Min y z) is a q i t b m n k c o s l g = l y z (is ∙ ex.rolls-Min y z)
+nothing x (Expr-F.Max y z) is a q i t b m n k c o s l g = g y z (is ∙ ex.rolls-Max y z)
+
+pub nothing_left : (x : Expr) → IsAlone x → NoQuant x → NoInt x → NoText x → NoTruth x → NoMe x → NoName x → NoClock x → NoComp x → NoCount x → NoSum x → NoMin x → NoMax x → ⊥
+nothing_left x a q i t b m n k c o s l g = nothing x (out-Expr x) (sym (roll-out-Expr x)) a q i t b m n k c o s l g

@@ -1,3 +1,4 @@
+pub mod Alone
 pub mod MeaningView
 pub mod ScopeIndex
 pub mod SlotScope

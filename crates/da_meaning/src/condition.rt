@@ -1,11 +1,16 @@
 //! Conditions of queries, the sides of their comparisons, and aggregates.
-ghost use Rattle.da_lang.specs.ExprMeaning.{Meant, agg_of, is_minus, is_sum, meant, signed_of, signed_operand};
+ghost use Rattle.da_lang.specs.declared.query.Cond.TheVariants as co;
+ghost use Rattle.da_lang.specs.declared.query.Operand.TheVariants as od;
+ghost use Rattle.da_lang.specs.declared.query.Term.TheVariants.{Foreign};
 ghost use Rattle.da_lang.specs.declared.tree.ChainTree.{out-ChainTree};
+ghost use Rattle.da_lang.specs.ExprMeaning.{Meant, agg_of, behind, cond_behind, elements, generator, gens_in, is_minus, is_sum, meant, signed_of, signed_operand};
+ghost use Rattle.da_lang.specs.Scopes.{look};
+ghost use Rattle.da_meaning.specs.MeaningView.{range_of};
 ghost use Rattle.std.specs.List.{list_all};
-ghost use Rattle.std.specs.Option.{option_copied, option_map};
-ghost use Rattle.std.specs.Prelude.{◌≡◌, IfOk, map};
+ghost use Rattle.std.specs.Option.{option_map};
+ghost use Rattle.std.specs.Prelude.{◌≡◌, [], IfOk, map};
 
-use crate::generator::{generators, slot_source};
+use crate::generator::{opened, slot_source};
 use crate::scope::Scope;
 use crate::term::term;
 use da_lang::{
@@ -15,22 +20,16 @@ use da_lang::{
 use da_values::{Boxed, List, NoMemory};
 use std::alloc::Global;
 
-/// An expression as a condition.
+// An expression as a condition.
 #[cycle(conditions)]
 #[tactic(auto, using(crate::proofs::CondsAt::conditions_at))]
-pub fn condition<'t>(alloc: Global, x: &'t Expr, scope: &Scope<'t>) -> Result<Cond, NoMemory>
+fn condition<'t>(alloc: Global, x: &'t Expr, scope: &Scope<'t>) -> Result<Cond, NoMemory>
     ensures { IfOk result (λ found. found ≡ (meant x.now).condition scope.now) }
 {
     match x {
         Expr::Quant { each, gens, cond } => {
-            let mut inner = scope.copy(alloc)?;
-            let gens = generators(alloc, gens.as_slice(), &mut inner)?;
-            let cond = guard(alloc, cond, &inner)?;
-            Ok(Cond::Quant {
-                each: *each,
-                gens,
-                cond,
-            })
+            let rows = guarded(alloc, cond, gens, scope)?;
+            Ok(quantified(*each, rows))
         }
         Expr::Or(xs) => Ok(Cond::Or(conditions(alloc, xs.as_slice(), scope)?)),
         Expr::And(xs) => Ok(Cond::And(conditions(alloc, xs.as_slice(), scope)?)),
@@ -40,22 +39,7 @@ pub fn condition<'t>(alloc: Global, x: &'t Expr, scope: &Scope<'t>) -> Result<Co
             let right = boxed_operand(alloc, right.get(), scope)?;
             Ok(Cond::Cmp(*op, left, right))
         }
-        Expr::Member(_, _)
-        | Expr::Chain(_, _)
-        | Expr::Int(_)
-        | Expr::Text(_)
-        | Expr::Truth(_)
-        | Expr::Me
-        | Expr::Name(_)
-        | Expr::Clock
-        | Expr::Range(_, _)
-        | Expr::Tuple(_)
-        | Expr::SetOf(_)
-        | Expr::Comp { .. }
-        | Expr::Count(_)
-        | Expr::Sum(_)
-        | Expr::Min(_, _)
-        | Expr::Max(_, _) => Ok(Cond::Truth(term(alloc, x, scope)?)),
+        _ => truth(alloc, x, scope),
     }
 }
 
@@ -83,9 +67,56 @@ fn conditions<'t>(alloc: Global, xs: &'t [Expr], scope: &Scope<'t>) -> Result<Li
     Ok(found)
 }
 
-/// The condition behind the generators of a query, where there is one.
+// A term that is a truth value, as a condition.
+fn truth(alloc: Global, x: &Expr, scope: &Scope<'_>) -> Result<Cond, NoMemory>
+    ensures { IfOk result (λ found. found ≡ co.Truth ((meant x.now).term scope.now)) }
+{
+    Ok(Cond::Truth(term(alloc, x, scope)?))
+}
+
+// `some` or `each` as a condition.
+fn quantified(each: bool, rows: QueryRows<'_>) -> Cond
+    ensures { result ≡ co.Quant each rows.entry.gens rows.entry.cond }
+{
+    Cond::Quant {
+        each,
+        gens: rows.gens,
+        cond: rows.cond,
+    }
+}
+
+/// The generators of a query with the condition behind them, and the names in scope there.
+#[derive(Debug, Drop)]
+pub struct QueryRows<'t> {
+    pub gens: List<RGen>,
+    pub cond: Option<Boxed<Cond>>,
+    pub inner: Scope<'t>,
+}
+
+/// The generators of a query and the condition behind them, where there is one.
 #[cycle(conditions)]
-pub fn guard<'t>(
+pub fn guarded<'t>(
+    alloc: Global,
+    cond: &'t Option<Boxed<Expr>>,
+    gens: &'t List<GenTree>,
+    scope: &Scope<'t>,
+) -> Result<QueryRows<'t>, NoMemory>
+    ensures gens { IfOk result (λ rows. rows.gens ≡ gens_in (map generator gens.now) scope.now) }
+    ensures cond { IfOk result (λ rows. rows.cond ≡ cond_behind (map generator gens.now) (option_map meant cond.now) scope.now) }
+    ensures inner { IfOk result (λ rows. rows.inner ≡ behind (map generator gens.now) scope.now) }
+{
+    let opened = opened(alloc, gens, scope)?;
+    let cond = guard(alloc, cond, &opened.inner)?;
+    Ok(QueryRows {
+        gens: opened.gens,
+        cond,
+        inner: opened.inner,
+    })
+}
+
+// A condition, where there is one.
+#[cycle(conditions)]
+fn guard<'t>(
     alloc: Global,
     cond: &'t Option<Boxed<Expr>>,
     scope: &Scope<'t>,
@@ -112,38 +143,23 @@ fn operand<'t>(alloc: Global, x: &'t Expr, scope: &Scope<'t>) -> Result<Operand,
             let first = boxed_operand(alloc, first.get(), scope)?;
             Ok(Operand::Chain(first, signed_operands(alloc, links.as_slice(), scope)?))
         }
-        Expr::Count(x) => Ok(Operand::Agg(aggregate(alloc, AggOp::Count, x.get(), None, scope)?)),
-        Expr::Sum(x) => Ok(Operand::Agg(aggregate(alloc, AggOp::Sum, x.get(), None, scope)?)),
-        Expr::Min(x, other) => Ok(Operand::Agg(aggregate(
-            alloc,
-            AggOp::Min,
-            x.get(),
-            Some(term(alloc, other.get(), scope)?),
-            scope,
-        )?)),
-        Expr::Max(x, other) => Ok(Operand::Agg(aggregate(
-            alloc,
-            AggOp::Max,
-            x.get(),
-            Some(term(alloc, other.get(), scope)?),
-            scope,
-        )?)),
-        Expr::Quant { .. }
-        | Expr::Or(_)
-        | Expr::And(_)
-        | Expr::Not(_)
-        | Expr::Cmp(_, _, _)
-        | Expr::Member(_, _)
-        | Expr::Int(_)
-        | Expr::Text(_)
-        | Expr::Truth(_)
-        | Expr::Me
-        | Expr::Name(_)
-        | Expr::Clock
-        | Expr::Range(_, _)
-        | Expr::Tuple(_)
-        | Expr::SetOf(_)
-        | Expr::Comp { .. } => Ok(Operand::Term(term(alloc, x, scope)?)),
+        Expr::Count(x) => {
+            let rows = range(alloc, x.get(), scope)?;
+            aggregated(alloc, AggOp::Count, rows)
+        }
+        Expr::Sum(x) => {
+            let rows = range(alloc, x.get(), scope)?;
+            aggregated(alloc, AggOp::Sum, rows)
+        }
+        Expr::Min(x, other) => {
+            let rows = range(alloc, x.get(), scope)?;
+            aggregated_with(alloc, AggOp::Min, rows, other.get(), scope)
+        }
+        Expr::Max(x, other) => {
+            let rows = range(alloc, x.get(), scope)?;
+            aggregated_with(alloc, AggOp::Max, rows, other.get(), scope)
+        }
+        _ => sided(alloc, x, scope),
     }
 }
 
@@ -157,6 +173,13 @@ fn boxed_operand<'t>(
     ensures { IfOk result (λ found. found ≡ (meant x.now).operand scope.now) }
 {
     Boxed::new(alloc, operand(alloc, x, scope)?)
+}
+
+// A term as a side of a comparison.
+fn sided(alloc: Global, x: &Expr, scope: &Scope<'_>) -> Result<Operand, NoMemory>
+    ensures { IfOk result (λ found. found ≡ od.Term ((meant x.now).term scope.now)) }
+{
+    Ok(Operand::Term(term(alloc, x, scope)?))
 }
 
 // Whether each sign is `+` or `-`.
@@ -212,45 +235,59 @@ fn signed_operands<'t>(
     Ok(found)
 }
 
-// What an aggregate goes over: generators, a condition, and a term.
+/// What an aggregate goes over: generators, a condition, and a term.
 #[derive(Debug, Drop)]
-struct Rows {
-    gens: List<RGen>,
-    cond: Option<Boxed<Cond>>,
-    term: Term,
+pub struct Rows {
+    pub gens: List<RGen>,
+    pub cond: Option<Boxed<Cond>>,
+    pub term: Term,
 }
 
-/// An aggregate over its argument, with the term of its other value.
-#[cycle(conditions)]
-pub fn aggregate<'t>(
+/// An aggregate over these rows.
+pub fn aggregate(
     alloc: Global,
     op: AggOp,
-    x: &'t Expr,
+    rows: Rows,
     other: Option<Term>,
-    scope: &Scope<'t>,
 ) -> Result<Boxed<Agg>, NoMemory>
-    ensures { IfOk result (λ found. found ≡ agg_of op ((meant x.now).range scope.now) other) }
+    ensures { IfOk result (λ found. found ≡ agg_of op (range_of rows) other) }
 {
-    let rows = range(alloc, x, scope)?;
-    Boxed::new(
-        alloc,
-        Agg {
-            op,
-            gens: rows.gens,
-            cond: rows.cond,
-            term: rows.term,
-            other,
-        },
-    )
+    let agg = Agg {
+        op,
+        gens: rows.gens,
+        cond: rows.cond,
+        term: rows.term,
+        other,
+    };
+    Boxed::new(alloc, agg)
 }
 
-// An expression as the argument of an aggregate.
+// An aggregate over these rows as a side of a comparison.
+fn aggregated(alloc: Global, op: AggOp, rows: Rows) -> Result<Operand, NoMemory>
+    ensures { IfOk result (λ found. found ≡ od.Agg (agg_of op (range_of rows) None)) }
+{
+    Ok(Operand::Agg(aggregate(alloc, op, rows, None)?))
+}
+
+// The same with the term of its other value.
+fn aggregated_with(
+    alloc: Global,
+    op: AggOp,
+    rows: Rows,
+    other: &Expr,
+    scope: &Scope<'_>,
+) -> Result<Operand, NoMemory>
+    ensures { IfOk result (λ found. found ≡ od.Agg (agg_of op (range_of rows) (Some ((meant other.now).term scope.now)))) }
+{
+    let other = term(alloc, other, scope)?;
+    Ok(Operand::Agg(aggregate(alloc, op, rows, Some(other))?))
+}
+
+/// An expression as the argument of an aggregate.
 #[cycle(conditions)]
 #[tactic(auto, using(crate::proofs::CondsAt::ranges_at))]
-fn range<'t>(alloc: Global, x: &'t Expr, scope: &Scope<'t>) -> Result<Rows, NoMemory>
-    ensures gens { IfOk result (λ rows. rows.gens ≡ ((meant x.now).range scope.now).gens) }
-    ensures cond { IfOk result (λ rows. rows.cond ≡ ((meant x.now).range scope.now).cond) }
-    ensures term { IfOk result (λ rows. rows.term ≡ ((meant x.now).range scope.now).term) }
+pub fn range<'t>(alloc: Global, x: &'t Expr, scope: &Scope<'t>) -> Result<Rows, NoMemory>
+    ensures { IfOk result (λ rows. range_of rows ≡ (meant x.now).range scope.now) }
 {
     match x {
         Expr::Comp {
@@ -258,48 +295,51 @@ fn range<'t>(alloc: Global, x: &'t Expr, scope: &Scope<'t>) -> Result<Rows, NoMe
             gens,
             cond,
         } => {
-            let mut inner = scope.copy(alloc)?;
-            let gens = generators(alloc, gens.as_slice(), &mut inner)?;
-            let cond = guard(alloc, cond, &inner)?;
-            let term = term(alloc, x.get(), &inner)?;
-            Ok(Rows { gens, cond, term })
+            let rows = guarded(alloc, cond, gens, scope)?;
+            with_term(alloc, x.get(), rows)
         }
-        Expr::Name(name) => {
-            let mut gens = List::new(alloc);
-            gens.push(RGen {
-                source: slot_source(scope.look(name.as_slice())),
-                message: Pattern::Bind,
-                peer: Pattern::Any,
-            })?;
-            let term = Term::Part(scope.next_part()?);
-            Ok(Rows {
-                gens,
-                cond: None,
-                term,
-            })
-        }
-        Expr::Quant { .. }
-        | Expr::Or(_)
-        | Expr::And(_)
-        | Expr::Not(_)
-        | Expr::Cmp(_, _, _)
-        | Expr::Member(_, _)
-        | Expr::Chain(_, _)
-        | Expr::Int(_)
-        | Expr::Text(_)
-        | Expr::Truth(_)
-        | Expr::Me
-        | Expr::Clock
-        | Expr::Range(_, _)
-        | Expr::Tuple(_)
-        | Expr::SetOf(_)
-        | Expr::Count(_)
-        | Expr::Sum(_)
-        | Expr::Min(_, _)
-        | Expr::Max(_, _) => Ok(Rows {
-            gens: List::new(alloc),
-            cond: None,
-            term: Term::Foreign,
-        }),
+        Expr::Name(name) => elements(alloc, name.as_slice(), scope),
+        _ => Ok(no_rows(alloc)),
+    }
+}
+
+/// The rows of a query with the term of each.
+pub fn with_term(alloc: Global, x: &Expr, rows: QueryRows<'_>) -> Result<Rows, NoMemory>
+    ensures { IfOk result (λ found. range_of found ≡ record { gens = rows.entry.gens; cond = rows.entry.cond; term = (meant x.now).term rows.entry.inner }) }
+{
+    let term = term(alloc, x, &rows.inner)?;
+    Ok(Rows {
+        gens: rows.gens,
+        cond: rows.cond,
+        term,
+    })
+}
+
+// The elements of a slot.
+fn elements(alloc: Global, name: &[u8], scope: &Scope<'_>) -> Result<Rows, NoMemory>
+    ensures { IfOk result (λ rows. range_of rows ≡ elements (look scope.now name.now) scope.now) }
+{
+    let mut gens = List::new(alloc);
+    gens.push(RGen {
+        source: slot_source(scope.look(name)),
+        message: Pattern::Bind,
+        peer: Pattern::Any,
+    })?;
+    let term = Term::Part(scope.next_part()?);
+    Ok(Rows {
+        gens,
+        cond: None,
+        term,
+    })
+}
+
+// What an expression of no other form goes over: nothing.
+fn no_rows(alloc: Global) -> Rows
+    ensures { range_of result ≡ record { gens = []; cond = None; term = Foreign } }
+{
+    Rows {
+        gens: List::new(alloc),
+        cond: None,
+        term: Term::Foreign,
     }
 }

@@ -1,13 +1,13 @@
 //! Expressions outside queries.
 ghost use Rattle.da_lang.specs.declared.program.RExpr.TheVariants.{Ask};
 ghost use Rattle.da_lang.specs.declared.query.Query.TheVariants as query;
-ghost use Rattle.da_lang.specs.ExprMeaning.{Meant, all_outside, behind, cond_behind, generator, gens_in, meant, name_outside, signed_of, signed_outside};
+ghost use Rattle.da_lang.specs.ExprMeaning.{agg_of, all_outside, behind, cond_behind, generator, gens_in, meant, name_outside, signed_of, signed_outside};
+ghost use Rattle.da_meaning.specs.Alone.{IsAlone};
 ghost use Rattle.da_meaning.specs.MeaningView.{meaning_of};
 ghost use Rattle.std.specs.Option.{option_map};
 ghost use Rattle.std.specs.Prelude.{◌≡◌, [], ◌∷◌, ◌++◌, IfOk, OnOk, length, map, suc};
 
-use crate::condition::{aggregate, guard};
-use crate::generator::generators;
+use crate::condition::{aggregate, guarded, range, with_term};
 use crate::numbers::numbers_of;
 use crate::scope::{Meaning, Scope};
 use crate::tables::Tables;
@@ -30,10 +30,6 @@ pub fn outside<'t>(
     ensures slots { OnOk result (tables.new.slots ≡ tables.old.slots) }
 {
     match x {
-        Expr::Quant { each, gens, cond } => {
-            let query = quantified(alloc, *each, gens.as_slice(), cond, scope)?;
-            ask(query, tables)
-        }
         Expr::Or(xs) => Ok(RExpr::Or(all_outside(alloc, xs.as_slice(), scope, tables)?)),
         Expr::And(xs) => Ok(RExpr::And(all_outside(alloc, xs.as_slice(), scope, tables)?)),
         Expr::Not(x) => Ok(RExpr::Not(boxed_outside(alloc, x.get(), scope, tables)?)),
@@ -52,12 +48,6 @@ pub fn outside<'t>(
             let links = links_outside(alloc, links.as_slice(), scope, tables)?;
             Ok(RExpr::Chain(first, links))
         }
-        Expr::Int(number) => Ok(RExpr::Const(Value::Int(*number))),
-        Expr::Text(text) => Ok(RExpr::Const(Value::Text(text.copy(alloc)?))),
-        Expr::Truth(truth) => Ok(RExpr::Const(Value::Bool(*truth))),
-        Expr::Me => Ok(RExpr::Me),
-        Expr::Name(name) => named(alloc, scope.look(name.as_slice())),
-        Expr::Clock => Ok(RExpr::Clock),
         Expr::Range(first, end) => {
             let first = boxed_outside(alloc, first.get(), scope, tables)?;
             let end = boxed_outside(alloc, end.get(), scope, tables)?;
@@ -65,36 +55,7 @@ pub fn outside<'t>(
         }
         Expr::Tuple(xs) => Ok(RExpr::Tuple(all_outside(alloc, xs.as_slice(), scope, tables)?)),
         Expr::SetOf(xs) => Ok(RExpr::SetOf(all_outside(alloc, xs.as_slice(), scope, tables)?)),
-        Expr::Comp {
-            term: x,
-            gens,
-            cond,
-        } => {
-            let query = comprehended(alloc, x.get(), gens.as_slice(), cond, scope)?;
-            ask(query, tables)
-        }
-        Expr::Count(x) => ask(
-            Query::Agg(aggregate(alloc, AggOp::Count, x.get(), None, scope)?),
-            tables,
-        ),
-        Expr::Sum(x) => ask(
-            Query::Agg(aggregate(alloc, AggOp::Sum, x.get(), None, scope)?),
-            tables,
-        ),
-        Expr::Min(x, other) => {
-            let other = Some(term(alloc, other.get(), scope)?);
-            ask(
-                Query::Agg(aggregate(alloc, AggOp::Min, x.get(), other, scope)?),
-                tables,
-            )
-        }
-        Expr::Max(x, other) => {
-            let other = Some(term(alloc, other.get(), scope)?);
-            ask(
-                Query::Agg(aggregate(alloc, AggOp::Max, x.get(), other, scope)?),
-                tables,
-            )
-        }
+        _ => alone(alloc, x, scope, tables),
     }
 }
 
@@ -155,6 +116,48 @@ fn links_outside<'t>(
     Ok(found)
 }
 
+// An expression with none outside of queries within it.
+#[tactic(auto, using(crate::proofs::OutsideAt::alone_at))]
+fn alone<'t>(
+    alloc: Global,
+    x: &'t Expr,
+    scope: &Scope<'t>,
+    tables: &mut Tables,
+) -> Result<RExpr, NoMemory>
+    requires { IsAlone x.now }
+    ensures value { IfOk result (λ found. found ≡ ((meant x.now).outside scope.now tables.old).0) }
+    ensures tables { OnOk result (tables.new ≡ ((meant x.now).outside scope.now tables.old).1) }
+    ensures slots { OnOk result (tables.new.slots ≡ tables.old.slots) }
+{
+    match x {
+        Expr::Quant { each, gens, cond } => {
+            let query = quantified(alloc, *each, gens, cond, scope)?;
+            ask(query, tables)
+        }
+        Expr::Int(number) => Ok(RExpr::Const(Value::Int(*number))),
+        Expr::Text(text) => Ok(RExpr::Const(Value::Text(text.copy(alloc)?))),
+        Expr::Truth(truth) => Ok(RExpr::Const(Value::Bool(*truth))),
+        Expr::Me => Ok(RExpr::Me),
+        Expr::Name(name) => named(alloc, scope.look(name.as_slice())),
+        Expr::Clock => Ok(RExpr::Clock),
+        Expr::Comp { term, gens, cond } => {
+            let query = comprehended(alloc, term, gens, cond, scope)?;
+            ask(query, tables)
+        }
+        Expr::Count(x) => ask(aggregated(alloc, AggOp::Count, x, scope)?, tables),
+        Expr::Sum(x) => ask(aggregated(alloc, AggOp::Sum, x, scope)?, tables),
+        Expr::Min(x, other) => {
+            let query = aggregated_with(alloc, AggOp::Min, x, other, scope)?;
+            ask(query, tables)
+        }
+        Expr::Max(x, other) => {
+            let query = aggregated_with(alloc, AggOp::Max, x, other, scope)?;
+            ask(query, tables)
+        }
+        _ => unreachable!(),
+    }
+}
+
 // A query gets the next number.
 fn ask(query: Query, tables: &mut Tables) -> Result<RExpr, NoMemory>
     ensures value { IfOk result (λ found. found ≡ Ask (suc (length tables.old.queries))) }
@@ -170,33 +173,63 @@ fn ask(query: Query, tables: &mut Tables) -> Result<RExpr, NoMemory>
 fn quantified<'t>(
     alloc: Global,
     each: bool,
-    gens: &'t [GenTree],
+    gens: &'t List<GenTree>,
     cond: &'t Option<Boxed<Expr>>,
     scope: &Scope<'t>,
 ) -> Result<Query, NoMemory>
     ensures { IfOk result (λ found. found ≡ query.Quant each (gens_in (map generator gens.now) scope.now) (cond_behind (map generator gens.now) (option_map meant cond.now) scope.now)) }
 {
-    let mut inner = scope.copy(alloc)?;
-    let gens = generators(alloc, gens, &mut inner)?;
-    let cond = guard(alloc, cond, &inner)?;
+    let rows = guarded(alloc, cond, gens, scope)?;
+    let gens = rows.gens;
+    let cond = rows.cond;
     Ok(Query::Quant { each, gens, cond })
 }
 
 // A comprehension as a query.
 fn comprehended<'t>(
     alloc: Global,
-    x: &'t Expr,
-    gens: &'t [GenTree],
+    x: &'t Boxed<Expr>,
+    gens: &'t List<GenTree>,
     cond: &'t Option<Boxed<Expr>>,
     scope: &Scope<'t>,
 ) -> Result<Query, NoMemory>
     ensures { IfOk result (λ found. found ≡ query.Comp ((meant x.now).term (behind (map generator gens.now) scope.now)) (gens_in (map generator gens.now) scope.now) (cond_behind (map generator gens.now) (option_map meant cond.now) scope.now)) }
 {
-    let mut inner = scope.copy(alloc)?;
-    let gens = generators(alloc, gens, &mut inner)?;
-    let cond = guard(alloc, cond, &inner)?;
-    let term = term(alloc, x, &inner)?;
-    Ok(Query::Comp { term, gens, cond })
+    let rows = guarded(alloc, cond, gens, scope)?;
+    let rows = with_term(alloc, x.get(), rows)?;
+    Ok(Query::Comp {
+        term: rows.term,
+        gens: rows.gens,
+        cond: rows.cond,
+    })
+}
+
+// An aggregate as a query.
+fn aggregated<'t>(
+    alloc: Global,
+    op: AggOp,
+    x: &'t Boxed<Expr>,
+    scope: &Scope<'t>,
+) -> Result<Query, NoMemory>
+    ensures { IfOk result (λ found. found ≡ query.Agg (agg_of op ((meant x.now).range scope.now) None)) }
+{
+    let rows = range(alloc, x.get(), scope)?;
+    Ok(Query::Agg(aggregate(alloc, op, rows, None)?))
+}
+
+// The same with its other value.
+fn aggregated_with<'t>(
+    alloc: Global,
+    op: AggOp,
+    x: &'t Boxed<Expr>,
+    other: &'t Boxed<Expr>,
+    scope: &Scope<'t>,
+) -> Result<Query, NoMemory>
+    ensures { IfOk result (λ found. found ≡ query.Agg (agg_of op ((meant x.now).range scope.now) (Some ((meant other.now).term scope.now)))) }
+{
+    let rows = range(alloc, x.get(), scope)?;
+    let other = term(alloc, other.get(), scope)?;
+    Ok(Query::Agg(aggregate(alloc, op, rows, Some(other))?))
 }
 
 // A name outside queries. Names without a meaning are refused before.

@@ -10,8 +10,29 @@ use da_lang::{GenTree, Pattern, PeerTree, RGen, Source, SourceTree, Term};
 use da_values::{List, NoMemory};
 use std::alloc::Global;
 
-/// Generators, each with the variables of those before it, all of which come into scope.
-pub fn generators<'t>(
+/// Generators, with the names in scope behind them.
+#[derive(Debug, Drop)]
+pub struct Front<'t> {
+    pub gens: List<RGen>,
+    pub inner: Scope<'t>,
+}
+
+/// Generators within this scope, and the scope behind them.
+pub fn opened<'t>(
+    alloc: Global,
+    gens: &'t List<GenTree>,
+    scope: &Scope<'t>,
+) -> Result<Front<'t>, NoMemory>
+    ensures gens { IfOk result (λ opened. opened.gens ≡ gens_in (map generator gens.now) scope.now) }
+    ensures inner { IfOk result (λ opened. opened.inner ≡ behind (map generator gens.now) scope.now) }
+{
+    let mut inner = scope.copy(alloc)?;
+    let gens = generators(alloc, gens.as_slice(), &mut inner)?;
+    Ok(Front { gens, inner })
+}
+
+// Generators, each with the variables of those before it, all of which come into scope.
+fn generators<'t>(
     alloc: Global,
     gens: &'t [GenTree],
     scope: &mut Scope<'t>,

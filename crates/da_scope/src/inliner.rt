@@ -1,15 +1,16 @@
 //! Statements, with the bodies of methods in the place of calls.
-ghost use Rattle.da_lang.specs.BodyMeaning.{Guarded, body_with, bound, calling, copies, each, fresh, guarding, item_at, stating};
-ghost use Rattle.da_lang.specs.ExprNames.{found_names};
+ghost use Rattle.da_lang.specs.declared.program.ItemKind.TheVariants as it;
+ghost use Rattle.da_lang.specs.BodyMeaning.{Guarded, awaits, body_with, calling, copies, each, for_each, guarding, item_at, loop, states, stating};
 ghost use Rattle.da_scope.specs.Inlining.{Copies};
-ghost use Rattle.std.specs.Prelude.{◌≡◌, IfOk, OnOk, length, map};
+ghost use Rattle.std.specs.Prelude.{◌≡◌, IfOk, OnOk, map};
 
-use crate::awaiting::{await_one, awaited, declare_found, found_number, slot_named};
+use crate::awaiting::await_one;
+use crate::heads::{alt_head, branch_head, for_head};
 use crate::home::Home;
-use crate::slots::declare;
-use da_lang::{Alt, Branch, Expr, Item, ItemKind, RBranch, RExpr, Stmt};
+use crate::simple::{add, assign, delete, item, output, send};
+use da_lang::{Alt, Branch, Expr, Item, ItemKind, Name, RBranch, RExpr, Stmt};
 use da_meaning::{Scope, Tables, all_outside, boxed_outside};
-use da_values::{List, NoMemory};
+use da_values::{Boxed, List, NoMemory};
 use std::alloc::Global;
 
 /// What the bodies of a class are resolved with. In a copy of the body of a method, at most so many calls may be within
@@ -20,13 +21,6 @@ pub struct Inliner<'a, 't, F> {
     pub home: &'a Home<'t>,
     pub most: usize,
     pub copy: F,
-}
-
-/// The slots that a condition binds, and the block behind it.
-#[derive(Debug, Drop)]
-struct Bound {
-    binds: List<u16>,
-    body: List<Item>,
 }
 
 impl<
@@ -70,35 +64,19 @@ impl<
     {
         match stmt {
             Stmt::Assign { name, value, line } => {
-                let slot = slot_named(scope, name.as_slice());
-                let value = boxed_outside(self.alloc, value.get(), scope, tables)?;
-                Ok(item(*line, ItemKind::Assign(slot, value)))
+                assign(self.alloc, name, value, *line, scope, tables)
             }
-            Stmt::Add { name, value, line } => {
-                let slot = slot_named(scope, name.as_slice());
-                let value = boxed_outside(self.alloc, value.get(), scope, tables)?;
-                Ok(item(*line, ItemKind::Add(slot, value)))
-            }
-            Stmt::Del { name, value, line } => {
-                let slot = slot_named(scope, name.as_slice());
-                let value = boxed_outside(self.alloc, value.get(), scope, tables)?;
-                Ok(item(*line, ItemKind::Del(slot, value)))
-            }
+            Stmt::Add { name, value, line } => add(self.alloc, name, value, *line, scope, tables),
+            Stmt::Del { name, value, line } => delete(
+                self.alloc, name, value, *line, scope, tables,
+            ),
             Stmt::Send { message, to, line } => {
-                let message = boxed_outside(self.alloc, message.get(), scope, tables)?;
-                let to = boxed_outside(self.alloc, to.get(), scope, tables)?;
-                Ok(item(*line, ItemKind::Send(message, to)))
+                send(self.alloc, message, to, *line, scope, tables)
             }
-            Stmt::Output { value, line } => {
-                let value = boxed_outside(self.alloc, value.get(), scope, tables)?;
-                Ok(item(*line, ItemKind::Output(value)))
-            }
+            Stmt::Output { value, line } => output(self.alloc, value, *line, scope, tables),
             Stmt::Pass { line } => Ok(item(*line, ItemKind::Pass)),
             Stmt::Label { line, .. } => Ok(item(*line, ItemKind::Label)),
-            Stmt::Call { name, args, line } => {
-                let kind = self.call(name.as_slice(), args.as_slice(), scope, tables)?;
-                Ok(item(*line, kind))
-            }
+            Stmt::Call { name, args, line } => { self.call(name, args, *line, scope, tables) }
             Stmt::If {
                 branches,
                 otherwise,
@@ -107,37 +85,99 @@ impl<
                 let branches = self.branches(branches.as_slice(), scope, tables)?;
                 match otherwise {
                     None => Ok(item(*line, ItemKind::If(branches, List::new(self.alloc)))),
-                    Some(stmts) => {
-                        let stmts = self.block(stmts.as_slice(), scope, tables)?;
-                        Ok(item(*line, ItemKind::If(branches, stmts)))
-                    }
+                    Some(stmts) => { self.choice(stmts.as_slice(), branches, *line, scope, tables) }
                 }
             }
             Stmt::While { cond, body, line } => {
-                let cond = boxed_outside(self.alloc, cond.get(), scope, tables)?;
-                let body = self.block(body.as_slice(), scope, tables)?;
-                Ok(item(*line, ItemKind::While(cond, body)))
+                self.repeated(body.as_slice(), cond, *line, scope, tables)
             }
             Stmt::For {
                 name,
                 over,
                 body,
                 line,
-            } => {
-                let over = boxed_outside(self.alloc, over.get(), scope, tables)?;
-                let mut inner = scope.copy(self.alloc)?;
-                let slot = declare(name.as_slice(), None, &mut inner, tables)?;
-                let body = self.block(body.as_slice(), &inner, tables)?;
-                Ok(item(*line, ItemKind::For(slot, over, body)))
-            }
+            } => self.over_each(body.as_slice(), name, over, *line, scope, tables),
             Stmt::AwaitOne { cond, line } => {
                 await_one(self.alloc, cond.get(), *line, scope, tables)
             }
             Stmt::Await { alts, line, .. } => {
-                let alts = self.alternatives(alts.as_slice(), scope, tables)?;
-                Ok(item(*line, ItemKind::Await(alts)))
+                self.awaited(alts.as_slice(), *line, scope, tables)
             }
         }
+    }
+
+    // An `if` with these branches and an `else`.
+    #[cycle(statements)]
+    fn choice(
+        &self,
+        stmts: &'t [Stmt],
+        branches: List<RBranch>,
+        line: u32,
+        scope: &Scope<'t>,
+        tables: &mut Tables,
+    ) -> Result<Item, NoMemory>
+        requires { Copies self.now.home.now.class.now self.now.most (F.pre self.now.copy) (F.post self.now.copy) }
+        ensures item { IfOk result (λ item. item ≡ item_at line (it.If branches (body_with (copies self.now.most self.now.home.now.class.now) stmts.now scope.now tables.old).0)) }
+        ensures tables { OnOk result (tables.new ≡ (body_with (copies self.now.most self.now.home.now.class.now) stmts.now scope.now tables.old).1) }
+    {
+        let stmts = self.block(stmts, scope, tables)?;
+        Ok(item(line, ItemKind::If(branches, stmts)))
+    }
+
+    // A `while`.
+    #[cycle(statements)]
+    fn repeated(
+        &self,
+        body: &'t [Stmt],
+        cond: &'t Boxed<Expr>,
+        line: u32,
+        scope: &Scope<'t>,
+        tables: &mut Tables,
+    ) -> Result<Item, NoMemory>
+        requires { Copies self.now.home.now.class.now self.now.most (F.pre self.now.copy) (F.post self.now.copy) }
+        ensures item { IfOk result (λ item. item ≡ (states line (loop cond.now (map (stating (copies self.now.most self.now.home.now.class.now)) body.now)) scope.now tables.old).item) }
+        ensures tables { OnOk result (tables.new ≡ (states line (loop cond.now (map (stating (copies self.now.most self.now.home.now.class.now)) body.now)) scope.now tables.old).tables) }
+    {
+        let cond = boxed_outside(self.alloc, cond.get(), scope, tables)?;
+        let body = self.block(body, scope, tables)?;
+        Ok(item(line, ItemKind::While(cond, body)))
+    }
+
+    // A `for`.
+    #[cycle(statements)]
+    fn over_each(
+        &self,
+        body: &'t [Stmt],
+        name: &'t Name,
+        over: &'t Boxed<Expr>,
+        line: u32,
+        scope: &Scope<'t>,
+        tables: &mut Tables,
+    ) -> Result<Item, NoMemory>
+        requires { Copies self.now.home.now.class.now self.now.most (F.pre self.now.copy) (F.post self.now.copy) }
+        ensures item { IfOk result (λ item. item ≡ (states line (for_each name.now over.now (map (stating (copies self.now.most self.now.home.now.class.now)) body.now)) scope.now tables.old).item) }
+        ensures tables { OnOk result (tables.new ≡ (states line (for_each name.now over.now (map (stating (copies self.now.most self.now.home.now.class.now)) body.now)) scope.now tables.old).tables) }
+    {
+        let head = for_head(self.alloc, name, over, scope, tables)?;
+        let body = self.block(body, &head.scope, tables)?;
+        Ok(head.with_block(body, line))
+    }
+
+    // An `await` with blocks.
+    #[cycle(statements)]
+    fn awaited(
+        &self,
+        alts: &'t [Branch],
+        line: u32,
+        scope: &Scope<'t>,
+        tables: &mut Tables,
+    ) -> Result<Item, NoMemory>
+        requires { Copies self.now.home.now.class.now self.now.most (F.pre self.now.copy) (F.post self.now.copy) }
+        ensures item { IfOk result (λ item. item ≡ (states line (awaits (map (guarding (copies self.now.most self.now.home.now.class.now)) alts.now)) scope.now tables.old).item) }
+        ensures tables { OnOk result (tables.new ≡ (states line (awaits (map (guarding (copies self.now.most self.now.home.now.class.now)) alts.now)) scope.now tables.old).tables) }
+    {
+        let alts = self.alternatives(alts, scope, tables)?;
+        Ok(item(line, ItemKind::Await(alts)))
     }
 
     // The branches of an `if`.
@@ -172,16 +212,9 @@ impl<
         ensures branch { IfOk result (λ found. found ≡ ((guarding (copies self.now.most self.now.home.now.class.now) branch.now).branch scope.now tables.old).0) }
         ensures tables { OnOk result (tables.new ≡ ((guarding (copies self.now.most self.now.home.now.class.now) branch.now).branch scope.now tables.old).1) }
     {
-        let found = found_number(branch.cond.get(), tables)?;
-        let cond = boxed_outside(self.alloc, branch.cond.get(), scope, tables)?;
-        let bound = self.bound(branch.body.as_slice(), branch.cond.get(), scope, tables)?;
-        Ok(RBranch {
-            cond,
-            found,
-            binds: bound.binds,
-            body: bound.body,
-            line: branch.line,
-        })
+        let head = branch_head(self.alloc, branch.cond.get(), scope, tables)?;
+        let body = self.block(branch.body.as_slice(), &head.scope, tables)?;
+        Ok(head.with_block(body, branch.line))
     }
 
     // The alternatives of an `await`.
@@ -216,58 +249,33 @@ impl<
         ensures alt { IfOk result (λ found. found ≡ ((guarding (copies self.now.most self.now.home.now.class.now) alt.now).alt scope.now tables.old).0) }
         ensures tables { OnOk result (tables.new ≡ ((guarding (copies self.now.most self.now.home.now.class.now) alt.now).alt scope.now tables.old).1) }
     {
-        let found = found_number(alt.cond.get(), tables)?;
-        let cond = awaited(self.alloc, alt.cond.get(), scope, tables)?;
-        let bound = self.bound(alt.body.as_slice(), alt.cond.get(), scope, tables)?;
-        Ok(Alt {
-            cond,
-            found,
-            binds: bound.binds,
-            body: bound.body,
-            line: alt.line,
-        })
-    }
-
-    // The block behind a condition, with the variables that the condition brings in scope.
-    #[cycle(statements)]
-    fn bound(
-        &self,
-        body: &'t [Stmt],
-        x: &'t Expr,
-        scope: &Scope<'t>,
-        tables: &mut Tables,
-    ) -> Result<Bound, NoMemory>
-        requires { Copies self.now.home.now.class.now self.now.most (F.pre self.now.copy) (F.post self.now.copy) }
-        ensures binds { IfOk result (λ bound. bound.binds ≡ fresh tables.old (length (found_names x.now))) }
-        ensures body { IfOk result (λ found. found.body ≡ (bound (found_names x.now) (map (stating (copies self.now.most self.now.home.now.class.now)) body.now) scope.now tables.old).0) }
-        ensures tables { OnOk result (tables.new ≡ (bound (found_names x.now) (map (stating (copies self.now.most self.now.home.now.class.now)) body.now) scope.now tables.old).1) }
-    {
-        let mut inner = scope.copy(self.alloc)?;
-        let binds = declare_found(self.alloc, x, &mut inner, tables)?;
-        let body = self.block(body, &inner, tables)?;
-        Ok(Bound { binds, body })
+        let head = alt_head(self.alloc, alt.cond.get(), scope, tables)?;
+        let body = self.block(alt.body.as_slice(), &head.scope, tables)?;
+        Ok(head.with_block(body, alt.line))
     }
 
     // A call: a copy of the body of the method, with its arguments.
     fn call(
         &self,
-        name: &[u8],
-        args: &'t [Expr],
+        name: &Name,
+        args: &'t List<Expr>,
+        line: u32,
         scope: &Scope<'t>,
         tables: &mut Tables,
-    ) -> Result<ItemKind, NoMemory>
+    ) -> Result<Item, NoMemory>
         requires { Copies self.now.home.now.class.now self.now.most (F.pre self.now.copy) (F.post self.now.copy) }
-        ensures kind { IfOk result (λ kind. kind ≡ (calling (copies self.now.most self.now.home.now.class.now) name.now args.now scope.now tables.old).0) }
-        ensures tables { OnOk result (tables.new ≡ (calling (copies self.now.most self.now.home.now.class.now) name.now args.now scope.now tables.old).1) }
+        ensures item { IfOk result (λ item. item ≡ (states line (calling (copies self.now.most self.now.home.now.class.now) name.now args.now) scope.now tables.old).item) }
+        ensures tables { OnOk result (tables.new ≡ (states line (calling (copies self.now.most self.now.home.now.class.now) name.now args.now) scope.now tables.old).tables) }
     {
-        let args = all_outside(self.alloc, args, scope, tables)?;
-        (self.copy)(self.alloc, self.home, self.most, name, args, tables)
+        let args = all_outside(self.alloc, args.as_slice(), scope, tables)?;
+        let kind = (self.copy)(
+            self.alloc,
+            self.home,
+            self.most,
+            name.as_slice(),
+            args,
+            tables,
+        )?;
+        Ok(item(line, kind))
     }
-}
-
-// A statement of this line.
-fn item(line: u32, kind: ItemKind) -> Item
-    ensures { result ≡ item_at line kind }
-{
-    Item { line, kind }
 }

@@ -1,5 +1,5 @@
 -- The types of expressions, and what they fit, by their forms.
-use Rattle.std.specs.Prelude.{◌≡◌, refl, ℕ, Bool, true, false, ◌&&◌, List, [], ◌∷◌, map, Option, Some, None}
+use Rattle.std.specs.Prelude.{◌≡◌, refl, ℕ, Bool, true, false, ◌&&◌, if◌then◌else◌, List, [], ◌∷◌, map, Option, Some, None}
 use Rattle.std.specs.List.{list_all}
 use Rattle.std.proofs.Common.{◌∙◌, ap, sym}
 use Rattle.std.proofs.lemmas.List.Folds.{list_all-map}
@@ -30,6 +30,11 @@ given_same (Some a) f g same = same a
 holds_same : {A : Type 0} (x : Option A) (f g : A → Bool) → ((a : A) → f a ≡ g a) → holds_of x f ≡ holds_of x g
 holds_same None f g same = refl
 holds_same (Some a) f g same = same a
+
+-- a test of what there may be, under another test
+held_where : {A : Type 0} (b : Bool) (x : Option A) (f : A → Bool) → (b && holds_of x f) ≡ holds_of (if b then x else None) f
+held_where true x f = refl
+held_where false x f = refl
 
 first_of_one : (first : Option Ty) (rest : Option (List Ty)) (ty : Ty) → (is_typed first ty && holds_of rest (list_all (λ other. same_type other ty))) ≡ holds_of (given first (λ one. given rest (λ others. Some (one ∷ others)))) (list_all (λ other. same_type other ty))
 first_of_one None rest ty = refl
@@ -163,14 +168,13 @@ module _ (known : Known) (queries : List Query) where
   pub fit-Chain : (x : RExpr) (more : List ChainPart) (asked : Ty) → (typing known queries (re.Chain x more)).fits asked ≡ is_typed (typing known queries (re.Chain x more)).type_ asked
   fit-Chain x more asked = own _ _ asked (typing-Chain known queries x more)
 
-  pub fit-Tuple : (xs : List RExpr) (asked : Ty) → (typing known queries (re.Tuple xs)).fits asked ≡ (is_flat asked && holds_of (parts_of asked) (parts_fit (map (typing known queries) xs)))
-  fit-Tuple xs asked = ap (λ (e : ExprType). e.fits asked) (typing-Tuple known queries xs)
+  pub fit-Tuple : (xs : List RExpr) (asked : Ty) → (typing known queries (re.Tuple xs)).fits asked ≡ holds_of (if is_flat asked then parts_of asked else None) (parts_fit (map (typing known queries) xs))
+  fit-Tuple xs asked = ap (λ (e : ExprType). e.fits asked) (typing-Tuple known queries xs) ∙ held_where (is_flat asked) (parts_of asked) (parts_fit (map (typing known queries) xs))
 
-  pub fit-SetOf : (xs : List RExpr) (asked : Ty) → (typing known queries (re.SetOf xs)).fits asked ≡ (is_flat asked && holds_of (element_of asked) (λ element. list_all (λ x. (typing known queries x).fits element) xs))
+  pub fit-SetOf : (xs : List RExpr) (asked : Ty) → (typing known queries (re.SetOf xs)).fits asked ≡ holds_of (if is_flat asked then element_of asked else None) (λ element. list_all (λ x. (typing known queries x).fits element) xs)
   fit-SetOf xs asked =
       ap (λ (e : ExprType). e.fits asked) (typing-SetOf known queries xs)
       ∙ ap (λ rest. is_flat asked && rest) (holds_same (element_of asked) _ _ (λ element. list_all-map (λ (e : ExprType). e.fits element) (typing known queries) xs))
-
-pub ruleset type_rules = (type-Const, type-Procs, type-Me, type-Slot, type-Clock, type-Ask, type-Range, type-Or, type-And, type-Not, type-Cmp, type-Member, type-Chain, type-Tuple, type-SetOf)
+      ∙ held_where (is_flat asked) (element_of asked) (λ element. list_all (λ x. (typing known queries x).fits element) xs)
 
 pub ruleset fit_rules = (fit-Const, fit-Procs, fit-Me, fit-Slot, fit-Clock, fit-Ask, fit-Range, fit-Or, fit-And, fit-Not, fit-Cmp, fit-Member, fit-Chain, fit-Tuple, fit-SetOf)

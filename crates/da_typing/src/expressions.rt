@@ -1,13 +1,14 @@
 //! Types of expressions outside queries.
-ghost use Rattle.da_lang.specs.declared.ty.Ty.TheVariants.{Bool, Set};
-ghost use Rattle.da_lang.specs.ExprTypes.{is_for_sets as sets_take, parts_fit as fit_parts, takes as type_takes, truth as truth_of, typing};
-ghost use Rattle.da_lang.specs.QueryTypes.{all_types, flat as flat_where, given, holds_of, is_typed as typed_as, query_type as type_of_query, slot_type as type_of_slot, when};
-ghost use Rattle.da_lang.specs.Types.{element_of as element_in, is_bool as bool_type, is_int as int_type, same_type as same_as};
+ghost use Rattle.da_lang.specs.declared.ty.Ty.TheVariants.{Bool, Int, Set};
+ghost use Rattle.da_lang.specs.ExprTypes.{int, is_for_sets as sets_take, parts_fit as fit_parts, takes as type_takes, truth as truth_of, typing};
+ghost use Rattle.da_lang.specs.QueryTypes.{all_types, flat as flat_where, given, holds_of, is_typed as typed_as, literal_type as type_of_literal, query_type as type_of_query, slot_type as type_of_slot, when};
+ghost use Rattle.da_lang.specs.Types.{element_of as element_in, is_bool as bool_type, is_flat as flat_type, is_int as int_type, parts_of as parts_in, same_type as same_as};
 ghost use Rattle.da_lang.specs.World.{at_number};
 ghost use Rattle.da_typing.specs.Chains.{chain_holds, chained, compared, set_over};
 ghost use Rattle.da_typing.specs.KnownView.{known_of};
 ghost use Rattle.std.specs.List.{list_all};
-ghost use Rattle.std.specs.Prelude.{◌≡◌, ◌&&◌, IfOk, map};
+ghost use Rattle.std.specs.Option.{option_copied};
+ghost use Rattle.std.specs.Prelude.{◌≡◌, ◌&&◌, if◌then◌else◌, IfOk, map};
 
 use crate::known::{Known, member};
 use crate::queries::query_type;
@@ -18,12 +19,11 @@ use crate::types::{
     parts_of, same_type, tuple_of,
 };
 use da_lang::{ArithOp, ChainPart, CmpOp, Query, RExpr, Ty, copy_type};
-use da_values::{Boxed, List, NoMemory};
+use da_values::{Boxed, List, NoMemory, Value};
 use std::alloc::Global;
 
 /// The type of an expression by itself: of at most 32 levels, and none where a rule is broken.
 #[cycle(expressions)]
-#[tactic(auto, using(crate::proofs::ExprForms::type_rules))]
 pub fn expr_type(
     alloc: Global,
     known: &Known<'_>,
@@ -33,16 +33,15 @@ pub fn expr_type(
     ensures { IfOk result (λ found. found ≡ (typing (known_of known.now) queries.now x.now).type_) }
 {
     match x {
-        RExpr::Const(value) => Ok(flat_of(literal_type(value))),
+        RExpr::Const(value) => Ok(const_type(value)),
         RExpr::Procs(_) => set_where(alloc, true, Ty::Proc),
         RExpr::Me => Ok(flat(Ty::Proc)),
         RExpr::Slot(slot) => slot_type(alloc, known, *slot),
         RExpr::Clock => Ok(flat(Ty::Int)),
         RExpr::Ask(query) => asked_type(alloc, known, queries, *query),
         RExpr::Range(first, end) => {
-            let first = expr_type(alloc, known, queries, first.get())?;
-            let end = expr_type(alloc, known, queries, end.get())?;
-            set_where(alloc, is_integer(&first) && is_integer(&end), Ty::Int)
+            let holds = is_integer(expr_type(alloc, known, queries, first.get())?);
+            range_type(alloc, known, queries, holds, end.get())
         }
         RExpr::Tuple(parts) => {
             let types = expr_types(alloc, known, queries, parts.as_slice())?;
@@ -50,30 +49,72 @@ pub fn expr_type(
         }
         RExpr::SetOf(parts) => {
             let types = expr_types(alloc, known, queries, parts.as_slice())?;
-            set_of(alloc, &types)
+            set_of(alloc, types)
         }
-        RExpr::Or(parts) => Ok(truth_where(are_truths(alloc, known, queries, parts.as_slice())?)),
-        RExpr::And(parts) => Ok(truth_where(are_truths(alloc, known, queries, parts.as_slice())?)),
+        RExpr::Or(parts) => truth_of_all(alloc, known, queries, parts.as_slice()),
+        RExpr::And(parts) => truth_of_all(alloc, known, queries, parts.as_slice()),
         RExpr::Not(part) => {
-            let found = expr_type(alloc, known, queries, part.get())?;
-            Ok(truth_where(is_truth_type(&found)))
+            let holds = is_truth_type(expr_type(alloc, known, queries, part.get())?);
+            Ok(truth_where(holds))
         }
         RExpr::Cmp(op, left, right) => {
             let found = expr_type(alloc, known, queries, left.get())?;
-            let holds = compares(alloc, known, queries, *op, &found, right.get())?;
-            Ok(truth_where(holds))
+            comparison_type(alloc, known, queries, *op, &found, right.get())
         }
         RExpr::Member(left, right) => {
-            let element = expr_type(alloc, known, queries, left.get())?;
-            let set = expr_type(alloc, known, queries, right.get())?;
-            Ok(truth_where(is_element(&element, &set)))
+            let found = expr_type(alloc, known, queries, left.get())?;
+            member_type(alloc, known, queries, found, right.get())
         }
         RExpr::Chain(first, more) => {
             let found = expr_type(alloc, known, queries, first.get())?;
-            let holds = are_operands(alloc, known, queries, more.as_slice(), &found)?;
-            Ok(chain_where(holds, found))
+            chain_type(alloc, known, queries, found, more.as_slice())
         }
     }
+}
+
+/// The type of a range whose first bound is an integer, or is not.
+#[cycle(expressions)]
+fn range_type(
+    alloc: Global,
+    known: &Known<'_>,
+    queries: &[Query],
+    first: bool,
+    end: &RExpr,
+) -> Result<Option<Ty>, NoMemory>
+    ensures { IfOk result (λ found. found ≡ given (when (first && int (typing (known_of known.now) queries.now end.now)) (Set Int)) flat_where) }
+{
+    let holds = is_integer(expr_type(alloc, known, queries, end)?);
+    set_where(alloc, first && holds, Ty::Int)
+}
+
+/// The type of a test for an element, where the left side has this type.
+#[cycle(expressions)]
+fn member_type(
+    alloc: Global,
+    known: &Known<'_>,
+    queries: &[Query],
+    found: Option<Ty>,
+    right: &RExpr,
+) -> Result<Option<Ty>, NoMemory>
+    ensures { IfOk result (λ ty. ty ≡ given (when (holds_of (given (typing (known_of known.now) queries.now right.now).type_ element_in) (typed_as found)) Bool) flat_where) }
+{
+    let set = expr_type(alloc, known, queries, right)?;
+    Ok(truth_where(is_element(found, set)))
+}
+
+/// The type of a chain whose first operand has this type.
+#[cycle(expressions)]
+fn chain_type(
+    alloc: Global,
+    known: &Known<'_>,
+    queries: &[Query],
+    found: Option<Ty>,
+    more: &[ChainPart],
+) -> Result<Option<Ty>, NoMemory>
+    ensures { IfOk result (λ ty. ty ≡ chained (holds_of found (λ ty. chain_holds (known_of known.now) queries.now ty more.now)) found) }
+{
+    let holds = are_operands(alloc, known, queries, more, &found)?;
+    Ok(chain_where(holds, found))
 }
 
 /// Whether an expression fits a place that asks for a type.
@@ -89,24 +130,14 @@ pub fn expr_fits(
     ensures { IfOk result (λ holds. holds ≡ (typing (known_of known.now) queries.now x.now).fits asked.now) }
 {
     match x {
-        RExpr::Tuple(parts) => {
-            if !is_flat(asked) {
-                return Ok(false);
-            }
-            match parts_of(asked) {
-                None => Ok(false),
-                Some(types) => parts_fit(alloc, known, queries, parts.as_slice(), types),
-            }
-        }
-        RExpr::SetOf(parts) => {
-            if !is_flat(asked) {
-                return Ok(false);
-            }
-            match element_of(asked) {
-                None => Ok(false),
-                Some(element) => all_fit(alloc, known, queries, parts.as_slice(), element),
-            }
-        }
+        RExpr::Tuple(parts) => match flat_parts(asked) {
+            None => Ok(false),
+            Some(types) => parts_fit(alloc, known, queries, parts.as_slice(), types),
+        },
+        RExpr::SetOf(parts) => match flat_element(asked) {
+            None => Ok(false),
+            Some(element) => all_fit(alloc, known, queries, parts.as_slice(), element),
+        },
         RExpr::Const(_)
         | RExpr::Procs(_)
         | RExpr::Me
@@ -121,7 +152,7 @@ pub fn expr_fits(
         | RExpr::Member(_, _)
         | RExpr::Chain(_, _) => {
             let found = expr_type(alloc, known, queries, x)?;
-            Ok(is_typed(&found, asked))
+            Ok(is_of(found, asked))
         }
     }
 }
@@ -137,7 +168,14 @@ pub fn has_type(
     ensures { IfOk result (λ holds. holds ≡ typed_as (typing (known_of known.now) queries.now x.now).type_ asked.now) }
 {
     let found = expr_type(alloc, known, queries, x)?;
-    Ok(is_typed(&found, asked))
+    Ok(is_of(found, asked))
+}
+
+// The type of a literal.
+fn const_type(value: &Value) -> Option<Ty>
+    ensures { result ≡ given (type_of_literal value.now) flat_where }
+{
+    flat_of(literal_type(value))
 }
 
 // The type of a slot.
@@ -176,6 +214,20 @@ fn set_where(alloc: Global, holds: bool, element: Ty) -> Result<Option<Ty>, NoMe
     }
 }
 
+// The types of the parts of a tuple, where the type has at most 32 levels.
+fn flat_parts(ty: &Ty) -> Option<&[Ty]>
+    ensures { option_copied result ≡ (if flat_type ty.now then parts_in ty.now else None) }
+{
+    if is_flat(ty) { parts_of(ty) } else { None }
+}
+
+// The type of the elements of a set, where the type has at most 32 levels.
+fn flat_element(ty: &Ty) -> Option<&Ty>
+    ensures { option_copied result ≡ (if flat_type ty.now then element_in ty.now else None) }
+{
+    if is_flat(ty) { element_of(ty) } else { None }
+}
+
 // The type of truth values, where a test holds.
 fn truth_where(holds: bool) -> Option<Ty>
     ensures { result ≡ given (when holds Bool) flat_where }
@@ -183,35 +235,42 @@ fn truth_where(holds: bool) -> Option<Ty>
     if holds { flat(Ty::Bool) } else { None }
 }
 
+// Whether there is a type, and it is this one.
+fn is_of(found: Option<Ty>, asked: &Ty) -> bool
+    ensures { result ≡ typed_as found asked.now }
+{
+    is_typed(&found, asked)
+}
+
 // Whether there is a type, and it is `int`.
-fn is_integer(found: &Option<Ty>) -> bool
-    ensures { result ≡ holds_of found.now int_type }
+fn is_integer(found: Option<Ty>) -> bool
+    ensures { result ≡ holds_of found int_type }
 {
     match found {
         None => false,
-        Some(ty) => is_int(ty),
+        Some(ty) => is_int(&ty),
     }
 }
 
 // Whether there is a type, and it is `bool`.
-fn is_truth_type(found: &Option<Ty>) -> bool
-    ensures { result ≡ holds_of found.now bool_type }
+fn is_truth_type(found: Option<Ty>) -> bool
+    ensures { result ≡ holds_of found bool_type }
 {
     match found {
         None => false,
-        Some(ty) => is_bool(ty),
+        Some(ty) => is_bool(&ty),
     }
 }
 
 // Whether a first type is that of the elements of a second.
-fn is_element(element: &Option<Ty>, set: &Option<Ty>) -> bool
-    ensures { result ≡ holds_of (given set.now element_in) (typed_as element.now) }
+fn is_element(element: Option<Ty>, set: Option<Ty>) -> bool
+    ensures { result ≡ holds_of (given set element_in) (typed_as element) }
 {
-    match set {
+    match &set {
         None => false,
         Some(ty) => match element_of(ty) {
             None => false,
-            Some(asked) => is_typed(element, asked),
+            Some(asked) => is_typed(&element, asked),
         },
     }
 }
@@ -226,26 +285,25 @@ pub fn is_truth(
     ensures { IfOk result (λ holds. holds ≡ truth_of (typing (known_of known.now) queries.now x.now)) }
 {
     let found = expr_type(alloc, known, queries, x)?;
-    Ok(is_truth_type(&found))
+    Ok(is_truth_type(found))
 }
 
-/// Whether each of these is a truth value.
+/// The type of truth values, where each of these is one.
 #[cycle(expressions)]
-fn are_truths(
+fn truth_of_all(
     alloc: Global,
     known: &Known<'_>,
     queries: &[Query],
     xs: &[RExpr],
-) -> Result<bool, NoMemory>
-    ensures { IfOk result (λ holds. holds ≡ list_all (λ x. truth_of (typing (known_of known.now) queries.now x)) xs.now) }
+) -> Result<Option<Ty>, NoMemory>
+    ensures { IfOk result (λ found. found ≡ given (when (list_all (λ x. truth_of (typing (known_of known.now) queries.now x)) xs.now) Bool) flat_where) }
 {
     for x in xs {
-        let found = expr_type(alloc, known, queries, x)?;
-        if !is_truth_type(&found) {
-            return Ok(false);
+        if !is_truth_type(expr_type(alloc, known, queries, x)?) {
+            return Ok(None);
         }
     }
-    Ok(true)
+    Ok(truth_where(true))
 }
 
 /// The types of expressions, where each has one.
@@ -269,8 +327,8 @@ fn expr_types(
 }
 
 // The type of the sets with elements of these types, which are all that of the first.
-fn set_of(alloc: Global, types: &Option<List<Ty>>) -> Result<Option<Ty>, NoMemory>
-    ensures { IfOk result (λ found. found ≡ given types.now set_over) }
+fn set_of(alloc: Global, types: Option<List<Ty>>) -> Result<Option<Ty>, NoMemory>
+    ensures { IfOk result (λ found. found ≡ given types set_over) }
 {
     match types {
         None => Ok(None),
@@ -358,27 +416,28 @@ fn all_fit(
     Ok(true)
 }
 
-/// Whether the right side of a comparison keeps the rules, where the left one has this type: that of `==` and `!=` fits
-/// it, of others it is of the same ordered type.
+/// The type of a comparison whose left side has this type: the right side of `==` and `!=` fits it, that of others is of
+/// the same ordered type.
 #[cycle(expressions)]
-fn compares(
+fn comparison_type(
     alloc: Global,
     known: &Known<'_>,
     queries: &[Query],
     op: CmpOp,
     found: &Option<Ty>,
     right: &RExpr,
-) -> Result<bool, NoMemory>
-    ensures { IfOk result (λ holds. holds ≡ compared op found.now (typing (known_of known.now) queries.now right.now)) }
+) -> Result<Option<Ty>, NoMemory>
+    ensures { IfOk result (λ ty. ty ≡ given (when (compared op found.now (typing (known_of known.now) queries.now right.now)) Bool) flat_where) }
 {
     let Some(ty) = found else {
-        return Ok(false);
+        return Ok(None);
     };
     if !asks_order(op) {
-        return expr_fits(alloc, known, queries, right, ty);
+        let holds = expr_fits(alloc, known, queries, right, ty)?;
+        return Ok(truth_where(holds));
     }
     let other = expr_type(alloc, known, queries, right)?;
-    Ok(is_ordered(ty) && is_typed(&other, ty))
+    Ok(truth_where(is_ordered(ty) && is_of(other, ty)))
 }
 
 /// Whether each further operand of a chain is of the type of the first, which its operation takes.
@@ -397,7 +456,7 @@ fn are_operands(
     };
     for part in more {
         let found = expr_type(alloc, known, queries, part.operand.get())?;
-        if !is_further(part.op, &found, ty) {
+        if !is_further(part.op, found, ty) {
             return Ok(false);
         }
     }
@@ -405,10 +464,10 @@ fn are_operands(
 }
 
 // Whether a further operand of a chain has a type that its operation takes.
-fn is_further(op: ArithOp, found: &Option<Ty>, ty: &Ty) -> bool
-    ensures { result ≡ (type_takes op ty.now && typed_as found.now ty.now) }
+fn is_further(op: ArithOp, found: Option<Ty>, ty: &Ty) -> bool
+    ensures { result ≡ (type_takes op ty.now && typed_as found ty.now) }
 {
-    takes(op, ty) && is_typed(found, ty)
+    takes(op, ty) && is_typed(&found, ty)
 }
 
 // Whether an operation of a chain takes a type.

@@ -1,9 +1,10 @@
 -- The equations of texts, as sets of rules, and those of chains by their first link.
-use Rattle.std.proofs.Common.{append_assoc, Result, Ok, Err, OnOk, ◌≡◌, ℕ, List, [], ◌∷◌, length, get_or, flat_map, ◌++◌, ◌<◌, ◌≤◌, ap, sym, ◌∙◌, arith}
+use Rattle.std.proofs.Common.{append_assoc, codes, Result, Ok, Err, OnOk, ◌≡◌, ℕ, List, [], ◌∷◌, length, get_or, flat_map, ◌++◌, ◌<◌, ◌≤◌, ap, sym, ◌∙◌, arith}
 use Rattle.da_lang.specs.declared.tree.ChainTree.{ChainTree, out-ChainTree}
 use Rattle.da_lang.specs.declared.tree.Expr.{Expr}
 use Rattle.da_lang.specs.declared.tree.Expr.TheVariants as ex
-use Rattle.da_unparse.specs.Texts.{holds, held_by, text_at, expr_text, asked_by, link_text}
+use Rattle.da_unparse.specs.Expressions.{either}
+use Rattle.da_unparse.specs.Texts.{holds, held_by, text_at, expr_text, asked_by, link_text, one_argument}
 use Rattle.da_unparse.proofs.StmtTexts as st
 use Rattle.da_unparse.proofs.TextsAt as at
 use Rattle.da_unparse.proofs.TextsOf.{text_at-put_in, text_at-as_is}
@@ -13,6 +14,10 @@ pub seen : {E : Type 0} (r : Result (Unit {0}) E) (old mid new t u : List ℕ) �
 seen (Ok x) old mid new t u wrote same = wrote ∙ same
 seen (Err e) old mid new t u wrote same = wrote
 
+-- what was appended, under its other name
+pub told : {E : Type 0} (r : Result (Unit {0}) E) (old new t u : List ℕ) → OnOk r (new ≡ old ++ t) → t ≡ u → OnOk r (new ≡ old ++ u)
+told r old new t u wrote same = seen r old old new t u wrote (ap (λ v. old ++ v) same)
+
 -- two texts behind one another
 pub two_parts : (old a first second all : List ℕ) → a ≡ old ++ first → all ≡ first ++ second → a ++ second ≡ old ++ all
 two_parts old a first second all one same = ap (λ u. u ++ second) one ∙ append_assoc old first second ∙ ap (λ u. old ++ u) (sym same)
@@ -21,6 +26,10 @@ two_parts old a first second all one same = ap (λ u. u ++ second) one ∙ appen
 pub three_parts : (old a b first second third all : List ℕ) → a ≡ old ++ first → b ≡ a ++ second → all ≡ first ++ second ++ third → b ++ third ≡ old ++ all
 three_parts old a b first second third all one two same =
     ap (λ u. u ++ third) (two ∙ ap (λ u. u ++ second) one ∙ append_assoc old first second) ∙ append_assoc old (first ++ second) third ∙ ap (λ u. old ++ u) (sym same)
+
+-- five texts as three
+pub comp_parts : (a b c d e : List ℕ) → a ++ b ++ c ++ d ++ e ≡ (a ++ (b ++ c)) ++ (d ++ e)
+comp_parts a b c d e = append_assoc (a ++ b ++ c) d e ∙ ap (λ u. u ++ (d ++ e)) (append_assoc a b c)
 
 pub ruleset holds_rules = (at.holds-Quant, at.holds-Or, at.holds-And, at.holds-Not, at.holds-Cmp, at.holds-Member, at.holds-Int, at.holds-Text, at.holds-Truth, at.holds-Me, at.holds-Name, at.holds-Clock, at.holds-Range, at.holds-Tuple, at.holds-SetOf, at.holds-Comp, at.holds-Count, at.holds-Sum, at.holds-Min, at.holds-Max)
 
@@ -34,7 +43,14 @@ holds-first_link x (d ∷ links) c some here = at.holds-Chain x d links ∙ ap (
 
 pub ruleset type_rules = (append_assoc, at.type_text-Int, at.type_text-Bool, at.type_text-Text, at.type_text-Proc, at.type_text-Tuple, at.type_text-Set)
 
-pub ruleset expr_rules = (append_assoc, at.expr_text-Quant, at.expr_text-Or, at.expr_text-And, at.expr_text-Not, at.expr_text-Cmp, at.expr_text-Member, at.expr_text-Int, at.expr_text-Text, at.expr_text-Truth, at.expr_text-Me, at.expr_text-Name, at.expr_text-Clock, at.expr_text-Range, at.expr_text-Tuple, at.expr_text-SetOf, at.expr_text-Comp, at.expr_text-Count, at.expr_text-Sum, at.expr_text-Min, at.expr_text-Max)
+-- calls with one argument, behind the word with its parenthesis
+pub expr_text-count : (x : Expr) → expr_text (ex.Count x) ≡ codes "count(" ++ text_at either x ++ codes ")"
+unfolding one_argument
+expr_text-count x = at.expr_text-Count x
+
+pub expr_text-sum : (x : Expr) → expr_text (ex.Sum x) ≡ codes "sum(" ++ text_at either x ++ codes ")"
+unfolding one_argument
+expr_text-sum x = at.expr_text-Sum x
 
 pub ruleset place_rules = (append_assoc, text_at-put_in, text_at-as_is)
 
@@ -48,10 +64,8 @@ expr_text-first_link x [] c some here = absurd (omega (arith, some))
 expr_text-first_link x (d ∷ links) c some here =
     at.expr_text-Chain x d links ∙ ap (λ l. text_at (asked_by (out-ChainTree l).op) x ++ flat_map (link_text (asked_by (out-ChainTree l).op)) (d ∷ links)) (sym here)
 
-pub ruleset gen_rules = (append_assoc, at.gen_text_of)
-
 pub ruleset peer_rules = (append_assoc, at.peer_text-From, at.peer_text-To)
 
-pub ruleset pattern_rules = (append_assoc, at.pattern_text-Wild, at.pattern_text-Name, at.pattern_text-Int, at.pattern_text-Text, at.pattern_text-Truth, at.pattern_text-Me, at.pattern_text-Equal, at.pattern_text-Tuple)
+pub ruleset pattern_rules = (append_assoc, at.pattern_text-Tuple)
 
 pub ruleset stmt_rules = (append_assoc, st.stmt_text-Assign, st.stmt_text-Add, st.stmt_text-Del, st.stmt_text-Send, st.stmt_text-Output, st.stmt_text-Pass, st.stmt_text-Label, st.stmt_text-Call, st.stmt_text-If, st.stmt_text-While, st.stmt_text-For, st.stmt_text-AwaitOne, st.stmt_text-Await)

@@ -1,5 +1,5 @@
 use Rattle.std.proofs.Common.{◌∙◌}
-use Rattle.da_meaning.proofs.OutsideAt.{asked_quant, asked_comp, values_step, tables_step, links_step, link_tables_step}
+use Rattle.da_meaning.proofs.OutsideAt.{values_step, tables_step, links_step, link_tables_step}
 use Rattle.da_meaning.proofs.expr.+outside.Goals as goal
 
 pub all_outside-loop-x-preserved : goal.all_outside-loop-x-preserved
@@ -16,10 +16,15 @@ links_outside-loop-link-preserved t c = record {
   slots = c.in_ok-operand.ensures.slots ∙ c.loop-link.invariant.slots;
 }
 
-pub outside-returns-in_ok-query-in-Quant-clause-tables : goal.outside-returns-in_ok-query-in-Quant-clause-tables
-outside-returns-in_ok-query-in-Quant-clause-tables t c =
-    asked_quant c.ask.result _ _ _ c.as_slice.result.now _ c.args.scope.now c.args.tables.now c.ask.new.tables _ c.in-Quant.is c.as_slice.ensures c.in_ok-query-in-Quant.ensures c.ask.ensures.tables
-
-pub outside-returns-in_ok-query-in-Comp-clause-tables : goal.outside-returns-in_ok-query-in-Comp-clause-tables
-outside-returns-in_ok-query-in-Comp-clause-tables t c =
-    asked_comp c.ask-in-Comp.result _ _ c.get-in-Comp.result.now _ c.as_slice-in-Comp.result.now _ c.args.scope.now c.args.tables.now c.ask-in-Comp.new.tables _ c.in-Comp.is c.get-in-Comp.ensures c.as_slice-in-Comp.ensures c.in_ok-query-in-Comp.ensures c.ask-in-Comp.ensures.tables
+pub outside-alone-requires : goal.outside-alone-requires
+outside-alone-requires t c = record {
+  no_or = c.in_default.not-Or;
+  no_and = c.in_default.not-And;
+  no_not = c.in_default.not-Not;
+  no_cmp = c.in_default.not-Cmp;
+  no_member = c.in_default.not-Member;
+  no_chain = c.in_default.not-Chain;
+  no_range = c.in_default.not-Range;
+  no_tuple = c.in_default.not-Tuple;
+  no_set = c.in_default.not-SetOf;
+}

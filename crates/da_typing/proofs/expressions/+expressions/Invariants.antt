@@ -7,8 +7,8 @@ use Rattle.da_typing.specs.KnownView.{known_of}
 use Rattle.da_typing.proofs.Walks.{Gathers}
 use Rattle.da_typing.proofs.expressions.+expressions.Given as goal
 
-abbrev pub invariant-are_truths-loop-x : goal.invariant-are_truths-loop-x
-invariant-are_truths-loop-x l = list_all (λ x. truth (typing (known_of l.known) l.queries x)) (take l.x-index l.xs) ≡ true
+abbrev pub invariant-truth_of_all-loop-x : goal.invariant-truth_of_all-loop-x
+invariant-truth_of_all-loop-x l = list_all (λ x. truth (typing (known_of l.known) l.queries x)) (take l.x-index l.xs) ≡ true
 
 abbrev pub invariant-all_fit-loop-x : goal.invariant-all_fit-loop-x
 invariant-all_fit-loop-x l = list_all (λ x. (typing (known_of l.known) l.queries x).fits l.ty) (take l.x-index l.xs) ≡ true
