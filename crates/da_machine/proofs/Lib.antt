@@ -7,6 +7,7 @@ pub mod KnownLaws
 pub mod Leading
 pub mod Measure
 pub mod Numbers
+pub mod OnNumbers
 pub mod Permuted
 pub mod ReadLaws
 pub mod RunCode

@@ -14,6 +14,7 @@ use Rattle.da_machine.specs.declared.machine.Stop.TheVariants as stop
 use Rattle.da_machine.specs.Acts.{Act, Goes, Halts, act}
 use Rattle.da_machine.specs.Allowed.{IsAllowed}
 use Rattle.da_machine.specs.Conditions.{Standing}
+use Rattle.da_machine.proofs.Fronts.{IsPart, none_told, part_then, part_front_of, part_whole, front_before, front_as}
 use Rattle.da_machine.specs.RunsTo.{RunsTo, halts, goes, instr_at, IsAct, IsFront, actions_of, MayAct, Acted, Began, MayRun, RanTo, RanPart}
 
 module _ (p : Program) (class : Class) (code : Code) where
@@ -36,13 +37,13 @@ module _ (p : Program) (class : Class) (code : Code) where
 
   -- what is left of the run behind an instruction that goes on
   rest_of : (done : Act) (m1 : Machine) (stands : Data → Type 0) (d : Data) (old new due : List Action) (s : Stop) (m2 : Machine) (d2 : Data) → IsAct done None m1 stands d old new → RunsBy done d due s m2 d2
-      → (d1 : Data) × (more : List Action) × stands d1 × RunsTo p class code m1 d1 more s m2 d2 × (new ++ more ≡ old ++ due)
+      → (d1 : Data) × (more : List Action) × stands d1 × RunsTo p class code m1 d1 more s m2 d2 × IsPart old new due more
   rest_of (Goes n1 d1 now) m1 stands d old new due s m2 d2 acted run = (
     d1,
     run.0,
     acted.2,
     subst (λ x. RunsTo p class code x d1 run.0 s m2 d2) (sym acted.1) run.2,
-    ap (λ l. l ++ run.0) acted.3 ∙ append_assoc old now run.0 ∙ ap (λ l. old ++ l) (sym run.1),
+    (now, acted.3, run.1),
   )
   rest_of (Halts s1 n1) m1 stands d old new due s m2 d2 acted run = absurd (let e = acted.0 in cc)
 
@@ -54,21 +55,20 @@ module _ (p : Program) (class : Class) (code : Code) where
       let e = acted.0 in
       (cc, acted.1 ∙ sym run.2, subst stands (sym run.3) acted.2, acted.3 ∙ sym (append-nil old) ∙ ap (λ l. old ++ l) (sym run.0))
 
-  -- a part of an instruction's actions is a part of the run's
+  -- a front of an instruction's actions is a front of the run's
   front_of : (done : Act) (d : Data) (old new due : List Action) (s : Stop) (m2 : Machine) (d2 : Data) → IsFront old new (actions_of done) → RunsBy done d due s m2 d2 → IsFront old new due
-  front_of (Goes m1 d1 now) d old new due s m2 d2 front run =
-      (front.0 ++ run.0, sym (append_assoc new front.0 run.0) ∙ ap (λ l. l ++ run.0) front.1 ∙ append_assoc old now run.0 ∙ ap (λ l. old ++ l) (sym run.1))
-  front_of (Halts s1 m1) d old new due s m2 d2 front run = (front.0, front.1 ∙ ap (λ l. old ++ l) (sym run.0))
+  front_of (Goes m1 d1 now) d old new due s m2 d2 front run = front_as old new (now ++ run.0) due (sym run.1) (front_before old new now run.0 front)
+  front_of (Halts s1 m1) d old new due s m2 d2 front run = front_as old new [] due (sym run.0) front
 
 -- The run goes on for some process that is stood for, and for each process at the beginning there is now one whose run
 -- is what is left.
 pub record Running (code : Code) (m0 m : Machine) (stands now : Standing) (old new : List Action) : Type 0 where
   pub alive : MayRun code m now
   pub follows : (p : Program) (class : Class) (d : Data) (due : List Action) (s : Stop) (m2 : Machine) (d2 : Data) → stands p class d → RunsTo p class code m0 d due s m2 d2
-      → (d1 : Data) × (more : List Action) × now p class d1 × RunsTo p class code m d1 more s m2 d2 × (new ++ more ≡ old ++ due)
+      → (d1 : Data) × (more : List Action) × now p class d1 × RunsTo p class code m d1 more s m2 d2 × IsPart old new due more
 
 pub running_begins : (code : Code) (m : Machine) (stands : Standing) (old : List Action) → MayRun code m stands → Running code m m stands stands old old
-running_begins code m stands old may = record { alive = may; follows = λ p class d due s m2 d2 is run. (d, due, is, run, refl) }
+running_begins code m stands old may = record { alive = may; follows = λ p class d due s m2 d2 is run. (d, due, is, run, none_told old due) }
 
 module _ (code : Code) (m0 m : Machine) (stands now : Standing) (old new : List Action) (came : Running code m0 m stands now old new) where
   module _ (i : Instr) (there : instr_at code m ≡ Some i) where
@@ -84,24 +84,24 @@ module _ (code : Code) (m0 m : Machine) (stands now : Standing) (old new : List 
       follows = λ p class d due s m2 d2 is run.
           let f = came.follows p class d due s m2 d2 is run in
           let r = rest_of p class code _ m1 (later p class) f.0 new new1 _ s m2 d2 (acted p class f.0 f.2) (begins_with p class code (Some i) m f.0 _ _ _ _ there f.3).1 in
-          (r.0, r.1, r.2, r.3, r.4 ∙ f.4);
+          (r.0, r.1, r.2, r.3, part_then old new new1 due f.1 r.1 f.4 r.4);
     }
 
     pub run_ends : (s1 : Stop) (m1 : Machine) (later : Standing) (new1 : List Action) → Acted (Some i) m m1 now later new new1 (Some s1) → RanTo code m0 m1 stands later old new1 s1
     run_ends s1 m1 later new1 acted p class d due s m2 d2 is run =
         let f = came.follows p class d due s m2 d2 is run in
         let r = end_of p class code _ s1 m1 (later p class) f.0 new new1 _ s m2 d2 (acted p class f.0 f.2) (begins_with p class code (Some i) m f.0 _ _ _ _ there f.3).1 in
-        (r.0, r.1, r.2, r.3 ∙ f.4)
+        (r.0, r.1, r.2, part_whole old new new1 due f.1 f.4 r.3)
 
     pub run_breaks : (new1 : List Action) → Began (Some i) m now new new1 → RanPart code m0 stands old new1
     run_breaks new1 began p class d due s m2 d2 is run =
         let f = came.follows p class d due s m2 d2 is run in
         let r = front_of p class code _ f.0 new new1 _ s m2 d2 (began p class f.0 f.2) (begins_with p class code (Some i) m f.0 _ _ _ _ there f.3).1 in
-        (r.0, r.1 ∙ f.4)
+        part_front_of old new new1 due f.1 f.4 r
 
   -- behind the last instruction
   pub run_past : instr_at code m ≡ None → RanTo code m0 m stands now old new stop.Ended
   run_past there p class d due s m2 d2 is run =
       let f = came.follows p class d due s m2 d2 is run in
       let b = (begins_with p class code None m f.0 _ _ _ _ there f.3).1 in
-      (sym b.1, sym b.2, subst (now p class) (sym b.3) f.2, sym (append-nil new) ∙ ap (λ l. new ++ l) (sym b.0) ∙ f.4)
+      (sym b.1, sym b.2, subst (now p class) (sym b.3) f.2, part_whole old new new due f.1 f.4 (sym (append-nil new) ∙ ap (λ l. new ++ l) (sym b.0)))

@@ -1,9 +1,11 @@
 -- The last values of a list, and the elements that are left behind the first ones.
 use Rattle.std.proofs.Common.{◌≡◌, ℕ, zero, suc, ◌+◌, ◌-◌, ◌<◌, ◌≤◌, List, [], ◌∷◌, ◌++◌, length, take, drop, Option, Some, None, refl, sym, ap, ◌∙◌, subst, arith, append_assoc}
-use Rattle.std.specs.Prelude.{slice_get, reverse}
+use Rattle.std.specs.Prelude.{get_or, slice_get, slice_set, reverse}
 use Rattle.std.proofs.Common.{length-append}
 use mathlib.Core.List.{append-nil, reverse-append}
 use Rattle.da_values.specs.declared.val.Val.{Val}
+use Rattle.da_values.specs.declared.value.Value.{Value}
+use Rattle.da_values.specs.Value.{val_of, vals}
 use Rattle.da_machine.specs.Acts.{top, below, innermost, upper, lower, IsTaken}
 use Rattle.da_machine.specs.declared.machine.Machine.{Machine}
 
@@ -87,3 +89,48 @@ unturning_on old now later row v came is = record {
 pub taken_some : (old : Machine) (outer : List (List Val)) (left rest : List Val) (v : Val) → old.loops ≡ outer ++ left ∷ [] → left ≡ v ∷ rest → IsTaken old (record old { loops = outer ++ rest ∷ [] }) (Some v)
 taken_some old outer left rest v is next =
     (rest, ap innermost is ∙ innermost_last outer left ∙ next, ap (λ l. record old { loops = l ++ rest ∷ [] }) (sym (ap below is ∙ below_last outer left)))
+
+-- THE TWO VALUES ON TOP, AND A VALUE IN THEIR PLACE
+
+top_end : (x : Value) (xs : List Value) (d : Value) → top (vals (x ∷ xs)) ≡ val_of (get_or (x ∷ xs) (length xs) d)
+top_end x [] d = refl
+top_end x (y ∷ xs) d = top_end y xs d
+
+second_end : (x y : Value) (xs : List Value) (d : Value) → top (below (vals (x ∷ y ∷ xs))) ≡ val_of (get_or (x ∷ y ∷ xs) (length xs) d)
+second_end x y [] d = refl
+second_end x y (z ∷ xs) d = second_end y z xs d
+
+pub top_at : (xs : List Value) (d : Value) → 2 ≤ length xs → top (vals xs) ≡ val_of (get_or xs (length xs - 1) d)
+top_at [] d two = absurd (omega (arith, two))
+top_at (x ∷ xs) d two = let end : length (x ∷ xs) - 1 ≡ length xs = omega arith in rw end (top_end x xs d)
+
+pub second_at : (xs : List Value) (d : Value) → 2 ≤ length xs → top (below (vals xs)) ≡ val_of (get_or xs (length xs - 2) d)
+second_at [] d two = absurd (omega (arith, two))
+second_at (x ∷ []) d two = absurd (omega (arith, two))
+second_at (x ∷ y ∷ xs) d two = let end : length (x ∷ y ∷ xs) - 2 ≡ length xs = omega arith in rw end (second_end x y xs d)
+
+vals_last : (xs : List Value) (x : Value) → vals (xs ++ x ∷ []) ≡ vals xs ++ val_of x ∷ []
+vals_last [] x = refl
+vals_last (y ∷ xs) x = ap (λ l. val_of y ∷ l) (vals_last xs x)
+
+vals_long : (xs : List Value) → length (vals xs) ≡ length xs
+vals_long [] = refl
+vals_long (x ∷ xs) = ap suc (vals_long xs)
+
+put_last : (x : Value) (xs : List Value) (v : Value) → vals (slice_set (x ∷ xs) (length xs) v) ≡ below (vals (x ∷ xs)) ++ val_of v ∷ []
+put_last x [] v = refl
+put_last x (y ∷ xs) v = ap (λ l. val_of x ∷ l) (put_last y xs v)
+
+put_at_last : (xs : List Value) (v : Value) → 1 ≤ length xs → vals (slice_set xs (length xs - 1) v) ≡ below (vals xs) ++ val_of v ∷ []
+put_at_last [] v some = absurd (omega (arith, some))
+put_at_last (x ∷ xs) v some = let last : length (x ∷ xs) - 1 ≡ length xs = omega arith in rw last (put_last x xs v)
+
+pub more_below : (old xs : List Value) (last : Value) → old ≡ xs ++ last ∷ [] → 2 ≤ length (vals old) → 1 ≤ length xs
+more_below old xs last is two =
+    let long : length (vals old) ≡ length (vals xs) + 1 = ap length (ap vals is ∙ vals_last xs last) ∙ length-append (vals xs) (val_of last ∷ []) in
+    let same = vals_long xs in omega (arith, long, two, same)
+
+pub united : (old xs : List Value) (last v : Value) → old ≡ xs ++ last ∷ [] → 2 ≤ length (vals old) → vals (slice_set xs (length xs - 1) v) ≡ below (below (vals old)) ++ val_of v ∷ []
+united old xs last v is two =
+    put_at_last xs v (more_below old xs last is two)
+    ∙ ap (λ l. below l ++ val_of v ∷ []) (sym (ap below (ap vals is ∙ vals_last xs last) ∙ below_last (vals xs) (val_of last)))

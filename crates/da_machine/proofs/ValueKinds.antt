@@ -1,5 +1,5 @@
 -- What a kept value shows, by its kind.
-use Rattle.std.proofs.Common.{◌≡◌, Bool, true, false, ◌&&◌, List, map, Ok, refl, ap, ◌∙◌}
+use Rattle.std.proofs.Common.{◌≡◌, Bool, true, false, ◌&&◌, List, [], map, Ok, refl, ap, ◌∙◌}
 use Rattle.da_values.specs.declared.val.Val.{Val, out-Val}
 use Rattle.da_values.specs.declared.val.Val.TheOpen.{Val-F, Int, Bool as Truth, Text, Proc, Tuple, Set}
 use Rattle.da_values.specs.declared.val.Val.TheVariants as val
@@ -12,7 +12,7 @@ use Rattle.da_lang.specs.Arithmetic.{arithmetic, of_layers, of_numbers, of_sets}
 use Rattle.da_lang.specs.declared.tree.ArithOp.{ArithOp}
 use Rattle.da_lang.specs.Evaluation.{asked, asked_layer}
 use Rattle.da_lang.specs.Turns.{recipients, recipients_in}
-use Rattle.da_machine.specs.Acts.{is_set, is_set_in}
+use Rattle.da_machine.specs.Acts.{is_set, is_set_in, top}
 
 pub recipients-val_of : (v : Value) → recipients (val_of v) ≡ recipients_in (layer v)
 recipients-val_of v = ap recipients_in (out-val_of v)
@@ -28,6 +28,10 @@ pub ruleset viewing = (int_of-val_of, truth_of-val_of, elements_of-val_of, recip
 -- a kept value is kept as itself
 pub kept_again : (v : Value) → value_of (val_of v) ≡ v
 kept_again v = value_of-val_of v
+
+-- nothing is not true
+pub none_true : (vs : List Val) → vs ≡ [] → truth_of (top vs) ≡ false
+none_true vs none = ap (λ l. truth_of (top l)) none ∙ ap truth_in (val.outs-Proc 0)
 
 -- AN OPERATION GOES BY WHETHER BOTH ARE SETS
 

@@ -1,5 +1,5 @@
 -- A run of the machine: instruction after instruction, up to a halt.
-use Rattle.std.specs.Prelude.{◌≡◌, ℕ, List, [], ◌++◌, Option, Some, None, slice_get}
+use Rattle.std.specs.Prelude.{◌≡◌, ℕ, List, [], ◌++◌, take, Option, Some, None, slice_get}
 use Rattle.da_lang.specs.declared.code.Instr.{Instr}
 use Rattle.da_lang.specs.declared.event.Action.{Action}
 use Rattle.da_lang.specs.declared.program.Class.{Class}
@@ -29,9 +29,9 @@ abbrev pub IsAct : Act → Option Stop → Machine → (Data → Type 0) → Dat
 IsAct (Goes m1 d1 now) answer m stands d old new = (answer ≡ None) × (m ≡ m1) × stands d1 × (new ≡ old ++ now)
 IsAct (Halts s m1) answer m stands d old new = (answer ≡ Some s) × (m ≡ m1) × stands d × (new ≡ old)
 
--- the old actions and a front of those that were due
+-- the old actions, and behind them the first ones of those that were due
 abbrev pub IsFront : List Action → List Action → List Action → Type 0
-IsFront old new due = (more : List Action) × (new ++ more ≡ old ++ due)
+IsFront old new due = (n : ℕ) × (new ≡ old ++ take n due)
 
 abbrev pub actions_of : Act → List Action
 actions_of (Goes m d now) = now

@@ -151,8 +151,9 @@ fn put_if(alloc: Global, take: bool, set: &mut SetVal, value: &Value) -> Result<
     Ok(())
 }
 
-// An operation on two numbers.
-fn computed(op: ArithOp, a: i128, b: i128) -> Result<Value, FaultKind>
+/// An operation on two numbers.
+#[inline(always)]
+pub fn computed(op: ArithOp, a: i128, b: i128) -> Result<Value, FaultKind>
     ensures { outcome_of result ≡ of_numbers op a b }
 {
     match op {
@@ -176,6 +177,7 @@ fn computed(op: ArithOp, a: i128, b: i128) -> Result<Value, FaultKind>
 
 // A number that has to fit an i64, where it fits an i128.
 #[tactic(auto, using(crate::proofs::Numbers::unfit))]
+#[inline(always)]
 fn fit_some(number: Option<i128>) -> Result<Value, FaultKind>
     ensures { (z : ℤ) → SomeIff number (FitsSigned w128 z) z → outcome_of result ≡ fitted z }
 {

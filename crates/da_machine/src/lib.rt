@@ -4,7 +4,10 @@
 mod acts;
 mod arithmetic;
 mod code;
+mod effects;
 mod machine;
+mod operations;
+mod pushing;
 mod run;
 mod sets;
 mod stack;

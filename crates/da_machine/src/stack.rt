@@ -1,16 +1,18 @@
 //! What the machine keeps while it runs: values, and the rests of loops.
-ghost use Rattle.da_machine.specs.Acts.{lower, upper};
+ghost use Rattle.da_machine.specs.Acts.{below, lower, top, upper};
 ghost use Rattle.da_values.specs.Order.{val_cmp};
 ghost use Rattle.da_values.specs.Sets.{canon};
 ghost use Rattle.da_values.specs.Value.{val_of, vals};
-ghost use Rattle.da_values.specs.Views.{elements_of};
-ghost use Rattle.std.specs.Prelude.{◌≡◌, [], ◌∷◌, ◌++◌, length, reverse, IfOk, MatchOption, OnOk};
+ghost use Rattle.da_values.specs.Views.{elements_of, int_of};
+ghost use Rattle.da_values.specs.declared.val.Val.TheVariants as Val;
+ghost use Rattle.std.specs.Prelude.{◌≡◌, ◌≤◌, [], ◌∷◌, ◌++◌, length, reverse, true, IfOk, MatchOption, OnOk};
 
 use crate::sets::{add_value, set_of_all};
 use crate::values::set_of;
 use da_values::{List, NoMemory, Row, SetVal, Value, copy_value};
 use std::alloc::Global;
 use std::marker::Model;
+use std::mem;
 
 /// Values one upon the other. Contracts see the list of them, the top one last.
 #[derive(Debug, Drop)]
@@ -83,6 +85,60 @@ impl Stack {
         self.values.pop()
     }
 
+    /// Whether the two values on top are there, and are integers.
+    #[inline(always)]
+    #[tactic(auto, using(crate::proofs::Stacks::top_at, crate::proofs::Stacks::second_at))]
+    pub fn are_numbers(&self) -> bool
+        ensures two { result ≡ true → 2 ≤ length self.now }
+        ensures first { result ≡ true → top (below self.now) ≡ Val.Int (int_of (top (below self.now))) }
+        ensures second { result ≡ true → top self.now ≡ Val.Int (int_of (top self.now)) }
+    {
+        match self.values.as_slice() {
+            [.., a, b] => is_integer(a) && is_integer(b),
+            _ => false,
+        }
+    }
+
+    /// The number below the top.
+    #[inline(always)]
+    #[tactic(auto, using(crate::proofs::Stacks::second_at))]
+    pub fn first_number(&self) -> i128
+        requires { 2 ≤ length self.now }
+        ensures { result ≡ int_of (top (below self.now)) }
+    {
+        match self.values.as_slice() {
+            [.., a, _] => integer(a),
+            _ => 0,
+        }
+    }
+
+    /// The number on top.
+    #[inline(always)]
+    #[tactic(auto, using(crate::proofs::Stacks::top_at))]
+    pub fn second_number(&self) -> i128
+        requires { 2 ≤ length self.now }
+        ensures { result ≡ int_of (top self.now) }
+    {
+        match self.values.as_slice() {
+            [.., _, b] => integer(b),
+            _ => 0,
+        }
+    }
+
+    /// Puts a value in the place of the two on top, which are numbers: they are let go, since they own nothing.
+    #[inline(always)]
+    #[tactic(auto, using(crate::proofs::Stacks::united, crate::proofs::Stacks::more_below))]
+    pub fn unite(&mut self, value: Value)
+        requires { 2 ≤ length self.old }
+        ensures { self.new ≡ below (below self.old) ++ val_of value ∷ [] }
+    {
+        if let Some(top) = self.values.pop() {
+            mem::forget(top);
+            let last = self.values.len() - 1;
+            mem::forget(self.values.replace(last, value));
+        }
+    }
+
     /// Takes the last `n` values as a tuple.
     pub fn take_tuple(&mut self, alloc: Global, n: usize) -> Result<Row, NoMemory>
         ensures { IfOk result (λ row. (row ≡ upper n self.old) × (self.new ≡ lower n self.old)) }
@@ -135,6 +191,34 @@ impl Stack {
             add_value(&mut values, value)?;
         }
         set_of_all(alloc, values)
+    }
+}
+
+// Whether a value is an integer.
+#[inline(always)]
+#[tactic(auto, using(crate::proofs::ValueKinds::viewing))]
+fn is_integer(v: &Value) -> bool
+    ensures { result ≡ true → val_of v.now ≡ Val.Int (int_of (val_of v.now)) }
+{
+    match v {
+        Value::Int(_) => true,
+        _ => false,
+    }
+}
+
+// The number of an integer; what is none counts as 0.
+#[inline(always)]
+#[tactic(auto, using(crate::proofs::ValueKinds::viewing))]
+fn integer(v: &Value) -> i128
+    ensures { result ≡ int_of (val_of v.now) }
+{
+    match v {
+        Value::Int(number) => *number,
+        Value::Bool(_) => 0,
+        Value::Text(_) => 0,
+        Value::Proc(_) => 0,
+        Value::Tuple(_) => 0,
+        Value::Set(_) => 0,
     }
 }
 

@@ -23,6 +23,7 @@ const PACKET_HEAD: u64 = 13;
 
 /// A truth value; what is none counts as false.
 #[tactic(auto, using(crate::proofs::ValueKinds::viewing))]
+#[inline(always)]
 pub fn truth(v: Value) -> bool
     ensures { result ≡ truth_of (val_of v) }
 {
@@ -124,6 +125,7 @@ pub fn fitting(v: Value) -> Result<Value, FaultKind>
 }
 
 /// A number that has to fit an i64.
+#[inline(always)]
 pub fn fit(number: i128) -> Result<Value, FaultKind>
     ensures { outcome_of result ≡ fitted number }
 {
@@ -135,10 +137,17 @@ pub fn fit(number: i128) -> Result<Value, FaultKind>
 }
 
 /// Whether a comparison holds of two values.
-pub fn holds(op: CmpOp, a: Value, b: Value) -> bool
-    ensures { result ≡ compares op (val_cmp (val_of a) (val_of b)) }
+pub fn holds(op: CmpOp, a: &Value, b: &Value) -> bool
+    ensures { result ≡ compares op (val_cmp (val_of a.now) (val_of b.now)) }
 {
-    let order = cmp_values(&a, &b);
+    is_ordered(op, cmp_values(a, b))
+}
+
+/// Whether a comparison holds of two values that lie so.
+#[inline(always)]
+pub fn is_ordered(op: CmpOp, order: Ordering) -> bool
+    ensures { result ≡ compares op order }
+{
     match op {
         CmpOp::Eq => order == Ordering::Equal,
         CmpOp::Ne => order != Ordering::Equal,
