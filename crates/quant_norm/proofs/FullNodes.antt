@@ -1,14 +1,12 @@
 -- Where code halts since there are too many nodes, what it was to make has too many: whatever else is made behind a part
 -- only adds to its nodes. One lemma for each way out of a function that makes nodes for conditions, but for the last one,
 -- where `over_as` serves.
-use Rattle.std.specs.Prelude.{◌≡◌, ◌<◌, ◌≤◌, ◌+◌, ℕ, suc, Bool, true, false, List, [], ◌∷◌, ◌++◌, map, length, position, get_or, Option, Some, None, Result, Ok, Err, IsErrAnd, refl}
+use Rattle.std.specs.Prelude.{◌≡◌, ◌<◌, ◌≤◌, ◌+◌, ℕ, suc, true, List, [], ◌∷◌, ◌++◌, map, length, position, get_or, Option, Some, None, Result, Ok, Err, IsErrAnd, refl}
 use Rattle.std.specs.List.{range_with_len}
 use Rattle.std.proofs.Common.{ap, sym, subst, ◌∙◌, arith, drop}
 use Rattle.std.proofs.lemmas.List.Quantifiers.{position-Some}
 use Rattle.da_values.specs.declared.value.Value.TheVariants as kept
-use Rattle.da_lang.specs.declared.query.Agg.{Agg, out-Agg, roll-out-Agg}
 use Rattle.da_lang.specs.declared.query.Cond.{Cond}
-use Rattle.da_lang.specs.declared.query.Cond.TheOpen.{Cond-F}
 use Rattle.da_lang.specs.declared.query.Cond.TheVariants as cond
 use Rattle.da_lang.specs.declared.query.Node.{Node}
 use Rattle.da_lang.specs.declared.query.Node.TheVariants as node
@@ -16,21 +14,20 @@ use Rattle.da_lang.specs.declared.query.Operand.{Operand}
 use Rattle.da_lang.specs.declared.query.Operand.TheVariants as operand
 use Rattle.da_lang.specs.declared.query.RGen.{RGen}
 use Rattle.da_lang.specs.declared.query.SignedOperand.{SignedOperand, roll-SignedOperand, out-SignedOperand}
-use Rattle.da_lang.specs.declared.query.Term.{Term}
 use Rattle.da_lang.specs.declared.query.Term.TheVariants as term
 use Rattle.da_lang.specs.declared.tree.CmpOp.{CmpOp}
 use Rattle.query_plan.specs.Nodes.{parts_added}
-use Rattle.query_plan.specs.Plans.{Place, placed, added, vars_behind, gen_node, gens_on, all_on, or_on, test_on, denied_on, all_bound, compared, cond_step, known, rename, rename_other, rename_gen, norm, norm_if, operand_bound, agg_bound, signed_bound}
+use Rattle.query_plan.specs.Plans.{Place, placed, added, vars_behind, gen_node, gens_on, all_on, or_on, denied_on, all_bound, compared, known, rename_gen, norm, norm_if, operand_bound, signed_bound}
 use Rattle.query_plan.specs.Spelled.{same_node}
-use Rattle.query_plan.proofs.PlansAt.{norm-Cmp, norm-Quant, bound-Agg, bound-Chain, bound-agg}
+use Rattle.query_plan.proofs.PlansAt.{norm-Cmp, bound-Chain}
 use Rattle.quant_norm.specs.declared.limit.Halt.{Halt}
 use Rattle.quant_norm.specs.declared.limit.Halt.TheVariants.{Full}
 use Rattle.quant_norm.specs.Either.{either_of, any_from}
 use Rattle.quant_norm.specs.Making.{Over, Makes, Binds, one_gen}
-use Rattle.quant_norm.proofs.GrowthLaws.{added_grows, then_added, longer_by, gens_grow, all_grow, or_grow, test_grows, denied_grows, compared_grows, operand_grows, others_grow, each_grows, guard_grows}
+use Rattle.quant_norm.proofs.GrowthLaws.{added_grows, longer_by, gens_grow, all_grow, or_grow, compared_grows, operand_grows, others_grow, each_grows}
 use Rattle.quant_norm.proofs.PlaceLaws.{Grown, grown_itself, grown_on}
 use Rattle.quant_norm.proofs.NodeSteps.{compared_behind}
-use Rattle.quant_norm.proofs.PlanSteps.{End, EndAt, EndWith, dropped, with_bound, cmp_made, not_made, each_made, some_made, all_further, any_further, denied_none, denied_some, chain_made, signed_further, agg_made}
+use Rattle.quant_norm.proofs.PlanSteps.{End, EndAt, EndWith, dropped, with_bound, cmp_made, all_further, any_further, denied_none, chain_made, signed_further}
 
 -- a halt that is handed on
 pub halted : {A B : Type 0} (whole : List Node × B) (made : A → List Node × B) (r : Result A Halt) (h : Halt) → IsErrAnd r (λ e. e ≡ h) → (h ≡ Full → Over whole.0) → Makes whole made r
@@ -64,9 +61,6 @@ found_over nodes read n place k e r f past =
     let is : position (same_node n) nodes ≡ Some k = ap (position (same_node n)) (sym r) ∙ sym e ∙ f in
     let there = position-Some (same_node n) nodes k node.Root is in
     over_as (added nodes n) (nodes, k) (ap (placed n nodes) is) (omega (arith, there.0, past))
-
-pub new_over : (nodes read : List Node) (n : Node) (place : Option ℕ) → place ≡ position (same_node n) read → read ≡ nodes → place ≡ None → Over (nodes ++ n ∷ []) → Over (added nodes n).0
-new_over nodes read n place e r f over = over_as (added nodes n) (nodes ++ n ∷ [], length nodes) (ap (placed n nodes) (ap (position (same_node n)) (sym r) ∙ sym e ∙ f)) over
 
 pub compared_over : (at last : Place) (b : Cond) (nodes : List Node) → (at.node ≡ last.node → ⊥) → Over (added nodes (node.Filter last.node b)).0 → Over (compared at last b nodes).0
 compared_over at last b nodes differ over =
@@ -109,40 +103,6 @@ cmp_over_right whole op a b a_read b_read left at start middle nodes first form 
     (cmp_made whole op a b a_read b_read left right.2 test at start middle right.1 nodes first right.0 end form ra rb same e refl refl refl)
     (compared_grows at right.1 test right.0) over
 
-pub not_over : (whole b read : Cond) (at : Place) (nodes : List Node) → whole ≡ cond.Not b → read ≡ b → Over (norm read at nodes).0 → Over (norm whole at nodes).0
-not_over whole b read at nodes form r over =
-    let child : End = norm read at nodes in
-    let end : End = added child.0 (node.Anti at.node child.1) in
-    over_then (norm whole at nodes) end child.0 (not_made whole b read at nodes child.0 child.1 end form r refl refl) (added_grows child.0 (node.Anti at.node child.1)) over
-
-quant_behind : (each : Bool) (gens : List RGen) (b : Option Cond) (at : Place) (nodes : List Node) → Grown (gens_on gens at nodes).0 (cond_step (Cond-F.Quant each gens (norm_if b)) at nodes).0
-quant_behind true gens b at nodes =
-    let last = gens_on gens at nodes in
-    let child = denied_on (norm_if b) last.1 last.0 in
-    then_added last.0 child.0 (node.Anti at.node child.1) (denied_grows b (guard_grows b) last.1 last.0)
-quant_behind false gens b at nodes =
-    let last = gens_on gens at nodes in
-    let child = test_on (norm_if b) last.1 last.0 in
-    then_added last.0 child.0 (node.Semi at.node child.1) (test_grows b (guard_grows b) last.1 last.0)
-
-pub quant_over : (whole : Cond) (each : Bool) (gens read : List RGen) (b : Option Cond) (at : Place) (nodes : List Node) → whole ≡ cond.Quant each gens b → read ≡ gens → Over (gens_on read at nodes).0 → Over (norm whole at nodes).0
-quant_over whole each gens read b at nodes form r over =
-    over_then (norm whole at nodes) (cond_step (Cond-F.Quant each read (norm_if b)) at nodes) (gens_on read at nodes).0
-    (ap (λ z. norm z at nodes) (form ∙ ap (λ gs. cond.Quant each gs b) (sym r)) ∙ norm-Quant each read b at nodes)
-    (quant_behind each read b at nodes) over
-
-pub each_over : (whole : Cond) (each : Bool) (gens read : List RGen) (b : Option Cond) (at last : Place) (nodes first : List Node) → whole ≡ cond.Quant each gens b → read ≡ gens → ◌≡◌ {A = EndAt} (gens_on read at nodes) (first, last) → each ≡ true → Over (denied_on (norm_if b) last first).0 → Over (norm whole at nodes).0
-each_over whole each gens read b at last nodes first form r e is over =
-    let child : End = denied_on (norm_if b) last first in
-    let end : End = added child.0 (node.Anti at.node child.1) in
-    over_then (norm whole at nodes) end child.0 (each_made whole each gens read b at last nodes first child.0 child.1 end form r e is refl refl) (added_grows child.0 (node.Anti at.node child.1)) over
-
-pub some_over : (whole : Cond) (each : Bool) (gens read : List RGen) (b : Option Cond) (at last : Place) (nodes first : List Node) → whole ≡ cond.Quant each gens b → read ≡ gens → ◌≡◌ {A = EndAt} (gens_on read at nodes) (first, last) → each ≡ false → Over (test_on (norm_if b) last first).0 → Over (norm whole at nodes).0
-some_over whole each gens read b at last nodes first form r e is over =
-    let child : End = test_on (norm_if b) last first in
-    let end : End = added child.0 (node.Semi at.node child.1) in
-    over_then (norm whole at nodes) end child.0 (some_made whole each gens read b at last nodes first child.0 child.1 end form r e is refl refl) (added_grows child.0 (node.Semi at.node child.1)) over
-
 pub all_over : (start : End) (bs : List Cond) (i : ℕ) (b : Cond) (at : Place) (nodes : List Node) → start ≡ all_on (map norm (drop i bs)) at nodes → i < length bs → b ≡ get_or bs i b → Over (norm b at nodes).0 → Over start.0
 all_over start bs i b at nodes e within is over =
     let one : End = norm b at nodes in
@@ -170,16 +130,7 @@ denied_over_none whole test at nodes form e over =
     let end : End = added child.0 (node.Anti at.node child.1) in
     over_then (denied_on (norm_if whole) at nodes) end child.0 (denied_none whole test at nodes child.0 child.1 end form e refl refl) (added_grows child.0 (node.Anti at.node child.1)) over
 
-pub denied_over_some : (whole : Option Cond) (b read : Cond) (at : Place) (nodes : List Node) → whole ≡ Some b → read ≡ b → Over (norm read at nodes).0 → Over (denied_on (norm_if whole) at nodes).0
-denied_over_some whole b read at nodes form r over =
-    let child : End = norm read at nodes in
-    let end : End = added child.0 (node.Anti at.node child.1) in
-    over_then (denied_on (norm_if whole) at nodes) end child.0 (denied_some whole b read at nodes child.0 child.1 end form r refl refl) (added_grows child.0 (node.Anti at.node child.1)) over
-
 -- Operands.
-
-pub part_over : (whole : Operand) (a read : Agg) (at : Place) (nodes : List Node) → whole ≡ operand.Agg a → read ≡ a → Over (agg_bound read at nodes).0 → Over (operand_bound whole at nodes).0
-part_over whole a read at nodes form r over = bind_as (operand_bound whole at nodes) (agg_bound read at nodes) (ap (λ z. operand_bound z at nodes) (form ∙ ap operand.Agg (sym r)) ∙ bound-Agg read at nodes) over
 
 pub chain_over_first : (whole a read : Operand) (bs : List SignedOperand) (at : Place) (nodes : List Node) → whole ≡ operand.Chain a bs → read ≡ a → Over (operand_bound read at nodes).0 → Over (operand_bound whole at nodes).0
 chain_over_first whole a read bs at nodes form r over =
@@ -203,31 +154,3 @@ signed_over start ss made i s read at nodes e within is r over =
     let bound : SignedOperand = roll-SignedOperand (record { minus = (out-SignedOperand s).minus; operand = one.2 }) in
     let rest = all_bound (map signed_bound (drop (i + 1) ss)) one.1 one.0 in
     bind_then start (with_bound (made ++ bound ∷ []) rest) one.0 (signed_further start ss made (made ++ bound ∷ []) i s read one.2 at one.1 nodes one.0 e within is r refl refl) (others_grow (drop (i + 1) ss) one.1 one.0) over
-
-agg_behind : (a : Agg) (at : Place) (nodes : List Node) → Grown (gens_on (out-Agg a).gens at nodes).0 (agg_bound a at nodes).0
-agg_behind a at nodes =
-    let v = out-Agg a in
-    let last = gens_on v.gens at nodes in
-    let child = test_on (norm_if v.cond) last.1 last.0 in
-    subst (λ (z : EndWith Operand). Grown last.0 z.0) (sym (ap (λ z. agg_bound z at nodes) (sym (roll-out-Agg a)) ∙ bound-agg v.op v.gens v.cond v.term v.other at nodes))
-    (then_added last.0 child.0 (node.AggBind at.node child.1 v.op (rename (known last.1.vars) v.term) (rename_other (known at.vars) v.other)) (test_grows v.cond (guard_grows v.cond) last.1 last.0))
-
-pub agg_over_gens : (a : Agg) (read : List RGen) (at : Place) (nodes : List Node) → read ≡ (out-Agg a).gens → Over (gens_on read at nodes).0 → Over (agg_bound a at nodes).0
-agg_over_gens a read at nodes r over = more_over (gens_on read at nodes).0 (agg_bound a at nodes).0 (subst (λ gs. Grown (gens_on gs at nodes).0 (agg_bound a at nodes).0) (sym r) (agg_behind a at nodes)) over
-
-pub agg_over_child : (a : Agg) (read : List RGen) (at last : Place) (nodes first : List Node) → read ≡ (out-Agg a).gens → ◌≡◌ {A = EndAt} (gens_on read at nodes) (first, last) → Over (test_on (norm_if (out-Agg a).cond) last first).0 → Over (agg_bound a at nodes).0
-agg_over_child a read at last nodes first r e over =
-    let v = out-Agg a in
-    let child : End = test_on (norm_if v.cond) last first in
-    let last_node : Node = node.AggBind at.node child.1 v.op (rename (known last.vars) v.term) (rename_other (known at.vars) v.other) in
-    let end : End = added child.0 last_node in
-    bind_then (agg_bound a at nodes) (end.0, record { node = end.1; width = at.width + 1; vars = at.vars }, operand.Term (term.Part (at.width + 1))) child.0
-    (agg_made a read at last nodes first child.0 end.0 child.1 end.1 (at.width + 1) (rename (known last.vars) v.term) (rename_other (known at.vars) v.other) r e refl refl refl refl refl)
-    (added_grows child.0 last_node) over
-
-pub agg_over_node : (a : Agg) (read : List RGen) (at last : Place) (nodes first second : List Node) (child : ℕ) (t : Term) (other : Option Term) → read ≡ (out-Agg a).gens → ◌≡◌ {A = EndAt} (gens_on read at nodes) (first, last) → ◌≡◌ {A = End} (test_on (norm_if (out-Agg a).cond) last first) (second, child)
-    → t ≡ rename (known last.vars) (out-Agg a).term → other ≡ rename_other (known at.vars) (out-Agg a).other → Over (added second (node.AggBind at.node child (out-Agg a).op t other)).0 → Over (agg_bound a at nodes).0
-agg_over_node a read at last nodes first second child t other r e f g h over =
-    let end : End = added second (node.AggBind at.node child (out-Agg a).op t other) in
-    bind_as (agg_bound a at nodes) (end.0, record { node = end.1; width = at.width + 1; vars = at.vars }, operand.Term (term.Part (at.width + 1)))
-    (agg_made a read at last nodes first second end.0 child end.1 (at.width + 1) t other r e f g h refl refl) over

@@ -25,13 +25,13 @@ use Rattle.query_plan.specs.Plans.{Place, gens_on, test_on, denied_on, known, re
 use Rattle.query_plan.specs.Questions.{Met, Asked, Awaited, root, query_node, with_query, with_flag, with_asked, with_all, asks, cond_asks, class_met, item_met, norm_class, opening_plan}
 use Rattle.quant_norm.specs.declared.limit.Halt.{Halt}
 use Rattle.quant_norm.specs.declared.limit.Halt.TheVariants.{Full}
-use Rattle.quant_norm.specs.Making.{Over, MakesPlan, Puts, alt_met, branch_met, handler_met, kind_met, Made, made_with}
+use Rattle.quant_norm.specs.Making.{Over, MakesPlan, Puts, alt_met, args_ask, branch_met, handler_met, kind_met, Made, made_with}
 use Rattle.quant_norm.proofs.FullNodes.{more_over, over_as}
 use Rattle.quant_norm.proofs.GrowthLaws.{norm_grows, test_grows, denied_grows, guard_grows, asked_grow, all_queries_grow}
 use Rattle.quant_norm.proofs.MetAt.{item_met-is, made_with-both, with_met-made}
 use Rattle.quant_norm.proofs.PlaceLaws.{Grown, grown_itself, grown_on}
 use Rattle.quant_norm.proofs.PlanSteps.{End, EndAt}
-use Rattle.quant_norm.proofs.QuerySteps.{each_asked, some_asked, comp_asked, asked_further, met_further, class_made, args_ask, if_put, while_put, for_put, call_put, branch_put, alt_put}
+use Rattle.quant_norm.proofs.QuerySteps.{each_asked, some_asked, comp_asked, asked_further, met_further, class_made, if_put, while_put, for_put, call_put, branch_put, alt_put}
 
 -- a halt that is handed on
 pub plan_halted : {A : Type 0} (whole : Plan) (made : A → Plan) (r : Result A Halt) (h : Halt) → IsErrAnd r (λ e. e ≡ h) → (h ≡ Full → Over whole.nodes) → MakesPlan whole made r
@@ -45,7 +45,7 @@ put_halted whole made (Err e) h same over = λ f. over (sym same ∙ f)
 pub over_put : (a b : Made) → a ≡ b → Over b.0.nodes → Over a.0.nodes
 over_put a b e over = subst (λ (z : Made). Over z.0.nodes) (sym e) over
 
-over_rest : (whole part rest : Made) → whole ≡ rest → Grown part.0.nodes rest.0.nodes → Over part.0.nodes → Over whole.0.nodes
+pub over_rest : (whole part rest : Made) → whole ≡ rest → Grown part.0.nodes rest.0.nodes → Over part.0.nodes → Over whole.0.nodes
 over_rest whole part rest e grown over = over_put whole rest e (more_over part.0.nodes rest.0.nodes grown over)
 
 -- Queries.
@@ -97,7 +97,7 @@ asked_over start left next qs q plan e some within is over =
 
 -- What is met.
 
-made_grows : (met : List Met) (m : Made) → Grown m.0.nodes (made_with met m).0.nodes
+pub made_grows : (met : List Met) (m : Made) → Grown m.0.nodes (made_with met m).0.nodes
 made_grows [] m = grown_itself m.0.nodes
 made_grows (Asked n ∷ met) m = let next = with_asked n m.1 m.0 in grown_on m.0.nodes next.0.nodes (made_with met next).0.nodes (asked_grow n m.1 m.0) (made_grows met next)
 made_grows (Awaited b ∷ met) m =

@@ -7,6 +7,7 @@ pub mod FullNodes
 pub mod FullPlans
 pub mod GatherLaws
 pub mod GrowthLaws
+pub mod HandedOn
 pub mod LiveLaw
 pub mod MetAt
 pub mod NodeSteps
@@ -15,13 +16,17 @@ pub mod NormLaw
 pub mod PlaceLaws
 pub mod PlainLaw
 pub mod PlanSteps
+pub mod PutOn
 pub mod QueryLaw
 pub mod QuerySteps
 pub mod RangeLaws
 pub mod RenameLaws
 pub mod RenameSteps
+pub mod SetSlotLaw
+pub mod SetTerms
 pub mod SumLaws
 pub mod TopSteps
 pub mod TypedLaws
+pub mod UntouchedLaw
 pub mod VarSteps
 pub mod VariesLaws

@@ -1,5 +1,5 @@
 -- What the functions that add a node do, in the words of the definitions.
-use Rattle.std.specs.Prelude.{◌≡◌, ◌==◌, ℕ, Bool, true, false, if◌then◌else◌, List, [], ◌∷◌, ◌++◌, length, position, Option, Some, None, refl}
+use Rattle.std.specs.Prelude.{◌≡◌, ◌==◌, ℕ, Bool, true, false, if◌then◌else◌, List, position, Option, Some, refl}
 use Rattle.std.proofs.Common.{ap, sym, ◌∙◌}
 use Rattle.std.proofs.lemmas.Bool.{eqb-false, eqb-true}
 use Rattle.da_lang.specs.declared.query.Cond.{Cond}
@@ -11,9 +11,6 @@ use Rattle.query_plan.specs.Spelled.{same_node}
 -- a node that is there, and one that is not
 pub found_there : (nodes read : List Node) (n : Node) (place : Option ℕ) (k number : ℕ) → place ≡ position (same_node n) read → read ≡ nodes → place ≡ Some k → number ≡ k → ◌≡◌ {A = List Node × ℕ} (added nodes n) (nodes, number)
 found_there nodes read n place k number e r f g = ap (placed n nodes) (ap (position (same_node n)) (sym r) ∙ sym e ∙ f) ∙ ap {B = List Node × ℕ} (λ (i : ℕ). (nodes, i)) (sym g)
-
-pub not_there : (nodes read more : List Node) (n : Node) (place : Option ℕ) (number : ℕ) → place ≡ position (same_node n) read → read ≡ nodes → place ≡ None → ◌≡◌ {A = List Node × ℕ} (nodes ++ n ∷ [], length nodes) (more, number) → ◌≡◌ {A = List Node × ℕ} (added nodes n) (more, number)
-not_there nodes read more n place number e r f g = ap (placed n nodes) (ap (position (same_node n)) (sym r) ∙ sym e ∙ f) ∙ g
 
 -- a comparison without aggregates, and one behind some
 pub compared_here : (at last : Place) (b : Cond) (nodes : List Node) (end : List Node × ℕ) → at.node ≡ last.node → added nodes (node.Filter at.node b) ≡ end → compared at last b nodes ≡ end

@@ -1,12 +1,12 @@
 -- The plan of a class has plain nodes alone: what is left in the condition of a Filter has its `some` and `each` in other nodes,
 -- and its aggregates in parts of the row.
-use Rattle.std.specs.Prelude.{◌≡◌, ◌==◌, ℕ, zero, suc, Bool, true, false, ◌&&◌, if◌then◌else◌, List, [], ◌∷◌, ◌++◌, map, position, Option, Some, None, refl}
+use Rattle.std.specs.Prelude.{◌≡◌, ◌==◌, ℕ, zero, suc, Bool, true, false, if◌then◌else◌, List, [], ◌∷◌, ◌++◌, map, position, Option, Some, None, refl}
 use Rattle.std.specs.List.{AllByRecursion, list_all}
 use Rattle.std.proofs.Common.{ap, sym, subst, ◌∙◌}
 use Rattle.std.proofs.lemmas.Bool.{and_from, and_parts}
 use Rattle.da_values.specs.declared.value.Value.TheVariants as kept
 use Rattle.da_lang.specs.declared.program.Class.{Class}
-use Rattle.da_lang.specs.declared.query.Agg.{Agg, roll-Agg}
+use Rattle.da_lang.specs.declared.query.Agg.{Agg}
 use Rattle.da_lang.specs.declared.query.AggOp.{AggOp}
 use Rattle.da_lang.specs.declared.query.Cond.{Cond}
 use Rattle.da_lang.specs.declared.query.Cond.TheVariants as cond
@@ -26,7 +26,7 @@ use Rattle.da_lang.specs.declared.tree.CmpOp.{CmpOp}
 use Rattle.da_lang.proofs.CondInduction.{Where, cond_induction, agg_induction, Cases}
 use Rattle.query_plan.specs.declared.plan.Plan.{Plan}
 use Rattle.query_plan.specs.PlainNodes.{PlainNodes, is_plain, is_plain_node, is_plain_operand, is_plain_part}
-use Rattle.query_plan.specs.Plans.{Place, Norm, Binding, placed, added, at_node, filter_on, semi_on, anti_on, behind, gen_node, gens_on, all_on, or_on, any_on, test_on, denied_on, all_bound, compared, cond_step, agg_node, agg_step, known, rename, norm, norm_if, operand_bound, agg_bound, signed_bound}
+use Rattle.query_plan.specs.Plans.{Place, Norm, Binding, placed, added, at_node, filter_on, semi_on, behind, gen_node, gens_on, all_on, or_on, any_on, test_on, denied_on, all_bound, compared, cond_step, agg_node, agg_step, known, rename, norm, norm_if, operand_bound, agg_bound, signed_bound}
 use Rattle.query_plan.specs.Questions.{Met, Asked, Awaited, class_met, norm_class, opening_plan, root, query_node, with_query, with_flag, with_asked, with_all, with_met}
 use Rattle.query_plan.specs.Spelled.{same_node}
 use Rattle.query_plan.proofs.PlainAt.{plain-Chain, plain-Cmp, plain-Term, plain-Truth}

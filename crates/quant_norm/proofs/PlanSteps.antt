@@ -1,12 +1,11 @@
 -- What the functions that make the nodes of conditions do, in the words of the definitions: one lemma for each way
 -- through one of them. What a function reads of a part, behind an owner or as a slice, stands beside the part.
-use Rattle.std.specs.Prelude.{◌≡◌, ◌<◌, ◌≤◌, ◌+◌, ℕ, suc, Bool, true, false, List, [], ◌∷◌, ◌++◌, map, length, get_or, Option, Some, None}
+use Rattle.std.specs.Prelude.{◌≡◌, ◌<◌, ◌≤◌, ◌+◌, ℕ, suc, true, List, [], ◌∷◌, ◌++◌, map, length, get_or, Option, Some, None}
 use Rattle.std.specs.List.{range_with_len}
 use Rattle.std.proofs.Common.{ap, sym, ◌∙◌, arith, drop, append_assoc, append-nil}
 use Rattle.std.proofs.Math.ListN.{drop_of_length-le}
 use Rattle.std.proofs.Math.Seq.{drop-cons}
 use Rattle.da_values.specs.declared.value.Value.TheVariants as kept
-use Rattle.da_lang.specs.declared.query.Agg.{Agg, out-Agg, roll-out-Agg}
 use Rattle.da_lang.specs.declared.query.Cond.{Cond}
 use Rattle.da_lang.specs.declared.query.Cond.TheVariants as cond
 use Rattle.da_lang.specs.declared.query.Node.{Node}
@@ -19,8 +18,8 @@ use Rattle.da_lang.specs.declared.query.Term.{Term}
 use Rattle.da_lang.specs.declared.query.Term.TheVariants as term
 use Rattle.da_lang.specs.declared.tree.CmpOp.{CmpOp}
 use Rattle.query_plan.specs.Nodes.{parts_added}
-use Rattle.query_plan.specs.Plans.{Place, added, at_node, filter_on, semi_on, anti_on, behind, vars_behind, gen_node, gens_on, all_on, or_on, any_on, test_on, denied_on, all_bound, compared, known, rename, rename_other, rename_gen, norm, norm_if, operand_bound, agg_bound, signed_bound}
-use Rattle.query_plan.proofs.PlansAt.{norm-Truth, norm-Cmp, norm-Not, norm-And, norm-Or, norm-Quant, bound-Term, bound-Agg, bound-Chain, bound-agg, bound-signed}
+use Rattle.query_plan.specs.Plans.{Place, added, at_node, filter_on, anti_on, behind, vars_behind, gen_node, gens_on, all_on, or_on, any_on, test_on, denied_on, all_bound, compared, known, rename, rename_gen, norm, norm_if, operand_bound, signed_bound}
+use Rattle.query_plan.proofs.PlansAt.{norm-Truth, norm-Cmp, norm-And, norm-Or, bound-Term, bound-Chain, bound-signed}
 use Rattle.quant_norm.specs.Either.{either_of, any_left, any_from}
 use Rattle.quant_norm.specs.Making.{one_gen}
 
@@ -76,32 +75,11 @@ cmp_made whole op a b a_read b_read left right test at start middle last nodes f
     ∙ ap (λ t. compared at last t second) (sym g)
     ∙ made
 
-pub not_made : (whole b read : Cond) (at : Place) (nodes first : List Node) (k : ℕ) (end : End) → whole ≡ cond.Not b → read ≡ b → ◌≡◌ {A = End} (norm read at nodes) (first, k) → added first (node.Anti at.node k) ≡ end → norm whole at nodes ≡ end
-not_made whole b read at nodes first k end form r e made = ap (λ z. norm z at nodes) (form ∙ ap cond.Not (sym r)) ∙ norm-Not read at nodes ∙ ap (anti_on at) e ∙ made
-
 pub and_made : (whole : Cond) (bs read : List Cond) (at : Place) (nodes : List Node) (end : End) → whole ≡ cond.And bs → read ≡ bs → all_on (map norm read) at nodes ≡ end → norm whole at nodes ≡ end
 and_made whole bs read at nodes end form r made = ap (λ z. norm z at nodes) (form ∙ ap cond.And (sym r)) ∙ norm-And read at nodes ∙ made
 
 pub or_made : (whole : Cond) (bs read : List Cond) (at : Place) (nodes : List Node) (end : End) → whole ≡ cond.Or bs → read ≡ bs → any_on (map norm read) at nodes ≡ end → norm whole at nodes ≡ end
 or_made whole bs read at nodes end form r made = ap (λ z. norm z at nodes) (form ∙ ap cond.Or (sym r)) ∙ norm-Or read at nodes ∙ made
-
-pub each_made : (whole : Cond) (each : Bool) (gens read : List RGen) (b : Option Cond) (at last : Place) (nodes first second : List Node) (k : ℕ) (end : End) → whole ≡ cond.Quant each gens b → read ≡ gens → ◌≡◌ {A = EndAt} (gens_on read at nodes) (first, last) → each ≡ true
-    → ◌≡◌ {A = End} (denied_on (norm_if b) last first) (second, k) → added second (node.Anti at.node k) ≡ end → norm whole at nodes ≡ end
-each_made whole each gens read b at last nodes first second k end form r e is f made =
-    ap (λ z. norm z at nodes) (form ∙ ap (λ c. cond.Quant c gens b) is ∙ ap (λ gs. cond.Quant true gs b) (sym r))
-    ∙ norm-Quant true read b at nodes
-    ∙ ap (λ (z : EndAt). anti_on at (denied_on (norm_if b) z.1 z.0)) e
-    ∙ ap (anti_on at) f
-    ∙ made
-
-pub some_made : (whole : Cond) (each : Bool) (gens read : List RGen) (b : Option Cond) (at last : Place) (nodes first second : List Node) (k : ℕ) (end : End) → whole ≡ cond.Quant each gens b → read ≡ gens → ◌≡◌ {A = EndAt} (gens_on read at nodes) (first, last) → each ≡ false
-    → ◌≡◌ {A = End} (test_on (norm_if b) last first) (second, k) → added second (node.Semi at.node k) ≡ end → norm whole at nodes ≡ end
-some_made whole each gens read b at last nodes first second k end form r e is f made =
-    ap (λ z. norm z at nodes) (form ∙ ap (λ c. cond.Quant c gens b) is ∙ ap (λ gs. cond.Quant false gs b) (sym r))
-    ∙ norm-Quant false read b at nodes
-    ∙ ap (λ (z : EndAt). semi_on at (test_on (norm_if b) z.1 z.0)) e
-    ∙ ap (semi_on at) f
-    ∙ made
 
 pub all_further : (start : End) (bs : List Cond) (i : ℕ) (b : Cond) (at : Place) (nodes more : List Node) (k : ℕ) → start ≡ all_on (map norm (drop i bs)) at nodes → i < length bs → b ≡ get_or bs i b → ◌≡◌ {A = End} (norm b at nodes) (more, k)
     → start ≡ all_on (map norm (drop (i + 1) bs)) (at_node at k) more
@@ -133,23 +111,13 @@ any_ended start end bs i at nodes (Some left) e past made = e ∙ ap (λ cs. or_
 pub test_none : (whole : Option Cond) (at : Place) (nodes : List Node) → whole ≡ None → ◌≡◌ {A = End} (test_on (norm_if whole) at nodes) (nodes, at.node)
 test_none whole at nodes form = ap (λ z. test_on (norm_if z) at nodes) form
 
-pub test_some : (whole : Option Cond) (b read : Cond) (at : Place) (nodes : List Node) (end : End) → whole ≡ Some b → read ≡ b → norm read at nodes ≡ end → test_on (norm_if whole) at nodes ≡ end
-test_some whole b read at nodes end form r made = ap (λ z. test_on (norm_if z) at nodes) (form ∙ ap Some (sym r)) ∙ made
-
 pub denied_none : (whole : Option Cond) (test : Cond) (at : Place) (nodes first : List Node) (k : ℕ) (end : End) → whole ≡ None → test ≡ cond.Truth (term.Const (kept.Bool true)) → ◌≡◌ {A = End} (added nodes (node.Filter at.node test)) (first, k) → added first (node.Anti at.node k) ≡ end → denied_on (norm_if whole) at nodes ≡ end
 denied_none whole test at nodes first k end form e f made = ap (λ z. denied_on (norm_if z) at nodes) form ∙ ap (anti_on at) (ap (λ b. filter_on b at nodes) (sym e) ∙ f) ∙ made
-
-pub denied_some : (whole : Option Cond) (b read : Cond) (at : Place) (nodes first : List Node) (k : ℕ) (end : End) → whole ≡ Some b → read ≡ b → ◌≡◌ {A = End} (norm read at nodes) (first, k) → added first (node.Anti at.node k) ≡ end → denied_on (norm_if whole) at nodes ≡ end
-denied_some whole b read at nodes first k end form r e made = ap (λ z. denied_on (norm_if z) at nodes) (form ∙ ap Some (sym r)) ∙ ap (anti_on at) e ∙ made
 
 -- Operands.
 
 pub term_made : (whole : Operand) (t renamed : Term) (made : Operand) (at : Place) (nodes : List Node) → whole ≡ operand.Term t → renamed ≡ rename (known at.vars) t → made ≡ operand.Term renamed → ◌≡◌ {A = EndWith Operand} (operand_bound whole at nodes) (nodes, at, made)
 term_made whole t renamed made at nodes form e f = ap (λ z. operand_bound z at nodes) form ∙ bound-Term t at nodes ∙ ap {B = EndWith Operand} (λ (o : Operand). (nodes, at, o)) (ap operand.Term (sym e) ∙ sym f)
-
-pub part_made : (whole : Operand) (a read : Agg) (made : Operand) (at last : Place) (nodes more : List Node) → whole ≡ operand.Agg a → read ≡ a → ◌≡◌ {A = EndWith Operand} (agg_bound read at nodes) (more, last, operand.Term (term.Part last.width)) → made ≡ operand.Term (term.Part last.width)
-    → ◌≡◌ {A = EndWith Operand} (operand_bound whole at nodes) (more, last, made)
-part_made whole a read made at last nodes more form r e f = ap (λ z. operand_bound z at nodes) (form ∙ ap operand.Agg (sym r)) ∙ bound-Agg read at nodes ∙ e ∙ ap {B = EndWith Operand} (λ (o : Operand). (more, last, o)) (sym f)
 
 pub chain_made : (whole a a_read left made : Operand) (bs bs_read others : List SignedOperand) (at middle last : Place) (nodes first second : List Node) → whole ≡ operand.Chain a bs → a_read ≡ a → bs_read ≡ bs → ◌≡◌ {A = EndWith Operand} (operand_bound a_read at nodes) (first, middle, left)
     → ◌≡◌ {A = EndWith (List SignedOperand)} (all_bound (map signed_bound bs_read) middle first) (second, last, others) → made ≡ operand.Chain left others → ◌≡◌ {A = EndWith Operand} (operand_bound whole at nodes) (second, last, made)
@@ -188,25 +156,3 @@ signed_ended start ss made i at nodes e past =
     e
     ∙ ap (λ zs. with_bound made (all_bound (map signed_bound zs) at nodes)) (drop_of_length-le ss past)
     ∙ ap {B = EndWith (List SignedOperand)} (λ (zs : List SignedOperand). (nodes, at, zs)) (append-nil made)
-
--- behind an aggregate
-abbrev ended : Place → End → EndWith Operand
-ended at z = (z.0, record { node = z.1; width = suc at.width; vars = at.vars }, operand.Term (term.Part (suc at.width)))
-
-pub agg_made : (a : Agg) (read : List RGen) (at last : Place) (nodes first second end : List Node) (child k w : ℕ) (t : Term) (other : Option Term) → read ≡ (out-Agg a).gens → ◌≡◌ {A = EndAt} (gens_on read at nodes) (first, last) → ◌≡◌ {A = End} (test_on (norm_if (out-Agg a).cond) last first) (second, child)
-    → t ≡ rename (known last.vars) (out-Agg a).term → other ≡ rename_other (known at.vars) (out-Agg a).other → ◌≡◌ {A = End} (added second (node.AggBind at.node child (out-Agg a).op t other)) (end, k) → w ≡ at.width + 1
-    → ◌≡◌ {A = EndWith Operand} (agg_bound a at nodes) (end, record { node = k; width = w; vars = at.vars }, operand.Term (term.Part w))
-agg_made a read at last nodes first second end child k w t other r e f g h made wide =
-    let v = out-Agg a in
-    let outer = rename_other (known at.vars) v.other in
-    ap (λ z. agg_bound z at nodes) (sym (roll-out-Agg a))
-    ∙ bound-agg v.op v.gens v.cond v.term v.other at nodes
-    ∙ ap {B = EndWith Operand} (λ (z : EndAt). ended at (let c = test_on (norm_if v.cond) z.1 z.0 in added c.0 (node.AggBind at.node c.1 v.op (rename (known z.1.vars) v.term) outer))) (ap (λ gs. gens_on gs at nodes) (sym r) ∙ e)
-    ∙ ap {B = EndWith Operand} (λ (c : End). ended at (added c.0 (node.AggBind at.node c.1 v.op (rename (known last.vars) v.term) outer))) f
-    ∙ ap {B = EndWith Operand} (λ (u : Term). ended at (added second (node.AggBind at.node child v.op u outer))) (sym g)
-    ∙ ap {B = EndWith Operand} (λ (u : Option Term). ended at (added second (node.AggBind at.node child v.op t u))) (sym h)
-    ∙ ap {B = EndWith Operand} (ended at) made
-    ∙ ap {B = EndWith Operand} (λ (n : ℕ). (end, record { node = k; width = n; vars = at.vars }, operand.Term (term.Part n))) one
-  where
-    one : suc at.width ≡ w
-    one = omega (arith, wide)

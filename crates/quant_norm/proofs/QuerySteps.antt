@@ -1,6 +1,5 @@
 -- What the functions that put queries, flags and statements into a plan do, in the words of the definitions.
 use Rattle.std.specs.Prelude.{◌≡◌, ◌⊎◌, ◌<◌, ◌≤◌, ◌+◌, ◌-◌, ℕ, zero, suc, Bool, true, false, List, [], ◌∷◌, ◌++◌, flat_map, length, get_or, Option, refl}
-use Rattle.std.specs.List.{sum_by}
 use Rattle.std.proofs.Common.{ap, sym, ◌∙◌, inl, inr, arith, drop, length-drop}
 use Rattle.std.proofs.Math.ListN.{drop_of_length-le}
 use Rattle.da_lang.specs.declared.program.Alt.{Alt}
@@ -28,7 +27,7 @@ use Rattle.da_lang.specs.declared.query.Term.TheVariants as term
 use Rattle.query_plan.specs.declared.plan.Plan.{Plan}
 use Rattle.query_plan.specs.Plans.{Place, gens_on, test_on, denied_on, known, rename, norm, norm_if, agg_bound}
 use Rattle.query_plan.specs.Questions.{Met, Asked, Awaited, root, query_node, with_query, with_flag, with_asked, with_all, with_query_node, asks, cond_asks, class_met, item_met, norm_class, opening_plan}
-use Rattle.quant_norm.specs.Making.{alt_met, branch_met, handler_met, kind_met, Made, made_with}
+use Rattle.quant_norm.specs.Making.{alt_met, args_ask, branch_met, handler_met, kind_met, Made, made_with}
 use Rattle.quant_norm.proofs.MetAt.{item_met-is, met-Assign, met-Add, met-Del, met-Send, met-Output, met-If, met-While, met-For, met-Call, met-Await, met-Label, met-Pass, branch_met-is, alt_met-is, made_with-both, with_met-made}
 use Rattle.quant_norm.proofs.PlanSteps.{End, EndAt, EndWith, dropped}
 
@@ -185,9 +184,6 @@ while_put k e body read count plan qs middle end form r n put rest = asked_then 
 
 pub for_put : (k : ItemKind) (s : ℕ) (e : RExpr) (body read : List Item) (count : ℕ) (plan : Plan) (qs : List Query) (middle end : Made) → k ≡ kind.For s e body → read ≡ body → count ≡ asks e → with_asked count qs plan ≡ middle → made_with (flat_map item_met read) middle ≡ end → Puts k plan qs end
 for_put k s e body read count plan qs middle end form r n put rest = asked_then (kind_met k) (flat_map item_met read) (asks e) count plan qs middle end (ap kind_met (form ∙ ap (kind.For s e) (sym r)) ∙ met-For s e read) n put rest
-
-abbrev pub args_ask : List BindArg → ℕ
-args_ask args = sum_by (λ (arg : BindArg). asks arg.value) args
 
 pub call_put : (k : ItemKind) (args args_read : List BindArg) (body read : List Item) (count : ℕ) (plan : Plan) (qs : List Query) (middle end : Made) → k ≡ kind.Call args body → args_read ≡ args → read ≡ body → count ≡ args_ask args_read → with_asked count qs plan ≡ middle
     → made_with (flat_map item_met read) middle ≡ end → Puts k plan qs end

@@ -1,12 +1,12 @@
 //! The plan of a class, in the order of its inlined text.
-ghost use Rattle.quant_norm.specs.Making.{MakesPlan, Puts, alt_met, branch_met, handler_met, kind_met, made_with};
-ghost use Rattle.query_plan.specs.Questions.{item_met, norm_class, opening_plan, with_asked};
-ghost use Rattle.std.specs.Prelude.{◌≡◌, IfOk, drop, flat_map};
+ghost use Rattle.quant_norm.specs.Making.{MakesPlan, Puts, alt_met, args_ask, awaited_met, block_met, branch_met, handler_met, kind_met, made_with};
+ghost use Rattle.query_plan.specs.Questions.{asks, item_met, norm_class, opening_plan, with_asked};
+ghost use Rattle.std.specs.Prelude.{◌≡◌, ◌+◌, IfOk, drop, flat_map};
 
 use crate::counts::{asked_in, asked_in_args, asked_in_both, asked_in_cond};
 use crate::limit::Halt;
 use crate::queries::{put_flag, put_query};
-use da_lang::{Alt, Class, Handler, Item, ItemKind, Node, Query, RBranch};
+use da_lang::{Alt, BindArg, Class, Cond, Handler, Item, ItemKind, Node, Query, RBranch, RExpr};
 use da_values::{List, NoMemory};
 use query_plan::Plan;
 use std::alloc::Global;
@@ -52,6 +52,69 @@ fn put_items(
     Ok(next)
 }
 
+// Puts the queries of an expression.
+fn put_expr(
+    alloc: Global,
+    expr: &RExpr,
+    queries: &[Query],
+    taken: usize,
+    plan: &mut Plan,
+) -> Result<usize, Halt>
+    ensures { Puts (with_asked (asks expr.now) (drop taken queries.now) plan.old)
+        (λ next. (plan.new, drop next queries.now)) result }
+{
+    let count = asked_in(expr)?;
+    put_asked(alloc, count, queries, taken, plan)
+}
+
+// Puts those of a message and of the processes that it goes to.
+fn put_both(
+    alloc: Global,
+    message: &RExpr,
+    to: &RExpr,
+    queries: &[Query],
+    taken: usize,
+    plan: &mut Plan,
+) -> Result<usize, Halt>
+    ensures { Puts (with_asked (asks message.now + asks to.now) (drop taken queries.now) plan.old)
+        (λ next. (plan.new, drop next queries.now)) result }
+{
+    let count = asked_in_both(message, to)?;
+    put_asked(alloc, count, queries, taken, plan)
+}
+
+// Puts those of the arguments of a call.
+fn put_args(
+    alloc: Global,
+    args: &[BindArg],
+    queries: &[Query],
+    taken: usize,
+    plan: &mut Plan,
+) -> Result<usize, Halt>
+    ensures { Puts (with_asked (args_ask args.now) (drop taken queries.now) plan.old)
+        (λ next. (plan.new, drop next queries.now)) result }
+{
+    let count = asked_in_args(args)?;
+    put_asked(alloc, count, queries, taken, plan)
+}
+
+// Puts what is met in the condition of an alternative: first its numbered queries, and then its flag.
+fn put_awaited(
+    alloc: Global,
+    cond: &Cond,
+    queries: &[Query],
+    taken: usize,
+    plan: &mut Plan,
+) -> Result<usize, Halt>
+    ensures { Puts (made_with (awaited_met cond.now) (plan.old, drop taken queries.now))
+        (λ next. (plan.new, drop next queries.now)) result }
+{
+    let count = asked_in_cond(cond)?;
+    let next = put_asked(alloc, count, queries, taken, plan)?;
+    put_flag(alloc, cond, plan)?;
+    Ok(next)
+}
+
 // Puts what is met in a statement.
 #[cycle(items)]
 fn put_kind(
@@ -65,61 +128,48 @@ fn put_kind(
         (λ next. (plan.new, drop next queries.now)) result }
 {
     match kind {
-        ItemKind::Assign(_, expr) => {
-            let count = asked_in(expr.get())?;
-            let next = put_asked(alloc, count, queries, taken, plan)?;
-            Ok(next)
-        }
-        ItemKind::Add(_, expr) => {
-            let count = asked_in(expr.get())?;
-            let next = put_asked(alloc, count, queries, taken, plan)?;
-            Ok(next)
-        }
-        ItemKind::Del(_, expr) => {
-            let count = asked_in(expr.get())?;
-            let next = put_asked(alloc, count, queries, taken, plan)?;
-            Ok(next)
-        }
-        ItemKind::Output(expr) => {
-            let count = asked_in(expr.get())?;
-            let next = put_asked(alloc, count, queries, taken, plan)?;
-            Ok(next)
-        }
+        ItemKind::Assign(_, expr) => put_expr(alloc, expr.get(), queries, taken, plan),
+        ItemKind::Add(_, expr) => put_expr(alloc, expr.get(), queries, taken, plan),
+        ItemKind::Del(_, expr) => put_expr(alloc, expr.get(), queries, taken, plan),
+        ItemKind::Output(expr) => put_expr(alloc, expr.get(), queries, taken, plan),
         ItemKind::Send(message, to) => {
-            let count = asked_in_both(message.get(), to.get())?;
-            let next = put_asked(alloc, count, queries, taken, plan)?;
-            Ok(next)
+            put_both(alloc, message.get(), to.get(), queries, taken, plan)
         }
         ItemKind::If(branches, otherwise) => {
             let middle = put_branches(alloc, branches.as_slice(), queries, taken, plan)?;
-            let next = put_items(alloc, otherwise.as_slice(), queries, middle, plan)?;
-            Ok(next)
+            put_items(alloc, otherwise.as_slice(), queries, middle, plan)
         }
         ItemKind::While(expr, body) => {
-            let count = asked_in(expr.get())?;
-            let middle = put_asked(alloc, count, queries, taken, plan)?;
-            let next = put_items(alloc, body.as_slice(), queries, middle, plan)?;
-            Ok(next)
+            put_block(alloc, body.as_slice(), expr.get(), queries, taken, plan)
         }
         ItemKind::For(_, expr, body) => {
-            let count = asked_in(expr.get())?;
-            let middle = put_asked(alloc, count, queries, taken, plan)?;
-            let next = put_items(alloc, body.as_slice(), queries, middle, plan)?;
-            Ok(next)
+            put_block(alloc, body.as_slice(), expr.get(), queries, taken, plan)
         }
         ItemKind::Call(args, body) => {
-            let count = asked_in_args(args.as_slice())?;
-            let middle = put_asked(alloc, count, queries, taken, plan)?;
-            let next = put_items(alloc, body.as_slice(), queries, middle, plan)?;
-            Ok(next)
+            let middle = put_args(alloc, args.as_slice(), queries, taken, plan)?;
+            put_items(alloc, body.as_slice(), queries, middle, plan)
         }
-        ItemKind::Await(alts) => {
-            let next = put_alts(alloc, alts.as_slice(), queries, taken, plan)?;
-            Ok(next)
-        }
+        ItemKind::Await(alts) => put_alts(alloc, alts.as_slice(), queries, taken, plan),
         ItemKind::Label => Ok(taken),
         ItemKind::Pass => Ok(taken),
     }
+}
+
+// Puts what is met in an expression and in the block behind it.
+#[cycle(items)]
+fn put_block(
+    alloc: Global,
+    body: &[Item],
+    expr: &RExpr,
+    queries: &[Query],
+    taken: usize,
+    plan: &mut Plan,
+) -> Result<usize, Halt>
+    ensures { Puts (made_with (block_met expr.now body.now) (plan.old, drop taken queries.now))
+        (λ next. (plan.new, drop next queries.now)) result }
+{
+    let middle = put_expr(alloc, expr, queries, taken, plan)?;
+    put_items(alloc, body, queries, middle, plan)
 }
 
 // Puts what is met in the branches of an `if`.
@@ -153,10 +203,14 @@ fn put_branch(
     ensures { Puts (made_with (branch_met branch.now) (plan.old, drop taken queries.now))
         (λ next. (plan.new, drop next queries.now)) result }
 {
-    let count = asked_in(branch.cond.get())?;
-    let middle = put_asked(alloc, count, queries, taken, plan)?;
-    let next = put_items(alloc, branch.body.as_slice(), queries, middle, plan)?;
-    Ok(next)
+    put_block(
+        alloc,
+        branch.body.as_slice(),
+        branch.cond.get(),
+        queries,
+        taken,
+        plan,
+    )
 }
 
 // Puts what is met in the alternatives of an `await`: of each first its numbered queries, and then its flag.
@@ -190,11 +244,8 @@ fn put_alt(
     ensures { Puts (made_with (alt_met alt.now) (plan.old, drop taken queries.now))
         (λ next. (plan.new, drop next queries.now)) result }
 {
-    let count = asked_in_cond(alt.cond.get())?;
-    let middle = put_asked(alloc, count, queries, taken, plan)?;
-    put_flag(alloc, alt.cond.get(), plan)?;
-    let next = put_items(alloc, alt.body.as_slice(), queries, middle, plan)?;
-    Ok(next)
+    let middle = put_awaited(alloc, alt.cond.get(), queries, taken, plan)?;
+    put_items(alloc, alt.body.as_slice(), queries, middle, plan)
 }
 
 // Puts what is met in handlers.

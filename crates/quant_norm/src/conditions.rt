@@ -1,17 +1,16 @@
 //! The nodes of conditions, and the aggregates of operands, which are bound from left to right.
-ghost use Rattle.quant_norm.specs.Making.{Binds, Makes, place_of};
-ghost use Rattle.query_plan.specs.Plans.{agg_bound, all_bound, all_on, any_on, denied_on, norm, norm_if, operand_bound, signed_bound, test_on};
+ghost use Rattle.quant_norm.specs.Making.{Binds, Makes, none_on, place_of, rows_on};
+ghost use Rattle.query_plan.specs.Plans.{agg_bound, all_bound, all_on, anti_on, any_on, denied_on, norm, norm_if, operand_bound, signed_bound, test_on};
 ghost use Rattle.std.specs.Prelude.{map};
 
 use crate::either::{any_on, either_on};
 use crate::generators::gens_on;
+use crate::leaves::{bind_rows, bound_term, chained, compare_both, last_part, never_on, truth_on};
 use crate::limit::Halt;
-use crate::nodes::{add, anti_on, compare_on, filter_on, semi_on};
+use crate::nodes::{anti_on, semi_on};
 use crate::place::{Place, copy_place};
-use crate::rename::{renamed_other, renamed_term};
-use da_lang::{Agg, Cond, Node, Operand, SignedOperand, Term};
-use da_values::{Boxed, List, Value};
-use query_plan::plus;
+use da_lang::{Agg, Cond, Node, Operand, RGen, SignedOperand, Term};
+use da_values::{Boxed, List};
 use std::alloc::Global;
 
 /// The node of the rows of the place for which the condition holds.
@@ -25,46 +24,30 @@ pub fn norm_cond(
     ensures { Makes (norm cond.now (place_of at.now) nodes.old) (λ k. (nodes.new, k)) result }
 {
     match cond {
-        Cond::Truth(term) => {
-            let term = renamed_term(alloc, term, at)?;
-            let test = Boxed::new(alloc, Cond::Truth(term))?;
-            let number = filter_on(nodes, at.node, test)?;
-            Ok(number)
-        }
+        Cond::Truth(term) => truth_on(alloc, term, nodes, at),
         Cond::Cmp(op, left, right) => {
             let mut last = copy_place(alloc, at)?;
             let left = bind_operand(alloc, left.get(), nodes, &mut last)?;
             let right = bind_operand(alloc, right.get(), nodes, &mut last)?;
-            let test = Boxed::new(alloc, Cond::Cmp(*op, left, right))?;
-            let number = compare_on(nodes, at, &last, test)?;
-            Ok(number)
+            compare_both(alloc, *op, left, right, nodes, at, &last)
         }
-        Cond::Not(other) => {
-            let child = norm_cond(alloc, other.get(), nodes, at)?;
-            let number = anti_on(nodes, at.node, child)?;
-            Ok(number)
-        }
-        Cond::And(parts) => {
-            let number = norm_all(alloc, parts.as_slice(), nodes, at)?;
-            Ok(number)
-        }
-        Cond::Or(parts) => {
-            let number = norm_any(alloc, parts.as_slice(), nodes, at)?;
-            Ok(number)
-        }
+        Cond::Not(other) => not_on(alloc, other.get(), nodes, at),
+        Cond::And(parts) => norm_all(alloc, parts.as_slice(), nodes, at),
+        Cond::Or(parts) => norm_any(alloc, parts.as_slice(), nodes, at),
         Cond::Quant { each, gens, cond } => {
-            let last = gens_on(alloc, gens.as_slice(), nodes, at)?;
-            if *each {
-                let child = denied_on(alloc, cond, nodes, &last)?;
-                let number = anti_on(nodes, at.node, child)?;
-                Ok(number)
-            } else {
-                let child = test_on(alloc, cond, nodes, &last)?;
-                let number = semi_on(nodes, at.node, child)?;
-                Ok(number)
-            }
+            quant_on(alloc, *each, cond, gens.as_slice(), nodes, at)
         }
     }
+}
+
+// The rows for which a condition does not hold.
+#[cycle(norm)]
+fn not_on(alloc: Global, cond: &Cond, nodes: &mut List<Node>, at: &Place) -> Result<u32, Halt>
+    ensures { Makes (anti_on (place_of at.now) (norm cond.now (place_of at.now) nodes.old))
+        (λ k. (nodes.new, k)) result }
+{
+    let child = norm_cond(alloc, cond, nodes, at)?;
+    anti_on(nodes, at.node, child)
 }
 
 // One condition after the other.
@@ -93,8 +76,63 @@ fn norm_any(alloc: Global, conds: &[Cond], nodes: &mut List<Node>, at: &Place) -
         let both = either_on(nodes, left, right)?;
         left = Some(both);
     }
-    let number = any_on(nodes, at.node, left)?;
-    Ok(number)
+    any_on(nodes, at.node, left)
+}
+
+// The rows that some row behind the generators extends, or those that each such row extends.
+#[cycle(norm)]
+fn quant_on(
+    alloc: Global,
+    each: bool,
+    cond: &Option<Boxed<Cond>>,
+    gens: &[RGen],
+    nodes: &mut List<Node>,
+    at: &Place,
+) -> Result<u32, Halt>
+    ensures { Makes (norm (Cond.Quant each gens.now cond.now) (place_of at.now) nodes.old)
+        (λ k. (nodes.new, k)) result }
+{
+    if each {
+        let child = none_on(alloc, cond, gens, nodes, at)?;
+        anti_on(nodes, at.node, child)
+    } else {
+        let rows = rows_on(alloc, cond, gens, nodes, at)?;
+        semi_on(nodes, at.node, rows.node)
+    }
+}
+
+// The place behind the generators, at the rows for which a condition holds that may be left out.
+#[cycle(norm)]
+fn rows_on(
+    alloc: Global,
+    cond: &Option<Boxed<Cond>>,
+    gens: &[RGen],
+    nodes: &mut List<Node>,
+    at: &Place,
+) -> Result<Place, Halt>
+    ensures { Makes (rows_on cond.now gens.now (place_of at.now) nodes.old)
+        (λ rows. (nodes.new, place_of rows)) result }
+{
+    let mut rows = gens_on(alloc, gens, nodes, at)?;
+    let child = test_on(alloc, cond, nodes, &rows)?;
+    rows.node = child;
+    Ok(rows)
+}
+
+// The rows behind the generators for which it does not hold.
+#[cycle(norm)]
+fn none_on(
+    alloc: Global,
+    cond: &Option<Boxed<Cond>>,
+    gens: &[RGen],
+    nodes: &mut List<Node>,
+    at: &Place,
+) -> Result<u32, Halt>
+    ensures { Makes (none_on cond.now gens.now (place_of at.now) nodes.old)
+        (λ k. (nodes.new, k)) result }
+{
+    let last = gens_on(alloc, gens, nodes, at)?;
+    denied_on(alloc, cond, nodes, &last)
 }
 
 /// The rows for which a condition holds that may be left out.
@@ -110,10 +148,7 @@ pub fn test_on(
 {
     match cond {
         None => Ok(at.node),
-        Some(cond) => {
-            let number = norm_cond(alloc, cond.get(), nodes, at)?;
-            Ok(number)
-        }
+        Some(cond) => norm_cond(alloc, cond.get(), nodes, at),
     }
 }
 
@@ -129,17 +164,8 @@ pub fn denied_on(
         (λ k. (nodes.new, k)) result }
 {
     match cond {
-        None => {
-            let test = Boxed::new(alloc, Cond::Truth(Term::Const(Value::Bool(true))))?;
-            let child = filter_on(nodes, at.node, test)?;
-            let number = anti_on(nodes, at.node, child)?;
-            Ok(number)
-        }
-        Some(cond) => {
-            let child = norm_cond(alloc, cond.get(), nodes, at)?;
-            let number = anti_on(nodes, at.node, child)?;
-            Ok(number)
-        }
+        None => never_on(alloc, nodes, at),
+        Some(cond) => not_on(alloc, cond.get(), nodes, at),
     }
 }
 
@@ -155,21 +181,12 @@ fn bind_operand(
         (λ made. (nodes.new, place_of at.new, made)) result }
 {
     match operand {
-        Operand::Term(term) => {
-            let term = renamed_term(alloc, term, at)?;
-            let made = Boxed::new(alloc, Operand::Term(term))?;
-            Ok(made)
-        }
-        Operand::Agg(agg) => {
-            bind_agg(alloc, agg.get(), nodes, at)?;
-            let made = Boxed::new(alloc, Operand::Term(Term::Part(at.width)))?;
-            Ok(made)
-        }
+        Operand::Term(term) => bound_term(alloc, term, at),
+        Operand::Agg(agg) => bind_part(alloc, agg.get(), nodes, at),
         Operand::Chain(first, others) => {
             let first = bind_operand(alloc, first.get(), nodes, at)?;
             let others = bind_signed(alloc, others.as_slice(), nodes, at)?;
-            let made = Boxed::new(alloc, Operand::Chain(first, others))?;
-            Ok(made)
+            chained(alloc, first, others)
         }
     }
 }
@@ -196,6 +213,21 @@ fn bind_signed(
     Ok(made)
 }
 
+// Binds an aggregate that is an operand. Gives the part that it is.
+#[cycle(norm)]
+fn bind_part(
+    alloc: Global,
+    agg: &Agg,
+    nodes: &mut List<Node>,
+    at: &mut Place,
+) -> Result<Boxed<Operand>, Halt>
+    ensures { Binds (agg_bound agg.now (place_of at.old) nodes.old)
+        (λ made. (nodes.new, place_of at.new, made)) result }
+{
+    bind_agg(alloc, agg, nodes, at)?;
+    last_part(alloc, at)
+}
+
 /// Binds an aggregate: the place is then behind it, and it is the last part of its rows.
 #[cycle(norm)]
 pub fn bind_agg(
@@ -207,22 +239,6 @@ pub fn bind_agg(
     ensures { Binds (agg_bound agg.now (place_of at.old) nodes.old)
         (λ _. (nodes.new, place_of at.new, Operand.Term (Term.Part at.new.width))) result }
 {
-    let width = plus(at.width, 1)?;
-    let last = gens_on(alloc, agg.gens.as_slice(), nodes, at)?;
-    let child = test_on(alloc, &agg.cond, nodes, &last)?;
-    let term = renamed_term(alloc, &agg.term, &last)?;
-    let other = renamed_other(alloc, &agg.other, at)?;
-    let number = add(
-        nodes,
-        Node::AggBind {
-            parent: at.node,
-            child,
-            op: agg.op,
-            term,
-            other,
-        },
-    )?;
-    at.node = number;
-    at.width = width;
-    Ok(())
+    let rows = rows_on(alloc, &agg.cond, agg.gens.as_slice(), nodes, at)?;
+    bind_rows(alloc, agg, nodes, at, &rows)
 }

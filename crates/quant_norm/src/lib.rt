@@ -6,6 +6,7 @@ mod conditions;
 mod counts;
 mod either;
 mod generators;
+mod leaves;
 mod limit;
 mod nodes;
 mod place;

@@ -29,14 +29,22 @@ fn number_of(place: usize) -> Result<u32, Halt>
     Ok(place as u32)
 }
 
-// Puts a node behind the others, and gives its number.
+// Puts a node behind the others, and gives its number. (A node that is not kept is dropped by a call: where it is left to
+// the end of a way out, the check goes through the parts of each form of node there.)
 fn push(nodes: &mut List<Node>, node: Node) -> Result<u32, Halt>
     ensures { Makes (nodes.old ++ node ∷ [], length nodes.old)
         (λ number. (nodes.new, number)) result }
 {
-    let number = number_of(nodes.len())?;
-    nodes.push(node)?;
-    Ok(number)
+    match number_of(nodes.len()) {
+        Ok(number) => {
+            nodes.push(node)?;
+            Ok(number)
+        }
+        Err(halt) => {
+            drop(node);
+            Err(halt)
+        }
+    }
 }
 
 /// Adds a node, unless an equal one is there: its number, or that of the equal one.
@@ -46,13 +54,10 @@ pub fn add(nodes: &mut List<Node>, node: Node) -> Result<u32, Halt>
     let found = found_at(nodes.as_slice(), &node);
     match found {
         Some(place) => {
-            let number = number_of(place)?;
-            Ok(number)
+            drop(node);
+            number_of(place)
         }
-        None => {
-            let number = push(nodes, node)?;
-            Ok(number)
-        }
+        None => push(nodes, node),
     }
 }
 

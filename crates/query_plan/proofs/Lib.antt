@@ -1,8 +1,20 @@
+pub mod AgreeingLaws
+pub mod ChangeSizes
+pub mod GenCovers
+pub mod GroupKeyLaws
 pub mod NodeLaws
 pub mod PlainAt
+pub mod PlainReads
+pub mod PlanLiveLaws
+pub mod PlanTermsAt
 pub mod PlanTextAt
 pub mod PlansAt
+pub mod ReadBounds
+pub mod ReadsFit
+pub mod SameRows
 pub mod SpelledLaws
+pub mod TouchedLaws
+pub mod UpdateLaws
 pub mod WidthLaws
 pub mod WidthSteps
 mod examples

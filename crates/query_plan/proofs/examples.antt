@@ -1,1 +1,2 @@
 mod NodeExamples
+mod WorkExamples

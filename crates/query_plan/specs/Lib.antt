@@ -1,8 +1,13 @@
+pub mod Agreeing
+pub mod GroupKeys
 pub mod Nodes
 pub mod PlainNodes
 pub mod PlanLive
 pub mod PlanText
+pub mod PlanTerms
 pub mod Plans
 pub mod Questions
 pub mod Spelled
 pub mod Told
+pub mod Updates
+pub mod Work
