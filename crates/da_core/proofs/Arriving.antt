@@ -3,8 +3,7 @@ use Rattle.std.proofs.Common.{◌≡◌, ◌⊎◌, ℕ, suc, ◌+◌, ◌<◌, 
 use Rattle.std.specs.Prelude.{nat_lt, if◌then◌else◌, slice_get}
 use Rattle.std.proofs.lemmas.Bool.{le-ltb, lt-ltb}
 use Rattle.std.proofs.lemmas.List.Elements.{All-nil}
-use Rattle.da_values.specs.declared.value.Value.{Value}
-use Rattle.da_values.specs.Value.{val_of, vals}
+use Rattle.da_values.specs.Value.{val_of}
 use Rattle.da_lang.specs.declared.event.Action.{Action}
 use Rattle.da_lang.specs.declared.event.FaultKind.{FaultKind}
 use Rattle.da_lang.specs.declared.event.FaultKind.TheVariants.{TooLong}
@@ -25,13 +24,15 @@ use Rattle.da_machine.specs.declared.machine.Machine.{Machine}
 use Rattle.da_machine.specs.declared.machine.Stop.{Stop}
 use Rattle.da_machine.specs.CodeFor.{CodeFor}
 use Rattle.da_machine.specs.RunsTo.{IsFront}
+use Rattle.da_machine.proofs.Fronts.{front_as, front_before, part_front_of}
 use Rattle.da_machine.specs.Stops.{IsReady, IsRun, IsStop}
 use Rattle.da_core.specs.declared.deliveries.Delivery.{Delivery}
 use Rattle.da_core.specs.declared.deliveries.Handled.{Handled}
 use Rattle.da_core.specs.declared.deliveries.Handled.TheVariants as handled
 use Rattle.da_core.specs.declared.known.Known.{Known}
-use Rattle.da_core.specs.Arrivals.{CanHandle, HasEntry, HasHandled, HasTried, IsAlike, all_handled, goes_on, handled_as, row_for, tried}
-use Rattle.da_core.specs.Known.{Knows, data_of}
+use Rattle.da_core.specs.Arrivals.{CanHandle, HasEntry, HasHandled, HasTried, IsAlike, MayHandle, Whoever, all_handled, goes_on, handled_as, row_for, tried}
+use Rattle.da_core.specs.Known.{Each, Knows}
+use Rattle.da_core.proofs.KnownLaws.{me_is}
 use Rattle.da_core.proofs.Laws.{is_whole, keeps_shaped}
 use Rattle.da_core.proofs.Tasks.{has_at}
 
@@ -52,35 +53,35 @@ behind_both actions more ran other is = record {
 
 -- a front of the actions of a handler was added, whatever comes behind it
 abbrev pub TriedPart : Delivery → Handler → ℕ → Known → List Action → Type 0
-TriedPart x h n old new = (go : ℕ → Data → Ran) → IsFront old.actions new (tried x h n (data_of old) go).actions
+TriedPart x h n old new = Whoever x old (λ p d. (go : ℕ → Data → Ran) → IsFront old.actions new (tried x h n d go).actions)
 
 -- ONE HANDLER WHOSE PATTERNS DO NOT MATCH
 
-pub not_tried : (x : Delivery) (h : Handler) (n : ℕ) (known : Known) → None ≡ row_for x h (data_of known) → HasTried x h n known known (handled.Through n)
-not_tried x h n known none = record {
+pub not_tried : (x : Delivery) (h : Handler) (n : ℕ) (known : Known) → Each known (λ p class d. None ≡ row_for x h d) → Whoever x known (λ p d. HasTried p x h n d known known (handled.Through n))
+not_tried x h n known none p d may = record {
   mine = refl;
-  plan = refl;
+  after = d;
+  may = may;
   actions = [];
   added = sym (append-nil known.actions);
-  run = λ go. same_run (tried x h n (data_of known) go) (go n (data_of known)) (ap (λ row. try_handler x.class.now h n (data_of known) row go) (sym none));
+  run = λ go. same_run (tried x h n d go) (go n d) (ap (λ row. try_handler x.class.now h n d row go) (sym (none p x.class.now d may.knows)));
 }
 
 -- ONE WHOSE PATTERNS DO
 
 -- how the run of a body stops as a machine does
-module _ (x : Delivery) (ran : Ran) (after : Known) (turns : ℕ) (m : Machine) (same : ran.data' ≡ data_of after) (count : turns ≡ ran.turns) (go : ℕ → Data → Ran) where
-  passes : (stop : Stop) → handled_as stop turns ≡ handled.Through turns → IsAlike (behind ran.actions (go ran.turns ran.data')) (goes_on (handled_as stop turns) ran.actions (data_of after) go)
+module _ (x : Delivery) (ran : Ran) (turns : ℕ) (m : Machine) (count : turns ≡ ran.turns) (go : ℕ → Data → Ran) where
+  passes : (stop : Stop) → handled_as stop turns ≡ handled.Through turns → IsAlike (behind ran.actions (go ran.turns ran.data')) (goes_on (handled_as stop turns) ran.actions ran.data' go)
   passes stop is =
-      subst (λ answer. IsAlike (behind ran.actions (go ran.turns ran.data')) (goes_on answer ran.actions (data_of after) go)) (sym is)
-      (same_run (behind ran.actions (go ran.turns ran.data')) (behind ran.actions (go turns (data_of after)))
-      (ap (λ k. behind ran.actions (go k ran.data')) (sym count) ∙ ap (λ (d : Data). behind ran.actions (go turns d)) same))
+      subst (λ answer. IsAlike (behind ran.actions (go ran.turns ran.data')) (goes_on answer ran.actions ran.data' go)) (sym is)
+      (same_run (behind ran.actions (go ran.turns ran.data')) (behind ran.actions (go turns ran.data')) (ap (λ k. behind ran.actions (go k ran.data')) (sym count)))
 
-  as_stopped : (stop : Stop) (halt : Halt) → ran.halt ≡ halt → IsStop x.code.now.code x.class.now stop m ran.todo halt → IsAlike (after_halt halt ran go) (goes_on (handled_as stop turns) ran.actions (data_of after) go)
+  as_stopped : (stop : Stop) (halt : Halt) → ran.halt ≡ halt → IsStop x.code.now.code x.class.now stop m ran.todo halt → IsAlike (after_halt halt ran go) (goes_on (handled_as stop turns) ran.actions ran.data' go)
   as_stopped stop AtYield is stops = passes stop (ap (λ s. handled_as s turns) stops.1)
   as_stopped stop UsedUp is stops = passes stop (ap (λ s. handled_as s turns) stops)
   as_stopped stop (Faults kind line) is stops =
-      subst (λ s. IsAlike ran (goes_on (handled_as s turns) ran.actions (data_of after) go)) (sym stops)
-      (record { data' = same; actions = refl; halt = is })
+      subst (λ s. IsAlike ran (goes_on (handled_as s turns) ran.actions ran.data' go)) (sym stops)
+      (record { data' = refl; actions = refl; halt = is })
 
 -- behind a body its actions stand first
 body_first : (halt : Halt) (ran : Ran) (go : ℕ → Data → Ran) → (more : List Action) × ((after_halt halt ran go).actions ≡ ran.actions ++ more)
@@ -88,87 +89,70 @@ body_first AtYield ran go = ((go ran.turns ran.data').actions, refl)
 body_first UsedUp ran go = ((go ran.turns ran.data').actions, refl)
 body_first (Faults kind line) ran go = ([], sym (append-nil ran.actions))
 
-module _ (x : Delivery) (h : Handler) (entry n : ℕ) (old : Known) (can : CanHandle x old) (there : HasEntry x h entry) (row : Row) (matches : row_for x h (data_of old) ≡ Some row)
-    (bound : Known) (bind : data_of bound ≡ bind_all h.binds row (data_of old)) (planned : bound.plan.now ≡ old.plan.now) (stays : bound.actions ≡ old.actions) where
-  abbrev p : Program
-  p = can.0
-
+-- for one process that may handle the message, which knows what it has bound
+module _ (x : Delivery) (h : Handler) (entry n : ℕ) (old : Known) (p : Program) (d : Data) (may : MayHandle p x old d) (there : HasEntry x h entry) (row : Row) (matches : row_for x h d ≡ Some row)
+    (bound : Known) (binds : Knows bound p x.class.now (bind_all h.binds row d)) (stays : bound.actions ≡ old.actions) where
   abbrev class : Class
   class = x.class.now
+
+  abbrev now : Data
+  now = bind_all h.binds row d
 
   abbrev todo : List Task
   todo = do_all h.body []
 
   abbrev ran : Ran
-  ran = run_to_yield class n (data_of bound) todo
+  ran = run_to_yield class n now todo
 
-  knows : ShapedData p class (data_of bound)
-  knows =
-      subst (ShapedData p class) (sym bind)
-      (bound_shaped p class h.binds row (data_of old) can.1.knows (handler_row_fits p class (data_of old) (is_whole p can.1.accepted) can.1.knows h _ row there.among can.1.arrives matches))
+  shaped : ShapedData p class now
+  shaped = bound_shaped p class h.binds row d may.shaped (handler_row_fits p class d (is_whole p may.accepted) may.shaped h _ row there.among may.arrives matches)
 
-  tasks : ShapedTasks p class bound.me todo
-  tasks = do_all_tasks p class bound.me h.body [] (λ j k. handler_item class h j there.among k) (All-nil (IsTask p class bound.me))
+  tasks : ShapedTasks p class now.me todo
+  tasks = do_all_tasks p class now.me h.body [] (λ j k. handler_item class h j there.among k) (All-nil (IsTask p class now.me))
 
-  pub stands : Knows bound p class (data_of bound)
-  stands = record { same = refl; plan = planned ∙ can.1.plan }
-
-  pub ready : (m : Machine) → m.place ≡ entry → m.loops ≡ [] → IsReady p class x.code.now.code m (data_of bound) todo
+  pub ready : (m : Machine) → m.place ≡ entry → m.loops ≡ [] → IsReady p class x.code.now.code m now todo
   ready m place loops = record {
-    accepted = can.1.accepted;
-    knows = knows;
+    accepted = may.accepted;
+    knows = shaped;
     tasks = tasks;
     code_for =
         subst (λ ls. CodeFor x.code.now.code class m.place ls todo) (sym loops) (subst (λ k. CodeFor x.code.now.code class k [] todo) (sym place) there.code_for);
   }
 
-  left : LeavesShaped p class bound.me ran.data' ran.todo ran.actions
-  left = (keeps_shaped p can.1.accepted).runs class n (data_of bound) todo knows tasks
+  left : LeavesShaped p class now.me ran.data' ran.todo ran.actions
+  left = (keeps_shaped p may.accepted).runs class n now todo shaped tasks
 
   -- the handler is tried as the run of its body and what comes behind it
-  tried_as : (go : ℕ → Data → Ran) → tried x h n (data_of old) go ≡ after_halt ran.halt ran go
-  tried_as go =
-      ap (λ found. try_handler class h n (data_of old) found go) matches
-      ∙ ap (λ (d : Data). let r = run_to_yield class n d todo in after_halt r.halt r go) (sym bind)
-
-  bound_me : bound.me ≡ old.me
-  bound_me = ap (λ (d : Data). d.me) bind ∙ bound-me p class h.binds row (data_of old)
+  tried_as : (go : ℕ → Data → Ran) → tried x h n d go ≡ after_halt ran.halt ran go
+  tried_as go = ap (λ found. try_handler class h n d found go) matches
 
   module _ (after : Known) (m : Machine) (stop : Stop) (run : IsRun class x.code.now.code stop m (Knows after p class) bound.actions after.actions ran) where
-    pub has_tried : HasTried x h n old after (handled_as stop m.turns)
+    pub has_tried : HasTried p x h n d old after (handled_as stop m.turns)
     has_tried = record {
-      mine = sym (ap (λ (d : Data). d.me) run.known.same) ∙ left.same ∙ bound_me;
-      plan = run.known.plan ∙ sym can.1.plan;
+      mine = sym (me_is after p class ran.data' run.known) ∙ left.same ∙ bound-me p class h.binds row d ∙ me_is old p class d may.knows;
+      after = ran.data';
+      may = record {
+        accepted = may.accepted;
+        knows = run.known;
+        shaped = left.knows;
+        among = may.among;
+        forward = may.forward;
+        enters = may.enters;
+        arrives = may.arrives;
+      };
       actions = ran.actions;
       added = run.actions ∙ ap (λ xs. xs ++ ran.actions) stays;
       run = λ go.
-          then_alike (tried x h n (data_of old) go) (after_halt ran.halt ran go) (goes_on (handled_as stop m.turns) ran.actions (data_of after) go)
-          (same_run (tried x h n (data_of old) go) (after_halt ran.halt ran go) (tried_as go))
-          (as_stopped x ran after m.turns m run.known.same run.turns go stop ran.halt refl run.stops);
+          then_alike (tried x h n d go) (after_halt ran.halt ran go) (goes_on (handled_as stop m.turns) ran.actions ran.data' go)
+          (same_run (tried x h n d go) (after_halt ran.halt ran go) (tried_as go))
+          (as_stopped x ran m.turns m run.turns go stop ran.halt refl run.stops);
     }
 
-    pub can_still : CanHandle x after
-    can_still = (
-      p,
-      record {
-        accepted = can.1.accepted;
-        plan = run.known.plan;
-        among = can.1.among;
-        forward = can.1.forward;
-        enters = can.1.enters;
-        arrives = can.1.arrives;
-        knows = subst (ShapedData p class) run.known.same left.knows;
-      },
-    )
-
-  pub tried_part : (new : List Action) → IsFront bound.actions new ran.actions → TriedPart x h n old new
-  tried_part new (more, is) go =
-      let (rest, first) = body_first ran.halt ran go in (
-        more ++ rest,
-        sym (append_assoc new more rest) ∙ ap (λ xs. xs ++ rest) is ∙ append_assoc bound.actions ran.actions rest
-            ∙ ap (λ xs. xs ++ (ran.actions ++ rest)) stays
-            ∙ ap (λ xs. old.actions ++ xs) (sym first ∙ sym (ap (λ (r : Ran). r.actions) (tried_as go))),
-      )
+  pub tried_part : (new : List Action) → IsFront bound.actions new ran.actions → (go : ℕ → Data → Ran) → IsFront old.actions new (tried x h n d go).actions
+  tried_part new front go =
+      let (rest, first) = body_first ran.halt ran go in
+      front_as old.actions new (ran.actions ++ rest) (tried x h n d go).actions (sym first ∙ sym (ap (λ (r : Ran). r.actions) (tried_as go)))
+      (front_before old.actions new ran.actions rest (subst (λ xs. IsFront xs new ran.actions) stays front))
 
 -- ALL OF THEM
 
@@ -190,94 +174,125 @@ each_entered x (h ∷ hs) (e ∷ es) same each = (each 0 h e refl refl, each_ent
 abbrev pub rest_handled : Delivery → List Handler → ℕ → Data → Ran
 rest_handled x hs n d = handle x.class.now (val_of x.message.now) x.from hs n d
 
--- Some handlers were tried, and n turns were taken: the run of all is their actions, and the run of those that are left.
+-- Some handlers were tried, and n turns were taken: the run of all is their actions, and the run of those that are left. So it is for
+-- one process that knew d,
+pub record CameBy (p : Program) (x : Delivery) (left : List Handler) (n : ℕ) (d : Data) (first now : Known) : Type 0 where
+  pub so_far : Data
+  pub may : MayHandle p x now so_far
+  pub mine : now.me ≡ first.me
+  pub actions : List Action
+  pub added : now.actions ≡ first.actions ++ actions
+  pub rest : IsAlike (all_handled x d) (behind actions (rest_handled x left n so_far))
+
+-- and for each.
 pub record Came (x : Delivery) (left : List Handler) (entries : List ℕ) (n : ℕ) (first now : Known) : Type 0 where
   pub can : CanHandle x now
   pub entered : AreEntered x left entries
-  pub mine : now.me ≡ first.me
-  pub plan : now.plan.now ≡ first.plan.now
-  pub actions : List Action
-  pub added : now.actions ≡ first.actions ++ actions
-  pub rest : IsAlike (all_handled x (data_of first)) (behind actions (rest_handled x left n (data_of now)))
+  pub each : Whoever x first (λ p d. CameBy p x left n d first now)
 
 in_time : (n : ℕ) (a b : Ran) → n < max_turns → (if nat_lt n max_turns then a else b) ≡ a
 in_time n a b less = rw (lt-ltb n max_turns less) refl
 
-module _ (x : Delivery) (first now : Known) (n : ℕ) where
-  abbrev all : Ran
-  all = all_handled x (data_of first)
+-- FOR ONE PROCESS
 
-  module _ (h : Handler) (e : ℕ) (hs : List Handler) (es : List ℕ) (came : Came x (h ∷ hs) (e ∷ es) n first now) where
+module _ (x : Delivery) (first now : Known) (n : ℕ) (p : Program) (d : Data) where
+  abbrev all : Ran
+  all = all_handled x d
+
+  module _ (h : Handler) (hs : List Handler) (by : CameBy p x (h ∷ hs) n d first now) where
     abbrev go : ℕ → Data → Ran
     go = rest_handled x hs
 
     -- the turns are used up
-    pub too_long : max_turns ≤ n → HasHandled all first now (handled.Fault TooLong h.line)
-    too_long past = record {
-      mine = came.mine;
-      plan = came.plan;
-      same = came.rest.data' ∙ ap (λ (r : Ran). r.data') stops;
-      actions = came.added ∙ ap (λ xs. first.actions ++ xs) (sym (came.rest.actions ∙ ap (λ (r : Ran). came.actions ++ r.actions) stops ∙ append-nil came.actions));
-      halt = came.rest.halt ∙ ap (λ (r : Ran). r.halt) stops;
+    one_too_long : max_turns ≤ n → HasHandled p x all first now (handled.Fault TooLong h.line)
+    one_too_long past = record {
+      mine = by.mine;
+      known = subst (Knows now p x.class.now) (sym (by.rest.data' ∙ ap (λ (r : Ran). r.data') stops)) by.may.knows;
+      actions = by.added ∙ ap (λ xs. first.actions ++ xs) (sym (by.rest.actions ∙ ap (λ (r : Ran). by.actions ++ r.actions) stops ∙ append-nil by.actions));
+      halt = by.rest.halt ∙ ap (λ (r : Ran). r.halt) stops;
     }
       where
-        stops : rest_handled x (h ∷ hs) n (data_of now) ≡ record { data' = data_of now; todo = []; actions = []; turns = n; halt = Faults TooLong h.line }
+        stops : rest_handled x (h ∷ hs) n by.so_far ≡ record { data' = by.so_far; todo = []; actions = []; turns = n; halt = Faults TooLong h.line }
         stops = rw (le-ltb n max_turns past) refl
 
     module _ (early : n < max_turns) where
-      next_tried : rest_handled x (h ∷ hs) n (data_of now) ≡ tried x h (n + 1) (data_of now) go
-      next_tried = in_time n (tried x h (n + 1) (data_of now) go) _ early
+      abbrev next_run : Ran
+      next_run = tried x h (n + 1) by.so_far go
 
-      next_rest : IsAlike all (behind came.actions (tried x h (n + 1) (data_of now) go))
+      next_tried : rest_handled x (h ∷ hs) n by.so_far ≡ next_run
+      next_tried = in_time n next_run _ early
+
+      next_rest : IsAlike all (behind by.actions next_run)
       next_rest =
-          then_alike all (behind came.actions (rest_handled x (h ∷ hs) n (data_of now))) (behind came.actions (tried x h (n + 1) (data_of now) go)) came.rest
-          (same_run _ _ (ap (behind came.actions) next_tried))
+          then_alike all (behind by.actions (rest_handled x (h ∷ hs) n by.so_far)) (behind by.actions next_run) by.rest
+          (same_run _ _ (ap (behind by.actions) next_tried))
 
-      pub handled_part : (new : List Action) → TriedPart x h (n + 1) now new → IsFront first.actions new all.actions
-      handled_part new front =
-          let (more, is) = front go in (
-            more,
-            is ∙ ap (λ xs. xs ++ (tried x h (n + 1) (data_of now) go).actions) came.added
-                ∙ append_assoc first.actions came.actions (tried x h (n + 1) (data_of now) go).actions ∙ ap (λ xs. first.actions ++ xs) (sym next_rest.actions),
-          )
+      one_part : (new : List Action) → ((go : ℕ → Data → Ran) → IsFront now.actions new (tried x h (n + 1) by.so_far go).actions) → IsFront first.actions new all.actions
+      one_part new front =
+          part_front_of first.actions now.actions new all.actions next_run.actions (by.actions, by.added, next_rest.actions) (front go)
 
-      module _ (next : Known) (answer : Handled) (one : HasTried x h (n + 1) now next answer) where
-        added : next.actions ≡ first.actions ++ (came.actions ++ one.actions)
-        added = one.added ∙ ap (λ xs. xs ++ one.actions) came.added ∙ append_assoc first.actions came.actions one.actions
+      module _ (next : Known) (answer : Handled) (one : HasTried p x h (n + 1) by.so_far now next answer) where
+        added : next.actions ≡ first.actions ++ (by.actions ++ one.actions)
+        added = one.added ∙ ap (λ xs. xs ++ one.actions) by.added ∙ append_assoc first.actions by.actions one.actions
 
-        pub came_on : (turns : ℕ) → answer ≡ handled.Through turns → CanHandle x next → Came x hs es turns first next
-        came_on turns is can = record {
-          can = can;
-          entered = came.entered.1;
-          mine = one.mine ∙ came.mine;
-          plan = one.plan ∙ came.plan;
-          actions = came.actions ++ one.actions;
+        one_on : (turns : ℕ) → answer ≡ handled.Through turns → CameBy p x hs turns d first next
+        one_on turns is = record {
+          so_far = one.after;
+          may = one.may;
+          mine = one.mine ∙ by.mine;
+          actions = by.actions ++ one.actions;
           added = added;
           rest =
-              then_alike all (behind came.actions (tried x h (n + 1) (data_of now) go)) (behind (came.actions ++ one.actions) (go turns (data_of next))) next_rest
-              (behind_both came.actions one.actions (tried x h (n + 1) (data_of now) go) (go turns (data_of next))
-              (subst (λ a. IsAlike (tried x h (n + 1) (data_of now) go) (goes_on a one.actions (data_of next) go)) is (one.run go)));
+              then_alike all (behind by.actions next_run) (behind (by.actions ++ one.actions) (go turns one.after)) next_rest
+              (behind_both by.actions one.actions next_run (go turns one.after)
+              (subst (λ a. IsAlike next_run (goes_on a one.actions one.after go)) is (one.run go)));
         }
 
-        pub faults_here : (kind : FaultKind) (line : ℕ) → answer ≡ handled.Fault kind line → HasHandled all first next (handled.Fault kind line)
-        faults_here kind line is =
-            let ends = subst (λ a. IsAlike (tried x h (n + 1) (data_of now) go) (goes_on a one.actions (data_of next) go)) is (one.run go) in
+        one_fault : (kind : FaultKind) (line : ℕ) → answer ≡ handled.Fault kind line → HasHandled p x all first next (handled.Fault kind line)
+        one_fault kind line is =
+            let ends = subst (λ a. IsAlike next_run (goes_on a one.actions one.after go)) is (one.run go) in
             record {
-              mine = one.mine ∙ came.mine;
-              plan = one.plan ∙ came.plan;
-              same = next_rest.data' ∙ ends.data';
-              actions = added ∙ ap (λ xs. first.actions ++ xs) (sym (next_rest.actions ∙ ap (λ xs. came.actions ++ xs) ends.actions));
+              mine = one.mine ∙ by.mine;
+              known = subst (Knows next p x.class.now) (sym (next_rest.data' ∙ ends.data')) one.may.knows;
+              actions = added ∙ ap (λ xs. first.actions ++ xs) (sym (next_rest.actions ∙ ap (λ xs. by.actions ++ xs) ends.actions));
               halt = next_rest.halt ∙ ends.halt;
             }
 
-  pub came_through : (left : List Handler) (entries : List ℕ) → Came x left entries n first now → (left ≡ []) ⊎ (entries ≡ []) → HasHandled all first now (handled.Through n)
-  came_through [] entries came is = record {
-    mine = came.mine;
-    plan = came.plan;
-    same = came.rest.data';
-    actions = came.added ∙ ap (λ xs. first.actions ++ xs) (sym (came.rest.actions ∙ append-nil came.actions));
-    halt = came.rest.halt;
+  one_through : CameBy p x [] n d first now → HasHandled p x all first now (handled.Through n)
+  one_through by = record {
+    mine = by.mine;
+    known = subst (Knows now p x.class.now) (sym by.rest.data') by.may.knows;
+    actions = by.added ∙ ap (λ xs. first.actions ++ xs) (sym (by.rest.actions ∙ append-nil by.actions));
+    halt = by.rest.halt;
   }
+
+-- FOR EACH
+
+module _ (x : Delivery) (first now : Known) (n : ℕ) where
+  module _ (h : Handler) (e : ℕ) (hs : List Handler) (es : List ℕ) (came : Came x (h ∷ hs) (e ∷ es) n first now) where
+    pub too_long : max_turns ≤ n → Whoever x first (λ p d. HasHandled p x (all_handled x d) first now (handled.Fault TooLong h.line))
+    too_long past p d may = one_too_long x first now n p d h hs (came.each p d may) past
+
+    module _ (early : n < max_turns) where
+      pub handled_part : (new : List Action) → TriedPart x h (n + 1) now new → Whoever x first (λ p d. IsFront first.actions new (all_handled x d).actions)
+      handled_part new front p d may = let by = came.each p d may in one_part x first now n p d h hs by early new (front p by.so_far by.may)
+
+      module _ (next : Known) (answer : Handled) (one : Whoever x now (λ p d. HasTried p x h (n + 1) d now next answer)) where
+        can_next : CanHandle x next
+        can_next = let (p, d, may) = came.can in let tried_one = one p d may in (p, tried_one.after, tried_one.may)
+
+        pub came_on : (turns : ℕ) → answer ≡ handled.Through turns → Came x hs es turns first next
+        came_on turns is = record {
+          can = can_next;
+          entered = came.entered.1;
+          each = λ p d may. (let by = came.each p d may in one_on x first now n p d h hs by early next answer (one p by.so_far by.may) turns is);
+        }
+
+        pub faults_here : (kind : FaultKind) (line : ℕ) → answer ≡ handled.Fault kind line → Whoever x first (λ p d. HasHandled p x (all_handled x d) first next (handled.Fault kind line))
+        faults_here kind line is p d may = let by = came.each p d may in one_fault x first now n p d h hs by early next answer (one p by.so_far by.may) kind line is
+
+  pub came_through : (left : List Handler) (entries : List ℕ) → Came x left entries n first now → (left ≡ []) ⊎ (entries ≡ []) → Whoever x first (λ p d. HasHandled p x (all_handled x d) first now (handled.Through n))
+  came_through [] entries came past = λ p d may. one_through x first now n p d (came.each p d may)
   came_through (h ∷ hs) entries came (inl is) = absurd (let none : ◌≡◌ {A = List Handler} (h ∷ hs) [] = is in cc)
   came_through (h ∷ hs) entries came (inr is) = absurd (subst (AreEntered x (h ∷ hs)) is came.entered)
 
@@ -286,12 +301,15 @@ pub came_first : (x : Delivery) (first : Known) → CanHandle x first → (these
 came_first x first can these entries hs es =
     subst (λ l. Came x l entries 0 first first) (sym hs) (subst (λ l. Came x x.class.now.handlers l 0 first first) (sym es) (record {
       can = can;
-      entered = each_entered x x.class.now.handlers x.code.now.code.handlers can.1.enters.one_each (λ k h e at there. record { among = has_at x.class.now.handlers k h at; code_for = can.1.enters.stands k h e at there });
-      mine = refl;
-      plan = refl;
-      actions = [];
-      added = sym (append-nil first.actions);
-      rest = same_run _ _ refl;
+      entered = each_entered x x.class.now.handlers x.code.now.code.handlers can.2.enters.one_each (λ k h e at there. record { among = has_at x.class.now.handlers k h at; code_for = can.2.enters.stands k h e at there });
+      each = λ p d may. record {
+        so_far = d;
+        may = may;
+        mine = refl;
+        actions = [];
+        added = sym (append-nil first.actions);
+        rest = same_run _ _ refl;
+      };
     }))
 
 -- in front of a handler and its entry
@@ -313,11 +331,3 @@ one_more n less = omega (arith, less)
 pub turns_taken : (n : ℕ) → 1000000 ≤ n → max_turns ≤ n
 unfolding max_turns
 turns_taken n past = past
-
--- BINDING
-
-pub bound_whole : (slots : List ℕ) (parts : List Value) (d : Data) → (slots ≡ []) ⊎ (parts ≡ []) → d ≡ bind_all slots (vals parts) d
-bound_whole [] parts d is = refl
-bound_whole (s ∷ ss) [] d is = refl
-bound_whole (s ∷ ss) (v ∷ vs) d (inl is) = absurd (let none : ◌≡◌ {A = List ℕ} (s ∷ ss) [] = is in cc)
-bound_whole (s ∷ ss) (v ∷ vs) d (inr is) = absurd (let none : ◌≡◌ {A = List Value} (v ∷ vs) [] = is in cc)

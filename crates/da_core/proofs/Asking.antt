@@ -7,9 +7,11 @@ use Rattle.da_values.specs.declared.val.Val.{Val}
 use Rattle.da_lang.specs.declared.event.Action.{Action}
 use Rattle.da_lang.specs.declared.event.Action.TheVariants.{Answer}
 use Rattle.da_lang.specs.declared.program.Class.{Class}
+use Rattle.da_lang.specs.declared.program.Program.{Program}
 use Rattle.da_lang.specs.Queries.{least_row, query_value, shown_set}
 use Rattle.da_lang.specs.World.{Data}
 use Rattle.da_machine.specs.RunsTo.{IsFront}
+use Rattle.da_machine.proofs.Fronts.{IsPart, part_front, part_then, part_whole}
 use Rattle.query_plan.specs.declared.plan.Plan.{Plan}
 use Rattle.query_plan.specs.Nodes.{node_rows}
 use Rattle.query_plan.specs.PlainNodes.{PlainNodes}
@@ -21,79 +23,88 @@ use Rattle.node_rows.proofs.PlanLaws.{row_found, set_shown, value_asked}
 use Rattle.da_core.specs.declared.known.Known.{Known}
 use Rattle.da_core.specs.declared.waits.Alternative.{Alternative}
 use Rattle.da_core.specs.Begins.{flags_told}
-use Rattle.da_core.specs.Known.{HasPlan, IsPlanned, data_of}
+use Rattle.da_core.specs.Known.{Each, Knows, KnowsSome}
 use Rattle.da_core.specs.Told.{answers}
+use Rattle.da_core.proofs.KnownLaws.{me_is, plan_is}
 
 -- its nodes are plain
-pub plain_nodes : (known : Known) → IsPlanned known → PlainNodes known.plan.now.nodes
-plain_nodes known (class, plan) = subst (λ (x : Plan). PlainNodes x.nodes) (sym plan) (class_plain class)
+pub plain_nodes : (known : Known) → KnowsSome known → PlainNodes known.plan.now.nodes
+plain_nodes known (p, class, d, knows) = subst (λ (x : Plan). PlainNodes x.nodes) (sym (plan_is known p class d knows)) (class_plain class)
 
 -- WHAT IT TELLS OF A QUERY
 
-module _ (known : Known) (class : Class) (plan : HasPlan known class) where
+module _ (known : Known) (p : Program) (class : Class) (d : Data) (knows : Knows known p class d) where
   of_class : IsPlanOf class known.plan.now
-  of_class = subst (IsPlanOf class) (sym plan) (class_law class)
+  of_class = subst (IsPlanOf class) (sym (plan_is known p class d knows)) (class_law class)
 
   pub query_count : length known.plan.now.queries ≡ length class.queries
-  query_count = AllZip-long (TellsQuery (data_of known) known.plan.now.nodes) class.queries known.plan.now.queries (of_class.queries (data_of known))
+  query_count = AllZip-long (TellsQuery d known.plan.now.nodes) class.queries known.plan.now.queries (of_class.queries d)
 
-  module _ (d : Data) (same : d ≡ data_of known) (q : ℕ) where
-    pub value_told : asked d known.plan.now q ≡ query_value class.queries q (data_of known)
-    value_told = value_asked class known.plan.now of_class d q ∙ ap (query_value class.queries q) same
+  -- where what it lends is what the process knows
+  module _ (lends : Data) (same : lends ≡ d) (q : ℕ) where
+    pub value_told : asked lends known.plan.now q ≡ query_value class.queries q d
+    value_told = value_asked class known.plan.now of_class lends q ∙ ap (query_value class.queries q) same
 
-    pub row_told : least_found d known.plan.now q ≡ least_row class.queries q (data_of known)
-    row_told = row_found class known.plan.now of_class d q ∙ ap (least_row class.queries q) same
+    pub row_told : least_found lends known.plan.now q ≡ least_row class.queries q d
+    row_told = row_found class known.plan.now of_class lends q ∙ ap (least_row class.queries q) same
 
-    pub set_told : set_listed d known.plan.now q ≡ shown_set class.queries q (data_of known)
-    set_told = set_shown class known.plan.now of_class d q ∙ ap (shown_set class.queries q) same
+    pub set_told : set_listed lends known.plan.now q ≡ shown_set class.queries q d
+    set_told = set_shown class known.plan.now of_class lends q ∙ ap (shown_set class.queries q) same
 
 -- THE ANSWERS, ONE BY ONE
 
-abbrev answer : Known → Class → ℕ → Action
-answer known class n = Answer known.me n (shown_set class.queries n (data_of known))
+abbrev answer : Class → Data → ℕ → Action
+answer class d n = Answer d.me n (shown_set class.queries n d)
 
 -- those behind so many queries
-abbrev answers_left : Known → Class → ℕ → List Action
-answers_left known class place = map (answer known class) (range_with_len (place + 1) (length class.queries - place))
+abbrev answers_left : Class → Data → ℕ → List Action
+answers_left class d place = map (answer class d) (range_with_len (place + 1) (length class.queries - place))
 
 -- so many queries are answered, and the others are due
 abbrev pub HasAnswered : Known → List Action → List Action → ℕ → Type 0
-HasAnswered known old now place = (class : Class) → HasPlan known class → now ++ answers_left known class place ≡ old ++ answers known.me class.queries (data_of known)
+HasAnswered known old now place = Each known (λ p class d. IsPart old now (answers d.me class.queries d) (answers_left class d place))
 
 pub none_answered : (known : Known) (old : List Action) → HasAnswered known old old 0
-none_answered known old class plan =
+none_answered known old p class d knows =
     let all : length class.queries - 0 ≡ length class.queries = omega arith in
-    ap (λ count. old ++ map (answer known class) (range_with_len 1 count)) all
+    ([], sym (append-nil old), ap (λ count. map (answer class d) (range_with_len 1 count)) (sym all))
 
-one_due : (known : Known) (class : Class) (place : ℕ) → place < length class.queries → answers_left known class place ≡ answer known class (place + 1) ∷ answers_left known class (place + 1)
-one_due known class place there =
+one_due : (class : Class) (d : Data) (place : ℕ) → place < length class.queries → answers_left class d place ≡ answer class d (place + 1) ∷ answers_left class d (place + 1)
+one_due class d place there =
     let count : length class.queries - place ≡ suc (length class.queries - (place + 1)) = omega (arith, there) in
-    ap (λ n. map (answer known class) (range_with_len (place + 1) n)) count
+    ap (λ n. map (answer class d) (range_with_len (place + 1) n)) count
 
 pub one_answered : (known : Known) (old now new : List Action) (place n : ℕ) (rows : List Val) → place < length known.plan.now.queries → n ≡ place + 1
-    → ((class : Class) → HasPlan known class → rows ≡ shown_set class.queries n (data_of known)) → new ≡ now ++ Answer known.me n rows ∷ [] → HasAnswered known old now place
+    → Each known (λ p class d. rows ≡ shown_set class.queries n d) → new ≡ now ++ Answer known.me n rows ∷ [] → HasAnswered known old now place
     → HasAnswered known old new (place + 1)
-one_answered known old now new place n rows within number shown pushed so_far class plan =
-    let there : place < length class.queries = omega (arith, within, query_count known class plan) in
-    let told : Answer known.me n rows ≡ answer known class (place + 1) = ap (Answer known.me n) (shown class plan) ∙ ap (answer known class) number in
-    ap (λ xs. xs ++ answers_left known class (place + 1)) pushed ∙ append_assoc now (Answer known.me n rows ∷ []) (answers_left known class (place + 1))
-    ∙ ap (λ (a : Action). now ++ a ∷ answers_left known class (place + 1)) told ∙ sym (ap (λ xs. now ++ xs) (one_due known class place there)) ∙ so_far class plan
+one_answered known old now new place n rows within number shown pushed so_far p class d knows =
+    let there : place < length class.queries = omega (arith, within, query_count known p class d knows) in
+    let told : Answer known.me n rows ≡ answer class d (place + 1) =
+    ap (λ me. Answer me n rows) (sym (me_is known p class d knows)) ∙ ap (Answer d.me n) (shown p class d knows) ∙ ap (answer class d) number in
+    part_then old now new (answers d.me class.queries d) (answers_left class d place) (answers_left class d (place + 1)) (so_far p class d knows)
+    (Answer known.me n rows ∷ [], pushed, one_due class d place there ∙ ap (λ (a : Action). a ∷ answers_left class d (place + 1)) (sym told))
 
 pub all_answered : (known : Known) (old now : List Action) (place : ℕ) → length known.plan.now.queries ≤ place → HasAnswered known old now place
-    → (class : Class) → HasPlan known class → now ≡ old ++ answers known.me class.queries (data_of known)
-all_answered known old now place past so_far class plan =
-    let none : length class.queries - place ≡ 0 = omega (arith, past, query_count known class plan) in
-    sym (append-nil now) ∙ sym (ap (λ n. now ++ map (answer known class) (range_with_len (place + 1) n)) none) ∙ so_far class plan
+    → Each known (λ p class d. now ≡ old ++ answers d.me class.queries d)
+all_answered known old now place past so_far p class d knows =
+    let none : length class.queries - place ≡ 0 = omega (arith, past, query_count known p class d knows) in
+    part_whole old now now (answers d.me class.queries d) (answers_left class d place) (so_far p class d knows)
+    (sym (append-nil now) ∙ sym (ap (λ n. now ++ map (answer class d) (range_with_len (place + 1) n)) none))
 
-pub answers_front : (known : Known) (old now new : List Action) (place : ℕ) → new ≡ now → HasAnswered known old now place
-    → (class : Class) → HasPlan known class → IsFront old new (answers known.me class.queries (data_of known))
-answers_front known old now new place stays so_far class plan =
-    (answers_left known class place, ap (λ xs. xs ++ answers_left known class place) stays ∙ so_far class plan)
+-- a front of them was told
+abbrev pub AnswersPart : Known → List Action → List Action → Type 0
+AnswersPart known old new = Each known (λ p class d. IsFront old new (answers d.me class.queries d))
+
+pub answers_front : (known : Known) (old now new : List Action) (place : ℕ) → new ≡ now → HasAnswered known old now place → AnswersPart known old new
+answers_front known old now new place stays so_far p class d knows =
+    let (told, is, whole) = so_far p class d knows in
+    part_front old new (answers d.me class.queries d) (answers_left class d place) (told, stays ∙ is, whole)
 
 -- THE FLAGS
 
-pub flags_listed : (known : Known) (d : Data) (nodes : List ℕ) (alternatives : List Alternative) → d ≡ data_of known → nodes ≡ map (λ a. a.flag) alternatives
-    → map (λ i. has_row (node_rows d known.plan.now.nodes i)) nodes ≡ flags_told known alternatives
-flags_listed known d nodes alternatives same are =
-    ap (map (λ i. has_row (node_rows d known.plan.now.nodes i))) are ∙ map-map (λ i. has_row (node_rows d known.plan.now.nodes i)) (λ a. a.flag) alternatives
-    ∙ ap (λ (x : Data). map (λ a. has_row (node_rows x known.plan.now.nodes a.flag)) alternatives) same
+pub flags_listed : (known : Known) (lends : Data) (nodes : List ℕ) (alternatives : List Alternative) → Each known (λ p class d. lends ≡ d) → nodes ≡ map (λ a. a.flag) alternatives
+    → Each known (λ p class d. map (λ i. has_row (node_rows lends known.plan.now.nodes i)) nodes ≡ flags_told class d alternatives)
+flags_listed known lends nodes alternatives same are p class d knows =
+    ap (map (λ i. has_row (node_rows lends known.plan.now.nodes i))) are ∙ map-map (λ i. has_row (node_rows lends known.plan.now.nodes i)) (λ a. a.flag) alternatives
+    ∙ ap (λ (x : Data). map (λ a. has_row (node_rows x known.plan.now.nodes a.flag)) alternatives) (same p class d knows)
+    ∙ ap (λ (x : Plan). map (λ a. has_row (node_rows d x.nodes a.flag)) alternatives) (plan_is known p class d knows)

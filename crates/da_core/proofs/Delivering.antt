@@ -1,5 +1,5 @@
 -- What a core stands for behind a delivery.
-use Rattle.std.proofs.Common.{◌≡◌, ℕ, List, [], ◌∷◌, ◌++◌, Option, Some, None, refl, sym, ap, ◌∙◌, subst}
+use Rattle.std.proofs.Common.{◌≡◌, ℕ, List, [], ◌∷◌, ◌++◌, take, Option, Some, None, refl, sym, ap, ◌∙◌, subst}
 use Rattle.std.specs.Prelude.{Bool, false, IsTrue}
 use Rattle.std.proofs.lemmas.Bool.{false≢true}
 use Rattle.da_values.specs.declared.val.Val.{Val}
@@ -12,7 +12,7 @@ use Rattle.da_lang.specs.declared.program.Class.{Class}
 use Rattle.da_lang.specs.declared.program.Program.{Program}
 use Rattle.da_lang.specs.Runs.{Halt, AtYield, UsedUp, Faults, Ran}
 use Rattle.da_lang.specs.Shaped.{ShapedData, ShapedTasks}
-use Rattle.da_lang.specs.Steps.{Deliver, Stepped, closing, handled, phase_after, proc_step, received_at}
+use Rattle.da_lang.specs.Steps.{Deliver, Stepped, closing, handled, phase_after, proc_step}
 use Rattle.da_lang.specs.World.{Data, World, Phase, New, Waiting, Ended, Faulted, class_of}
 use Rattle.da_types.specs.KeepsShaped.{StepsShaped}
 use Rattle.da_machine.specs.declared.machine.Machine.{Machine}
@@ -24,13 +24,14 @@ use Rattle.da_core.specs.declared.deliveries.Delivery.{Delivery}
 use Rattle.da_core.specs.declared.known.Known.{Known}
 use Rattle.da_core.specs.declared.moves.Standing.{Standing}
 use Rattle.da_core.specs.declared.place.Stopped.{Stopped}
-use Rattle.da_core.specs.Arrivals.{CanHandle, HasTakenIn, MayArrive, MayTakeIn, all_handled, arrival, delivery_actions, received}
+use Rattle.da_core.specs.Arrivals.{HasTakenIn, MayArrive, MayHandle, MayTakeIn, all_handled, arrival, delivery_actions, received}
 use Rattle.da_core.specs.Compiled.{IsCodeFor, code_of}
-use Rattle.da_core.specs.Known.{HasPlan}
+use Rattle.da_core.specs.Known.{Knows}
 use Rattle.da_core.specs.Made.{HasBegun, HasMade, phase_of, stopped_at}
 use Rattle.da_core.specs.StandsFor.{IsAt, IsWaiting, StandsFor, program_of}
 use Rattle.da_core.proofs.Entering.{is_code}
 use Rattle.da_core.proofs.KeptLaw.{rows_are}
+use Rattle.da_core.proofs.KnownLaws.{me_is, with_actions}
 use Rattle.da_core.proofs.Laws.{class_has, keeps_shaped}
 use Rattle.da_core.proofs.Moving.{stops_so}
 
@@ -70,11 +71,14 @@ module _ (core : Core) (w : World) (s : StandsFor core w) (waits : w.phase ≡ W
   abbrev code : ClassCode
   code = x.code.now
 
+  itself : d.me ≡ core.known.me
+  itself = me_is core.known p s.class d s.stands
+
   is_class : class_of p d.me ≡ Some class
-  is_class = ap (λ (y : Data). class_of p y.me) s.same ∙ sym classed
+  is_class = ap (class_of p) itself ∙ sym classed
 
   is_coded : code_of core.compiled.now d.me ≡ Some code
-  is_coded = ap (λ (y : Data). code_of core.compiled.now y.me) s.same ∙ sym coded
+  is_coded = ap (code_of core.compiled.now) itself ∙ sym coded
 
   same_class : s.class ≡ class
   same_class = let both : ◌≡◌ {A = Option Class} (Some s.class) (Some class) = sym s.knows.is_class ∙ is_class in cc
@@ -85,8 +89,8 @@ module _ (core : Core) (w : World) (s : StandsFor core w) (waits : w.phase ≡ W
   its_code : (place : ℕ) × IsCodeFor p place class code
   its_code = is_code core.compiled.now class code s.compiled d.me is_class is_coded
 
-  planned : HasPlan core.known class
-  planned = subst (HasPlan core.known) same_class s.plan
+  keeps : Knows core.known p class d
+  keeps = subst (λ c. Knows core.known p c d) same_class s.stands
 
   knows : ShapedData p class d
   knows = subst (λ c. ShapedData p c d) same_class s.knows
@@ -107,21 +111,18 @@ module _ (core : Core) (w : World) (s : StandsFor core w) (waits : w.phase ≡ W
     among : Has p.classes class
     among = class_has p d.me class is_class
 
-    can : CanHandle x old
-    can = (
-      p,
-      record {
-        accepted = s.compiled.accepted;
-        plan = planned;
-        among = among;
-        forward = its_code.1.code.forward;
-        enters = its_code.1.code.handlers;
-        arrives = record { proper = arrives.proper; typed = arrives.typed; peer = arrives.peer };
-        knows = subst (ShapedData p class) s.same knows;
-      },
-    )
+    can : MayHandle p x old d
+    can = record {
+      accepted = s.compiled.accepted;
+      knows = with_actions core.known p class d keeps own;
+      shaped = knows;
+      among = among;
+      forward = its_code.1.code.forward;
+      enters = its_code.1.code.handlers;
+      arrives = record { proper = arrives.proper; typed = arrives.typed; peer = arrives.peer };
+    }
 
-    pub may_take_in : MayTakeIn x time core.machine.place old w.todo
+    pub may_take_in : MayTakeIn p x time core.machine.place old d w.todo
     may_take_in = record {
       can = can;
       waits = its_code.1.waits;
@@ -131,20 +132,18 @@ module _ (core : Core) (w : World) (s : StandsFor core w) (waits : w.phase ≡ W
     }
 
     abbrev ran : Ran
-    ran = all_handled x (received x time old)
+    ran = all_handled x (received x time d)
 
     abbrev after : Stepped
     after = handled w.todo d.me (val_of x.message.now) x.from time ran
 
     leads : proc_step p w (arrival x.message.now x.from time) ≡ Some after
-    leads =
-        rw (is_class, waits) refl
-        ∙ ap (λ (y : Data). Some (handled w.todo d.me (val_of x.message.now) x.from time (all_handled x (received_at (val_of x.message.now) x.from time y)))) s.same
+    leads = rw (is_class, waits) refl
 
     told : after.actions ≡ delivery_actions x time core.known.me ran
     told =
         ap (λ m. action.Got d.me x.from time m ∷ ran.actions ++ closing d.me ran.halt) (value_of-val_of x.message.now)
-        ∙ ap (λ (y : Data). action.Got y.me x.from time x.message.now ∷ ran.actions ++ closing y.me ran.halt) s.same
+        ∙ ap (λ me. action.Got me x.from time x.message.now ∷ ran.actions ++ closing me ran.halt) itself
 
     shaped : StepsShaped p d.me after
     shaped = (keeps_shaped p s.compiled.accepted).steps w (arrival x.message.now x.from time) after (record { class = class; knows = knows; todo = tasks }) arrives leads
@@ -155,7 +154,7 @@ module _ (core : Core) (w : World) (s : StandsFor core w) (waits : w.phase ≡ W
         cc
 
     -- what the process knows behind the delivery and how it stands, where the actions are given back
-    module _ (known : Known) (stands : Standing) (taken : HasTakenIn x time w.todo old known stands) where
+    module _ (known : Known) (stands : Standing) (taken : HasTakenIn p x time d w.todo old known stands) where
       module _ (empty : List Action) (none : empty ≡ []) (new : Core) (is_new : new ≡ record core { known = record known { actions = empty }; place = stands.place; flags = stands.flags; kept = stands.kept; spent = false }) where
         pub stands_after : StandsFor new after.world
         stands_after = subst (λ z. StandsFor z after.world) (sym is_new) (record {
@@ -166,11 +165,11 @@ module _ (core : Core) (w : World) (s : StandsFor core w) (waits : w.phase ≡ W
           code_is = ap (code_of core.compiled.now) shaped.same ∙ is_coded;
           knows = subst (λ c. ShapedData p c ran.data') class_stays shaped.shaped.knows;
           tasks = subst (λ c. ShapedTasks p c ran.data'.me w.todo) class_stays shaped.shaped.todo;
-          same = taken.same;
-          plan = taken.plan ∙ planned;
+          stands = with_actions known p class ran.data' taken.known empty;
           rows = taken.rows ∙ rows_are p d.me class code.live.patterns s.compiled.accepted is_class its_code.1.live ran.data';
           no_actions = none;
           place = taken.place;
+          flags = taken.flags;
           at = at_behind p class code core.machine after.world ran.halt waiting;
         })
 
@@ -181,16 +180,16 @@ module _ (core : Core) (w : World) (s : StandsFor core w) (waits : w.phase ≡ W
           leads = leads;
           stands = stands_after;
           same = shaped.same;
-          stopped = ap phase_of is ∙ stops_so ran.data' w.todo stands stands.place ran.halt taken.place;
+          stopped = ap phase_of is ∙ stops_so w.todo stands.place ran.halt taken.place;
           added = back ∙ taken.actions ∙ ap (λ xs. own ++ xs) (sym told) ∙ ap (λ xs. xs ++ after.actions) from;
         }
 
     pub has_begun : (out given left : List Action) → own ≡ out → given ≡ left → IsFront own left (delivery_actions x time core.known.me ran)
         → HasBegun core w (arrival x.message.now x.from time) out given
-    has_begun out given left from back (more, is) = record {
+    has_begun out given left from back (n, is) = record {
       after = after;
       leads = leads;
-      front = (more, ap (λ xs. xs ++ more) back ∙ is ∙ ap (λ xs. own ++ xs) (sym told) ∙ ap (λ xs. xs ++ after.actions) from);
+      front = (n, back ∙ is ∙ ap (λ xs. own ++ take n xs) (sym told) ∙ ap (λ xs. xs ++ take n after.actions) from);
     }
 
   pub may_arrive : proc_step p w (arrival x.message.now x.from time) ≡ None → ⊥

@@ -42,8 +42,9 @@ use Rattle.da_core.specs.declared.place.Place.TheVariants as place
 use Rattle.da_core.specs.declared.waits.Alternative.{Alternative}
 use Rattle.da_core.specs.Begins.{CanMove, MayRun, alternative_at, alternative_of, begin_at, behind_turn, bound_by, entry_behind, entry_of, if_flag, point_of, waits_behind}
 use Rattle.da_core.specs.Compiled.{IsCodeFor, IsCompiled, code_at, code_of, program_of as compiled_program}
-use Rattle.da_core.specs.StandsFor.{AwaitsAs, BeginsWith, IsAt, IsPlace, IsWaiting, StandsFor, program_of}
+use Rattle.da_core.specs.StandsFor.{Awaits, BeginsWith, IsAt, IsPlace, IsWaiting, StandsFor, program_of}
 use Rattle.da_core.specs.Waits.{waits_of}
+use Rattle.da_core.proofs.KnownLaws.{me_is}
 use Rattle.da_core.proofs.Laws.{is_whole}
 use Rattle.da_core.proofs.Tasks.{alt_shaped, first_shaped, has_at, item_shaped, rest_shaped}
 use Rattle.da_core.proofs.WaitLaws.{IsAlternative, await_waits}
@@ -155,8 +156,9 @@ module _ (core : Core) (w : World) (s : StandsFor core w) where
     accepted = s.compiled.accepted;
     forward = code_for_class.1.code.forward;
     waits = code_for_class.1.waits;
-    plan = s.plan;
-    bound = bound ∙ ap (bound_by s.class (alternative_at s.code m.place k)) s.same;
+    before = d;
+    stands = s.stands;
+    bound = bound;
     knows = knows;
     tasks = subst (λ me. ShapedTasks p s.class me todo) (sym mine) tasks;
     code_for = code_for;
@@ -201,7 +203,7 @@ module _ (core : Core) (w : World) (s : StandsFor core w) where
       } in
       subst (λ found. IsBegin 0 (behind_turn found)) (sym goes) can
 
-  module _ (waits : w.phase ≡ Waiting) (count : ℕ) (awaits : AwaitsAs d w.todo core.flags count) (at : IsWaiting s.class s.code.code m w.todo) where
+  module _ (waits : w.phase ≡ Waiting) (count : ℕ) (awaits : Awaits w.todo count) (at : IsWaiting s.class s.code.code m w.todo) where
     abbrev b : BeginsWith w.todo (kind.Await awaits.alts)
     b = awaits.begins
 
@@ -209,7 +211,7 @@ module _ (core : Core) (w : World) (s : StandsFor core w) where
     holds_now a = holds d (out-Alt a).cond []
 
     flag_is : (n : ℕ) → slice_get core.flags n ≡ option_map holds_now (slice_get awaits.alts n)
-    flag_is n = ap (λ flags. slice_get flags n) awaits.hold ∙ slice_get-map holds_now awaits.alts n
+    flag_is n = ap (λ flags. slice_get flags n) (s.flags waits awaits.alts b) ∙ slice_get-map holds_now awaits.alts n
 
     no_alternative : (n : ℕ) → slice_get awaits.alts n ≡ None → proc_step p w (move_step (suc n)) ≡ None
     no_alternative n none = rw (s.knows.is_class, waits, b.first, b.is, none) refl
@@ -265,7 +267,7 @@ module _ (core : Core) (w : World) (s : StandsFor core w) where
     none_at_await : proc_step p w (move_step 0) ≡ None
     none_at_await = rw (s.knows.is_class, waits, b.first, b.is) refl
 
-  begins_by : (place : Place) (phase : Phase) (k : ℕ) → w.phase ≡ phase → IsPlace d w.todo core.flags place phase → IsAt p s.class s.code.code m w phase
+  begins_by : (place : Place) (phase : Phase) (k : ℕ) → w.phase ≡ phase → IsPlace w.todo place phase → IsAt p s.class s.code.code m w phase
       → IsBegin k (begin_at s.code.code m.place core.flags place k)
   begins_by place.New New zero is stands at = begins_new is at
   begins_by place.New New (suc k) is stands at = rw (s.knows.is_class, is) refl
@@ -285,7 +287,7 @@ module _ (core : Core) (w : World) (s : StandsFor core w) where
 
   same_code : (code : ClassCode) → code_of core.compiled.now core.known.me ≡ Some code → s.code ≡ code
   same_code code is =
-      let both : ◌≡◌ {A = Option ClassCode} (Some s.code) (Some code) = sym s.code_is ∙ ap (λ (x : Data). code_of core.compiled.now x.me) s.same ∙ is in
+      let both : ◌≡◌ {A = Option ClassCode} (Some s.code) (Some code) = sym s.code_is ∙ ap (code_of core.compiled.now) (me_is core.known p s.class d s.stands) ∙ is in
       cc
 
   pub begin_found : (code : ClassCode) → code_of core.compiled.now core.known.me ≡ Some code → (k : ℕ) (found : Option Begin)
@@ -296,4 +298,4 @@ module _ (core : Core) (w : World) (s : StandsFor core w) where
       by_code code (same_code code is) same
 
   pub no_code : None ≡ code_of core.compiled.now core.known.me → ⊥
-  no_code none = let both : ◌≡◌ {A = Option ClassCode} None (Some s.code) = none ∙ ap (λ (x : Data). code_of core.compiled.now x.me) (sym s.same) ∙ s.code_is in cc
+  no_code none = let both : ◌≡◌ {A = Option ClassCode} None (Some s.code) = none ∙ ap (code_of core.compiled.now) (sym (me_is core.known p s.class d s.stands)) ∙ s.code_is in cc

@@ -1,5 +1,6 @@
 pub mod Arriving
 pub mod Asking
+pub mod Binding
 pub mod Carrying
 pub mod Compiling
 pub mod DefaultForms
@@ -7,6 +8,7 @@ pub mod Delivering
 pub mod Entering
 pub mod Fronts
 pub mod KeptLaw
+pub mod KnownLaws
 pub mod Laws
 pub mod MessageForms
 pub mod Moving

@@ -1,6 +1,6 @@
 -- What a core stands for behind a move.
-use Rattle.std.proofs.Common.{◌≡◌, ℕ, List, [], ◌++◌, refl, sym, ap, ◌∙◌, subst}
-use Rattle.std.specs.Prelude.{Bool, false}
+use Rattle.std.proofs.Common.{◌≡◌, ℕ, List, [], ◌++◌, take, refl, sym, ap, ◌∙◌, subst}
+use Rattle.std.specs.Prelude.{false}
 use Rattle.da_lang.specs.declared.event.Action.{Action}
 use Rattle.da_lang.specs.declared.program.Class.{Class}
 use Rattle.da_lang.specs.declared.program.Program.{Program}
@@ -21,11 +21,11 @@ use Rattle.da_core.specs.declared.place.Place.TheVariants as place
 use Rattle.da_core.specs.declared.place.Stopped.{Stopped}
 use Rattle.da_core.specs.Begins.{CanMove, HasRun, IsBehind, MayRun, move_actions}
 use Rattle.da_core.specs.Compiled.{code_of}
-use Rattle.da_core.specs.Known.{data_of}
 use Rattle.da_core.specs.Made.{HasBegun, HasMade, phase_at, phase_of, stopped_at}
 use Rattle.da_core.specs.StandsFor.{IsAt, IsPlace, StandsFor, program_of}
 use Rattle.da_core.specs.Told.{answers, answers_of, kept_of}
 use Rattle.da_core.proofs.KeptLaw.{rows_are}
+use Rattle.da_core.proofs.KnownLaws.{with_actions}
 use Rattle.da_core.proofs.Laws.{keeps_shaped}
 
 -- where the actions are others
@@ -35,7 +35,8 @@ may_with p class code known m k begin d todo actions may = record {
   accepted = may.accepted;
   forward = may.forward;
   waits = may.waits;
-  plan = may.plan;
+  before = may.before;
+  stands = with_actions known p class may.before may.stands actions;
   bound = may.bound;
   knows = may.knows;
   tasks = may.tasks;
@@ -58,33 +59,33 @@ at_behind p class code m w AtYield is = is
 at_behind p class code m w UsedUp is = tt
 at_behind p class code m w (Faults kind line) is = tt
 
-phase_is : (d : Data) (todo : List Task) (flags : List Bool) (place : Place) (phase : Phase) → IsPlace d todo flags place phase → phase ≡ phase_at place
-phase_is d todo flags place.New New is = refl
-phase_is d todo flags place.Label Waiting is = refl
-phase_is d todo flags (place.Await count) Waiting is = refl
-phase_is d todo flags place.Ended Ended is = refl
-phase_is d todo flags place.Faulted Faulted is = refl
-phase_is d todo flags _ _ is = absurd is
+phase_is : (todo : List Task) (place : Place) (phase : Phase) → IsPlace todo place phase → phase ≡ phase_at place
+phase_is todo place.New New is = refl
+phase_is todo place.Label Waiting is = refl
+phase_is todo (place.Await count) Waiting is = refl
+phase_is todo place.Ended Ended is = refl
+phase_is todo place.Faulted Faulted is = refl
+phase_is todo _ _ is = absurd is
 
 pub stands_in_phase : (core : Core) (w : World) → StandsFor core w → w.phase ≡ phase_at core.place
-stands_in_phase core w s = phase_is w.data' w.todo core.flags core.place w.phase s.place
+stands_in_phase core w s = phase_is w.todo core.place w.phase s.place
 
-pub stops_so : (d : Data) (todo : List Task) (s : Standing) (place : Place) (halt : Halt) → IsPlace d todo s.flags place (phase_after halt) → phase_of (stopped_at place) ≡ phase_after halt
-stops_so d todo s place.Label AtYield is = refl
-stops_so d todo s (place.Await count) AtYield is = refl
-stops_so d todo s place.Ended UsedUp is = refl
-stops_so d todo s place.Faulted (Faults kind line) is = refl
-stops_so d todo s place.New AtYield is = absurd is
-stops_so d todo s place.New UsedUp is = absurd is
-stops_so d todo s place.New (Faults kind line) is = absurd is
-stops_so d todo s place.Label UsedUp is = absurd is
-stops_so d todo s place.Label (Faults kind line) is = absurd is
-stops_so d todo s (place.Await count) UsedUp is = absurd is
-stops_so d todo s (place.Await count) (Faults kind line) is = absurd is
-stops_so d todo s place.Ended AtYield is = absurd is
-stops_so d todo s place.Ended (Faults kind line) is = absurd is
-stops_so d todo s place.Faulted AtYield is = absurd is
-stops_so d todo s place.Faulted UsedUp is = absurd is
+pub stops_so : (todo : List Task) (place : Place) (halt : Halt) → IsPlace todo place (phase_after halt) → phase_of (stopped_at place) ≡ phase_after halt
+stops_so todo place.Label AtYield is = refl
+stops_so todo (place.Await count) AtYield is = refl
+stops_so todo place.Ended UsedUp is = refl
+stops_so todo place.Faulted (Faults kind line) is = refl
+stops_so todo place.New AtYield is = absurd is
+stops_so todo place.New UsedUp is = absurd is
+stops_so todo place.New (Faults kind line) is = absurd is
+stops_so todo place.Label UsedUp is = absurd is
+stops_so todo place.Label (Faults kind line) is = absurd is
+stops_so todo (place.Await count) UsedUp is = absurd is
+stops_so todo (place.Await count) (Faults kind line) is = absurd is
+stops_so todo place.Ended AtYield is = absurd is
+stops_so todo place.Ended (Faults kind line) is = absurd is
+stops_so todo place.Faulted AtYield is = absurd is
+stops_so todo place.Faulted UsedUp is = absurd is
 
 -- the core keeps as many rows as the process
 pub keeps_rows : (core : Core) (w : World) → StandsFor core w → core.kept ≡ kept_of (class_of (program_of core) w.data'.me) w.data'
@@ -92,9 +93,8 @@ keeps_rows core w s = s.rows ∙ sym (ap (λ class. kept_of class w.data') s.kno
 
 -- what it tells of its queries is told of the process
 pub tells_answers : (core : Core) (w : World) (s : StandsFor core w)
-    → answers core.known.me s.class.queries (data_of core.known) ≡ answers_of w.data'.me (class_of (program_of core) w.data'.me) w.data'
-tells_answers core w s =
-    ap (λ (x : Data). answers x.me s.class.queries x) (sym s.same) ∙ sym (ap (λ class. answers_of w.data'.me class w.data') s.knows.is_class)
+    → answers w.data'.me s.class.queries w.data' ≡ answers_of w.data'.me (class_of (program_of core) w.data'.me) w.data'
+tells_answers core w s = sym (ap (λ class. answers_of w.data'.me class w.data') s.knows.is_class)
 
 module _ (core : Core) (w : World) (s : StandsFor core w) (k : ℕ) (code : ClassCode) (begin : Begin) (can : CanMove core w k code begin) where
   abbrev p : Program
@@ -114,7 +114,7 @@ module _ (core : Core) (w : World) (s : StandsFor core w) (k : ℕ) (code : Clas
 
   -- the process before the move with the actions of the caller; the process, the machine and its standing behind the move,
   -- where the actions are given back
-  module _ (own : List Action) (known : Known) (m : Machine) (stands : Standing) (run : HasRun can.class code can.d.me k ran (record core.known { actions = own }) known m stands) where
+  module _ (own : List Action) (known : Known) (m : Machine) (stands : Standing) (run : HasRun p can.class code can.d.me k ran (record core.known { actions = own }) known m stands) where
     module _ (empty : List Action) (none : empty ≡ []) (new : Core)
         (is_new : new ≡ record core { known = record known { actions = empty }; machine = m; place = stands.place; flags = stands.flags; kept = stands.kept; spent = false }) where
       pub stands_after : StandsFor new after
@@ -127,11 +127,11 @@ module _ (core : Core) (w : World) (s : StandsFor core w) (k : ℕ) (code : Clas
             code_is = ap (code_of core.compiled.now) (left.same ∙ can.mine) ∙ can.code_is;
             knows = left.knows;
             tasks = tasks_left p can.class code core.known core.machine k begin can.d can.todo can.may;
-            same = run.same;
-            plan = run.plan;
+            stands = with_actions known p can.class ran.data' run.known empty;
             rows = run.rows ∙ rows_are p ran.data'.me can.class code.live.patterns can.may.accepted left.knows.is_class can.is.live ran.data';
             no_actions = none;
             place = run.place;
+            flags = run.flags;
             at = at_behind p can.class code m after ran.halt run.behind;
           })
 
@@ -141,16 +141,16 @@ module _ (core : Core) (w : World) (s : StandsFor core w) (k : ℕ) (code : Clas
         leads = can.step;
         stands = stands_after;
         same = left.same ∙ can.mine;
-        stopped = ap phase_of is ∙ stops_so ran.data' ran.todo stands stands.place ran.halt run.place;
+        stopped = ap phase_of is ∙ stops_so ran.todo stands.place ran.halt run.place;
         added = back ∙ run.actions ∙ ap (λ x. own ++ move_actions x k ran) can.mine ∙ ap (λ xs. xs ++ move_actions me k ran) from;
       }
 
   pub has_begun : (own out given told : List Action) → own ≡ out → given ≡ told → IsFront own told (move_actions can.d.me k ran) → HasBegun core w (move_step k) out given
-  has_begun own out given told from back (more, is) = record {
+  has_begun own out given told from back (n, is) = record {
     after = moved me k ran;
     leads = can.step;
     front = (
-      more,
-      ap (λ xs. xs ++ more) back ∙ is ∙ ap (λ x. own ++ move_actions x k ran) can.mine ∙ ap (λ xs. xs ++ move_actions me k ran) from,
+      n,
+      back ∙ is ∙ ap (λ x. own ++ take n (move_actions x k ran)) can.mine ∙ ap (λ xs. xs ++ take n (move_actions me k ran)) from,
     );
   }

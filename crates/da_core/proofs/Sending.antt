@@ -1,5 +1,5 @@
 -- A message to each of some processes, one after the other.
-use Rattle.std.proofs.Common.{◌≡◌, ℕ, ◌+◌, ◌<◌, ◌≤◌, List, [], ◌∷◌, ◌++◌, drop, get_or, length, map, sym, ap, ◌∙◌, subst, append_assoc}
+use Rattle.std.proofs.Common.{◌≡◌, ℕ, ◌+◌, ◌<◌, ◌≤◌, List, [], ◌∷◌, ◌++◌, drop, get_or, length, map, sym, ap, ◌∙◌, subst, append_assoc, append-nil}
 use Rattle.std.proofs.lemmas.List.{at_drop_all, at_drop_more}
 use Rattle.da_values.specs.declared.val.Val.{Val}
 use Rattle.da_values.specs.declared.value.Value.{Value}
@@ -8,71 +8,102 @@ use Rattle.da_values.specs.Value.{val_of, value_of, vals}
 use Rattle.da_values.specs.Views.{proc_of}
 use Rattle.da_lang.specs.declared.event.Action.{Action}
 use Rattle.da_lang.specs.declared.event.Action.TheVariants.{Sent}
+use Rattle.da_lang.specs.declared.program.Class.{Class}
+use Rattle.da_lang.specs.declared.program.Program.{Program}
 use Rattle.da_lang.specs.Turns.{later, sending, sent_at, sent_to}
 use Rattle.da_lang.specs.World.{Data}
-use Rattle.da_machine.specs.Conditions.{EachProcess}
 use Rattle.da_machine.specs.RunsTo.{IsFront}
+use Rattle.da_machine.proofs.Fronts.{IsPart, front_as, front_before, none_told, part_front_of, part_then, part_whole}
 use Rattle.da_core.specs.declared.known.Known.{Known}
-use Rattle.da_core.specs.Known.{Knows, data_of}
+use Rattle.da_core.specs.Known.{Becomes, Each, Knows}
+use Rattle.da_core.proofs.KnownLaws.{clock_is, me_is}
 
--- these processes are left of those to which the message goes
-pub record Sends (m : Val) (ps left : List ℕ) (first now : Known) : Type 0 where
-  pub knows : sent_to m left (data_of now) ≡ sent_to m ps (data_of first)
-  pub plan : now.plan.now ≡ first.plan.now
-  pub told : now.actions ++ sending now.me m left now.clock ≡ first.actions ++ sending first.me m ps first.clock
+-- these processes are left of those to which the message goes: it stands for a process that sent it to the others
+pub record SendsOf (m : Val) (ps left : List ℕ) (p : Program) (class : Class) (d : Data) (first now : Known) : Type 0 where
+  pub so_far : Data
+  pub knows : Knows now p class so_far
+  pub same : sent_to m left so_far ≡ sent_to m ps d
+  pub told : IsPart first.actions now.actions (sending d.me m ps d.clock) (sending so_far.me m left so_far.clock)
 
-pub sends_on : (m : Val) (ps : List ℕ) (p : ℕ) (left : List ℕ) (first now next : Known) → Sends m ps (p ∷ left) first now
-    → data_of next ≡ sent_at m p (later now.clock) (data_of now) → next.plan.now ≡ now.plan.now
-    → next.actions ≡ now.actions ++ Sent now.me p (later now.clock) (value_of m) ∷ [] → Sends m ps left first next
-sends_on m ps p left first now next so_far is plan told = record {
-  knows = ap (sent_to m left) is ∙ so_far.knows;
-  plan = plan ∙ so_far.plan;
+abbrev pub Sends : Val → List ℕ → List ℕ → Known → Known → Type 0
+Sends m ps left first now = Each first (λ p class d. SendsOf m ps left p class d first now)
+
+-- the message goes to the next one
+abbrev pub SendsTo : Val → ℕ → Known → Known → Type 0
+SendsTo m to now next = Becomes now next (λ d. sent_at m to (later d.clock) d)
+
+-- it is told as the process for which it stands tells it
+told_as : (now : Known) (p : Program) (class : Class) (d : Data) → Knows now p class d → (to : ℕ) (m : Value) → Sent now.me to (later now.clock) m ≡ Sent d.me to (later d.clock) m
+told_as now p class d knows to m =
+    ap (λ me. Sent me to (later now.clock) m) (sym (me_is now p class d knows))
+    ∙ ap (λ clock. Sent d.me to (later clock) m) (sym (clock_is now p class d knows))
+
+pub sends_first : (m : Val) (ps left : List ℕ) (first : Known) → left ≡ ps → Sends m ps left first first
+sends_first m ps left first all p class d knows = record {
+  so_far = d;
+  knows = knows;
+  same = ap (λ l. sent_to m l d) all;
   told =
-      ap (λ xs. xs ++ sending next.me m left next.clock) told
-      ∙ ap (λ (d : Data). (now.actions ++ Sent now.me p (later now.clock) (value_of m) ∷ []) ++ sending d.me m left d.clock) is
-      ∙ append_assoc now.actions (Sent now.me p (later now.clock) (value_of m) ∷ []) (sending now.me m left (later now.clock))
-      ∙ so_far.told;
+      subst (λ l. IsPart first.actions first.actions (sending d.me m ps d.clock) (sending d.me m l d.clock)) (sym all)
+      (none_told first.actions (sending d.me m ps d.clock));
 }
 
+pub sends_on : (m : Val) (ps : List ℕ) (to : ℕ) (left : List ℕ) (first now next : Known) → Sends m ps (to ∷ left) first now → SendsTo m to now next
+    → next.actions ≡ now.actions ++ Sent now.me to (later now.clock) (value_of m) ∷ [] → Sends m ps left first next
+sends_on m ps to left first now next so_far sends told p class d knows =
+    let by = so_far p class d knows in
+    let due = sending by.so_far.me m left (later by.so_far.clock) in
+    record {
+      so_far = sent_at m to (later by.so_far.clock) by.so_far;
+      knows = sends p class by.so_far by.knows;
+      same = by.same;
+      told =
+          part_then first.actions now.actions next.actions (sending d.me m ps d.clock) (sending by.so_far.me m (to ∷ left) by.so_far.clock) due by.told
+          (Sent now.me to (later now.clock) (value_of m) ∷ [], told, ap (λ (a : Action). a ∷ due) (sym (told_as now p class by.so_far by.knows to (value_of m))));
+    }
+
 -- memory was refused while the message went to the next one
-pub sends_front : (m : Val) (ps : List ℕ) (p : ℕ) (left : List ℕ) (first now next : Known) → Sends m ps (p ∷ left) first now
-    → IsFront now.actions next.actions (Sent now.me p (later now.clock) (value_of m) ∷ [])
-    → IsFront first.actions next.actions (sending first.me m ps first.clock)
-sends_front m ps p left first now next so_far (more, is) = (
-  more ++ sending now.me m left (later now.clock),
-  sym (append_assoc next.actions more (sending now.me m left (later now.clock)))
-      ∙ ap (λ xs. xs ++ sending now.me m left (later now.clock)) is
-      ∙ append_assoc now.actions (Sent now.me p (later now.clock) (value_of m) ∷ []) (sending now.me m left (later now.clock))
-      ∙ so_far.told,
-)
+pub sends_front : (m : Val) (ps : List ℕ) (to : ℕ) (left : List ℕ) (first now next : Known) → Sends m ps (to ∷ left) first now
+    → IsFront now.actions next.actions (Sent now.me to (later now.clock) (value_of m) ∷ [])
+    → Each first (λ p class d. IsFront first.actions next.actions (sending d.me m ps d.clock))
+sends_front m ps to left first now next so_far front p class d knows =
+    let by = so_far p class d knows in
+    let due = sending by.so_far.me m left (later by.so_far.clock) in
+    let told = Sent now.me to (later now.clock) (value_of m) in
+    let rest = sending by.so_far.me m (to ∷ left) by.so_far.clock in
+    part_front_of first.actions now.actions next.actions (sending d.me m ps d.clock) rest by.told
+    (front_as now.actions next.actions (told ∷ due) rest (ap (λ (a : Action). a ∷ due) (told_as now p class by.so_far by.knows to (value_of m)))
+    (front_before now.actions next.actions (told ∷ []) due front))
 
 -- OVER A LIST OF PROCESSES, where the one at a place is the next
 
-module _ (m : Value) (processes : List Value) (k : ℕ) (v : Value) (p : ℕ) (ps : List ℕ) (first now next : Known)
-    (within : k < length processes) (here : v ≡ get_or processes k v) (number : p ≡ proc_of (val_of v)) (so_far : Sends (val_of m) ps (map proc_of (vals (drop k processes))) first now) where
-  to_this : Sends (val_of m) ps (p ∷ map proc_of (vals (drop (k + 1) processes))) first now
+module _ (m : Value) (processes : List Value) (k : ℕ) (v : Value) (to : ℕ) (ps : List ℕ) (first now next : Known)
+    (within : k < length processes) (here : v ≡ get_or processes k v) (number : to ≡ proc_of (val_of v)) (so_far : Sends (val_of m) ps (map proc_of (vals (drop k processes))) first now) where
+  to_this : Sends (val_of m) ps (to ∷ map proc_of (vals (drop (k + 1) processes))) first now
   to_this =
       subst (λ left. Sends (val_of m) ps left first now)
       (at_drop_more (λ vs. map proc_of (vals vs)) processes k v within ∙ ap (λ x. proc_of (val_of x) ∷ map proc_of (vals (drop (k + 1) processes))) (sym here) ∙ ap (λ x. x ∷ map proc_of (vals (drop (k + 1) processes))) (sym number)) so_far
 
-  kept : (time : ℕ) → ◌≡◌ {A = List Action} (Sent now.me p time m ∷ []) (Sent now.me p time (value_of (val_of m)) ∷ [])
-  kept time = ap (λ x. Sent now.me p time x ∷ []) (sym (value_of-val_of m))
+  kept : (time : ℕ) → ◌≡◌ {A = List Action} (Sent now.me to time m ∷ []) (Sent now.me to time (value_of (val_of m)) ∷ [])
+  kept time = ap (λ x. Sent now.me to time x ∷ []) (sym (value_of-val_of m))
 
-  pub sends_next : data_of next ≡ sent_at (val_of m) p (later now.clock) (data_of now) → next.plan.now ≡ now.plan.now → next.actions ≡ now.actions ++ Sent now.me p (later now.clock) m ∷ []
+  pub sends_next : SendsTo (val_of m) to now next → next.actions ≡ now.actions ++ Sent now.me to (later now.clock) m ∷ []
       → Sends (val_of m) ps (map proc_of (vals (drop (k + 1) processes))) first next
-  sends_next is plan told = sends_on (val_of m) ps p (map proc_of (vals (drop (k + 1) processes))) first now next to_this is plan (told ∙ ap (λ xs. now.actions ++ xs) (kept (later now.clock)))
+  sends_next sends told = sends_on (val_of m) ps to (map proc_of (vals (drop (k + 1) processes))) first now next to_this sends (told ∙ ap (λ xs. now.actions ++ xs) (kept (later now.clock)))
 
-  stopped : (d : Data) → d ≡ data_of first → IsFront now.actions next.actions (Sent now.me p (later now.clock) m ∷ []) → IsFront first.actions next.actions (sending d.me (val_of m) ps d.clock)
-  stopped d same front =
-      subst (λ (x : Data). IsFront first.actions next.actions (sending x.me (val_of m) ps x.clock)) (sym same)
-      (sends_front (val_of m) ps p (map proc_of (vals (drop (k + 1) processes))) first now next to_this (subst (λ due. IsFront now.actions next.actions due) (kept (later now.clock)) front))
+  pub sends_stop : IsFront now.actions next.actions (Sent now.me to (later now.clock) m ∷ []) → Each first (λ p class d. IsFront first.actions next.actions (sending d.me (val_of m) ps d.clock))
+  sends_stop front =
+      sends_front (val_of m) ps to (map proc_of (vals (drop (k + 1) processes))) first now next to_this (subst (λ due. IsFront now.actions next.actions due) (kept (later now.clock)) front)
 
-  pub sends_stop : IsFront now.actions next.actions (Sent now.me p (later now.clock) m ∷ []) → EachProcess (Knows first) (λ pr class d. IsFront first.actions next.actions (sending d.me (val_of m) ps d.clock))
-  sends_stop front pr class d knows = stopped d knows.same front
+-- BEHIND THE LAST ONE
 
--- behind the last one
-pub sends_end : (m : Val) (processes : List Value) (k : ℕ) (ps : List ℕ) (first now : Known) → length processes ≤ k → Sends m ps (map proc_of (vals (drop k processes))) first now
-    → EachProcess (Knows first) (λ p class d. Knows now p class (sent_to m ps d))
-sends_end m processes k ps first now past so_far p class d knows =
-    let s = subst (λ left. Sends m ps left first now) (at_drop_all (λ vs. map proc_of (vals vs)) processes k past) so_far in
-    record { same = ap (sent_to m ps) knows.same ∙ sym s.knows; plan = s.plan ∙ knows.plan }
+module _ (m : Val) (processes : List Value) (k : ℕ) (ps : List ℕ) (first now : Known) (past : length processes ≤ k) (so_far : Sends m ps (map proc_of (vals (drop k processes))) first now) where
+  none_left : Sends m ps [] first now
+  none_left = subst (λ left. Sends m ps left first now) (at_drop_all (λ vs. map proc_of (vals vs)) processes k past) so_far
+
+  pub sends_end : Becomes first now (sent_to m ps)
+  sends_end p class d knows = let by = none_left p class d knows in subst (Knows now p class) by.same by.knows
+
+  pub sends_told : Each first (λ p class d. now.actions ≡ first.actions ++ sending d.me m ps d.clock)
+  sends_told p class d knows =
+      part_whole first.actions now.actions now.actions (sending d.me m ps d.clock) [] (none_left p class d knows).told (sym (append-nil now.actions))

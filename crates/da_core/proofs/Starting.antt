@@ -8,7 +8,7 @@ use Rattle.da_lang.specs.declared.program.ProcDecl.{ProcDecl}
 use Rattle.da_lang.specs.declared.program.Program.{Program}
 use Rattle.da_lang.specs.Shaped.{IsProcess, IsTask, ShapedData}
 use Rattle.da_lang.specs.Steps.{first_tasks}
-use Rattle.da_lang.specs.World.{at_number, class_of, class_of_decl, first_value, opening, opening_data, New}
+use Rattle.da_lang.specs.World.{Data, Task, at_number, class_of, class_of_decl, first_value, opening, opening_data, New, Waiting}
 use Rattle.da_machine.specs.CodeFor.{CodeFor}
 use Rattle.code_gen.specs.ClassCode.{numbered_from, processes_of}
 use Rattle.query_plan.specs.PlanLive.{plan_live}
@@ -18,9 +18,10 @@ use Rattle.da_core.specs.declared.compiled.Compiled.{Compiled}
 use Rattle.da_core.specs.declared.process.Core.{Core}
 use Rattle.da_core.specs.declared.place.Place.TheVariants as place
 use Rattle.da_core.specs.Compiled.{IsCompiled, code_at, code_of, count_of, program_of, rank_in, start_at, start_in}
-use Rattle.da_core.specs.Known.{data_of, rows_kept}
-use Rattle.da_core.specs.StandsFor.{IsPlace, StandsFor}
+use Rattle.da_core.specs.Known.{Each, Knows, rows_kept}
+use Rattle.da_core.specs.StandsFor.{AreFlags, IsPlace, StandsFor}
 use Rattle.da_core.proofs.KeptLaw.{rows_are}
+use Rattle.da_core.proofs.KnownLaws.{opens}
 use Rattle.da_core.proofs.Laws.{has_class, keeps_shaped}
 
 -- THE START OF A PROCESS
@@ -97,12 +98,17 @@ module _ (c : Compiled) (me : ℕ) (is : IsCompiled c) where
   pub begun : IsProcess p me → Begun c me
   begun there = let (class, classed) = has_class p me is.accepted there in begun_by (at_number p.procs me) class refl classed
 
+  -- it waits nowhere
+  no_flags_new : (d : Data) (todo : List Task) (flags : List Bool) → AreFlags d todo flags New
+  no_flags_new d todo flags waits = absurd (let both : New ≡ Waiting = waits in cc)
+
   -- A NEW CORE stands for the opening.
   module _ (there : IsProcess p me) (core : Core) (of_c : core.compiled.now ≡ c) (code : ClassCode) (coded : code_of c me ≡ Some code) (planned : core.known.plan.now ≡ code.plan)
-      (counts : core.kept ≡ rows_kept code.live.patterns (data_of core.known)) where
-    starts_as : core.spent ≡ false → core.place ≡ place.New → core.known.actions ≡ [] → data_of core.known ≡ opening_data p me → core.machine.loops ≡ []
+      (counts : Each core.known (λ p class d. core.kept ≡ rows_kept code.live.patterns d)) where
+    starts_as : core.spent ≡ false → core.place ≡ place.New → core.known.actions ≡ []
+        → ((class : Class) → class_of p me ≡ Some class → core.known.plan.now ≡ norm_class class → Knows core.known p class (opening_data p me)) → core.machine.loops ≡ []
         → start_in p (code_of c me) me ≡ Some core.machine.place → StandsFor core (opening p me)
-    starts_as unspent new no_actions same loops entry =
+    starts_as unspent new no_actions opened loops entry =
         let b = begun there in
         let open_world = (keeps_shaped p is.accepted).opens me b.class there b.classed in
         let classes : ◌≡◌ {A = Option Class} (Some open_world.class) (Some b.class) = sym open_world.knows.is_class ∙ b.classed in
@@ -110,6 +116,7 @@ module _ (c : Compiled) (me : ℕ) (is : IsCompiled c) where
         let knows : ShapedData p b.class (opening_data p me) = subst (λ x. ShapedData p x (opening_data p me)) same_class open_world.knows in
         let codes : ◌≡◌ {A = Option ClassCode} (Some b.code) (Some code) = sym b.coded ∙ coded in
         let same_code : b.code ≡ code = cc in
+        let keeps : Knows core.known p b.class (opening_data p me) = opened b.class b.classed (planned ∙ ap (λ (x : ClassCode). x.plan) (sym same_code) ∙ b.plan) in
         let entries : ◌≡◌ {A = Option ℕ} (Some b.entry) (Some core.machine.place) = sym b.starts ∙ entry in
         let same_entry : b.entry ≡ core.machine.place = cc in
         let code_for : CodeFor b.code.code b.class core.machine.place core.machine.loops (first_tasks p b.class me) =
@@ -123,12 +130,12 @@ module _ (c : Compiled) (me : ℕ) (is : IsCompiled c) where
           code_is = ap (λ x. code_of x me) of_c ∙ b.coded;
           knows = subst (λ x. ShapedData (program_of x) b.class (opening_data p me)) (sym of_c) knows;
           tasks = All-nil (IsTask (program_of core.compiled.now) b.class me);
-          same = sym same;
-          plan = planned ∙ ap (λ (x : ClassCode). x.plan) (sym same_code) ∙ b.plan;
-          rows = counts ∙ ap (λ (x : ClassCode). rows_kept x.live.patterns (data_of core.known)) (sym same_code)
-              ∙ ap (rows_kept b.code.live.patterns) same ∙ rows_are p me b.class b.code.live.patterns is.accepted b.classed b.live (opening_data p me);
+          stands = subst (λ x. Knows core.known (program_of x) b.class (opening_data p me)) (sym of_c) keeps;
+          rows = counts p b.class (opening_data p me) keeps ∙ ap (λ (x : ClassCode). rows_kept x.live.patterns (opening_data p me)) (sym same_code)
+              ∙ rows_are p me b.class b.code.live.patterns is.accepted b.classed b.live (opening_data p me);
           no_actions = no_actions;
-          place = subst (λ x. IsPlace (opening_data p me) [] core.flags x New) (sym new) refl;
+          place = subst (λ x. IsPlace [] x New) (sym new) refl;
+          flags = no_flags_new (opening_data p me) [] core.flags;
           at = subst (λ x. CodeFor b.code.code b.class core.machine.place core.machine.loops (first_tasks (program_of x) b.class me)) (sym of_c) code_for;
         }
 
@@ -137,8 +144,13 @@ module _ (c : Compiled) (me : ℕ) (is : IsCompiled c) where
         → core.known.slots ≡ map (first_value me) class.slots → core.known.sent ≡ [] → core.known.received ≡ [] → core.machine.loops ≡ [] → start_in p (code_of c me) me ≡ Some core.machine.place
         → StandsFor core (opening p me)
     starts_with class classed unspent new no_actions mine early slots sent received loops entry =
-        let same : data_of core.known ≡ opening_data p me = rw (mine, early, slots, sent, received, classed) refl in
-        starts_as unspent new no_actions same loops entry
+        starts_as unspent new no_actions opened loops entry
+      where
+        opened : (other : Class) → class_of p me ≡ Some other → core.known.plan.now ≡ norm_class other → Knows core.known p other (opening_data p me)
+        opened other others plan =
+            let both : ◌≡◌ {A = Option Class} (Some class) (Some other) = sym classed ∙ others in
+            let same : class ≡ other = cc in
+            opens core.known p me other others plan mine early (subst (λ (k : Class). core.known.slots ≡ map (first_value me) k.slots) same slots) sent received
 
   -- the class, its code and the start are there
   pub has_a_class : IsProcess p me → None ≡ class_of p me → ⊥

@@ -6,39 +6,38 @@ use Rattle.da_lang.specs.declared.event.Action.TheVariants as action
 use Rattle.da_lang.specs.declared.program.Class.{Class}
 use Rattle.da_lang.specs.declared.program.Program.{Program}
 use Rattle.da_lang.specs.Runs.{Halt, AtYield, Faults, Ran}
-use Rattle.da_lang.specs.Shaped.{ShapedData}
 use Rattle.da_lang.specs.Steps.{closing, phase_after}
 use Rattle.da_lang.specs.World.{Data, Task}
 use Rattle.da_types.proofs.shaped.DataKept.{received_shaped}
 use Rattle.da_machine.specs.RunsTo.{IsFront}
+use Rattle.da_machine.proofs.Fronts.{front_before}
 use Rattle.da_core.specs.declared.compiled.ClassCode.{ClassCode}
 use Rattle.da_core.specs.declared.deliveries.Delivery.{Delivery}
 use Rattle.da_core.specs.declared.deliveries.Handled.{Handled}
 use Rattle.da_core.specs.declared.deliveries.Handled.TheVariants as handled
 use Rattle.da_core.specs.declared.known.Known.{Known}
 use Rattle.da_core.specs.declared.moves.Standing.{Standing}
-use Rattle.da_core.specs.Arrivals.{CanHandle, HasHandled, HasTakenIn, MayTakeIn, all_handled, delivery_actions, halt_of, received, stop_of}
+use Rattle.da_core.specs.Arrivals.{CanHandle, HasHandled, HasTakenIn, MayHandle, MayTakeIn, Whoever, all_handled, delivery_actions, halt_of, received, stop_of}
 use Rattle.da_core.specs.Begins.{HasStopped, MayStop}
-use Rattle.da_core.specs.Known.{HasPlan, IsPlanned, data_of, rows_kept}
-use Rattle.da_core.specs.StandsFor.{IsPlace}
-use Rattle.da_core.proofs.Stopping.{has_point, place_there, run_front, stop_front}
+use Rattle.da_core.specs.Known.{Becomes, Each, Knows, KnowsSome, rows_kept}
+use Rattle.da_core.specs.StandsFor.{AreFlags, IsPlace}
+use Rattle.da_core.proofs.KnownLaws.{me_is, with_actions}
+use Rattle.da_core.proofs.Stopping.{flags_there, has_point, no_flags_faulted, place_there, run_front, stop_front}
 
--- a front of the first of the actions that are due
-front_before : (old new due rest : List Action) → IsFront old new due → IsFront old new (due ++ rest)
-front_before old new due rest (more, is) = (more ++ rest, sym (append_assoc new more rest) ∙ ap (λ xs. xs ++ rest) is ∙ append_assoc old due rest)
+-- a front of the actions that are due was added, whatever the process is
+abbrev pub TakenPart : Delivery → ℕ → ℕ → Known → List Action → Type 0
+TakenPart x time at old new =
+    (p : Program) (d : Data) (todo : List Task) → MayTakeIn p x time at old d todo → IsFront old.actions new (delivery_actions x time old.me (all_handled x (received x time d)))
 
-pub received_front : (x : Delivery) (time : ℕ) (old : Known) (new : List Action) → IsFront old.actions new (action.Got old.me x.from time x.message.now ∷ [])
-    → IsFront old.actions new (delivery_actions x time old.me (all_handled x (received x time old)))
-received_front x time old new front =
-    let ran = all_handled x (received x time old) in
+pub received_front : (x : Delivery) (time : ℕ) (old : Known) (d : Data) (new : List Action) → IsFront old.actions new (action.Got old.me x.from time x.message.now ∷ [])
+    → IsFront old.actions new (delivery_actions x time old.me (all_handled x (received x time d)))
+received_front x time old d new front =
+    let ran = all_handled x (received x time d) in
     front_before old.actions new (action.Got old.me x.from time x.message.now ∷ []) (ran.actions ++ closing old.me ran.halt) front
 
 -- the process before the message arrives, and when it has joined the history
-module _ (x : Delivery) (time at : ℕ) (old : Known) (todo : List Task) (may : MayTakeIn x time at old todo) (got : Known)
-    (joins : data_of got ≡ received x time old) (same_plan : got.plan.now ≡ old.plan.now) (told : got.actions ≡ old.actions ++ action.Got old.me x.from time x.message.now ∷ []) where
-  abbrev p : Program
-  p = may.can.0
-
+module _ (x : Delivery) (time at : ℕ) (old : Known) (p : Program) (d : Data) (todo : List Task) (may : MayTakeIn p x time at old d todo) (got : Known)
+    (joins : Becomes old got (received x time)) (told : got.actions ≡ old.actions ++ action.Got old.me x.from time x.message.now ∷ []) where
   abbrev class : Class
   class = x.class.now
 
@@ -46,50 +45,46 @@ module _ (x : Delivery) (time at : ℕ) (old : Known) (todo : List Task) (may : 
   code = x.code.now
 
   abbrev ran : Ran
-  ran = all_handled x (received x time old)
+  ran = all_handled x (received x time d)
 
   abbrev first : Action
   first = action.Got old.me x.from time x.message.now
 
-  pub can_then : CanHandle x got
-  can_then =
-      let can = may.can.1 in (
-        p,
-        record {
-          accepted = can.accepted;
-          plan = same_plan ∙ can.plan;
-          among = can.among;
-          forward = can.forward;
-          enters = can.enters;
-          arrives = can.arrives;
-          knows =
-              subst (ShapedData p class) (sym joins)
-              (received_shaped p class (val_of x.message.now) x.from time (data_of old) can.knows (record { proper = can.arrives.proper; typed = can.arrives.typed; peer = can.arrives.peer }));
-        },
-      )
+  may_then : MayHandle p x got (received x time d)
+  may_then =
+      let can = may.can in
+      record {
+        accepted = can.accepted;
+        knows = joins p class d can.knows;
+        shaped = received_shaped p class (val_of x.message.now) x.from time d can.shaped (record { proper = can.arrives.proper; typed = can.arrives.typed; peer = can.arrives.peer });
+        among = can.among;
+        forward = can.forward;
+        enters = can.enters;
+        arrives = can.arrives;
+      }
 
-  pub handled_front : (new : List Action) → IsFront got.actions new (all_handled x (data_of got)).actions → IsFront old.actions new (delivery_actions x time old.me ran)
+  pub can_then : CanHandle x got
+  can_then = (p, received x time d, may_then)
+
+  pub handled_front : (new : List Action) → Whoever x got (λ p d. IsFront got.actions new (all_handled x d).actions) → IsFront old.actions new (delivery_actions x time old.me ran)
   handled_front new front =
       run_front old.actions new ran.actions (closing old.me ran.halt) first
-      (subst (λ xs. IsFront xs new ran.actions) told (subst (λ d. IsFront got.actions new (all_handled x d).actions) joins front))
+      (subst (λ xs. IsFront xs new ran.actions) told (front p (received x time d) may_then))
 
   pub may_stop : (answer : Handled) → MayStop code (stop_of answer may.number)
   may_stop (handled.Through turns) = has_point code class may.number may.point.0 may.waits todo may.point.1
   may_stop (handled.Fault kind line) = tt
 
   -- behind the handlers
-  module _ (now : Known) (answer : Handled) (handlers : HasHandled (all_handled x (data_of got)) got now answer) where
-    had : HasHandled ran got now answer
-    had = subst (λ d. HasHandled (all_handled x d) got now answer) joins handlers
+  module _ (now : Known) (answer : Handled) (handlers : Whoever x got (λ p d. HasHandled p x (all_handled x d) got now answer)) where
+    had : HasHandled p x ran got now answer
+    had = handlers p (received x time d) may_then
 
-    planned : HasPlan now class
-    planned = had.plan ∙ same_plan ∙ may.can.1.plan
-
-    pub plan_there : IsPlanned now
-    plan_there = (class, planned)
+    pub knows_some : KnowsSome now
+    knows_some = (p, class, ran.data', had.known)
 
     same_me : now.me ≡ old.me
-    same_me = had.mine ∙ ap (λ (d : Data). d.me) joins
+    same_me = had.mine ∙ sym (me_is got p class (received x time d) may_then.knows) ∙ me_is old p class d may.can.knows
 
     so_far : now.actions ≡ (old.actions ++ first ∷ []) ++ ran.actions
     so_far = had.actions ∙ ap (λ xs. xs ++ ran.actions) told
@@ -102,34 +97,33 @@ module _ (x : Delivery) (time at : ℕ) (old : Known) (todo : List Task) (may : 
         closes ∙ ap (λ xs. xs ++ closing old.me halt) so_far ∙ append_assoc (old.actions ++ first ∷ []) ran.actions (closing old.me halt)
         ∙ append_assoc old.actions (first ∷ []) (ran.actions ++ closing old.me halt) ∙ ap (λ h. old.actions ++ ((first ∷ ran.actions) ++ closing old.me h)) (sym is)
 
-    abbrev RowsKept : Known → Standing → Type 0
-    RowsKept new s = s.kept ≡ rows_kept code.live.patterns (data_of new)
-
-    by_answer : (a : Handled) → ran.halt ≡ halt_of a → (new : Known) (s : Standing) → HasStopped code now new (stop_of a may.number) s → RowsKept new s → HasTakenIn x time todo old new s
+    by_answer : (a : Handled) → ran.halt ≡ halt_of a → (new : Known) (s : Standing) → HasStopped code now new (stop_of a may.number) s → s.kept ≡ rows_kept code.live.patterns ran.data'
+        → HasTakenIn p x time d todo old new s
     by_answer (handled.Through turns) halts new s stopped rows =
         let (stays, stands) = stopped in
-        let same : ran.data' ≡ data_of new = had.same ∙ ap data_of (sym stays) in
         record {
-          same = same;
-          plan = ap (λ (k : Known). k.plan.now) stays ∙ had.plan ∙ same_plan;
+          known = subst (λ k. Knows k p class ran.data') (sym stays) had.known;
           actions = closed new AtYield halts (ap (λ (k : Known). k.actions) stays ∙ sym (append-nil now.actions));
           place =
-              subst (λ h. IsPlace ran.data' todo s.flags s.place (phase_after h)) (sym halts)
-              (place_there code class may.number may.point.0 may.waits now planned s stands ran.data' had.same todo may.point.1);
-          rows = rows ∙ ap (rows_kept code.live.patterns) (sym same);
+              subst (λ h. IsPlace todo s.place (phase_after h)) (sym halts)
+              (place_there code class may.number may.point.0 may.waits now s stands todo may.point.1);
+          flags =
+              subst (λ h. AreFlags ran.data' todo s.flags (phase_after h)) (sym halts)
+              (flags_there code class may.number may.point.0 may.waits now s stands p ran.data' had.known todo may.point.1);
+          rows = rows;
         }
     by_answer (handled.Fault kind line) halts new s stopped rows =
         let (becomes, place_is) = stopped in
-        let same : ran.data' ≡ data_of new = had.same ∙ sym (ap data_of becomes) in
         record {
-          same = same;
-          plan = ap (λ (k : Known). k.plan.now) becomes ∙ had.plan ∙ same_plan;
+          known = subst (λ k. Knows k p class ran.data') (sym becomes) (with_actions now p class ran.data' had.known (now.actions ++ action.Fault now.me kind line ∷ []));
           actions = closed new (Faults kind line) halts (ap (λ (k : Known). k.actions) becomes ∙ ap (λ me. now.actions ++ action.Fault me kind line ∷ []) same_me);
           place =
-              subst (λ h. IsPlace ran.data' todo s.flags s.place (phase_after h)) (sym halts)
-              (subst (λ at'. IsPlace ran.data' todo s.flags at' (phase_after (Faults kind line))) (sym place_is) tt);
-          rows = rows ∙ ap (rows_kept code.live.patterns) (sym same);
+              subst (λ h. IsPlace todo s.place (phase_after h)) (sym halts)
+              (subst (λ at'. IsPlace todo at' (phase_after (Faults kind line))) (sym place_is) tt);
+          flags = subst (λ h. AreFlags ran.data' todo s.flags (phase_after h)) (sym halts) (no_flags_faulted ran.data' todo s.flags);
+          rows = rows;
         }
 
-    pub taken : (new : Known) (s : Standing) → HasStopped code now new (stop_of answer may.number) s → RowsKept new s → HasTakenIn x time todo old new s
-    taken new s stopped rows = by_answer answer had.halt new s stopped rows
+    pub taken : (new : Known) (s : Standing) → HasStopped code now new (stop_of answer may.number) s → Each now (λ p class d. s.kept ≡ rows_kept code.live.patterns d)
+        → HasTakenIn p x time d todo old new s
+    taken new s stopped rows = by_answer answer had.halt new s stopped (rows p class ran.data' had.known)

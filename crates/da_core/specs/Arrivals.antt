@@ -6,7 +6,6 @@ use Rattle.da_values.specs.Sets.{Has}
 use Rattle.da_values.specs.Value.{val_of}
 use Rattle.da_lang.specs.declared.event.Action.{Action}
 use Rattle.da_lang.specs.declared.event.Action.TheVariants as action
-use Rattle.da_lang.specs.declared.program.Class.{Class}
 use Rattle.da_lang.specs.declared.program.Handler.{Handler}
 use Rattle.da_lang.specs.declared.program.Program.{Program}
 use Rattle.da_lang.specs.declared.code.Instr.TheVariants as op
@@ -22,14 +21,13 @@ use Rattle.da_machine.specs.CodeFor.{CodeFor, Has as HasInstr}
 use Rattle.da_machine.specs.Entries.{IsPoint}
 use Rattle.da_machine.specs.Forward.{IsForward}
 use Rattle.code_gen.specs.ClassCode.{IsEntered, handler_tasks}
-use Rattle.da_core.specs.declared.compiled.ClassCode.{ClassCode}
 use Rattle.da_core.specs.declared.deliveries.Delivery.{Delivery}
 use Rattle.da_core.specs.declared.deliveries.Handled.{Handled}
 use Rattle.da_core.specs.declared.deliveries.Handled.TheVariants as handled
 use Rattle.da_core.specs.declared.known.Known.{Known}
 use Rattle.da_core.specs.declared.moves.Standing.{Standing}
-use Rattle.da_core.specs.Known.{HasPlan, data_of, rows_kept}
-use Rattle.da_core.specs.StandsFor.{IsPlace}
+use Rattle.da_core.specs.Known.{Knows, rows_kept}
+use Rattle.da_core.specs.StandsFor.{AreFlags, IsPlace}
 use Rattle.da_core.specs.Waits.{waits_of}
 use Rattle.query_plan.specs.Questions.{norm_class}
 
@@ -46,20 +44,24 @@ MayArrive p m from time = IsEntry p (entry_at m from time)
 
 -- THE RUN OF THE HANDLERS
 
--- A process of a class of an accepted program knows this, its code has an entry for each handler, and the message may arrive
--- (at whatever time it was sent).
-pub record MayHandle (p : Program) (class : Class) (code : ClassCode) (m : Value) (from : ℕ) (known : Known) : Type 0 where
+-- What is kept stands for a process of the class of an accepted program that knows d, which is as types say. Its code has an entry
+-- for each handler, and the message may arrive (at whatever time it was sent).
+pub record MayHandle (p : Program) (x : Delivery) (known : Known) (d : Data) : Type 0 where
   pub accepted : IsAccepted p
-  pub plan : HasPlan known class
-  pub among : Has p.classes class
-  pub forward : IsForward code.code
-  pub enters : IsEntered code.code class Handler handler_tasks class.handlers code.code.handlers
-  pub arrives : MayArrive p m from 0
-  pub knows : ShapedData p class (data_of known)
+  pub knows : Knows known p x.class.now d
+  pub shaped : ShapedData p x.class.now d
+  pub among : Has p.classes x.class.now
+  pub forward : IsForward x.code.now.code
+  pub enters : IsEntered x.code.now.code x.class.now Handler handler_tasks x.class.now.handlers x.code.now.code.handlers
+  pub arrives : MayArrive p x.message.now x.from 0
 
--- it is so for some program
+-- it is so for some process
 abbrev pub CanHandle : Delivery → Known → Type 0
-CanHandle x known = (p : Program) × MayHandle p x.class.now x.code.now x.message.now x.from known
+CanHandle x known = (p : Program) × (d : Data) × MayHandle p x known d
+
+-- it holds of each process for which it is so
+abbrev pub Whoever : Delivery → Known → (Program → Data → Type 0) → Type 0
+Whoever x known holds = (p : Program) (d : Data) → MayHandle p x known d → holds p d
 
 -- the handler is one of the class, and the code at the entry stands for its body
 pub record HasEntry (x : Delivery) (h : Handler) (entry : ℕ) : Type 0 where
@@ -90,10 +92,9 @@ handled_as stop.Ended turns = handled.Through turns
 handled_as (stop.Fault kind line) turns = handled.Fault kind line
 
 -- the handlers were run: the process knows what they leave, and their actions were added
-pub record HasHandled (ran : Ran) (old new : Known) (answer : Handled) : Type 0 where
+pub record HasHandled (p : Program) (x : Delivery) (ran : Ran) (old new : Known) (answer : Handled) : Type 0 where
   pub mine : new.me ≡ old.me
-  pub plan : new.plan.now ≡ old.plan.now
-  pub same : ran.data' ≡ data_of new
+  pub known : Knows new p x.class.now ran.data'
   pub actions : new.actions ≡ old.actions ++ ran.actions
   pub halt : ran.halt ≡ halt_of answer
 
@@ -108,13 +109,14 @@ abbrev pub goes_on : Handled → List Action → Data → (ℕ → Data → Ran)
 goes_on (handled.Through turns) actions d go = behind actions (go turns d)
 goes_on (handled.Fault kind line) actions d go = record { data' = d; todo = []; actions = actions; turns = 0; halt = Faults kind line }
 
--- a handler was tried in turn n: whatever comes behind it, the run is this one
-pub record HasTried (x : Delivery) (h : Handler) (n : ℕ) (old new : Known) (answer : Handled) : Type 0 where
+-- a handler was tried in turn n of a process that knew d: whatever comes behind it, the run is this one
+pub record HasTried (p : Program) (x : Delivery) (h : Handler) (n : ℕ) (d : Data) (old new : Known) (answer : Handled) : Type 0 where
   pub mine : new.me ≡ old.me
-  pub plan : new.plan.now ≡ old.plan.now
+  pub after : Data
+  pub may : MayHandle p x new after
   pub actions : List Action
   pub added : new.actions ≡ old.actions ++ actions
-  pub run : (go : ℕ → Data → Ran) → IsAlike (tried x h n (data_of old) go) (goes_on answer actions (data_of new) go)
+  pub run : (go : ℕ → Data → Ran) → IsAlike (tried x h n d go) (goes_on answer actions after go)
 
 -- THE ARRIVAL
 
@@ -123,8 +125,8 @@ abbrev pub delivery_actions : Delivery → ℕ → ℕ → Ran → List Action
 delivery_actions x time me ran = action.Got me x.from time x.message.now ∷ ran.actions ++ closing me ran.halt
 
 -- what the process knows when the message has joined the history
-abbrev pub received : Delivery → ℕ → Known → Data
-received x time known = received_at (val_of x.message.now) x.from time (data_of known)
+abbrev pub received : Delivery → ℕ → Data → Data
+received x time d = received_at (val_of x.message.now) x.from time d
 
 -- how the process stops behind the handlers that waits at this yield point
 abbrev pub stop_of : Handled → ℕ → Stop
@@ -132,17 +134,17 @@ stop_of (handled.Through turns) number = stop.Yield number
 stop_of (handled.Fault kind line) number = stop.Fault kind line
 
 -- the process that waits with this to do may take in the message: it stands in front of a yield point of its class
-pub record MayTakeIn (x : Delivery) (time at : ℕ) (known : Known) (todo : List Task) : Type 0 where
-  pub can : CanHandle x known
+pub record MayTakeIn (p : Program) (x : Delivery) (time at : ℕ) (known : Known) (d : Data) (todo : List Task) : Type 0 where
+  pub can : MayHandle p x known d
   pub waits : x.code.now.waits ≡ waits_of x.class.now (norm_class x.class.now).flags
   pub number : ℕ
   pub there : HasInstr x.code.now.code at (op.Yield number)
   pub point : (loops : List (List Val)) × IsPoint x.code.now.code x.class.now number loops todo
 
 -- the message was taken in, and the process knows and stands as the handlers leave it
-pub record HasTakenIn (x : Delivery) (time : ℕ) (todo : List Task) (old new : Known) (s : Standing) : Type 0 where
-  pub same : (all_handled x (received x time old)).data' ≡ data_of new
-  pub plan : new.plan.now ≡ old.plan.now
-  pub actions : let ran = all_handled x (received x time old) in new.actions ≡ old.actions ++ delivery_actions x time old.me ran
-  pub place : let ran = all_handled x (received x time old) in IsPlace ran.data' todo s.flags s.place (phase_after ran.halt)
-  pub rows : s.kept ≡ rows_kept x.code.now.live.patterns (all_handled x (received x time old)).data'
+pub record HasTakenIn (p : Program) (x : Delivery) (time : ℕ) (d : Data) (todo : List Task) (old new : Known) (s : Standing) : Type 0 where
+  pub known : Knows new p x.class.now (all_handled x (received x time d)).data'
+  pub actions : let ran = all_handled x (received x time d) in new.actions ≡ old.actions ++ delivery_actions x time old.me ran
+  pub place : let ran = all_handled x (received x time d) in IsPlace todo s.place (phase_after ran.halt)
+  pub flags : let ran = all_handled x (received x time d) in AreFlags ran.data' todo s.flags (phase_after ran.halt)
+  pub rows : s.kept ≡ rows_kept x.code.now.live.patterns (all_handled x (received x time d)).data'

@@ -28,8 +28,8 @@ use Rattle.da_core.specs.declared.place.Place.{Place}
 use Rattle.da_core.specs.declared.place.Place.TheVariants as place
 use Rattle.da_core.specs.declared.waits.Alternative.{Alternative}
 use Rattle.da_core.specs.Compiled.{IsCodeFor, code_of}
-use Rattle.da_core.specs.Known.{HasPlan, data_of, rows_kept}
-use Rattle.da_core.specs.StandsFor.{IsPlace, IsWaiting, program_of}
+use Rattle.da_core.specs.Known.{Each, Knows, rows_kept}
+use Rattle.da_core.specs.StandsFor.{AreFlags, IsPlace, IsWaiting, program_of}
 use Rattle.da_core.specs.Waits.{waits_of}
 use Rattle.query_plan.specs.Nodes.{node_rows}
 use Rattle.query_plan.specs.Questions.{norm_class}
@@ -88,14 +88,15 @@ abbrev pub bound_by : Class → Option Alternative → Data → Data
 bound_by class None d = d
 bound_by class (Some alternative) d = bind_found class.queries alternative.found alternative.binds d
 
--- A process of the class of an accepted program knows this, and when it has bound a row it knows d, which is as types say. It has
--- this to do, and the code at the entry stands for it.
+-- What is kept stands for a process of the class of an accepted program, and when the process has bound a row it knows d, which is
+-- as types say. It has this to do, and the code at the entry stands for it.
 pub record MayRun (p : Program) (class : Class) (code : ClassCode) (known : Known) (m : Machine) (k : ℕ) (begin : Begin) (d : Data) (todo : List Task) : Type 0 where
   pub accepted : IsAccepted p
   pub forward : IsForward code.code
   pub waits : code.waits ≡ waits_of class (norm_class class).flags
-  pub plan : HasPlan known class
-  pub bound : d ≡ bound_by class (alternative_at code m.place k) (data_of known)
+  pub before : Data
+  pub stands : Knows known p class before
+  pub bound : d ≡ bound_by class (alternative_at code m.place k) before
   pub knows : ShapedData p class d
   pub tasks : ShapedTasks p class d.me todo
   pub code_for : CodeFor code.code class begin.entry m.loops todo
@@ -135,14 +136,14 @@ place_at true count = place.Label
 place_at false count = place.Await count
 
 -- whether the flag of each alternative has a row
-abbrev pub flags_told : Known → List Alternative → List Bool
-flags_told known alternatives = map (λ a. has_row (node_rows (data_of known) known.plan.now.nodes a.flag)) alternatives
+abbrev pub flags_told : Class → Data → List Alternative → List Bool
+flags_told class d alternatives = map (λ a. has_row (node_rows d (norm_class class).nodes a.flag)) alternatives
 
 -- it waits at the yield point, with the flags of its alternatives
 pub record StandsAt (code : ClassCode) (known : Known) (number : ℕ) (s : Standing) : Type 0 where
   pub has : HasPoint code number
   pub place : s.place ≡ place_at has.point.label (length has.alternatives)
-  pub flags : s.flags ≡ flags_told known has.alternatives
+  pub flags : Each known (λ p class d. s.flags ≡ flags_told class d has.alternatives)
 
 -- how the process stands where its code stopped so; the end and a fault are told
 abbrev pub HasStopped : ClassCode → Known → Known → Stop → Standing → Type 0
@@ -164,10 +165,10 @@ IsBehind class code m todo Waiting = IsWaiting class code.code m todo
 IsBehind class code m todo _ = Unit {0}
 
 -- the run was made, and the process knows and stands as it leaves it
-pub record HasRun (class : Class) (code : ClassCode) (me k : ℕ) (ran : Ran) (old new : Known) (m : Machine) (s : Standing) : Type 0 where
-  pub same : ran.data' ≡ data_of new
-  pub plan : HasPlan new class
+pub record HasRun (p : Program) (class : Class) (code : ClassCode) (me k : ℕ) (ran : Ran) (old new : Known) (m : Machine) (s : Standing) : Type 0 where
+  pub known : Knows new p class ran.data'
   pub actions : new.actions ≡ old.actions ++ move_actions me k ran
-  pub place : IsPlace ran.data' ran.todo s.flags s.place (phase_after ran.halt)
+  pub place : IsPlace ran.todo s.place (phase_after ran.halt)
+  pub flags : AreFlags ran.data' ran.todo s.flags (phase_after ran.halt)
   pub rows : s.kept ≡ rows_kept code.live.patterns ran.data'
   pub behind : IsBehind class code m ran.todo (phase_after ran.halt)

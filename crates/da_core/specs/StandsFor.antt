@@ -25,7 +25,7 @@ use Rattle.da_core.specs.declared.place.Place.{Place}
 use Rattle.da_core.specs.declared.place.Place.TheVariants as place
 use Rattle.da_core.specs.Compiled.{IsCompiled, code_of}
 use Rattle.da_core.specs.Compiled as compiled
-use Rattle.da_core.specs.Known.{HasPlan, data_of}
+use Rattle.da_core.specs.Known.{Knows}
 
 abbrev pub program_of : Core → Program
 program_of core = compiled.program_of core.compiled.now
@@ -34,10 +34,6 @@ program_of core = compiled.program_of core.compiled.now
 abbrev pub is_spent : Core → Bool
 is_spent core = core.spent
 
--- of each alternative whether it holds
-abbrev pub flags_of : Core → List Bool
-flags_of core = core.flags
-
 -- the first thing to do is a statement of this kind
 pub record BeginsWith (todo : List Task) (kind : ItemKind-F ItemKind Alt Item RBranch) : Type 0 where
   pub item : Item
@@ -45,21 +41,24 @@ pub record BeginsWith (todo : List Task) (kind : ItemKind-F ItemKind Alt Item RB
   pub first : todo ≡ Do item ∷ rest
   pub is : kind_of item ≡ kind
 
--- an `await` of so many alternatives, which hold as these flags say
-pub record AwaitsAs (d : Data) (todo : List Task) (flags : List Bool) (count : ℕ) : Type 0 where
+-- an `await` of so many alternatives
+pub record Awaits (todo : List Task) (count : ℕ) : Type 0 where
   pub alts : List Alt
   pub begins : BeginsWith todo (kind.Await alts)
   pub size : length alts ≡ count
-  pub hold : flags ≡ map (λ a. holds d (out-Alt a).cond []) alts
 
 -- where a process stands: its place is that of the world
-abbrev pub IsPlace : Data → List Task → List Bool → Place → Phase → Type 0
-IsPlace d todo flags place.New New = todo ≡ []
-IsPlace d todo flags place.Label Waiting = BeginsWith todo kind.Label
-IsPlace d todo flags (place.Await count) Waiting = AwaitsAs d todo flags count
-IsPlace d todo flags place.Ended Ended = Unit {0}
-IsPlace d todo flags place.Faulted Faulted = Unit {0}
-IsPlace d todo flags place phase = ⊥
+abbrev pub IsPlace : List Task → Place → Phase → Type 0
+IsPlace todo place.New New = todo ≡ []
+IsPlace todo place.Label Waiting = BeginsWith todo kind.Label
+IsPlace todo (place.Await count) Waiting = Awaits todo count
+IsPlace todo place.Ended Ended = Unit {0}
+IsPlace todo place.Faulted Faulted = Unit {0}
+IsPlace todo place phase = ⊥
+
+-- where the process waits at an `await`, each alternative holds as its flag says
+abbrev pub AreFlags : Data → List Task → List Bool → Phase → Type 0
+AreFlags d todo flags phase = phase ≡ Waiting → (alts : List Alt) → BeginsWith todo (kind.Await alts) → flags ≡ map (λ a. holds d (out-Alt a).cond []) alts
 
 -- the machine stands in front of a yield point, and the code there stands for what is to do
 pub record IsWaiting (class : Class) (code : Code) (m : Machine) (todo : List Task) : Type 0 where
@@ -74,8 +73,8 @@ IsAt p class code m w Waiting = IsWaiting class code m w.todo
 IsAt p class code m w Ended = Unit {0}
 IsAt p class code m w Faulted = Unit {0}
 
--- A core stands for a world that is as types say, of a process of a compiled program: it knows the same, answers by the plan of
--- the class, keeps as many rows, stands at the same place with the same alternatives, and the code where its machine stands
+-- A core stands for a world that is as types say, of a process of a compiled program: what it keeps stands for what the process
+-- knows, it keeps as many rows, stands at the same place with the same alternatives, and the code where its machine stands
 -- stands for what is to do. It is not spent.
 pub record StandsFor (core : Core) (w : World) : Type 0 where
   pub unspent : core.spent ≡ false
@@ -85,11 +84,11 @@ pub record StandsFor (core : Core) (w : World) : Type 0 where
   pub code_is : code_of core.compiled.now w.data'.me ≡ Some code
   pub knows : ShapedData (program_of core) class w.data'
   pub tasks : ShapedTasks (program_of core) class w.data'.me w.todo
-  pub same : w.data' ≡ data_of core.known
-  pub plan : HasPlan core.known class
+  pub stands : Knows core.known (program_of core) class w.data'
   pub rows : core.kept ≡ kept class w.data'
   pub no_actions : core.known.actions ≡ []
-  pub place : IsPlace w.data' w.todo core.flags core.place w.phase
+  pub place : IsPlace w.todo core.place w.phase
+  pub flags : AreFlags w.data' w.todo core.flags w.phase
   pub at : IsAt (program_of core) class code.code core.machine w w.phase
 
 -- it holds of each world that the core stands for

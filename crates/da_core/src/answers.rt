@@ -2,10 +2,9 @@
 //!
 //! All of it is worked out anew at each call.
 ghost use Rattle.da_core.specs.Begins.{flags_told};
-ghost use Rattle.da_core.specs.Known.{HasPlan, IsPlanned, data_of, rows_kept};
+ghost use Rattle.da_core.specs.Known.{Each, KnowsSome, rows_kept};
 ghost use Rattle.da_core.specs.Told.{answers};
 ghost use Rattle.da_lang.specs.Queries.{least_row, query_value, shown_set};
-ghost use Rattle.da_lang.specs.declared.program.Class.{Class};
 ghost use Rattle.da_machine.specs.RunsTo.{IsFront};
 ghost use Rattle.da_values.specs.Value.{val_of};
 ghost use Rattle.std.specs.Prelude.{◌≡◌, ◌+◌, ◌++◌, IfOk, OnErr, OnOk, map};
@@ -18,38 +17,35 @@ use history_live::Live;
 
 /// The value of the query of this number, or process 0, which is no process, where there is no such query.
 pub fn ask(known: &Known<'_>, q: u32) -> Result<Value, NoMemory>
-    requires { IsPlanned known.now }
-    ensures { IfOk result (λ v. (class : Class) → HasPlan known.now class
-        → val_of v ≡ query_value class.queries q (data_of known.now)) }
+    requires { KnowsSome known.now }
+    ensures { IfOk result (λ v. Each known.now (λ p class d. val_of v ≡ query_value class.queries q d)) }
 {
     node_rows::ask(&known.facts(), known.plan, q)
 }
 
 /// The least row of the query of this number, if it is a `some` that holds.
 pub fn found(known: &Known<'_>, q: u32) -> Result<Option<Row>, NoMemory>
-    requires { IsPlanned known.now }
-    ensures { IfOk result (λ row. (class : Class) → HasPlan known.now class
-        → row ≡ least_row class.queries q (data_of known.now)) }
+    requires { KnowsSome known.now }
+    ensures { IfOk result (λ row. Each known.now (λ p class d. row ≡ least_row class.queries q d)) }
 {
     node_rows::found(&known.facts(), known.plan, q)
 }
 
 // The set of the rows of the query of this number.
 fn listed(known: &Known<'_>, q: u32) -> Result<SetVal, NoMemory>
-    requires { IsPlanned known.now }
-    ensures { IfOk result (λ set. (class : Class) → HasPlan known.now class
-        → set ≡ shown_set class.queries q (data_of known.now)) }
+    requires { KnowsSome known.now }
+    ensures { IfOk result (λ set. Each known.now (λ p class d. set ≡ shown_set class.queries q d)) }
 {
     node_rows::listed(&known.facts(), known.plan, q)
 }
 
 /// Tells the answers of all queries, ascending by number.
 pub fn tell_answers(known: &Known<'_>, out: &mut List<Action>) -> Result<(), NoMemory>
-    requires { IsPlanned known.now }
-    ensures told { OnOk result ((class : Class) → HasPlan known.now class
-        → out.new ≡ out.old ++ answers known.now.me class.queries (data_of known.now)) }
-    ensures front { OnErr result ((class : Class) → HasPlan known.now class
-        → IsFront out.old out.new (answers known.now.me class.queries (data_of known.now))) }
+    requires { KnowsSome known.now }
+    ensures told { OnOk result (Each known.now (λ p class d.
+        out.new ≡ out.old ++ answers d.me class.queries d)) }
+    ensures front { OnErr result (Each known.now (λ p class d.
+        IsFront out.old out.new (answers d.me class.queries d))) }
 {
     let count = known.plan.queries.len();
     for place in 0..count {
@@ -77,8 +73,8 @@ fn number_at(place: usize) -> Result<u32, NoMemory>
 
 /// For each alternative, in order, whether its flag has a row.
 pub fn flags_of(known: &Known<'_>, alternatives: &[Alternative]) -> Result<List<bool>, NoMemory>
-    requires { IsPlanned known.now }
-    ensures { IfOk result (λ flags. flags ≡ flags_told known.now alternatives.now) }
+    requires { KnowsSome known.now }
+    ensures { IfOk result (λ flags. Each known.now (λ p class d. flags ≡ flags_told class d alternatives.now)) }
 {
     let nodes = nodes_of(known, alternatives)?;
     node_rows::flags(&known.facts(), known.plan, nodes.as_slice())
@@ -97,7 +93,7 @@ fn nodes_of(known: &Known<'_>, alternatives: &[Alternative]) -> Result<List<u32>
 
 /// How many rows live patterns match, together.
 pub fn kept(known: &Known<'_>, live: &Live) -> Result<u128, NoMemory>
-    ensures { IfOk result (λ n. n ≡ rows_kept live.now.patterns (data_of known.now)) }
+    ensures { IfOk result (λ n. Each known.now (λ p class d. n ≡ rows_kept live.now.patterns d)) }
 {
     node_rows::kept(&known.facts(), live.patterns.as_slice())
 }

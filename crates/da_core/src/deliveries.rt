@@ -1,15 +1,16 @@
 //! The arrival of a message: the history first, then the handlers in text order.
-ghost use Rattle.da_core.specs.Arrivals.{CanHandle, HasEntry, HasHandled, HasTakenIn, HasTried, MayTakeIn, all_handled, delivery_actions, handled_as, received, row_for as row_lem, stop_of, tried};
-ghost use Rattle.da_core.specs.Known.{data_of};
+ghost use Rattle.da_core.specs.Arrivals.{CanHandle, HasEntry, HasHandled, HasTakenIn, HasTried, MayTakeIn, Whoever, all_handled, delivery_actions, handled_as, received, row_for as row_lem, stop_of, tried};
+ghost use Rattle.da_core.specs.Known.{Each};
 ghost use Rattle.da_lang.specs.Matching.{matched_entry};
 ghost use Rattle.da_lang.specs.Runs.{Ran, max_turns};
 ghost use Rattle.da_lang.specs.World.{Data, Task};
 ghost use Rattle.da_lang.specs.declared.code.Instr.TheVariants as op;
+ghost use Rattle.da_lang.specs.declared.program.Program.{Program};
 ghost use Rattle.da_machine.specs.CodeFor.{Has};
 ghost use Rattle.da_machine.specs.declared.machine.Stop.TheVariants as stop;
 ghost use Rattle.da_machine.specs.RunsTo.{IsFront};
 ghost use Rattle.da_values.specs.Value.{val_of};
-ghost use Rattle.std.specs.Prelude.{◌≡◌, ◌≤◌, [], ℕ, IfOk, List, OnErr, OnOk, Some};
+ghost use Rattle.std.specs.Prelude.{◌≡◌, ◌≤◌, [], ℕ, IfOk, List, OnErr, Some};
 
 use crate::compiled::ClassCode;
 use crate::known::{Known, bind};
@@ -46,10 +47,13 @@ pub fn take_in(
     at: u64,
     known: &mut Known<'_>,
 ) -> Result<Standing, NoMemory>
-    requires { (todo : List Task) × MayTakeIn delivery.now time at known.old todo }
-    ensures taken { IfOk result (λ s. (todo : List Task) → MayTakeIn delivery.now time at known.old todo
-        → HasTakenIn delivery.now time todo known.old known.new s) }
-    ensures part { OnErr result (let ran = all_handled delivery.now (received delivery.now time known.old) in
+    requires { (p : Program) × (d : Data) × (todo : List Task) × MayTakeIn p delivery.now time at known.old d todo }
+    ensures taken { IfOk result (λ s. (p : Program) (d : Data) (todo : List Task)
+        → MayTakeIn p delivery.now time at known.old d todo
+        → HasTakenIn p delivery.now time d todo known.old known.new s) }
+    ensures part { OnErr result ((p : Program) (d : Data) (todo : List Task)
+        → MayTakeIn p delivery.now time at known.old d todo
+        → let ran = all_handled delivery.now (received delivery.now time d) in
         IsFront known.old.actions known.new.actions (delivery_actions delivery.now time known.old.me ran)) }
 {
     known.receive(delivery.message, delivery.from, time)?;
@@ -86,10 +90,10 @@ fn waiting_at(code: &Code, at: u64) -> Stop
 // Tries the handlers of the class one after the other, in text order.
 fn handle_all(delivery: &Delivery<'_>, known: &mut Known<'_>) -> Result<Handled, NoMemory>
     requires { CanHandle delivery.now known.old }
-    ensures runs { IfOk result (λ answer.
-        HasHandled (all_handled delivery.now (data_of known.old)) known.old known.new answer) }
-    ensures part { OnErr result
-        (IsFront known.old.actions known.new.actions (all_handled delivery.now (data_of known.old)).actions) }
+    ensures runs { IfOk result (λ answer. Whoever delivery.now known.old (λ p d.
+        HasHandled p delivery.now (all_handled delivery.now d) known.old known.new answer)) }
+    ensures part { OnErr result (Whoever delivery.now known.old (λ p d.
+        IsFront known.old.actions known.new.actions (all_handled delivery.now d).actions)) }
 {
     let mut turns = 0;
     let handlers = delivery.class.handlers.as_slice();
@@ -121,10 +125,10 @@ fn try_handler(
     requires can { CanHandle delivery.now known.old }
     requires there { HasEntry delivery.now handler.now entry }
     requires early { turns ≤ max_turns }
-    ensures tried { IfOk result (λ answer. HasTried delivery.now handler.now turns known.old known.new answer) }
-    ensures can { OnOk result (CanHandle delivery.now known.new) }
-    ensures part { OnErr result ((go : ℕ → Data → Ran)
-        → IsFront known.old.actions known.new.actions (tried delivery.now handler.now turns (data_of known.old) go).actions) }
+    ensures tried { IfOk result (λ answer. Whoever delivery.now known.old (λ p d.
+        HasTried p delivery.now handler.now turns d known.old known.new answer)) }
+    ensures part { OnErr result (Whoever delivery.now known.old (λ p d. (go : ℕ → Data → Ran)
+        → IsFront known.old.actions known.new.actions (tried delivery.now handler.now turns d go).actions)) }
 {
     let row = row_for(handler, delivery.message, delivery.from, known)?;
     match row {
@@ -144,12 +148,12 @@ fn run_handler(
 ) -> Result<Handled, NoMemory>
     requires can { CanHandle delivery.now known.old }
     requires there { HasEntry delivery.now handler.now entry }
-    requires matches { row_lem delivery.now handler.now (data_of known.old) ≡ Some row.now }
+    requires matches { Each known.old (λ p class d. row_lem delivery.now handler.now d ≡ Some row.now) }
     requires early { turns ≤ max_turns }
-    ensures tried { IfOk result (λ answer. HasTried delivery.now handler.now turns known.old known.new answer) }
-    ensures can { OnOk result (CanHandle delivery.now known.new) }
-    ensures part { OnErr result ((go : ℕ → Data → Ran)
-        → IsFront known.old.actions known.new.actions (tried delivery.now handler.now turns (data_of known.old) go).actions) }
+    ensures tried { IfOk result (λ answer. Whoever delivery.now known.old (λ p d.
+        HasTried p delivery.now handler.now turns d known.old known.new answer)) }
+    ensures part { OnErr result (Whoever delivery.now known.old (λ p d. (go : ℕ → Data → Ran)
+        → IsFront known.old.actions known.new.actions (tried delivery.now handler.now turns d go).actions)) }
 {
     bind(handler.binds.as_slice(), row, known)?;
     let mut machine = Machine::new(known.alloc, entry);
@@ -176,12 +180,13 @@ fn row_for(
     from: u16,
     known: &Known<'_>,
 ) -> Result<Option<Row>, NoMemory>
-    ensures { IfOk result (λ row. row
-        ≡ matched_entry (data_of known.now) handler.now.message handler.now.from (val_of m.now) from []) }
+    ensures { IfOk result (λ row. Each known.now (λ p class d. row
+        ≡ matched_entry d handler.now.message handler.now.from (val_of m.now) from [])) }
 {
     let alloc = known.alloc;
     let none = Row::new(alloc);
-    let Some(row) = match_pattern(alloc, &handler.message, m, &none, &known.slots, known.me)? else {
+    let first = match_pattern(alloc, &handler.message, m, &none, &known.slots, known.me)?;
+    let Some(row) = first else {
         return Ok(None);
     };
     let sender = Value::Proc(from);

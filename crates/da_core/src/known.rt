@@ -1,11 +1,11 @@
 //! What a process knows, as code keeps it.
-ghost use Rattle.da_core.specs.Known.{data_of};
+ghost use Rattle.da_core.specs.Known.{Becomes, Each, lent};
 ghost use Rattle.da_lang.specs.Steps.{received_at};
 ghost use Rattle.da_lang.specs.Turns.{bind_all, later, sent_at};
+ghost use Rattle.da_lang.specs.World.{put_slot};
 ghost use Rattle.da_lang.specs.declared.event.Action.TheVariants as action;
 ghost use Rattle.da_machine.specs.RunsTo.{IsFront};
 ghost use Rattle.da_values.specs.Value.{val_of};
-ghost use Rattle.node_rows.specs.Facts.{data_of as facts_data};
 ghost use Rattle.std.specs.Prelude.{◌≡◌, [], ◌∷◌, ◌++◌, OnErr, OnOk};
 
 use crate::slots::put;
@@ -19,7 +19,7 @@ use std::alloc::Global;
 const LAST_TIME: u64 = 9_223_372_036_854_775_807;
 
 /// What a process knows, the plan by which it answers the queries of its class, and the actions of the event that it carries
-/// out. Contracts see what it knows by `data_of`.
+/// out. Contracts see the processes for which it stands, by `Knows`.
 #[derive(Debug, Drop)]
 pub struct Known<'c> {
     pub alloc: Global,
@@ -35,7 +35,7 @@ pub struct Known<'c> {
 impl Known<'_> {
     /// What the process knows, lent.
     pub fn facts(&self) -> Facts<'_>
-        ensures { facts_data result ≡ data_of self.now }
+        ensures { Each self.now (λ p class d. lent result ≡ d) }
     {
         Facts {
             alloc: self.alloc,
@@ -51,8 +51,7 @@ impl Known<'_> {
     /// told.
     #[tactic(auto, using(crate::proofs::Fronts::no_front))]
     pub fn receive(&mut self, m: &Value, from: u16, time: u64) -> Result<(), NoMemory>
-        ensures known { OnOk result (data_of self.new ≡ received_at (val_of m.now) from time (data_of self.old)) }
-        ensures plan { self.new.plan.now ≡ self.old.plan.now }
+        ensures known { OnOk result (Becomes self.old self.new (received_at (val_of m.now) from time)) }
         ensures actions { OnOk result (self.new.actions ≡ self.old.actions ++ action.Got self.old.me from time m.now ∷ []) }
         ensures front { OnErr result (IsFront self.old.actions self.new.actions (action.Got self.old.me from time m.now ∷ [])) }
     {
@@ -74,8 +73,7 @@ impl Known<'_> {
     /// Sends a message to one process.
     #[tactic(auto, using(crate::proofs::Fronts::no_front))]
     pub fn send_one(&mut self, m: &Value, to: u16) -> Result<(), NoMemory>
-        ensures known { OnOk result (data_of self.new ≡ sent_at (val_of m.now) to (later self.old.clock) (data_of self.old)) }
-        ensures plan { self.new.plan.now ≡ self.old.plan.now }
+        ensures known { OnOk result (Becomes self.old self.new (λ d. sent_at (val_of m.now) to (later d.clock) d)) }
         ensures actions { OnOk result (self.new.actions ≡ self.old.actions ++ action.Sent self.old.me to (later self.old.clock) m.now ∷ []) }
         ensures front { OnErr result (IsFront self.old.actions self.new.actions (action.Sent self.old.me to (later self.old.clock) m.now ∷ [])) }
     {
@@ -94,6 +92,14 @@ impl Known<'_> {
         self.clock = time;
         Ok(())
     }
+
+    /// Gives a slot a value.
+    pub fn give(&mut self, s: u16, v: Value)
+        ensures known { Becomes self.old self.new (λ d. put_slot d s (val_of v)) }
+        ensures actions { self.new.actions ≡ self.old.actions }
+    {
+        put(&mut self.slots, s, v);
+    }
 }
 
 // The next time of a clock, which stays at its greatest one.
@@ -110,14 +116,13 @@ fn later_time(time: u64) -> u64
 
 /// Gives slots the parts of a row, one by one, as many as there are of both.
 pub fn bind(slots: &[u16], row: &Row, known: &mut Known<'_>) -> Result<(), NoMemory>
-    ensures bound { OnOk result (data_of known.new ≡ bind_all slots.now row.now (data_of known.old)) }
-    ensures plan { known.new.plan.now ≡ known.old.plan.now }
+    ensures bound { OnOk result (Becomes known.old known.new (bind_all slots.now row.now)) }
     ensures actions { known.new.actions ≡ known.old.actions }
 {
     let parts = row.as_slice();
     for (slot, part) in slots.iter().zip(parts) {
         let value = copy_value(known.alloc, part)?;
-        put(&mut known.slots, *slot, value);
+        known.give(*slot, value);
     }
     Ok(())
 }

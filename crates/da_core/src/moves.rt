@@ -1,6 +1,6 @@
 //! The run of a move.
 ghost use Rattle.da_core.specs.Begins.{HasPoint, HasRun, HasStopped, MayRun, MayStop, StandsAt, alternative_at as alternative_lem, begin_at, behind_turn, bound_by, entry_behind, move_actions, place_at as place_lem};
-ghost use Rattle.da_core.specs.Known.{HasPlan, IsPlanned, data_of, rows_kept};
+ghost use Rattle.da_core.specs.Known.{Each, Knows, KnowsSome, rows_kept};
 ghost use Rattle.da_lang.specs.Runs.{run_to_yield};
 ghost use Rattle.da_lang.specs.World.{Data, Task};
 ghost use Rattle.da_lang.specs.declared.program.Class.{Class};
@@ -105,10 +105,9 @@ fn alternative_at(code: &ClassCode, at: u64, k: u32) -> Option<&Alternative>
 
 // Binds the least row that an alternative finds, if it finds one.
 fn bind_found(alternative: Option<&Alternative>, known: &mut Known<'_>) -> Result<(), NoMemory>
-    requires { IsPlanned known.old }
-    ensures bound { OnOk result ((class : Class) → HasPlan known.old class
-        → data_of known.new ≡ bound_by class (option_copied alternative.entry) (data_of known.old)) }
-    ensures plan { known.new.plan.now ≡ known.old.plan.now }
+    requires { KnowsSome known.old }
+    ensures bound { OnOk result (Each known.old (λ p class d.
+        Knows known.new p class (bound_by class (option_copied alternative.entry) d))) }
     ensures actions { known.new.actions ≡ known.old.actions }
 {
     let Some(alternative) = alternative else {
@@ -117,7 +116,8 @@ fn bind_found(alternative: Option<&Alternative>, known: &mut Known<'_>) -> Resul
     let Some(q) = alternative.found else {
         return Ok(());
     };
-    match found(known, q)? {
+    let least = found(known, q)?;
+    match least {
         Some(row) => bind(alternative.binds.as_slice(), &row, known),
         None => Ok(()),
     }
@@ -138,7 +138,7 @@ pub fn run_from(
     ensures runs { IfOk result (λ s. (p : Program) (class : Class) (d : Data) (todo : List Task)
         → MayRun p class code.now known.old machine.old k begin d todo
         → let ran = run_to_yield class begin.turns d todo in
-        HasRun class code.now d.me k ran known.old known.new machine.new s) }
+        HasRun p class code.now d.me k ran known.old known.new machine.new s) }
     ensures part { OnErr result ((p : Program) (class : Class) (d : Data) (todo : List Task)
         → MayRun p class code.now known.old machine.old k begin d todo
         → let ran = run_to_yield class begin.turns d todo in
@@ -158,9 +158,9 @@ pub fn run_from(
 /// How a process stands whose code stopped so. The end and a fault are told.
 pub fn stand(code: &ClassCode, stop: Stop, known: &mut Known<'_>) -> Result<Standing, NoMemory>
     requires stops { MayStop code.now stop }
-    requires planned { IsPlanned known.old }
+    requires knows { KnowsSome known.old }
     ensures stops { IfOk result (λ s. HasStopped code.now known.old known.new stop s) }
-    ensures rows { IfOk result (λ s. s.kept ≡ rows_kept code.now.live.patterns (data_of known.new)) }
+    ensures rows { IfOk result (λ s. Each known.old (λ p class d. s.kept ≡ rows_kept code.now.live.patterns d)) }
     ensures same { OnErr result (known.new.actions ≡ known.old.actions) }
 {
     let kept = kept(known, &code.live)?;
@@ -197,7 +197,7 @@ fn wait_at(
     known: &Known<'_>,
 ) -> Result<Standing, NoMemory>
     requires there { HasPoint code.now number }
-    requires planned { IsPlanned known.now }
+    requires knows { KnowsSome known.now }
     ensures stands { IfOk result (λ s. StandsAt code.now known.now number s) }
     ensures rows { IfOk result (λ s. s.kept ≡ kept) }
 {

@@ -3,7 +3,7 @@ ghost use Rattle.da_core.specs.Arrivals.{MayArrive, arrival};
 ghost use Rattle.da_core.specs.Begins.{CanMove, settled};
 ghost use Rattle.da_core.specs.Compiled.{IsCompiled, program_of as compiled_program};
 ghost use Rattle.da_core.specs.Made.{HasBegun, HasMade, phase_at, stopped_at as stopped_lem};
-ghost use Rattle.da_core.specs.StandsFor.{IsPlace, IsReady, StandsFor, Whichever, flags_of, is_spent, program_of};
+ghost use Rattle.da_core.specs.StandsFor.{IsPlace, IsReady, StandsFor, Whichever, is_spent, program_of};
 ghost use Rattle.da_core.specs.Told.{answers_of, kept_of};
 ghost use Rattle.da_lang.specs.Shaped.{IsProcess};
 ghost use Rattle.da_lang.specs.Steps.{move_step, proc_step};
@@ -83,8 +83,7 @@ impl<'c> Core<'c> {
     #[tactic(auto, using(crate::proofs::Moving::stands_in_phase))]
     pub fn place(&self) -> Place
         ensures phase { Whichever self.now (λ w. w.phase ≡ phase_at result) }
-        ensures place { Whichever self.now (λ w.
-            IsPlace w.data' w.todo (flags_of self.now) result w.phase) }
+        ensures place { Whichever self.now (λ w. IsPlace w.todo result w.phase) }
     {
         self.place
     }

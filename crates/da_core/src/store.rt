@@ -20,6 +20,7 @@ impl Store for Known<'_> {
 
     fn slot(&self, s: u16) -> Result<Value, NoMemory> {
         match in_slot(&self.slots, s) {
+            Some(Value::Int(number)) => Ok(Value::Int(*number)),
             Some(v) => copy_value(self.alloc, v),
             None => Ok(Value::Proc(0)),
         }
@@ -42,7 +43,7 @@ impl Store for Known<'_> {
     }
 
     fn set_slot(&mut self, s: u16, v: Value) -> Result<(), NoMemory> {
-        put(&mut self.slots, s, v);
+        self.give(s, v);
         Ok(())
     }
 

@@ -9,7 +9,7 @@ use Rattle.da_lang.specs.declared.event.Event.TheVariants.{Move, Take, Deliver}
 use Rattle.da_lang.specs.declared.program.Program.{Program}
 use Rattle.da_lang.specs.declared.ty.ChannelKind.{ChannelKind}
 use Rattle.da_lang.specs.Steps.{move_step}
-use Rattle.da_lang.specs.World.{Data, Task, Do, World, Phase, New, Waiting, Ended, Faulted, at_number}
+use Rattle.da_lang.specs.World.{Task, Do, World, Phase, New, Waiting, Ended, Faulted, at_number}
 use Rattle.da_core.specs.declared.place.Place.{Place}
 use Rattle.da_core.specs.declared.place.Place.TheVariants as place
 use Rattle.da_core.specs.StandsFor.{IsPlace}
@@ -159,13 +159,13 @@ is_choice program s j e there = passes (is_allowed program s) (candidates s) j e
 
 -- WHERE A PROCESS STANDS
 
-pub alternatives_are : (d : Data) (todo : List Task) (flags : List Bool) (at : Place) (phase : Phase) → IsPlace d todo flags at phase → alternatives_of at ≡ alternatives phase todo
-alternatives_are d todo flags place.New New is = refl
-alternatives_are d todo flags place.Label Waiting is = sym (ap (alternatives Waiting) is.first ∙ ap alternatives_in is.is)
-alternatives_are d todo flags (place.Await count) Waiting is = sym (ap (alternatives Waiting) is.begins.first ∙ ap alternatives_in is.begins.is ∙ is.size)
-alternatives_are d todo flags place.Ended Ended is = refl
-alternatives_are d todo flags place.Faulted Faulted is = refl
-alternatives_are d todo flags _ _ is = absurd is
+pub alternatives_are : (todo : List Task) (at : Place) (phase : Phase) → IsPlace todo at phase → alternatives_of at ≡ alternatives phase todo
+alternatives_are todo place.New New is = refl
+alternatives_are todo place.Label Waiting is = sym (ap (alternatives Waiting) is.first ∙ ap alternatives_in is.is)
+alternatives_are todo (place.Await count) Waiting is = sym (ap (alternatives Waiting) is.begins.first ∙ ap alternatives_in is.begins.is ∙ is.size)
+alternatives_are todo place.Ended Ended is = refl
+alternatives_are todo place.Faulted Faulted is = refl
+alternatives_are todo _ _ is = absurd is
 
 -- FIRST THE MOVES AND THEN THE DELIVERIES
 

@@ -12,7 +12,7 @@ use Rattle.da_lang.specs.Shaped.{IsEntry, IsProcess}
 use Rattle.da_lang.specs.Steps.{Deliver, Stepped, class_step, proc_step, step_in}
 use Rattle.da_lang.specs.World.{World, at_number, class_of, Phase, New, Waiting, Ended, Faulted}
 use Rattle.da_types.proofs.sound.AcceptedLaws.{is_sound}
-use Rattle.da_core.proofs.Fronts.{front_same}
+use Rattle.da_machine.proofs.Fronts.{same_front, whole_front}
 use Rattle.da_system.specs.declared.system.System.{System}
 use Rattle.da_system.specs.Channels.{Letter, channel, may_arrive, may_lose, may_repeat, with_letter, without_letter}
 use Rattle.da_system.specs.Queues.{HasPlace, IsAmong}
@@ -179,7 +179,7 @@ module _ (system : System) (s : SystemState) (stands : Stands system s) where
       lost_is may = ap (λ b. cond b (drop_letter s p q i found) None) may ∙ ap (drop_letter s p q i) there
 
       pub lost_begun : may_lose s.kind ≡ true → (old new : List Action) → new ≡ old → HasBegun (lose s p q i) old new
-      lost_begun may old new same = record { after = _; is = lost_is may; front = front_same old new (Lost p q letter.time ∷ []) same }
+      lost_begun may old new same = record { after = _; is = lost_is may; front = same_front old new (Lost p q letter.time ∷ []) same }
 
       pub lost_stands : may_lose s.kind ≡ true → (left : System) (old new : List Action) → left.spent ≡ system.spent → left.compiled.now ≡ system.compiled.now → left.cores.items ≡ system.cores.items
           → queues.count_of left.channels ≡ queues.count_of system.channels → queues.StandsFor left.channels (without_letter s.channels p q i) → new ≡ old ++ Lost p q letter.time ∷ [] → HasStepped (lose s p q i) left old new
@@ -196,10 +196,10 @@ module _ (system : System) (s : SystemState) (stands : Stands system s) where
       doubled_is may = ap (λ b. cond b (copy_letter s p q found) None) may ∙ ap (copy_letter s p q) there
 
       pub doubled_begun : may_repeat s.kind ≡ true → (old new : List Action) → new ≡ old → HasBegun (repeat s p q i) old new
-      doubled_begun may old new same = record { after = _; is = doubled_is may; front = front_same old new (Again p q letter.time ∷ []) same }
+      doubled_begun may old new same = record { after = _; is = doubled_is may; front = same_front old new (Again p q letter.time ∷ []) same }
 
       pub doubled_whole : may_repeat s.kind ≡ true → (old new : List Action) → new ≡ old ++ Again p q letter.time ∷ [] → HasBegun (repeat s p q i) old new
-      doubled_whole may old new added = record { after = _; is = doubled_is may; front = ([], ap (λ xs. xs ++ []) added ∙ append-nil (old ++ Again p q letter.time ∷ [])) }
+      doubled_whole may old new added = record { after = _; is = doubled_is may; front = whole_front old new (Again p q letter.time ∷ []) added }
 
       pub doubled_stands : may_repeat s.kind ≡ true → (left : System) (old new : List Action) → left.spent ≡ system.spent → left.compiled.now ≡ system.compiled.now → left.cores.items ≡ system.cores.items
           → queues.count_of left.channels ≡ queues.count_of system.channels → IfSome found (λ (l : Letter). queues.StandsFor left.channels (with_letter s.channels p q l)) → new ≡ old ++ Again p q letter.time ∷ [] → HasStepped (repeat s p q i) left old new

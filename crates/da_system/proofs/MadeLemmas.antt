@@ -14,6 +14,7 @@ use Rattle.da_lang.specs.Steps.{Step, move_step, proc_step}
 use Rattle.da_lang.specs.World.{World, at_number}
 use Rattle.da_types.specs.KeepsShaped.{MayStep, MayTell, StepsShaped}
 use Rattle.da_types.proofs.sound.AcceptedShaped.{keeps_shaped}
+use Rattle.da_machine.proofs.Fronts.{whole_front}
 use Rattle.da_core.specs.declared.place.Stopped.{Stopped}
 use Rattle.da_core.specs.declared.process.Core.{Core}
 use Rattle.da_core.specs.Made as made
@@ -101,7 +102,7 @@ module _ (system : System) (s : SystemState) (stands : Stands system s) (target 
     after_is = step_is ∙ ap (stepped (record s { channels = base }) p) has.leads
 
     pub made_begun : HasBegun target old new
-    made_begun = record { after = after_it; is = after_is; front = ([], ap (λ xs. xs ++ []) has.added ∙ append-nil (old ++ has.after.actions)) }
+    made_begun = record { after = after_it; is = after_is; front = whole_front old new has.after.actions has.added }
 
     pub made_longer : length old ≤ length new
     made_longer = subst (λ xs. length old ≤ length xs) (sym has.added) (not_less old has.after.actions)

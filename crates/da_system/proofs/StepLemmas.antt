@@ -13,7 +13,7 @@ use Rattle.da_machine.specs.RunsTo.{IsFront}
 use Rattle.da_core.specs.declared.process.Core.{Core}
 use Rattle.da_core.specs.StandsFor as process
 use Rattle.da_core.specs.Told.{answers_of, kept_of}
-use Rattle.da_core.proofs.Fronts.{front_same}
+use Rattle.da_machine.proofs.Fronts.{same_front}
 use Rattle.da_system.specs.declared.system.System.{System}
 use Rattle.da_system.specs.State.{HasBegun, HasStepped, Stands, StandsAt, program_of}
 use Rattle.da_system.specs.SystemStep.{SystemState, process_step, show, stat, step_of, stepped, sys_step, told}
@@ -110,7 +110,7 @@ module _ (system : System) (s : SystemState) (stands : Stands system s) where
       keeps old new added = record { after = record { state = s; actions = Kept p n ∷ [] }; is = keeps_so; stands = stands; added = added }
 
       pub begins_to_keep : (old new : List Action) → new ≡ old → HasBegun (stat program s p) old new
-      begins_to_keep old new same = record { after = record { state = s; actions = Kept p n ∷ [] }; is = keeps_so; front = front_same old new (Kept p n ∷ []) same }
+      begins_to_keep old new same = record { after = record { state = s; actions = Kept p n ∷ [] }; is = keeps_so; front = same_front old new (Kept p n ∷ []) same }
 
   -- both are allowed exactly where there is such a process
   told_some : (o : Option World) (tell : Data → List Action) → is_some (told s o tell) ≡ is_some o

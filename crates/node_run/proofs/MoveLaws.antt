@@ -25,7 +25,7 @@ use Rattle.da_core.specs.declared.place.Place.{Place}
 use Rattle.da_core.specs.declared.place.Place.TheVariants as place
 use Rattle.da_core.specs.declared.process.Core.{Core}
 use Rattle.da_core.specs.Made.{phase_at}
-use Rattle.da_core.specs.StandsFor.{AwaitsAs, BeginsWith, IsPlace, Whichever, flags_of, program_of}
+use Rattle.da_core.specs.StandsFor.{Awaits, BeginsWith, IsPlace, Whichever, program_of}
 use Rattle.da_core.proofs.Laws.{has_class}
 use Rattle.node_run.specs.NodeRun.{first_true, move_at, move_before, move_of}
 
@@ -174,11 +174,11 @@ module _ (core : Core) where
   each_delivery_allowed = λ w s waits. delivery_allowed (program_of core) s.class w waits s.knows.is_class
 
   -- at a label it goes on
-  pub goes_on : (stands : Place) → stands ≡ place.Label → Whichever core (λ w. IsPlace w.data' w.todo (flags_of core) stands w.phase)
+  pub goes_on : (stands : Place) → stands ≡ place.Label → Whichever core (λ w. IsPlace w.todo stands w.phase)
       → Whichever core (λ w. w.phase ≡ Waiting → Some 0 ≡ move_of w)
   goes_on stands label place' = λ w s waits.
       let begins : BeginsWith w.todo Label =
-      subst (IsPlace w.data' w.todo (flags_of core) place.Label) waits (subst (λ (x : Place). IsPlace w.data' w.todo (flags_of core) x w.phase) label (place' w s)) in
+      subst (IsPlace w.todo place.Label) waits (subst (λ (x : Place). IsPlace w.todo x w.phase) label (place' w s)) in
       sym (ap (move_before w.data') begins.first ∙ ap (move_at w.data') begins.is)
 
   -- elsewhere it does not wait
@@ -193,7 +193,7 @@ module _ (core : Core) where
 
   -- at an `await` of so many alternatives its move is the first that is true, and stands behind the first n of them
   abbrev pub Tried : ℕ → ℕ → Type 0
-  Tried count n = Whichever core (λ w. w.phase ≡ Waiting → (at : AwaitsAs w.data' w.todo (flags_of core) count) → LeadsFrom w at.alts n)
+  Tried count n = Whichever core (λ w. w.phase ≡ Waiting → (at : Awaits w.todo count) → LeadsFrom w at.alts n)
 
   -- this tells whether its move of this number is allowed
   abbrev pub IsAllowedAs : ℕ → Bool → Type 0
@@ -208,12 +208,12 @@ module _ (core : Core) where
       (λ some. false≢true (sym not_allowed ∙ (exactly w s).1 some)) (so_far w s waits at)
 
   pub tried_here : (count n k : ℕ) (allowed : Bool) → k ≡ suc n → allowed ≡ true → IsAllowedAs k allowed → Tried count n
-      → Whichever core (λ w. w.phase ≡ Waiting → AwaitsAs w.data' w.todo (flags_of core) count → Some k ≡ move_of w)
+      → Whichever core (λ w. w.phase ≡ Waiting → Awaits w.todo count → Some k ≡ move_of w)
   tried_here count n k allowed numbered is_allowed exactly so_far = λ w s waits at.
       sym (leads_here (program_of core) s.class w waits s.knows.is_class at.begins.item at.begins.rest at.alts at.begins.first at.begins.is n k numbered
       ((exactly w s).0 is_allowed) (so_far w s waits at))
 
-  pub tried_all : (count n : ℕ) → count ≤ n → Tried count n → Whichever core (λ w. w.phase ≡ Waiting → AwaitsAs w.data' w.todo (flags_of core) count → None ≡ move_of w)
+  pub tried_all : (count n : ℕ) → count ≤ n → Tried count n → Whichever core (λ w. w.phase ≡ Waiting → Awaits w.todo count → None ≡ move_of w)
   tried_all count n past so_far = λ w s waits at.
       sym (leads_nowhere (program_of core) s.class w waits s.knows.is_class at.begins.item at.begins.rest at.alts at.begins.first at.begins.is n (omega (arith, past, at.size))
       (so_far w s waits at))

@@ -1,5 +1,5 @@
 //! The move that a process makes where nothing comes.
-ghost use Rattle.da_core.specs.StandsFor.{AwaitsAs, Whichever, flags_of};
+ghost use Rattle.da_core.specs.StandsFor.{Awaits, Whichever};
 ghost use Rattle.da_lang.specs.World.{Waiting};
 ghost use Rattle.node_run.specs.NodeRun.{move_of};
 ghost use Rattle.std.specs.Prelude.{◌≡◌};
@@ -21,7 +21,7 @@ pub(crate) fn chosen_move(core: &Core<'_>) -> Option<u32>
 // The least number of a move that is allowed, from 1 up to the number of alternatives.
 fn least_allowed(core: &Core<'_>, count: u32) -> Option<u32>
     ensures { Whichever core.now (λ w. w.phase ≡ Waiting
-        → AwaitsAs w.data' w.todo (flags_of core.now) count → result ≡ move_of w) }
+        → Awaits w.todo count → result ≡ move_of w) }
 {
     for place in 0..count {
         let k = place + 1;

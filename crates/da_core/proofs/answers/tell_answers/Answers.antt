@@ -1,5 +1,6 @@
-use Rattle.std.proofs.Common.{◌<◌, ◌≤◌, length, arith}
-use Rattle.da_core.proofs.Asking.{all_answered, none_answered, one_answered}
+use Rattle.std.proofs.Common.{◌<◌, ◌≤◌, length, refl, arith}
+use Rattle.da_machine.proofs.Fronts.{on_err}
+use Rattle.da_core.proofs.Asking.{AnswersPart, all_answered, answers_front, none_answered, one_answered}
 use Rattle.da_core.proofs.answers.tell_answers.Goals as goal
 
 pub loop-place-init : goal.loop-place-init
@@ -14,3 +15,18 @@ pub returns-clause-told : goal.returns-clause-told
 returns-clause-told c =
     let past : length c.args.known.now.plan.now.queries ≤ c.loop-place.place = omega (arith, c.loop-place-test.false, c.len-count.ensures) in
     all_answered c.args.known.now c.args.out.now c.loop-place.out c.loop-place.place past c.loop-place.invariant
+
+pub returns-in_err-n-clause-front : goal.returns-in_err-n-clause-front
+returns-in_err-n-clause-front c =
+    on_err _ (AnswersPart c.args.known.now c.args.out.now c.loop-place.out)
+    (answers_front c.args.known.now c.args.out.now c.loop-place.out c.loop-place.out c.loop-place.place refl c.loop-place.invariant)
+
+pub returns-in_err-rows-clause-front : goal.returns-in_err-rows-clause-front
+returns-in_err-rows-clause-front c =
+    on_err _ (AnswersPart c.args.known.now c.args.out.now c.loop-place.out)
+    (answers_front c.args.known.now c.args.out.now c.loop-place.out c.loop-place.out c.loop-place.place refl c.loop-place.invariant)
+
+pub returns-in_err-push-clause-front : goal.returns-in_err-push-clause-front
+returns-in_err-push-clause-front c =
+    on_err _ (AnswersPart c.args.known.now c.args.out.now c.push.new.self)
+    (answers_front c.args.known.now c.args.out.now c.loop-place.out c.push.new.self c.loop-place.place c.in_err-push.ensures.err c.loop-place.invariant)

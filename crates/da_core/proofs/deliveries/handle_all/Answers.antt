@@ -2,8 +2,7 @@ use Rattle.std.proofs.Common.{rules, ◌≡◌}
 use Rattle.std.proofs.lemmas.Slice.Zip.{either_empty_from_Zip}
 use Rattle.da_machine.specs.RunsTo.{IsFront}
 use Rattle.da_machine.proofs.Fronts.{on_err}
-use Rattle.da_core.specs.Arrivals.{all_handled}
-use Rattle.da_core.specs.Known.{data_of}
+use Rattle.da_core.specs.Arrivals.{Whoever, all_handled}
 use Rattle.da_core.proofs.Arriving.{came_first, came_here, came_on, came_through, faults_here, handled_part, one_more, too_long, turns_left, turns_taken}
 use Rattle.da_core.proofs.deliveries.handle_all.Goals as goal
 
@@ -24,7 +23,7 @@ try_handler-requires-clause-early c = one_more c.handlers.turns c.if-turns-ge-MO
 pub returns-in_err-answer-clause-part : goal.returns-in_err-answer-clause-part
 returns-in_err-answer-clause-part c =
     let came = came_here c.args.delivery.now _ _ _ _ _ _ _ _ _ c.in-Some.ensures.steps.0 c.in-Some.ensures.steps.1 c.handlers.invariant in
-    on_err _ (IsFront c.args.known.now.actions c.try_handler.new.known.actions (all_handled c.args.delivery.now (data_of c.args.known.now)).actions)
+    on_err _ (Whoever c.args.delivery.now c.args.known.now (λ p d. IsFront c.args.known.now.actions c.try_handler.new.known.actions (all_handled c.args.delivery.now d).actions))
     (handled_part c.args.delivery.now c.args.known.now c.handlers.known c.handlers.turns c.in-Some.handler.now c.in-Some.entry.now c.next.new.self.a.rest.now c.next.new.self.b.rest.now came (turns_left c.handlers.turns c.if-turns-ge-MOST_TURNS.false)
     c.try_handler.new.known.actions c.in_err-answer.ensures.part)
 
@@ -32,7 +31,7 @@ pub handlers-preserved : goal.handlers-preserved
 handlers-preserved c =
     let came = came_here c.args.delivery.now _ _ _ _ _ _ _ _ _ c.in-Some.ensures.steps.0 c.in-Some.ensures.steps.1 c.handlers.invariant in
     came_on c.args.delivery.now c.args.known.now c.handlers.known c.handlers.turns c.in-Some.handler.now c.in-Some.entry.now c.next.new.self.a.rest.now c.next.new.self.b.rest.now came (turns_left c.handlers.turns c.if-turns-ge-MOST_TURNS.false)
-    c.try_handler.new.known c.in_ok-answer.answer c.in_ok-answer.ensures.tried c.in-Through.further c.in-Through.is c.in_ok-answer.ensures.can
+    c.try_handler.new.known c.in_ok-answer.answer c.in_ok-answer.ensures.tried c.in-Through.further c.in-Through.is
 
 pub returns-in-Fault-clause-runs : goal.returns-in-Fault-clause-runs
 returns-in-Fault-clause-runs c =

@@ -1,43 +1,45 @@
 use Rattle.std.proofs.Common.{subst, sym}
-use Rattle.da_machine.specs.RunsTo.{IsFront}
-use Rattle.da_machine.proofs.Fronts.{on_err}
-use Rattle.da_core.specs.Arrivals.{all_handled, delivery_actions, received}
 use Rattle.da_core.specs.Begins.{HasStopped, MayStop}
-use Rattle.da_core.proofs.Taking.{can_then, handled_front, may_stop, plan_there, received_front, stop_front_of, taken}
+use Rattle.da_core.proofs.Taking.{TakenPart, can_then, handled_front, knows_some, may_stop, received_front, stop_front_of, taken}
+use Rattle.da_machine.proofs.Fronts.{on_err}
 use Rattle.da_core.proofs.deliveries.take_in.Goals as goal
 
 pub returns-in_err-receive-clause-part : goal.returns-in_err-receive-clause-part
 returns-in_err-receive-clause-part c =
-    on_err _ (IsFront c.args.known.now.actions c.receive.new.self.actions (delivery_actions c.args.delivery.now c.args.time c.args.known.now.me (all_handled c.args.delivery.now (received c.args.delivery.now c.args.time c.args.known.now))))
-    (received_front c.args.delivery.now c.args.time c.args.known.now c.receive.new.self.actions c.in_err-receive.ensures.front)
+    on_err _ (TakenPart c.args.delivery.now c.args.time c.args.at c.args.known.now c.receive.new.self.actions) (λ p d todo may.
+    received_front c.args.delivery.now c.args.time c.args.known.now d c.receive.new.self.actions c.in_err-receive.ensures.front)
 
 pub handle_all-requires : goal.handle_all-requires
-handle_all-requires c = can_then c.args.delivery.now c.args.time c.args.at c.args.known.now c.requires.0 c.requires.1 c.receive.new.self c.in_ok-receive.ensures.known c.in_ok-receive.ensures.plan c.in_ok-receive.ensures.actions
+handle_all-requires c =
+    let (p, d, todo, may) = c.requires in
+    can_then c.args.delivery.now c.args.time c.args.at c.args.known.now p d todo may c.receive.new.self c.in_ok-receive.ensures.known c.in_ok-receive.ensures.actions
 
 pub returns-in_err-answer-clause-part : goal.returns-in_err-answer-clause-part
 returns-in_err-answer-clause-part c =
-    on_err _ (IsFront c.args.known.now.actions c.handle_all.new.known.actions (delivery_actions c.args.delivery.now c.args.time c.args.known.now.me (all_handled c.args.delivery.now (received c.args.delivery.now c.args.time c.args.known.now))))
-    (handled_front c.args.delivery.now c.args.time c.args.at c.args.known.now c.requires.0 c.requires.1 c.receive.new.self c.in_ok-receive.ensures.known c.in_ok-receive.ensures.plan c.in_ok-receive.ensures.actions
+    on_err _ (TakenPart c.args.delivery.now c.args.time c.args.at c.args.known.now c.handle_all.new.known.actions) (λ p d todo may.
+    handled_front c.args.delivery.now c.args.time c.args.at c.args.known.now p d todo may c.receive.new.self c.in_ok-receive.ensures.known c.in_ok-receive.ensures.actions
     c.handle_all.new.known.actions c.in_err-answer.ensures.part)
 
 pub stand-requires-clause-stops : goal.stand-requires-clause-stops
 stand-requires-clause-stops c =
-    subst (MayStop c.args.delivery.now.code.now) (sym (c.stop_behind-stop.ensures c.requires.1.number c.requires.1.there))
-    (may_stop c.args.delivery.now c.args.time c.args.at c.args.known.now c.requires.0 c.requires.1 c.receive.new.self c.in_ok-receive.ensures.known c.in_ok-receive.ensures.plan c.in_ok-receive.ensures.actions c.in_ok-answer.answer)
+    let (p, d, todo, may) = c.requires in
+    subst (MayStop c.args.delivery.now.code.now) (sym (c.stop_behind-stop.ensures may.number may.there))
+    (may_stop c.args.delivery.now c.args.time c.args.at c.args.known.now p d todo may c.receive.new.self c.in_ok-receive.ensures.known c.in_ok-receive.ensures.actions c.in_ok-answer.answer)
 
-pub stand-requires-clause-planned : goal.stand-requires-clause-planned
-stand-requires-clause-planned c =
-    plan_there c.args.delivery.now c.args.time c.args.at c.args.known.now c.requires.0 c.requires.1 c.receive.new.self c.in_ok-receive.ensures.known c.in_ok-receive.ensures.plan c.in_ok-receive.ensures.actions
+pub stand-requires-clause-knows : goal.stand-requires-clause-knows
+stand-requires-clause-knows c =
+    let (p, d, todo, may) = c.requires in
+    knows_some c.args.delivery.now c.args.time c.args.at c.args.known.now p d todo may c.receive.new.self c.in_ok-receive.ensures.known c.in_ok-receive.ensures.actions
     c.handle_all.new.known c.in_ok-answer.answer c.in_ok-answer.ensures.runs
 
 pub returns-in-Ok-clause-taken : goal.returns-in-Ok-clause-taken
-returns-in-Ok-clause-taken c = λ todo may.
-    taken c.args.delivery.now c.args.time c.args.at c.args.known.now todo may c.receive.new.self c.in_ok-receive.ensures.known c.in_ok-receive.ensures.plan c.in_ok-receive.ensures.actions
+returns-in-Ok-clause-taken c = λ p d todo may.
+    taken c.args.delivery.now c.args.time c.args.at c.args.known.now p d todo may c.receive.new.self c.in_ok-receive.ensures.known c.in_ok-receive.ensures.actions
     c.handle_all.new.known c.in_ok-answer.answer c.in_ok-answer.ensures.runs c.stand.new.known c.in-Ok.standing
     (subst (λ stop. HasStopped c.args.delivery.now.code.now c.handle_all.new.known c.stand.new.known stop c.in-Ok.standing) (c.stop_behind-stop.ensures may.number may.there) c.in-Ok.ensures.stops)
     c.in-Ok.ensures.rows
 
 pub returns-in-Err-clause-part : goal.returns-in-Err-clause-part
-returns-in-Err-clause-part c =
-    stop_front_of c.args.delivery.now c.args.time c.args.at c.args.known.now c.requires.0 c.requires.1 c.receive.new.self c.in_ok-receive.ensures.known c.in_ok-receive.ensures.plan c.in_ok-receive.ensures.actions
+returns-in-Err-clause-part c = λ p d todo may.
+    stop_front_of c.args.delivery.now c.args.time c.args.at c.args.known.now p d todo may c.receive.new.self c.in_ok-receive.ensures.known c.in_ok-receive.ensures.actions
     c.handle_all.new.known c.in_ok-answer.answer c.in_ok-answer.ensures.runs c.stand.new.known.actions c.in-Err.ensures.same

@@ -1,11 +1,9 @@
 use Rattle.std.proofs.Common.{◌≡◌}
 use Rattle.da_values.specs.Value.{vals}
-use Rattle.da_lang.specs.Turns.{bind_all}
-use Rattle.da_core.specs.Known.{data_of}
+use Rattle.da_core.proofs.Binding.{Binds}
 use Rattle.da_core.proofs.known.bind.Given as goal
 
 abbrev pub invariant-loop-slot : goal.invariant-loop-slot
 invariant-loop-slot l =
-    (bind_all l.slot-iterator.a.rest.now (vals l.slot-iterator.b.rest.now) (data_of l.known) ≡ bind_all l.slots l.row (data_of l.initial.known))
+    Binds l.slots l.row l.slot-iterator.a.rest.now (vals l.slot-iterator.b.rest.now) l.initial.known l.known
     × (l.known.actions ≡ l.initial.known.actions)
-    × (l.known.plan.now ≡ l.initial.known.plan.now)

@@ -1,15 +1,17 @@
 use Rattle.std.proofs.Common.{◌∙◌}
 use Rattle.da_machine.proofs.Fronts.{on_err}
-use Rattle.da_core.proofs.Carrying.{Partly, early_enough, front_of_row, front_of_run, front_of_stop, has_bound, knows_it, planned, ready, run_whole, stops_there}
-use Rattle.da_core.proofs.Fronts.{front_same}
+use Rattle.da_core.proofs.Carrying.{Partly, early_enough, front_of_row, front_of_run, front_of_stop, has_bound, knows_it, ready, run_whole, stands, stops_there, told_it}
+use Rattle.da_machine.proofs.Fronts.{same_front}
 use Rattle.da_core.proofs.moves.run_from.Goals as goal
 
 pub returns-in_err-push-clause-part : goal.returns-in_err-push-clause-part
 returns-in_err-push-clause-part c =
-    on_err _ (Partly c.args.code.now c.args.known.now c.args.machine.now c.args.begin c.args.k c.push.new.self) (λ p class d todo may. front_same _ _ _ c.in_err-push.ensures.err)
+    on_err _ (Partly c.args.code.now c.args.known.now c.args.machine.now c.args.begin c.args.k c.push.new.self) (λ p class d todo may. same_front _ _ _ c.in_err-push.ensures.err)
 
 pub bind_found-requires : goal.bind_found-requires
-bind_found-requires c = (c.requires.1, c.requires.4.plan)
+bind_found-requires c =
+    let (p, class, d, todo, may) = c.requires in
+    told_it p class c.args.code.now c.args.known.now c.args.machine.now c.args.k c.args.begin d todo may c.push.new.self
 
 pub returns-in_err-bind_found-clause-part : goal.returns-in_err-bind_found-clause-part
 returns-in_err-bind_found-clause-part c =
@@ -27,7 +29,7 @@ run_code-requires-clause-ready c =
     let m = c.args.machine.now in
     let k = c.args.k in
     let begin = c.args.begin in
-    let so = has_bound code known m k c.bind_found.new.known _ c.push.new.self c.alternative_at.ensures c.in_ok-push.ensures.ok c.in_ok-bind_found.ensures.bound c.bind_found.ensures.plan c.bind_found.ensures.actions in
+    let so = has_bound code known m k c.bind_found.new.known _ c.push.new.self c.alternative_at.ensures c.in_ok-push.ensures.ok c.in_ok-bind_found.ensures.bound c.bind_found.ensures.actions in
     (p, class, d, todo, knows_it p class code known m k begin d todo may c.bind_found.new.known so, ready p class code known m k begin d todo may)
 
 pub returns-in_err-stop-clause-part : goal.returns-in_err-stop-clause-part
@@ -37,7 +39,7 @@ returns-in_err-stop-clause-part c =
     let m = c.args.machine.now in
     let k = c.args.k in
     let begin = c.args.begin in
-    let so = has_bound code known m k c.bind_found.new.known _ c.push.new.self c.alternative_at.ensures c.in_ok-push.ensures.ok c.in_ok-bind_found.ensures.bound c.bind_found.ensures.plan c.bind_found.ensures.actions in
+    let so = has_bound code known m k c.bind_found.new.known _ c.push.new.self c.alternative_at.ensures c.in_ok-push.ensures.ok c.in_ok-bind_found.ensures.bound c.bind_found.ensures.actions in
     on_err _ (Partly code known m begin k c.run_code.new.s.actions) (λ p class d todo may.
     front_of_run p class code known m k begin d todo may c.bind_found.new.known so c.run_code.new.s.actions
     (c.in_err-stop.ensures.part p class d todo (knows_it p class code known m k begin d todo may c.bind_found.new.known so) (ready p class code known m k begin d todo may)))
@@ -50,11 +52,11 @@ stand-requires c =
     let m = c.args.machine.now in
     let k = c.args.k in
     let begin = c.args.begin in
-    let so = has_bound code known m k c.bind_found.new.known _ c.push.new.self c.alternative_at.ensures c.in_ok-push.ensures.ok c.in_ok-bind_found.ensures.bound c.bind_found.ensures.plan c.bind_found.ensures.actions in
+    let so = has_bound code known m k c.bind_found.new.known _ c.push.new.self c.alternative_at.ensures c.in_ok-push.ensures.ok c.in_ok-bind_found.ensures.bound c.bind_found.ensures.actions in
     let run = c.in_ok-stop.ensures.runs p class d todo (knows_it p class code known m k begin d todo may c.bind_found.new.known so) (ready p class code known m k begin d todo may) in
     record {
       stops = stops_there p class code known m k begin d todo may c.bind_found.new.known so c.run_code.new.s c.run_code.new.m c.in_ok-stop.stop run;
-      planned = planned p class code known m k begin d todo may c.bind_found.new.known so c.run_code.new.s c.run_code.new.m c.in_ok-stop.stop run;
+      knows = stands p class code known m k begin d todo may c.bind_found.new.known so c.run_code.new.s c.run_code.new.m c.in_ok-stop.stop run;
     }
 
 pub returns-in-Ok-clause-runs : goal.returns-in-Ok-clause-runs
@@ -64,7 +66,7 @@ returns-in-Ok-clause-runs c = λ p class d todo may.
     let m = c.args.machine.now in
     let k = c.args.k in
     let begin = c.args.begin in
-    let so = has_bound code known m k c.bind_found.new.known _ c.push.new.self c.alternative_at.ensures c.in_ok-push.ensures.ok c.in_ok-bind_found.ensures.bound c.bind_found.ensures.plan c.bind_found.ensures.actions in
+    let so = has_bound code known m k c.bind_found.new.known _ c.push.new.self c.alternative_at.ensures c.in_ok-push.ensures.ok c.in_ok-bind_found.ensures.bound c.bind_found.ensures.actions in
     let run = c.in_ok-stop.ensures.runs p class d todo (knows_it p class code known m k begin d todo may c.bind_found.new.known so) (ready p class code known m k begin d todo may) in
     run_whole p class code known m k begin d todo may c.bind_found.new.known so c.run_code.new.s c.run_code.new.m c.in_ok-stop.stop run c.stand.new.known c.in-Ok.standing c.in-Ok.ensures.stops c.in-Ok.ensures.rows
 
@@ -75,6 +77,6 @@ returns-in-Err-clause-part c = λ p class d todo may.
     let m = c.args.machine.now in
     let k = c.args.k in
     let begin = c.args.begin in
-    let so = has_bound code known m k c.bind_found.new.known _ c.push.new.self c.alternative_at.ensures c.in_ok-push.ensures.ok c.in_ok-bind_found.ensures.bound c.bind_found.ensures.plan c.bind_found.ensures.actions in
+    let so = has_bound code known m k c.bind_found.new.known _ c.push.new.self c.alternative_at.ensures c.in_ok-push.ensures.ok c.in_ok-bind_found.ensures.bound c.bind_found.ensures.actions in
     let run = c.in_ok-stop.ensures.runs p class d todo (knows_it p class code known m k begin d todo may c.bind_found.new.known so) (ready p class code known m k begin d todo may) in
     front_of_stop p class code known m k begin d todo may c.bind_found.new.known so c.run_code.new.s c.run_code.new.m c.in_ok-stop.stop run c.stand.new.known.actions c.in-Err.ensures.same

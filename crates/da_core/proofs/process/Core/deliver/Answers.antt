@@ -2,6 +2,7 @@ use Rattle.std.proofs.Common.{rules, ◌≡◌, ◌∙◌}
 use Rattle.da_values.specs.Value.{val_of}
 use Rattle.da_lang.specs.World.{Waiting}
 use Rattle.da_core.specs.declared.deliveries.Delivery.{Delivery}
+use Rattle.da_core.specs.StandsFor.{program_of}
 use Rattle.da_core.proofs.Delivering.{arrives_nowhere, has_begun, has_made, may_arrive, may_take_in, no_truth, stands_after}
 use Rattle.da_core.proofs.process.Core.deliver.Goals as goal
 
@@ -15,7 +16,7 @@ take_in-run-requires c =
     let (w, s) = c.requires.ready c.if-self.false in
     let x : Delivery = record { class = c.in-Some-Some.class; code = c.in-Some-Some.code; message = c.args.m; from = c.args.from } in
     let waits : w.phase ≡ Waiting = (c.is_waiting.ensures w s).0 (search rules) in
-    (_, may_take_in c.args.self.now w s waits x c.args.time c.in-Some-Some.ensures c.in-Some-Some.ensures' c.requires.arrives c.replace.result)
+    (_, _, _, may_take_in c.args.self.now w s waits x c.args.time c.in-Some-Some.ensures c.in-Some-Some.ensures' c.requires.arrives c.replace.result)
 
 pub returns-in_err-standing-clause-allowed : goal.returns-in_err-standing-clause-allowed
 returns-in_err-standing-clause-allowed c = λ w s none.
@@ -27,8 +28,9 @@ pub returns-in_err-standing-clause-front : goal.returns-in_err-standing-clause-f
 returns-in_err-standing-clause-front c = λ fault w s.
     let x : Delivery = record { class = c.in-Some-Some.class; code = c.in-Some-Some.code; message = c.args.m; from = c.args.from } in
     let waits : w.phase ≡ Waiting = (c.is_waiting.ensures w s).0 (search rules) in
+    let may = may_take_in c.args.self.now w s waits x c.args.time c.in-Some-Some.ensures c.in-Some-Some.ensures' c.requires.arrives c.replace.result in
     has_begun c.args.self.now w s waits x c.args.time c.in-Some-Some.ensures c.in-Some-Some.ensures' c.requires.arrives c.replace.result
-    c.args.out.now c.replace-2.result c.take_in-run.new.known.actions c.replace.ensures.value c.replace-2.ensures.value c.in_err-standing.ensures.part
+    c.args.out.now c.replace-2.result c.take_in-run.new.known.actions c.replace.ensures.value c.replace-2.ensures.value (c.in_err-standing.ensures.part (program_of c.args.self.now) w.data' w.todo may)
 
 pub returns-clause-ready : goal.returns-clause-ready
 returns-clause-ready c = λ unspent.
@@ -38,7 +40,7 @@ returns-clause-ready c = λ unspent.
     let may = may_take_in c.args.self.now w s waits x c.args.time c.in-Some-Some.ensures c.in-Some-Some.ensures' c.requires.arrives c.replace.result in (
       _,
       stands_after c.args.self.now w s waits x c.args.time c.in-Some-Some.ensures c.in-Some-Some.ensures' c.requires.arrives c.replace.result c.take_in-run.new.known c.in_ok-standing.standing
-          (c.in_ok-standing.ensures.taken w.todo may) c.replace-2.new.dest (c.replace-2.ensures.after ∙ c.new-2.ensures) c.settle.new.self c.settle.ensures.settled,
+          (c.in_ok-standing.ensures.taken (program_of c.args.self.now) w.data' w.todo may) c.replace-2.new.dest (c.replace-2.ensures.after ∙ c.new-2.ensures) c.settle.new.self c.settle.ensures.settled,
     )
 
 pub returns-clause-delivers : goal.returns-clause-delivers
@@ -47,7 +49,7 @@ returns-clause-delivers c = λ w s.
     let waits : w.phase ≡ Waiting = (c.is_waiting.ensures w s).0 (search rules) in
     let may = may_take_in c.args.self.now w s waits x c.args.time c.in-Some-Some.ensures c.in-Some-Some.ensures' c.requires.arrives c.replace.result in
     has_made c.args.self.now w s waits x c.args.time c.in-Some-Some.ensures c.in-Some-Some.ensures' c.requires.arrives c.replace.result c.take_in-run.new.known c.in_ok-standing.standing
-    (c.in_ok-standing.ensures.taken w.todo may) c.replace-2.new.dest (c.replace-2.ensures.after ∙ c.new-2.ensures) c.settle.new.self c.settle.ensures.settled
+    (c.in_ok-standing.ensures.taken (program_of c.args.self.now) w.data' w.todo may) c.replace-2.new.dest (c.replace-2.ensures.after ∙ c.new-2.ensures) c.settle.new.self c.settle.ensures.settled
     c.args.out.now c.replace-2.result c.replace.ensures.value c.replace-2.ensures.value c.settle.result c.settle.ensures.stopped
 
 pub returns-clause-allowed : goal.returns-clause-allowed
