@@ -1,10 +1,10 @@
 //! The exit status of the process.
-ghost use Rattle.dalgo.specs.ExitCode.{code_of};
-ghost use Rattle.dalgo.specs.declared.status.Status.{Status as StatusOf};
+ghost use Rattle.da_commands.specs.ExitCode.{code_of};
+ghost use Rattle.da_commands.specs.declared.status.Status.{Status as StatusOf};
 ghost use Rattle.std.specs.Prelude.{◌≡◌, IfOk, IsErrOf};
 ghost use Rattle.std.specs.Process.{exit_status};
 
-use crate::status::Status;
+use da_commands::Status;
 use std::process::ExitCode;
 
 /// The exit status where the system does not give the words.

@@ -2,28 +2,16 @@
 #![tactic(auto)]
 
 mod again;
-#[cfg(test)]
-mod cases;
-mod endings;
 mod exit;
-mod lines;
 mod needs;
-mod noding;
-mod program;
-mod replaying;
 mod report;
-mod status;
-mod tasks;
-mod top;
-mod words;
 
+use da_commands::{Status, dalgo};
 use da_outside::{RealFiles, RealSink};
 use exit::{NoWords, exit_code};
 use report::report;
-use status::Status;
 use std::env;
 use std::process::ExitCode;
-use top::dalgo;
 use udp_link::UdpLink;
 
 fn main(rt: HostRuntime) -> ExitCode {

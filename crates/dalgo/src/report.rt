@@ -4,9 +4,7 @@ ghost use Rattle.std.specs.Prelude.{◌≤◌};
 
 use crate::again::{shown, text_again};
 use crate::needs::needs_of;
-use crate::program::PROGRAM_LIMIT;
-use crate::status::{RefusedKind, Status};
-use crate::words::{Command, Names, NodeSetting, command_of};
+use da_commands::{Command, Names, NodeSetting, PROGRAM_LIMIT, RefusedKind, Status, command_of};
 use sched_text::{SCHEDULE_LIMIT, line_of_event, line_of_number};
 use std::io::Eprint;
 use std::{fs, io, rt};

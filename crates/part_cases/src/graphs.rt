@@ -1,11 +1,29 @@
 //! Small classes, and what the graphs of their calls answer.
-
 ghost use Rattle.da_calls.specs.CallGraph.{IsCallGraph};
 
+use crate::fault::RowFault;
 use da_calls::{CallGraph, Method};
 use da_lang::{ClassTree, Member, Name, Stmt};
 use da_values::{Buf, List, NoMemory};
 use std::alloc::Global;
+
+/// What the graph of a class tells. The name of a method is its first letter, and each other one a call of the method of
+/// that name, or a yield point at `!`. `graph RUN, METHODS` gives each method with its calls, and `order METHODS` the names
+/// in the order of the graph.
+pub fn graph_reply(alloc: Global, kind: &str, words: &str, out: &mut Buf) -> Result<(), RowFault> {
+    match kind {
+        "graph" => {
+            let (run, methods) = words.split_once(',').unwrap_or((words, ""));
+            let class = class_of(alloc, run.as_bytes(), methods)?;
+            Ok(tell_graph(alloc, &class, out)?)
+        }
+        "order" => {
+            let class = class_of(alloc, b"", words)?;
+            Ok(tell_order(alloc, &class, out)?)
+        }
+        _ => Err(RowFault::Unread),
+    }
+}
 
 // A name of one byte.
 fn name_of(alloc: Global, byte: u8) -> Result<Name, NoMemory> {
@@ -52,14 +70,14 @@ fn push_method(alloc: Global, text: &[u8], members: &mut List<Member>) -> Result
 }
 
 // A class with what `run` does, and methods.
-fn class_of(alloc: Global, run: &[u8], methods: &[&[u8]]) -> Result<ClassTree, NoMemory> {
+fn class_of(alloc: Global, run: &[u8], methods: &str) -> Result<ClassTree, NoMemory> {
     let mut members = List::new(alloc);
     members.push(Member::Run {
         body: body_of(alloc, run)?,
         line: 1,
     })?;
-    for method in methods {
-        push_method(alloc, method, &mut members)?;
+    for method in methods.split(' ') {
+        push_method(alloc, method.as_bytes(), &mut members)?;
     }
     Ok(ClassTree {
         name: name_of(alloc, b'P')?,
@@ -93,75 +111,21 @@ fn put_method(graph: &CallGraph, method: &Method, out: &mut Buf) -> Result<(), N
 }
 
 // The same for the methods of a class.
-fn answers(alloc: Global, run: &[u8], methods: &[&[u8]]) -> Result<Buf, NoMemory> {
-    let class = class_of(alloc, run, methods)?;
-    let graph = CallGraph::new(alloc, &class)?;
-    let mut out = List::new(alloc);
+fn tell_graph(alloc: Global, class: &ClassTree, out: &mut Buf) -> Result<(), NoMemory> {
+    let graph = CallGraph::new(alloc, class)?;
     for method in graph.methods() {
-        put_method(&graph, method, &mut out)?;
+        put_method(&graph, method, out)?;
     }
-    Ok(out)
+    Ok(())
 }
 
 // The names of the methods of a class, in the order of its graph.
-fn ordered(alloc: Global, methods: &[&[u8]]) -> Result<Buf, NoMemory> {
-    let class = class_of(alloc, b"", methods)?;
-    let graph = CallGraph::new(alloc, &class)?;
-    let mut out = List::new(alloc);
+fn tell_order(alloc: Global, class: &ClassTree, out: &mut Buf) -> Result<(), NoMemory> {
+    let graph = CallGraph::new(alloc, class)?;
     for number in graph.order() {
         if let Some(method) = graph.methods().get(*number) {
             out.append(method.name.as_slice())?;
         }
     }
-    Ok(out)
-}
-
-fn same(answer: Result<Buf, NoMemory>, wanted: &[u8]) -> bool {
-    match answer {
-        Ok(text) => text.as_slice() == wanted,
-        Err(_) => false,
-    }
-}
-
-// What `run` does, the methods, and the answers.
-const CLASSES: [(&[u8], &[&[u8]], &[u8]); 9] = [
-    // no method, and a call of none
-    (b"", &[], b""),
-    (b"x", &[b"ax"], b"a x;"),
-    // a call of itself, and of each other
-    (b"", &[b"aa"], b"a a<;"),
-    (b"a", &[b"ab", b"ba"], b"a* b<;b* a<;"),
-    // a chain to a yield point
-    (b"b", &[b"ab", b"bc", b"c!d", b"d"], b"a! b;b!* c;c!* d;d*;"),
-    // a cycle behind a chain, and before one
-    (b"", &[b"ab", b"bc", b"cb"], b"a b;b c<;c b<;"),
-    (b"b", &[b"abc", b"ba", b"c!"], b"a!* b< c;b!* a<;c!*;"),
-    // the second method of a name
-    (b"a", &[b"ab", b"a!", b"ba"], b"a* b<;b* a<;"),
-    // two ways to one method
-    (b"a", &[b"abc", b"bd", b"cd", b"d"], b"a* b c;b* d;c* d;d*;"),
-];
-
-#[test]
-fn graphs_of_small_classes(rt: HostRuntime) {
-    let alloc = rt.alloc();
-    for (run, methods, wanted) in CLASSES {
-        assert!(rt; same(answers(alloc, run, methods), wanted));
-    }
-}
-
-// Methods that leave one order alone, in which each stands behind those that it calls.
-const CHAINS: [(&[&[u8]], &[u8]); 4] = [
-    (&[], b""),
-    (&[b"ab", b"bc", b"cd", b"d"], b"dcba"),
-    (&[b"a", b"ba", b"cab"], b"abc"),
-    (&[b"acb", b"bd", b"cb", b"d"], b"dbca"),
-];
-
-#[test]
-fn methods_stand_behind_those_that_they_call(rt: HostRuntime) {
-    let alloc = rt.alloc();
-    for (methods, wanted) in CHAINS {
-        assert!(rt; same(ordered(alloc, methods), wanted));
-    }
+    Ok(())
 }

@@ -1,44 +1,76 @@
-//! Worked rows: marks of tokens, reserved words and symbols, and numbers in decimal.
+//! Marks of tokens, reserved words and symbols, and numbers in decimal.
+use crate::fault::RowFault;
+use crate::texts::bytes_of;
 use da_values::{
-    List, Mark, NUMBER_MAX, TokenKind, front_symbol, mark_of, read_number, word_mark, write_number,
+    Buf, Mark, TokenKind, front_symbol, mark_of, read_number, word_mark, write_number,
 };
+use std::alloc::Global;
 
-const MARKS: [(TokenKind, &[u8], Mark); 8] = [
-    (TokenKind::Word, b"logical_time", Mark::LogicalTime),
-    (TokenKind::Word, b"self", Mark::SelfWord),
-    (TokenKind::Symbol, b"--", Mark::Dashes),
-    (TokenKind::Symbol, b"-", Mark::Minus),
-    (TokenKind::Name, b"x", Mark::Name),
-    (TokenKind::Number, b"0", Mark::Number),
-    (TokenKind::Quoted, b"'--'", Mark::Quoted),
-    (TokenKind::Dedent, b"", Mark::Dedent),
-];
-
-#[test]
-fn tokens_have_marks(rt: HostRuntime) {
-    for (kind, text, mark) in &MARKS {
-        assert_eq!(rt; mark_of(*kind, text), *mark);
+/// What a call on bytes gives: `mark KIND BYTES` the mark of a token, `word BYTES` that of a reserved word, `front BYTES`
+/// that of the symbol in front and its length, `number BYTES` the number, and `digits NUMBER NUMBER` writes two numbers.
+pub fn mark_reply(alloc: Global, kind: &str, words: &str, out: &mut Buf) -> Result<(), RowFault> {
+    match kind {
+        "mark" => {
+            let (word, text) = words.split_once(' ').unwrap_or((words, ""));
+            let bytes = bytes_of(alloc, text)?;
+            tell_mark(alloc, mark_of(kind_of(word)?, bytes.as_slice()), out)
+        }
+        "digits" => tell_digits(words, out),
+        _ => tell_found(alloc, kind, bytes_of(alloc, words)?.as_slice(), out),
     }
-    assert_eq!(rt; word_mark(b"unreliable"), Some(Mark::Unreliable));
-    assert_eq!(rt; word_mark(b"unreliably"), None);
-    assert_eq!(rt; front_symbol(b"---"), Some((Mark::Dashes, 2)));
-    assert_eq!(rt; front_symbol(b"a-"), None);
 }
 
-#[test]
-fn digits_write_numbers(rt: HostRuntime) {
-    assert_eq!(rt; read_number(b"0"), Some(0));
-    assert_eq!(rt; read_number(b"9223372036854775807"), Some(NUMBER_MAX));
-    assert_eq!(rt; read_number(b"9223372036854775808"), None);
-    assert_eq!(rt; read_number(b"1a"), None);
+// What is found in bytes.
+fn tell_found(alloc: Global, kind: &str, bytes: &[u8], out: &mut Buf) -> Result<(), RowFault> {
+    match kind {
+        "word" => match word_mark(bytes) {
+            Some(mark) => tell_mark(alloc, mark, out),
+            None => Ok(out.append(b"none")?),
+        },
+        "front" => match front_symbol(bytes) {
+            Some((mark, length)) => {
+                tell_mark(alloc, mark, out)?;
+                out.append(b" ")?;
+                Ok(write_number(length as u64, out)?)
+            }
+            None => Ok(out.append(b"none")?),
+        },
+        "number" => match read_number(bytes) {
+            Some(number) => Ok(write_number(number, out)?),
+            None => Ok(out.append(b"none")?),
+        },
+        _ => Err(RowFault::Unread),
+    }
 }
 
-#[test]
-fn numbers_are_written_behind_what_stands(rt: HostRuntime) {
-    let mut out = List::new(rt.alloc());
-    let written = write_number(NUMBER_MAX, &mut out).is_ok()
-        && out.append(b" ").is_ok()
-        && write_number(-7i128, &mut out).is_ok();
-    assert!(rt; written);
-    assert_eq!(rt; out.as_slice(), b"9223372036854775807 -7".as_slice());
+// The name of a mark.
+fn tell_mark(alloc: Global, mark: Mark, out: &mut Buf) -> Result<(), RowFault> {
+    let Ok(name) = format!(in alloc; "{mark:?}") else {
+        return Err(RowFault::Memory);
+    };
+    Ok(out.append(name.as_str().as_bytes())?)
+}
+
+// Two numbers, with a space between.
+fn tell_digits(words: &str, out: &mut Buf) -> Result<(), RowFault> {
+    let (first, second) = words.split_once(' ').unwrap_or((words, ""));
+    let (Ok(first), Ok(second)) = (first.parse::<i128>(), second.parse::<i128>()) else {
+        return Err(RowFault::Unread);
+    };
+    write_number(first, out)?;
+    out.append(b" ")?;
+    Ok(write_number(second, out)?)
+}
+
+// The kind of tokens of a name.
+fn kind_of(word: &str) -> Result<TokenKind, RowFault> {
+    match word {
+        "Number" => Ok(TokenKind::Number),
+        "Quoted" => Ok(TokenKind::Quoted),
+        "Name" => Ok(TokenKind::Name),
+        "Word" => Ok(TokenKind::Word),
+        "Symbol" => Ok(TokenKind::Symbol),
+        "Dedent" => Ok(TokenKind::Dedent),
+        _ => Err(RowFault::Unread),
+    }
 }

@@ -1,11 +1,42 @@
 //! A tree by hand, and the text that has it.
-
+use crate::fault::RowFault;
+use crate::texts::bytes_of;
 use da_lang::{ArithOp, ChainTree, ChannelKind, Expr, MainLine, Tree};
-use da_lex::lex;
-use da_parse::parse;
-use da_values::{Boxed, List, NoMemory, copy_bytes};
+use da_lex::{LexFault, lex};
+use da_parse::{ParseFault, parse};
+use da_values::{Boxed, Buf, List, NoMemory, copy_bytes};
 use std::alloc::Global;
-use std::test::Fail;
+
+/// The most bytes of a text.
+const MOST_BYTES: usize = 1_048_576;
+
+/// Whether a text has the tree below.
+pub fn tree_reply(alloc: Global, words: &str, out: &mut Buf) -> Result<(), RowFault> {
+    let text = bytes_of(alloc, words)?;
+    let tree = tree_of(alloc, text.as_slice())?;
+    let wanted = by_hand(alloc)?;
+    if tree == wanted {
+        Ok(out.append(b"the tree by hand")?)
+    } else {
+        Ok(out.append(b"another tree")?)
+    }
+}
+
+// The tree of a text.
+fn tree_of(alloc: Global, text: &[u8]) -> Result<Tree, RowFault> {
+    if text.len() > MOST_BYTES {
+        return Err(RowFault::Unread);
+    }
+    match lex(alloc, text) {
+        Ok(tokens) => match parse(alloc, &tokens) {
+            Ok(tree) => Ok(tree),
+            Err(ParseFault::Memory) => Err(RowFault::Memory),
+            Err(_) => Err(RowFault::Unread),
+        },
+        Err(LexFault::Memory) => Err(RowFault::Memory),
+        Err(_) => Err(RowFault::Unread),
+    }
+}
 
 // `a = new(P, 3)` on line 2
 fn new_line(alloc: Global) -> Result<MainLine, NoMemory> {
@@ -48,14 +79,4 @@ fn by_hand(alloc: Global) -> Result<Tree, NoMemory> {
         classes: List::new(alloc),
         main,
     })
-}
-
-#[test]
-fn a_text_has_its_tree(rt: HostRuntime) -> Result<(), Fail> {
-    let text = b"def main():\n  a = new(P, 3)\n  setup(a, (1 - 2))\n";
-    let tokens = lex(rt.alloc(), text)?;
-    let tree = parse(rt.alloc(), &tokens)?;
-    let wanted = by_hand(rt.alloc())?;
-    assert!(rt; tree == wanted);
-    Ok(())
 }

@@ -1,214 +1,208 @@
-//! Worked rows: what schedules spell, and the lines of events and actions.
+//! What schedules spell, and the lines of events and actions.
+use crate::fault::RowFault;
+use crate::texts::{bytes_of, part_from, tell_bytes, value_of};
 use da_lang::{Action, Event, FaultKind};
-use da_values::{List, NoMemory, Row, SetVal, Str, Value, set_insert};
+use da_values::{Buf, SetVal, Value, write_number};
 use sched_text::{
     SchedFault, line_of_event, line_of_number, read_schedule, write_action, write_event,
 };
 use std::alloc::Global;
-use std::test::Fail;
 
-// A schedule of two events, on lines 3 and 5.
-const TWO_EVENTS: &[u8] = b"# two\n\nmove 1\r\n#\nmove 2 3";
-
-// Schedules, and their events.
-#[test]
-fn schedules(rt: HostRuntime) -> Result<(), Fail> {
-    let rows: [(&[u8], &[Event]); 10] = [
-        (b"", &[]),
-        (b"move 1", &[Event::Move { p: 1 }]),
-        (b"move 1\n", &[Event::Move { p: 1 }]),
-        (
-            b"move 1\r\nmove 2 3\r\n",
-            &[Event::Move { p: 1 }, Event::Take { p: 2, k: 3 }],
-        ),
-        (
-            b"# a comment\n\nshow 1\n\r\nstat 2",
-            &[Event::Show { p: 1 }, Event::Stat { p: 2 }],
-        ),
-        (b"deliver 1 2 1\n", &[Event::Deliver { p: 1, q: 2, i: 1 }]),
-        (b"lose 2 1 4\n", &[Event::Lose { p: 2, q: 1, i: 4 }]),
-        (b"repeat 3 3 9\n", &[Event::Repeat { p: 3, q: 3, i: 9 }]),
-        (b"move 999999999", &[Event::Move { p: 999_999_999 }]),
-        (b"#\xff\r", &[]),
-    ];
-    for (text, events) in rows {
-        let read = read_schedule(rt.alloc(), text)?;
-        assert!(rt; read.as_slice() == events, "{text:?}");
+/// What a call on a schedule gives: `read TEXT` its events, or the bad line; `line NUMBER TEXT` a line, and `place NUMBER
+/// TEXT` the line of an event. `event` and `action` write the lines of an event and of an action.
+pub fn schedule_reply(
+    alloc: Global,
+    kind: &str,
+    words: &str,
+    out: &mut Buf,
+) -> Result<(), RowFault> {
+    match kind {
+        "read" => tell_events(alloc, words, out),
+        "line" => tell_line(alloc, words, out),
+        "place" => tell_place(alloc, words, out),
+        "event" => Ok(write_event(&event_of(words)?, out)?),
+        "action" => tell_action(alloc, words, out),
+        _ => Err(RowFault::Unread),
     }
-    Ok(())
 }
 
-// Schedules with a bad line, and its number.
-#[test]
-fn bad_lines(rt: HostRuntime) {
-    let rows: [(&[u8], u64); 18] = [
-        (b"move 1 0", 1),
-        (b"move 01", 1),
-        (b"move  1", 1),
-        (b"move 1  2", 1),
-        (b"move 1000000000", 1),
-        (b"move 0", 1),
-        (b"move", 1),
-        (b"move ", 1),
-        (b"move 1 ", 1),
-        (b" move 1", 1),
-        (b"move 1 2 3", 1),
-        (b"move +1", 1),
-        (b"deliver 1 2", 1),
-        (b"show 1 2", 1),
-        (b"Move 1", 1),
-        (b"move 1\r", 1),
-        (b"# one\n\nmove 1\r\n\nmove 2 x\nmove y\n", 5),
-        (b"move 1\r\r\n", 1),
-    ];
-    for (text, line) in rows {
-        match read_schedule(rt.alloc(), text) {
-            Err(SchedFault::BadLine(number)) => assert_eq!(rt; number, line, "{text:?}"),
-            _ => assert!(rt; false, "{text:?}"),
+fn tell_events(alloc: Global, words: &str, out: &mut Buf) -> Result<(), RowFault> {
+    let text = bytes_of(alloc, words)?;
+    match read_schedule(alloc, text.as_slice()) {
+        Ok(events) => {
+            for event in events.as_slice() {
+                tell_event(alloc, event, out)?;
+            }
+            Ok(())
         }
+        Err(SchedFault::BadLine(line)) => {
+            out.append(b"bad line ")?;
+            Ok(write_number(line, out)?)
+        }
+        Err(SchedFault::Memory) => Err(RowFault::Memory),
     }
 }
 
-// Lines by their numbers.
-#[test]
-fn numbered_lines(rt: HostRuntime) {
-    let rows: [(u64, Option<&[u8]>); 6] = [
-        (0, None),
-        (1, Some(b"# two")),
-        (2, Some(b"")),
-        (3, Some(b"move 1")),
-        (5, Some(b"move 2 3")),
-        (6, None),
-    ];
-    for (number, line) in rows {
-        assert!(rt; line_of_number(TWO_EVENTS, number) == line, "{number}");
+fn tell_event(alloc: Global, event: &Event, out: &mut Buf) -> Result<(), RowFault> {
+    part_from(out)?;
+    let Ok(told) = format!(in alloc; "{event:?}") else {
+        return Err(RowFault::Memory);
+    };
+    Ok(out.append(told.as_str().as_bytes())?)
+}
+
+fn tell_line(alloc: Global, words: &str, out: &mut Buf) -> Result<(), RowFault> {
+    let (number, text) = words.split_once(' ').unwrap_or((words, ""));
+    let text = bytes_of(alloc, text)?;
+    match line_of_number(text.as_slice(), wide(number)?) {
+        Some(line) => Ok(tell_bytes(line, out)?),
+        None => Ok(out.append(b"none")?),
     }
 }
 
-// Where events stand.
-#[test]
-fn places_of_events(rt: HostRuntime) {
-    let rows: [(u64, Option<(u64, &[u8])>); 4] = [
-        (0, None),
-        (1, Some((3, b"move 1"))),
-        (2, Some((5, b"move 2 3"))),
-        (3, None),
-    ];
-    for (event, wanted) in rows {
-        let found = line_of_event(TWO_EVENTS, event).map(|place| (place.number, place.line));
-        assert!(rt; found == wanted, "{event}");
+fn tell_place(alloc: Global, words: &str, out: &mut Buf) -> Result<(), RowFault> {
+    let (number, text) = words.split_once(' ').unwrap_or((words, ""));
+    let text = bytes_of(alloc, text)?;
+    match line_of_event(text.as_slice(), wide(number)?) {
+        Some(place) => {
+            write_number(place.number, out)?;
+            Ok(tell_bytes(place.line, out)?)
+        }
+        None => Ok(out.append(b"none")?),
     }
 }
 
-// The line of each event.
-#[test]
-fn event_lines(rt: HostRuntime) -> Result<(), Fail> {
-    let rows: [(Event, &[u8]); 7] = [
-        (Event::Move { p: 1 }, b"move 1\n"),
-        (Event::Take { p: 1, k: 2 }, b"move 1 2\n"),
-        (Event::Deliver { p: 1, q: 2, i: 1 }, b"deliver 1 2 1\n"),
-        (Event::Lose { p: 2, q: 1, i: 4 }, b"lose 2 1 4\n"),
-        (Event::Repeat { p: 3, q: 3, i: 9 }, b"repeat 3 3 9\n"),
-        (Event::Show { p: 12 }, b"show 12\n"),
-        (Event::Stat { p: 65_535 }, b"stat 65535\n"),
-    ];
-    for (event, line) in rows {
-        let mut out = List::new(rt.alloc());
-        write_event(&event, &mut out)?;
-        assert!(rt; out.as_slice() == line, "{line:?}");
+// Numbers of 64, 32 and 16 bits.
+fn wide(word: &str) -> Result<u64, RowFault> {
+    word.parse::<u64>().map_err(|_| RowFault::Unread)
+}
+
+fn long(word: &str) -> Result<u32, RowFault> {
+    word.parse::<u32>().map_err(|_| RowFault::Unread)
+}
+
+fn short(word: &str) -> Result<u16, RowFault> {
+    word.parse::<u16>().map_err(|_| RowFault::Unread)
+}
+
+// The words of an event or an action: its name, and up to three behind it.
+#[derive(Clone, Copy)]
+struct Told<'a> {
+    name: &'a str,
+    first: &'a str,
+    second: &'a str,
+    third: &'a str,
+}
+
+fn told_of(words: &str) -> Told<'_> {
+    let mut words = words.split(' ');
+    Told {
+        name: words.next().unwrap_or(""),
+        first: words.next().unwrap_or("0"),
+        second: words.next().unwrap_or("0"),
+        third: words.next().unwrap_or("0"),
     }
-    Ok(())
 }
 
-const LINES: [&[u8]; 17] = [
-    b"took 3 2\n",
-    b"sent 1 2 9 ('m', p3, -7)\n",
-    b"got 2 1 9 ('m', p3, -7)\n",
-    b"lost 1 2 9\n",
-    b"again 1 2 9\n",
-    b"out 4 {1, 2}\n",
-    b"end 65535\n",
-    b"fault 5 overflow 12\n",
-    b"fault 5 divide 12\n",
-    b"fault 5 range 12\n",
-    b"fault 5 message 12\n",
-    b"fault 5 toolong 12\n",
-    b"answer 6 2 {1, 2}\n",
-    b"answer 6 1 {}\n",
-    b"kept 7 340282366920938463463374607431768211455\n",
-    b"stop 18446744073709551615\n",
-    b"took 1 0\n",
-];
-
-// `('m', p3, -7)`
-fn message(alloc: Global) -> Result<Value, Fail> {
-    let mut parts = Row::new(alloc);
-    parts.push(Value::Text(Str::from_bytes(alloc, b"m")?))?;
-    parts.push(Value::Proc(3))?;
-    parts.push(Value::Int(-7))?;
-    Ok(Value::Tuple(parts))
-}
-
-// `{1, 2}`
-fn numbers(alloc: Global) -> Result<SetVal, NoMemory> {
-    let mut set = SetVal::new(alloc);
-    set_insert(&mut set, Value::Int(2))?;
-    set_insert(&mut set, Value::Int(1))?;
-    Ok(set)
-}
-
-// The actions of the lines.
-fn actions(alloc: Global) -> Result<List<Action>, Fail> {
-    let mut list = List::new(alloc);
-    let (p, q, t) = (1, 2, 9);
-    list.push(Action::Took { p: 3, k: 2 })?;
-    let v = message(alloc)?;
-    list.push(Action::Sent { p, q, t, v })?;
-    let v = message(alloc)?;
-    list.push(Action::Got { q, p, t, v })?;
-    list.push(Action::Lost { p, q, t })?;
-    list.push(Action::Again { p, q, t })?;
-    let v = Value::Set(numbers(alloc)?);
-    list.push(Action::Out { p: 4, v })?;
-    list.push(Action::End { p: 65_535 })?;
-    push_faults(&mut list)?;
-    let rows = numbers(alloc)?;
-    list.push(Action::Answer { p: 6, n: 2, rows })?;
-    let rows = SetVal::new(alloc);
-    list.push(Action::Answer { p: 6, n: 1, rows })?;
-    list.push(Action::Kept { p: 7, n: u128::MAX })?;
-    list.push(Action::Stop { i: u64::MAX })?;
-    list.push(Action::Took { p: 1, k: 0 })?;
-    Ok(list)
-}
-
-fn push_faults(list: &mut List<Action>) -> Result<(), NoMemory> {
-    let kinds = [
-        FaultKind::Overflow,
-        FaultKind::Divide,
-        FaultKind::Range,
-        FaultKind::Message,
-        FaultKind::TooLong,
-    ];
-    for kind in kinds {
-        list.push(Action::Fault {
-            p: 5,
-            kind,
-            line: 12,
-        })?;
+// The event of a name and its numbers.
+fn event_of(words: &str) -> Result<Event, RowFault> {
+    let told = told_of(words);
+    let (p, q, i) = (long(told.first)?, long(told.second)?, long(told.third)?);
+    match told.name {
+        "Move" => Ok(Event::Move { p }),
+        "Take" => Ok(Event::Take { p, k: q }),
+        "Deliver" => Ok(Event::Deliver { p, q, i }),
+        "Lose" => Ok(Event::Lose { p, q, i }),
+        "Repeat" => Ok(Event::Repeat { p, q, i }),
+        "Show" => Ok(Event::Show { p }),
+        "Stat" => Ok(Event::Stat { p }),
+        _ => Err(RowFault::Unread),
     }
-    Ok(())
 }
 
-// The line of each action.
-#[test]
-fn action_lines(rt: HostRuntime) -> Result<(), Fail> {
-    let actions = actions(rt.alloc())?;
-    assert_eq!(rt; actions.len(), LINES.len());
-    for (action, line) in actions.as_slice().iter().zip(LINES) {
-        let mut out = List::new(rt.alloc());
-        write_action(action, &mut out)?;
-        assert!(rt; out.as_slice() == line, "{line:?}");
+// The line of an action; its value stands behind `; `.
+fn tell_action(alloc: Global, words: &str, out: &mut Buf) -> Result<(), RowFault> {
+    let action = match words.split_once("; ") {
+        Some((words, value)) => action_with(told_of(words), value_of(alloc, value)?)?,
+        None => action_of(told_of(words))?,
+    };
+    Ok(write_action(&action, out)?)
+}
+
+// An action with a value.
+fn action_with(told: Told<'_>, v: Value) -> Result<Action, RowFault> {
+    let p = short(told.first)?;
+    let (q, t) = (short(told.second)?, wide(told.third)?);
+    match told.name {
+        "Sent" => Ok(Action::Sent { p, q, t, v }),
+        "Got" => Ok(Action::Got { q: p, p: q, t, v }),
+        "Out" => Ok(Action::Out { p, v }),
+        "Answer" => Ok(Action::Answer {
+            p,
+            n: u32::from(q),
+            rows: set_of(v)?,
+        }),
+        _ => Err(RowFault::Unread),
     }
-    Ok(())
+}
+
+fn set_of(value: Value) -> Result<SetVal, RowFault> {
+    match value {
+        Value::Set(set) => Ok(set),
+        _ => Err(RowFault::Unread),
+    }
+}
+
+// An action without one.
+fn action_of(told: Told<'_>) -> Result<Action, RowFault> {
+    match told.name {
+        "Stop" => return Ok(Action::Stop {
+            i: wide(told.first)?,
+        }),
+        "Kept" => return kept_of(told),
+        _ => {}
+    }
+    let p = short(told.first)?;
+    let q = short(told.second)?;
+    match told.name {
+        "Took" => Ok(Action::Took { p, k: u32::from(q) }),
+        "Lost" => Ok(Action::Lost {
+            p,
+            q,
+            t: wide(told.third)?,
+        }),
+        "Again" => Ok(Action::Again {
+            p,
+            q,
+            t: wide(told.third)?,
+        }),
+        "End" => Ok(Action::End { p }),
+        "Fault" => Ok(Action::Fault {
+            p,
+            kind: fault_of(told.third)?,
+            line: u32::from(q),
+        }),
+        _ => Err(RowFault::Unread),
+    }
+}
+
+fn kept_of(told: Told<'_>) -> Result<Action, RowFault> {
+    match told.second.parse::<u128>() {
+        Ok(n) => Ok(Action::Kept {
+            p: short(told.first)?,
+            n,
+        }),
+        Err(_) => Err(RowFault::Unread),
+    }
+}
+
+fn fault_of(word: &str) -> Result<FaultKind, RowFault> {
+    match word {
+        "Overflow" => Ok(FaultKind::Overflow),
+        "Divide" => Ok(FaultKind::Divide),
+        "Range" => Ok(FaultKind::Range),
+        "Message" => Ok(FaultKind::Message),
+        "TooLong" => Ok(FaultKind::TooLong),
+        _ => Err(RowFault::Unread),
+    }
 }

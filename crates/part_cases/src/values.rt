@@ -1,220 +1,154 @@
-//! Values at concrete places.
+//! Values: their texts, copies, order and lengths, sets of them, lists, and counted steps.
 ghost use Rattle.std.specs.Prelude.{◌≡◌, ◌<◌};
 
+use crate::fault::RowFault;
+use crate::texts::{bytes_of, number_of, part_from, parts_of, tell_bytes, tell_truth, value_of};
 use da_values::{
-    Buf, List, Row, SetVal, Steps, Str, StrFault, Value, ValueFault, cmp_values, copy_bytes,
-    copy_value, encoded_len, is_narrow, read_value, set_has, set_insert, set_remove, write_value,
+    Buf, SetVal, Steps, Str, StrFault, Value, ValueFault, cmp_values, copy_value, encoded_len,
+    is_narrow, read_value, set_has, set_insert, set_remove, write_number, write_value,
 };
 use std::alloc::Global;
-use std::cmp::Ordering;
 use std::marker::Brand;
 use std::sync::ledger::{Blank, Ledger};
-use std::test::Fail;
 
-const LEAST: &[u8] = b"-170141183460469231731687303715884105728";
-
-const GREATEST: &[u8] = b"170141183460469231731687303715884105727";
-
-// One value in so many one-part tuples.
-fn nested(alloc: Global, levels: u8) -> Result<Buf, Fail> {
-    let mut text = List::new(alloc);
-    for _level in 0..levels {
-        text.append(b"(")?;
+/// What a call on values gives. `read TEXT` writes the value of a text again, `order TUPLE` tells whether the parts ascend,
+/// `length VALUE` how many bytes it has in a packet, and `narrow VALUE` whether its integers have 64 bits. `text BYTES` makes
+/// a text. `set` and `list` make calls on a set and on a list, with `; ` between them, and `steps` counts two steps.
+pub fn value_reply(alloc: Global, kind: &str, words: &str, out: &mut Buf) -> Result<(), RowFault> {
+    match kind {
+        "read" => tell_read(alloc, words, out),
+        "order" => tell_order(alloc, words, out),
+        "length" => Ok(write_number(encoded_len(&value_of(alloc, words)?), out)?),
+        "narrow" => Ok(tell_truth(is_narrow(&value_of(alloc, words)?), out)?),
+        "text" => tell_text(alloc, words, out),
+        "set" => tell_set(alloc, words, out),
+        "list" => tell_list(alloc, words, out),
+        "steps" => tell_steps(out),
+        _ => Err(RowFault::Unread),
     }
-    text.append(b"1")?;
-    for _level in 0..levels {
-        text.append(b",)")?;
-    }
-    Ok(text)
 }
 
-#[test]
-fn texts_are_read_and_written(rt: HostRuntime) -> Result<(), Fail> {
-    let deepest = nested(rt.alloc(), 64)?;
-    let texts: [&[u8]; 19] = [
-        b"0",
-        b"-5",
-        LEAST,
-        GREATEST,
-        b"true",
-        b"false",
-        b"''",
-        b"'a b'",
-        b"'{1, 2}'",
-        b"p3",
-        b"p65535",
-        b"()",
-        b"(1,)",
-        b"(1, 2)",
-        b"{}",
-        b"{1, 2}",
-        b"{false, 'x', p1, (), {}}",
-        b"('ack', (1, {p1, p2}), {(1,), (1, 1)})",
-        deepest.as_slice(),
-    ];
-    for text in texts {
-        let value = read_value(rt.alloc(), text)?;
-        let mut written = List::new(rt.alloc());
-        write_value(&value, &mut written)?;
-        assert_eq!(rt; written.as_slice(), text);
-        let copy = copy_value(rt.alloc(), &value)?;
-        assert_eq!(rt; cmp_values(&value, &copy), Ordering::Equal);
+// The value of a text, and of its copy.
+fn tell_read(alloc: Global, words: &str, out: &mut Buf) -> Result<(), RowFault> {
+    let text = bytes_of(alloc, words)?;
+    match read_value(alloc, text.as_slice()) {
+        Ok(value) => tell_copied(alloc, &value, out),
+        Err(ValueFault::Unread) => Ok(out.append(b"unread")?),
+        Err(ValueFault::Memory) => Err(RowFault::Memory),
     }
-    Ok(())
 }
 
-#[test]
-fn other_texts_are_refused(rt: HostRuntime) -> Result<(), Fail> {
-    let too_deep = nested(rt.alloc(), 65)?;
-    let texts: [&[u8]; 24] = [
-        b"",
-        b"{2, 1}",
-        b"{1, 1}",
-        b"{1,2}",
-        b"{1,  2}",
-        b"{1, }",
-        b"{1",
-        b"(1)",
-        b"(1, 2,)",
-        b"(,)",
-        b"(1, 2",
-        b"01",
-        b"-0",
-        b"+1",
-        b"-",
-        b"1 ",
-        b"p0",
-        b"p01",
-        b"p65536",
-        b"tru",
-        b"'a",
-        b"'a'b'",
-        b"170141183460469231731687303715884105728",
-        too_deep.as_slice(),
-    ];
-    for text in texts {
-        assert!(rt;
-            matches!(read_value(rt.alloc(), text), Err(ValueFault::Unread)),
-            "{text:?}"
-        );
+// The text of a value whose copy is the same.
+fn tell_copied(alloc: Global, value: &Value, out: &mut Buf) -> Result<(), RowFault> {
+    let copy = copy_value(alloc, value)?;
+    if cmp_values(value, &copy).is_eq() {
+        Ok(write_value(value, out)?)
+    } else {
+        Ok(out.append(b"the copy differs")?)
     }
-    Ok(())
 }
 
-#[test]
-fn values_are_ordered(rt: HostRuntime) -> Result<(), Fail> {
-    let ascending: [&[u8]; 23] = [
-        b"-1",
-        b"0",
-        b"2",
-        b"10",
-        b"false",
-        b"true",
-        b"''",
-        b"'Z'",
-        b"'a'",
-        b"'a b'",
-        b"'ab'",
-        b"p2",
-        b"p10",
-        b"()",
-        b"(1,)",
-        b"(1, 'a')",
-        b"(1, p1)",
-        b"(2,)",
-        b"{}",
-        b"{1}",
-        b"{1, 2}",
-        b"{2}",
-        b"{{}}",
-    ];
-    for (i, left) in ascending.iter().enumerate() {
-        let left = read_value(rt.alloc(), left)?;
-        for (j, right) in ascending.iter().enumerate() {
-            let right = read_value(rt.alloc(), right)?;
-            assert_eq!(rt; cmp_values(&left, &right), i.cmp(&j), "{i} and {j}");
+// Whether each part of a tuple stands to each part as their places do.
+fn tell_order(alloc: Global, words: &str, out: &mut Buf) -> Result<(), RowFault> {
+    let parts = parts_of(alloc, words)?;
+    for (i, left) in parts.as_slice().iter().enumerate() {
+        for (j, right) in parts.as_slice().iter().enumerate() {
+            if cmp_values(left, right) != i.cmp(&j) {
+                write_value(left, out)?;
+                part_from(out)?;
+                write_value(right, out)?;
+                return Ok(());
+            }
+        }
+    }
+    Ok(out.append(b"ascends")?)
+}
+
+// The text of bytes, where they are one.
+fn tell_text(alloc: Global, words: &str, out: &mut Buf) -> Result<(), RowFault> {
+    let bytes = bytes_of(alloc, words)?;
+    match Str::from_bytes(alloc, bytes.as_slice()) {
+        Ok(text) => Ok(tell_bytes(text.as_bytes(), out)?),
+        Err(StrFault::BadText) => Ok(out.append(b"none")?),
+        Err(StrFault::Memory) => Err(RowFault::Memory),
+    }
+}
+
+// What calls on a set give.
+fn tell_set(alloc: Global, words: &str, out: &mut Buf) -> Result<(), RowFault> {
+    let mut set = SetVal::new(alloc);
+    for call in words.split("; ") {
+        part_from(out)?;
+        let (verb, word) = call.split_once(' ').unwrap_or((call, ""));
+        match verb {
+            "len" => write_number(set.len() as u64, out)?,
+            "get" => tell_element(&set, number_of(word)?, out)?,
+            _ => tell_truth(set_call(verb, value_of(alloc, word)?, &mut set)?, out)?,
         }
     }
     Ok(())
 }
 
-#[test]
-fn sets_keep_each_element_once(rt: HostRuntime) -> Result<(), Fail> {
-    let mut set = SetVal::new(rt.alloc());
-    for (number, fresh) in [(3, true), (1, true), (2, true), (1, false)] {
-        assert_eq!(rt; set_insert(&mut set, Value::Int(number))?, fresh);
+// The element at a place.
+fn tell_element(set: &SetVal, place: u16, out: &mut Buf) -> Result<(), RowFault> {
+    match set.get(usize::from(place)) {
+        Some(value) => Ok(write_value(value, out)?),
+        None => Ok(out.append(b"none")?),
     }
-    assert_eq!(rt; set.len(), 3);
-    assert!(rt; set_has(&set, &Value::Int(2)) && !set_has(&set, &Value::Int(4)));
-    assert!(rt; set_remove(&mut set, &Value::Int(2)) && !set_remove(&mut set, &Value::Int(2)));
-    assert!(rt;
-        matches!(set.get(0), Some(Value::Int(1))) && matches!(set.get(1), Some(Value::Int(3)))
-    );
-    assert!(rt; set.get(2).is_none());
-    Ok(())
 }
 
-#[test]
-fn lengths_are_those_of_packets(rt: HostRuntime) -> Result<(), Fail> {
-    let lengths: [(&[u8], u64); 7] = [
-        (b"5", 9),
-        (b"true", 2),
-        (b"'ping'", 7),
-        (b"p1", 3),
-        (b"('ping', 5)", 18),
-        (b"{1, 2}", 23),
-        (b"()", 2),
-    ];
-    for (text, length) in lengths {
-        assert_eq!(rt; encoded_len(&read_value(rt.alloc(), text)?), length);
+// What a call on a set and a value gives.
+fn set_call(verb: &str, value: Value, set: &mut SetVal) -> Result<bool, RowFault> {
+    match verb {
+        "insert" => Ok(set_insert(set, value)?),
+        "has" => Ok(set_has(set, &value)),
+        "remove" => Ok(set_remove(set, &value)),
+        _ => Err(RowFault::Unread),
     }
-    let mut numbers = SetVal::new(rt.alloc());
-    for number in 0..6663_u16 {
-        set_insert(&mut numbers, Value::Int(i128::from(number)))?;
-    }
-    let mut message = Row::new(rt.alloc());
-    message.push(Value::Text(Str::from_bytes(rt.alloc(), b"big")?))?;
-    message.push(Value::Set(numbers))?;
-    // The whole packet has 59,993 bytes, of which its head takes 13.
-    assert_eq!(rt; encoded_len(&Value::Tuple(message)), 59_993 - 13);
-    Ok(())
 }
 
-#[test]
-fn narrow_values_fit_64_bits(rt: HostRuntime) -> Result<(), Fail> {
-    let texts: [(&[u8], bool); 5] = [
-        (b"9223372036854775807", true),
-        (b"-9223372036854775808", true),
-        (b"9223372036854775808", false),
-        (b"-9223372036854775809", false),
-        (b"(1, {(9223372036854775808,)})", false),
-    ];
-    for (text, narrow) in texts {
-        assert_eq!(rt; is_narrow(&read_value(rt.alloc(), text)?), narrow);
+// What calls on a list of bytes give.
+fn tell_list(alloc: Global, words: &str, out: &mut Buf) -> Result<(), RowFault> {
+    let (bytes, calls) = words.split_once("; ").unwrap_or((words, ""));
+    let mut list = bytes_of(alloc, bytes)?;
+    for call in calls.split("; ") {
+        list_call(call, &mut list, out)?;
     }
     Ok(())
 }
 
-#[test]
-fn some_bytes_are_no_text(rt: HostRuntime) -> Result<(), Fail> {
-    for bytes in [b"a\t".as_slice(), b"it's", b"\x7f"] {
-        assert!(rt; matches!(Str::from_bytes(rt.alloc(), bytes), Err(StrFault::BadText)));
+// What a call on a list gives.
+fn list_call(call: &str, list: &mut Buf, out: &mut Buf) -> Result<(), RowFault> {
+    match call.as_bytes() {
+        b"show" => {
+            part_from(out)?;
+            Ok(tell_bytes(list.as_slice(), out)?)
+        }
+        b"pop" => {
+            part_from(out)?;
+            match list.pop() {
+                Some(byte) => Ok(tell_bytes(&[byte], out)?),
+                None => Ok(out.append(b"none")?),
+            }
+        }
+        [b'p', b'u', b's', b'h', b' ', byte] => Ok(list.push(*byte)?),
+        [b'i', b'n', b's', b'e', b'r', b't', b' ', place, b' ', byte] => {
+            list_insert(list, *place, *byte)
+        }
+        _ => Err(RowFault::Unread),
     }
-    let text = Str::from_bytes(rt.alloc(), b" ~")?;
-    assert_eq!(rt; text.as_bytes(), b" ~".as_slice());
-    Ok(())
 }
 
-#[test]
-fn lists_are_edited(rt: HostRuntime) -> Result<(), Fail> {
-    let mut list = copy_bytes(rt.alloc(), b"abd")?;
-    list.insert(2, b'c')?;
-    list.push(b'e')?;
-    assert_eq!(rt; list.as_slice(), b"abcde".as_slice());
-    assert_eq!(rt; list.pop(), Some(b'e'));
-    Ok(())
+// Puts a byte at the place of a digit.
+fn list_insert(list: &mut Buf, place: u8, byte: u8) -> Result<(), RowFault> {
+    let place = usize::from(place.saturating_sub(b'0'));
+    if place > list.len() {
+        return Err(RowFault::Unread);
+    }
+    Ok(list.insert(place, byte)?)
 }
 
+// Counts two steps.
 fn two_steps<L: Ledger>(blank: Blank)
     requires name { blank.name ≡ L.name }
     requires parts { blank.parts ≡ L.parts }
@@ -225,7 +159,7 @@ fn two_steps<L: Ledger>(blank: Blank)
     steps.tick();
 }
 
-#[test]
-fn steps_are_counted() {
+fn tell_steps(out: &mut Buf) -> Result<(), RowFault> {
     two_steps::<Brand>(Blank::new(1));
+    Ok(out.append(b"two")?)
 }

@@ -1,0 +1,77 @@
+//! Texts in files, and the bytes that they stand for.
+//!
+//! `@COUNT PART@` stands for so many copies of the part. `\n`, `\r`, `\t` and `\0` stand for the bytes that they have in
+//! Rust, and so does `\x` with two digits.
+use da_values::{Buf, List, NoMemory};
+use std::alloc::Global;
+
+/// The bytes that a text stands for.
+pub fn bytes_of(alloc: Global, text: &str) -> Result<Buf, NoMemory> {
+    let mut bytes = List::new(alloc);
+    for (place, part) in text.split('@').enumerate() {
+        if place % 2 == 0 {
+            push_escaped(part, &mut bytes)?;
+        } else {
+            push_copies(alloc, part, &mut bytes)?;
+        }
+    }
+    Ok(bytes)
+}
+
+// Adds the copies that a number and a part stand for.
+fn push_copies(alloc: Global, copies: &str, bytes: &mut Buf) -> Result<(), NoMemory> {
+    let (count, part) = copies.split_once(' ').unwrap_or(("0", ""));
+    let mut one = List::new(alloc);
+    push_escaped(part, &mut one)?;
+    for _ in 0..count.parse::<u32>().unwrap_or(0) {
+        bytes.append(one.as_slice())?;
+    }
+    Ok(())
+}
+
+// Adds the bytes of a text with escapes.
+fn push_escaped(text: &str, bytes: &mut Buf) -> Result<(), NoMemory> {
+    for (place, piece) in text.split('\\').enumerate() {
+        if place == 0 {
+            bytes.append(piece.as_bytes())?;
+        } else {
+            push_escape(piece.as_bytes(), bytes)?;
+        }
+    }
+    Ok(())
+}
+
+// Adds what stands behind a `\`.
+fn push_escape(piece: &[u8], bytes: &mut Buf) -> Result<(), NoMemory> {
+    match piece {
+        [b'x', high, low, rest @ ..] => {
+            bytes.push((digit(*high) << 4) | digit(*low))?;
+            bytes.append(rest)
+        }
+        [letter, rest @ ..] => {
+            bytes.push(escaped(*letter))?;
+            bytes.append(rest)
+        }
+        [] => Ok(()),
+    }
+}
+
+// The byte for the letter of an escape.
+fn escaped(letter: u8) -> u8 {
+    match letter {
+        b'n' => b'\n',
+        b'r' => b'\r',
+        b't' => b'\t',
+        b'0' => 0,
+        _ => letter,
+    }
+}
+
+// The number of a hexadecimal digit.
+fn digit(letter: u8) -> u8 {
+    match letter {
+        b'0'..=b'9' => letter - b'0',
+        b'a'..=b'f' => letter - b'a' + 10,
+        _ => 0,
+    }
+}

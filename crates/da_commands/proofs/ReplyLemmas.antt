@@ -1,0 +1,229 @@
+-- The replies of the commands.
+use Rattle.std.proofs.Common.{◌≡◌, refl, sym, ◌∙◌, ap, subst, Bool, true, false, ℕ, ◌+◌, ◌^◌, ◌<◌, ◌≤◌, inl, inr, ◌⊎◌, List, [], take, length, codes, decimal, arith}
+use Rattle.std.specs.Prelude.{◌↔◌, Option, Some, None, Result, Ok, Err, IfErr, IfOk, IsErrOf, IsTrue}
+use Rattle.std.proofs.lemmas.Bool.{false≢true}
+use Rattle.da_lang.specs.declared.event.Event.{Event}
+use Rattle.da_lang.specs.declared.program.Program.{Program}
+use Rattle.da_lang.specs.declared.tree.Tree.{Tree}
+use Rattle.da_lang.specs.Limits.{Resolves}
+use Rattle.da_lang.specs.Typing.{Typed}
+use Rattle.da_outside.specs.Outside.{Appends, AppendsFront, IsWhole, Rose}
+use Rattle.da_core.specs.PlanLimit.{nodes_fault}
+use Rattle.da_system.specs.declared.system.System.{System}
+use Rattle.da_system.specs.SourceRun.{src_run}
+use Rattle.da_system.specs.State.{Stands, Whichever}
+use Rattle.da_system.specs.StressRun.{stress_text, stress_text_from}
+use Rattle.da_system.specs.SystemStep.{start}
+use Rattle.replay_run.specs.declared.outcome.Outcome.{Outcome}
+use Rattle.replay_run.specs.declared.outcome.Outcome.TheVariants as outcome
+use Rattle.replay_run.specs.Replay.{HasRun, outcome_of}
+use Rattle.replay_run.specs.Replay.{run_text as text_on}
+use Rattle.da_commands.specs.declared.program.ProgramFault.{ProgramFault}
+use Rattle.da_commands.specs.declared.program.ProgramFault.TheVariants as fault
+use Rattle.da_commands.specs.declared.status.RefusedKind.{RefusedKind}
+use Rattle.da_commands.specs.declared.status.RefusedKind.TheVariants as kind_is
+use Rattle.da_commands.specs.declared.status.Status.{Status}
+use Rattle.da_commands.specs.declared.status.Status.TheVariants.{BadSchedule, Done, Faulted, Forbidden, Idle, LinkFault, Memory, ReadFault, Refused, Spent, Words, WriteFault}
+use Rattle.da_commands.specs.declared.endings.Ending.{Ending}
+use Rattle.da_commands.specs.declared.endings.Ending.TheVariants as ending
+use Rattle.da_commands.specs.declared.words.Task.{Task}
+use Rattle.da_commands.specs.declared.words.Task.TheVariants.{Check, Plan, Stress}
+use Rattle.da_values.proofs.Numerals.{decimal_injective_wide}
+use Rattle.da_commands.specs.Replies.{TaskReply, carried_out, declined, IsAnswer, IsAsking, IsCarriedOut, IsRefused, IsReplay, IsReply, MayRead, ReadCause, ReplayReply, refused, answered, RunReply, bad_schedule, ran, RunsWhole, ended_by, run_status, run_text, task_text, words_of}
+use Rattle.da_commands.specs.Told.{Gains, OfTold}
+use Rattle.da_commands.specs.Top.{status_after}
+use Rattle.da_commands.specs.Verdict.{Accepts, HasTree, IsRefusedAs, Refuses, program_limit}
+use Rattle.da_commands.proofs.ToldLemmas.{of_known, take_beyond, take_within}
+use Rattle.da_commands.proofs.VerdictLemmas.{accepted_or_not, accepts_one, not_refused}
+use Rattle.sched_text.specs.ScheduleText.{IsBadSchedule, SpellsSchedule, schedule_limit}
+use Rattle.sched_text.proofs.ScheduleLaws.{not_bad, one_schedule}
+
+-- WHAT WAS READ
+
+-- a program that was read
+pub accepts_read : (t : List ℕ) (tree : Tree) (p q : Program) → HasTree t tree → Resolves tree p → Typed p q → nodes_fault q ≡ None → Accepts t q
+accepts_read t tree p q has resolves typed planned = record { tree = tree; has = has; resolved = p; resolves = resolves; typed = typed; planned = planned }
+
+-- a text that was read whole, and gives a program
+pub read_within : (text t : List ℕ) (program : Program) → text ≡ take (program_limit + 1) t → length text ≤ program_limit → Accepts text program → Accepts t program
+read_within text t program is few accepts = subst (λ x. Accepts x program) (take_within program_limit text t is few) accepts
+
+-- a text that was read whole, and is refused
+pub refuses_within : (text t : List ℕ) (e : ProgramFault) (kind : RefusedKind) (line : ℕ) → text ≡ take (program_limit + 1) t → length text ≤ program_limit → e ≡ fault.Refused kind line → IsRefusedAs text e → Refuses t kind line
+refuses_within text t e kind line is few e_is why =
+    let here : IsRefusedAs text (fault.Refused kind line) = subst (IsRefusedAs text) e_is why in
+    subst (λ x. Refuses x kind line) (take_within program_limit text t is few) here
+
+-- a schedule that was read whole, and one that is refused
+pub schedule_within : (text whole : List ℕ) (events : List Event) → text ≡ take (schedule_limit + 1) whole → SpellsSchedule text events → SpellsSchedule whole events
+schedule_within text whole events is spelled = subst (λ x. SpellsSchedule x events) (take_within schedule_limit text whole is spelled.size) spelled
+
+pub bad_within : (text whole : List ℕ) (line : ℕ) → text ≡ take (schedule_limit + 1) whole → IsBadSchedule text line → IsBadSchedule whole line
+bad_within text whole line is (inl long) = inl (take_beyond schedule_limit text whole is long.0, long.1)
+bad_within text whole line is (inr wrong) = subst (λ x. IsBadSchedule x line) (take_within schedule_limit text whole is wrong.0) (inr wrong)
+
+-- where the schedule was read, the program's text was not refused
+pub may_read : (told : Option (List ℕ)) (text : List ℕ) → IsWhole told program_limit text → ((t : List ℕ) → text ≡ take (program_limit + 1) t → IsRefused t → ⊥) → MayRead told
+may_read None text whole never = tt
+may_read (Some t) text whole never = never t whole
+
+pub rose_later : (before mid now : ℕ) → before ≤ mid → Rose mid now → Rose before now
+rose_later before mid now later rose = grind (arith, later, rose)
+
+-- THE STATUS OF A CALL
+
+-- an answer is that of the command
+pub after_answer : (P : Status → Type 0) (r : Result Status Ending) (status : Status) → status ≡ status_after r → IsAnswer status → IfOk r P → P status
+after_answer P (Ok o) status same answer holds = subst P (sym same) holds
+after_answer P (Err ending.Read) status same answer holds = let never : IsAnswer ReadFault = subst IsAnswer same answer in absurd never
+after_answer P (Err ending.Write) status same answer holds = let never : IsAnswer WriteFault = subst IsAnswer same answer in absurd never
+after_answer P (Err ending.Memory) status same answer holds = let never : IsAnswer Memory = subst IsAnswer same answer in absurd never
+
+is_answer : (s : Status) → IsReply s → IsAnswer s
+is_answer Done is = tt
+is_answer (Refused kind line) is = tt
+is_answer Words is = absurd is
+is_answer (Forbidden event) is = tt
+is_answer (BadSchedule line) is = tt
+is_answer ReadFault is = absurd is
+is_answer WriteFault is = absurd is
+is_answer Memory is = absurd is
+is_answer LinkFault is = absurd is
+is_answer Idle is = tt
+is_answer Spent is = tt
+is_answer Faulted is = tt
+
+-- what is no answer is an error of the command
+pub after_begun : (Begun : Type 0) (r : Result Status Ending) (status : Status) → status ≡ status_after r → IfOk r IsReply → (IsAnswer status → ⊥) → IfErr r (λ _. Begun) → Begun
+after_begun Begun (Ok o) status same is never begun = absurd (never (subst IsAnswer (sym same) (is_answer o is)))
+after_begun Begun (Err e) status same is never begun = begun
+
+-- where neither a read nor a write failed, what the command did holds of the status, or memory was refused
+pub after_quiet : (P : Status → Type 0) (r : Result Status Ending) (status : Status) → status ≡ status_after r → (IsErrOf r ending.Read → ⊥) → (IsErrOf r ending.Write → ⊥) → IfOk r P → (status ≡ Memory) ⊎ P status
+after_quiet P (Ok o) status same read write holds = inr (subst P (sym same) holds)
+after_quiet P (Err ending.Read) status same read write holds = absurd (read refl)
+after_quiet P (Err ending.Write) status same read write holds = absurd (write refl)
+after_quiet P (Err ending.Memory) status same read write holds = inl same
+
+-- THE REPLIES OF `replay`
+
+-- the reply to an accepted program and a schedule is its run
+run_reply : (s : List ℕ) (program : Program) (events : List Event) (status : Status) (bytes : List ℕ) → SpellsSchedule s events → RunReply program s status bytes
+    → (status ≡ run_status program events) × (bytes ≡ run_text program events)
+run_reply s program events _ _ good (bad_schedule line is) = absurd (not_bad s events line good is)
+run_reply s program events _ _ good (ran others is) =
+    let same = one_schedule s others events is good in
+    (ap (run_status program) same, ap (run_text program) same)
+
+whole_reply : (t s : List ℕ) (program : Program) (events : List Event) (status : Status) (bytes : List ℕ) → Accepts t program → SpellsSchedule s events → ReplayReply t s status bytes
+    → (status ≡ run_status program events) × (bytes ≡ run_text program events)
+whole_reply t s program events _ _ runs good (refused kind line refuses) = absurd (not_refused t program runs (record { kind = kind; line = line; refuses = refuses }))
+whole_reply t s program events _ _ runs good (answered other also status bytes reply) =
+    run_reply s program events status bytes good (subst (λ p. RunReply p s status bytes) (accepts_one t program other runs also) reply)
+
+pub runs_whole : (told_program told_schedule : Option (List ℕ)) (t s : List ℕ) (program : Program) (events : List Event) (r : Result Status Ending) (status : Status) (before after : Option (List ℕ))
+    → status ≡ status_after r → told_program ≡ Some t → told_schedule ≡ Some s → Accepts t program → SpellsSchedule s events → (IsErrOf r ending.Read → ⊥) → (IsErrOf r ending.Write → ⊥)
+    → IfOk r (λ status. OfTold told_program (λ t. OfTold told_schedule (λ s. Gains (ReplayReply t s) status before after))) → RunsWhole program events status before after
+runs_whole p q t s program events r status before after same told_p told_q runs good read write replies =
+    either (after_quiet (λ o. OfTold p (λ t. OfTold q (λ s. Gains (ReplayReply t s) o before after))) r status same read write replies)
+  where
+    either : (status ≡ Memory) ⊎ OfTold p (λ t. OfTold q (λ s. Gains (ReplayReply t s) status before after)) → RunsWhole program events status before after
+    either (inl memory) = inl memory
+    either (inr told) =
+        let gains : Gains (ReplayReply t s) status before after =
+        of_known q (λ s. Gains (ReplayReply t s) status before after) s told_q (of_known p (λ t. OfTold q (λ s. Gains (ReplayReply t s) status before after)) t told_p told) in
+        let (status_is, bytes_are) = whole_reply t s program events status gains.bytes runs good gains.reply in
+        inr (status_is, subst (Appends before after) bytes_are gains.written)
+
+pub to_the_end : (stop : Option ℕ) → outcome.Done ≡ outcome_of stop → Done ≡ ended_by stop
+to_the_end None is = refl
+to_the_end (Some i) is = absurd (let clash : outcome.Done ≡ outcome.Forbidden i = is in cc)
+
+pub to_the_stop : (i : ℕ) (stop : Option ℕ) → outcome.Forbidden i ≡ outcome_of stop → Forbidden i ≡ ended_by stop
+to_the_stop i None is = absurd (let clash : outcome.Forbidden i ≡ outcome.Done = is in cc)
+to_the_stop i (Some k) is = ap Forbidden (let same : outcome.Forbidden i ≡ outcome.Forbidden k = is in cc)
+
+-- the replay of a system in its opening is the run of the program
+module _ (program p : Program) (opened system : System) (events : List Event) (how : Outcome) (before after : Option (List ℕ)) (same : p ≡ program) (stands : Stands opened (start program))
+    (ran : Whichever opened (λ s. HasRun p s events how system before after)) where
+  has : HasRun program (start program) events how system before after
+  has = subst (λ q. HasRun q (start program) events how system before after) same (ran (start program) stands)
+
+  -- the status of a run that ended so
+  pub ran_to : (status : Status) → ((stop : Option ℕ) → how ≡ outcome_of stop → status ≡ ended_by stop) → (status ≡ run_status program events) × Appends before after (run_text program events)
+  ran_to status ends = (ends (src_run program events).stop has.outcome_is, has.written)
+
+pub ran_front : (program p : Program) (opened : System) (events : List Event) (before after : Option (List ℕ)) → p ≡ program → Stands opened (start program)
+    → Whichever opened (λ s. AppendsFront before after (text_on p s events)) → AppendsFront before after (run_text program events)
+ran_front program p opened events before after same stands front = subst (λ q. AppendsFront before after (text_on q (start program) events)) same (front (start program) stands)
+
+-- THE REPLIES TO TASKS
+
+-- what is written of a generated schedule over a system in its opening is a front of what is told of the program
+pub stressed_front : (program p : Program) (opened : System) (first most : ℕ) (before after : Option (List ℕ)) → p ≡ program → Stands opened (start program)
+    → Whichever opened (λ s. AppendsFront before after (stress_text_from p s first most)) → AppendsFront before after (stress_text program first most)
+stressed_front program p opened first most before after same stands front =
+    subst (λ q. AppendsFront before after (stress_text_from q (start program) first most)) same (front (start program) stands)
+
+carried_reply : (task : Task) (t : List ℕ) (program : Program) (status : Status) (bytes : List ℕ) → Accepts t program → TaskReply task t status bytes → (status ≡ Done) × (bytes ≡ task_text task program)
+carried_reply task t program _ _ accepts (declined kind line refuses) = absurd (accepted_or_not t program kind line accepts refuses)
+carried_reply task t program _ _ accepts (carried_out other also) = (refl, ap (task_text task) (accepts_one t program other accepts also))
+
+pub is_carried_out : (task : Task) (told : Option (List ℕ)) (t : List ℕ) (program : Program) (r : Result Status Ending) (status : Status) (before after : Option (List ℕ)) → status ≡ status_after r → told ≡ Some t
+    → Accepts t program → (IsErrOf r ending.Read → ⊥) → (IsErrOf r ending.Write → ⊥) → IfOk r (λ status. OfTold told (λ t. Gains (TaskReply task t) status before after)) → IsCarriedOut task program status before after
+is_carried_out task told t program r status before after same told_t accepts read write replies =
+    either (after_quiet (λ o. OfTold told (λ t. Gains (TaskReply task t) o before after)) r status same read write replies)
+  where
+    either : (status ≡ Memory) ⊎ OfTold told (λ t. Gains (TaskReply task t) status before after) → IsCarriedOut task program status before after
+    either (inl memory) = inl memory
+    either (inr holds) =
+        let gains : Gains (TaskReply task t) status before after = of_known told (λ t. Gains (TaskReply task t) status before after) t told_t holds in
+        let (status_is, bytes_are) = carried_reply task t program status gains.bytes accepts gains.reply in
+        inr (status_is, subst (Appends before after) bytes_are gains.written)
+
+-- THE NAMES ARE THOSE OF THE WORDS
+
+pub at_names : (P : List ℕ → List ℕ → Status → Type 0) (p q a b : List ℕ) (status : Status) → (p ≡ a) × (q ≡ b) → P a b status → P p q status
+at_names P p q a b status same holds =
+    let half : P p b status = subst (λ x. P x b status) (sym same.0) holds in
+    subst (λ y. P p y status) (sym same.1) half
+
+pub not_read : (told : Option (List ℕ)) (before now : List ℕ → ℕ) (p q : List ℕ) → ReadCause told before now p q → (Rose (before p) (now p) → ⊥) → (Rose (before q) (now q) → ⊥) → ⊥
+not_read told before now p q (inl rose) program schedule = program rose
+not_read told before now p q (inr rose) program schedule = schedule rose.0
+
+-- the names are those of the words
+pub same_names : (words : List (List ℕ)) (a b p q : List ℕ) → IsReplay words a b → IsReplay words p q → (p ≡ a) × (q ≡ b)
+same_names words a b p q one other = (cc, cc)
+
+-- two words that are numbers in decimal
+same_numbers : (m n : ℕ) → m ≤ 2 ^ 127 → n ≤ 2 ^ 127 → decimal m ≡ decimal n → m ≡ n
+same_numbers = decimal_injective_wide
+
+check_or_plan : (p q : List ℕ) → words_of Check p ≡ words_of Plan q → ⊥
+check_or_plan p q same =
+    let first : codes "check" ≡ codes "plan" = cc in
+    let sizes : 5 ≡ 4 = ap length first in
+    omega (arith, sizes)
+
+pub same_task : (words : List (List ℕ)) (a b : Task) (p q : List ℕ) → IsAsking words a p → IsAsking words b q → (b ≡ a) × (q ≡ p)
+same_task words Check Check p q one other = (refl, (let both = sym one.0 ∙ other.0 in cc))
+same_task words Plan Plan p q one other = (refl, (let both = sym one.0 ∙ other.0 in cc))
+same_task words (Stress x n) (Stress y m) p q one other =
+    let both : words_of (Stress x n) p ≡ words_of (Stress y m) q = sym one.0 ∙ other.0 in
+    let starts : decimal y ≡ decimal x = cc in
+    let ends : decimal m ≡ decimal n = cc in
+    let start : y ≡ x = same_numbers y x (omega (arith, other.1.0)) (omega (arith, one.1.0)) starts in
+    let most : m ≡ n = same_numbers m n (omega (arith, other.1.2)) (omega (arith, one.1.2)) ends in
+    (ap (λ k. Stress k m) start ∙ ap (Stress x) most, cc)
+same_task words Check Plan p q one other = absurd (check_or_plan p q (sym one.0 ∙ other.0))
+same_task words Plan Check p q one other = absurd (check_or_plan q p (sym other.0 ∙ one.0))
+same_task words Check (Stress y m) p q one other = absurd (let sizes : 2 ≡ 4 = ap length (sym one.0 ∙ other.0) in omega (arith, sizes))
+same_task words Plan (Stress y m) p q one other = absurd (let sizes : 2 ≡ 4 = ap length (sym one.0 ∙ other.0) in omega (arith, sizes))
+same_task words (Stress x n) Check p q one other = absurd (let sizes : 4 ≡ 2 = ap length (sym one.0 ∙ other.0) in omega (arith, sizes))
+same_task words (Stress x n) Plan p q one other = absurd (let sizes : 4 ≡ 2 = ap length (sym one.0 ∙ other.0) in omega (arith, sizes))
+
+pub not_both : (words : List (List ℕ)) (task : Task) (a p q : List ℕ) → IsAsking words task a → IsReplay words p q → ⊥
+not_both words Check a p q one other = let sizes : 2 ≡ 3 = ap length (sym one.0 ∙ other) in omega (arith, sizes)
+not_both words Plan a p q one other = let sizes : 2 ≡ 3 = ap length (sym one.0 ∙ other) in omega (arith, sizes)
+not_both words (Stress x n) a p q one other = let sizes : 4 ≡ 3 = ap length (sym one.0 ∙ other) in omega (arith, sizes)

@@ -1,0 +1,44 @@
+-- The lines by which a program is accepted or refused, and a schedule is refused.
+use Rattle.std.specs.Prelude.{ℕ, List, ◌++◌, codes, decimal}
+use Rattle.da_commands.specs.declared.status.RefusedKind.{RefusedKind}
+use Rattle.da_commands.specs.declared.status.RefusedKind.TheVariants.{Size, Byte, Indent, Token, Unclosed, Syntax, Deep, NotYet, Unknown, Twice, Shadow, Recursive, Yield, Setup, NoRun, Arity, Classes, Processes, Items, Blocks, Variables, Parts, Generators, Types, Nodes, Channel, Me}
+
+abbrev pub refused_word : RefusedKind → List ℕ
+refused_word Size = codes "size"
+refused_word Byte = codes "byte"
+refused_word Indent = codes "indent"
+refused_word Token = codes "token"
+refused_word Unclosed = codes "unclosed"
+refused_word Syntax = codes "syntax"
+refused_word Deep = codes "deep"
+refused_word NotYet = codes "notyet"
+refused_word Unknown = codes "unknown"
+refused_word Twice = codes "twice"
+refused_word Shadow = codes "shadow"
+refused_word Recursive = codes "recursive"
+refused_word Yield = codes "yield"
+refused_word Setup = codes "setup"
+refused_word NoRun = codes "norun"
+refused_word Arity = codes "arity"
+refused_word Classes = codes "classes"
+refused_word Processes = codes "processes"
+refused_word Items = codes "items"
+refused_word Blocks = codes "blocks"
+refused_word Variables = codes "variables"
+refused_word Parts = codes "parts"
+refused_word Generators = codes "generators"
+refused_word Types = codes "type"
+refused_word Nodes = codes "nodes"
+refused_word Channel = codes "channel"
+refused_word Me = codes "me"
+
+-- the line of a refusal, and that of a bad schedule
+abbrev pub refused_text : RefusedKind → ℕ → List ℕ
+refused_text kind line = codes "refused " ++ refused_word kind ++ codes " " ++ decimal line ++ codes "\n"
+
+abbrev pub badline_text : ℕ → List ℕ
+badline_text line = codes "badline " ++ decimal line ++ codes "\n"
+
+-- the line of an accepted program: how many classes and processes it has
+abbrev pub accepted_text : ℕ → ℕ → List ℕ
+accepted_text classes processes = codes "ok " ++ decimal classes ++ codes " " ++ decimal processes ++ codes "\n"

@@ -1,0 +1,19 @@
+-- What is said of texts that are told, and what a sink gained of a reply.
+use Rattle.std.specs.Prelude.{ℕ, ◌⊎◌, List, [], Option, Some, None}
+use Rattle.da_outside.specs.Outside.{Appends, AppendsFront}
+use Rattle.da_commands.specs.declared.status.Status.{Status}
+
+-- it holds of the text that is told, or, where none is told, of some text in its place
+abbrev pub OfTold : Option (List ℕ) → (List ℕ → Type 0) → Type 0
+OfTold None P = (text : List ℕ) × P text
+OfTold (Some text) P = P text
+
+-- a sink gained the bytes of a reply with this status
+pub record Gains (Reply : Status → List ℕ → Type 0) (status : Status) (before after : Option (List ℕ)) : Type 0 where
+  pub bytes : List ℕ
+  pub reply : Reply status bytes
+  pub written : Appends before after bytes
+
+-- it gained nothing, or a front of the bytes of a reply
+abbrev pub Begins : (Status → List ℕ → Type 0) → Option (List ℕ) → Option (List ℕ) → Type 0
+Begins Reply before after = Appends before after [] ⊎ ((status : Status) × (bytes : List ℕ) × Reply status bytes × AppendsFront before after bytes)

@@ -1,0 +1,143 @@
+//! How a call of the program ends.
+
+use thiserror::Error;
+
+/// Why a program is refused, and the sentence that tells a person so.
+#[derive(Clone, Copy, Debug, PartialEq, Eq, Error)]
+pub enum RefusedKind {
+    /// The text has more than 1,048,576 bytes.
+    #[error("the text has more than 1,048,576 bytes")]
+    Size,
+    /// A byte outside a comment is not allowed.
+    #[error("only comments may hold this byte: no tabs, and no characters outside ASCII")]
+    Byte,
+    /// A line is set in by a width at which no open block stands.
+    #[error("the indentation is that of no open block")]
+    Indent,
+    /// Bytes begin no token, or an integer has a leading zero or is too large.
+    #[error("no token is spelled like this: texts stand in single quotes, integers have no leading zero and are at most 9223372036854775807")]
+    Token,
+    /// A text literal or a bracket is not closed.
+    #[error("a text literal or a bracket is not closed")]
+    Unclosed,
+    /// No program goes on with a token, or the text ends too early.
+    #[error("the grammar does not allow this here, or the text ends too early")]
+    Syntax,
+    /// A token opens a thing where 32 are open.
+    #[error("more than 32 blocks, brackets, queries or negations are open")]
+    Deep,
+    /// A form of the language that is not built yet.
+    #[error("the language has this form, but it is not built yet")]
+    NotYet,
+    /// A name is not in scope for its use.
+    #[error("a name is not in scope here, or cannot be used in this way")]
+    Unknown,
+    /// A name is declared twice.
+    #[error("this name is declared already")]
+    Twice,
+    /// A variable has the name of one in scope.
+    #[error("a variable of this name is in scope already; a pattern compares with it by =name")]
+    Shadow,
+    /// A method's call leads back to it.
+    #[error("the method calls itself, directly or through other methods")]
+    Recursive,
+    /// A handler or `setup` comes to a label or an `await`.
+    #[error("a handler or setup may not wait: it reaches a label or an await")]
+    Yield,
+    /// `setup` holds a form that is not allowed there.
+    #[error("setup may not do this")]
+    Setup,
+    /// A class has no `run`.
+    #[error("the class has no method run")]
+    NoRun,
+    /// A call has a wrong number of arguments.
+    #[error("the call has too few or too many arguments")]
+    Arity,
+    /// There are more than 32 classes.
+    #[error("the program has more than 32 classes")]
+    Classes,
+    /// There are more than 64 processes.
+    #[error("the program has more than 64 processes")]
+    Processes,
+    /// A class has more than 16,384 statements with its calls inlined.
+    #[error("the class has more than 16,384 statements, with its calls inlined")]
+    Items,
+    /// More than 64 blocks stand within one another with the calls inlined.
+    #[error("more than 64 blocks are nested, with calls inlined")]
+    Blocks,
+    /// A class has more than 1,024 slots, or a query more than 1,024 variables.
+    #[error("the class or the query has more than 1,024 variables")]
+    Variables,
+    /// A tuple or a message has more than 255 parts.
+    #[error("a tuple or a message has more than 255 parts")]
+    Parts,
+    /// A query has more than 8 generators.
+    #[error("the query has more than 8 generators")]
+    Generators,
+    /// A rule of types is broken.
+    #[error("the types do not fit, no message has this tag, or a condition has a form that is not allowed")]
+    Types,
+    /// The plan of a class has more than 4,096 nodes.
+    #[error("the query plan of the class has more than 4,096 nodes")]
+    Nodes,
+    /// A node runs over channels that are unordered and unreliable, and these are not.
+    #[error("a node needs channels that are unordered and unreliable")]
+    Channel,
+    /// The program has no process of the number that a node is to run.
+    #[error("the program has no process of the number that the node is to run")]
+    Me,
+}
+
+/// How a call of the program ends.
+#[derive(Clone, Copy, Debug, PartialEq, Eq)]
+pub enum Status {
+    /// The work was carried out to its end.
+    Done,
+    /// The program is refused, at this line, or at 0 where no line is to blame.
+    Refused { kind: RefusedKind, line: u32 },
+    /// The words have no form that the program knows.
+    Words,
+    /// The event of this number, counted from 1, is not allowed.
+    Forbidden { event: u64 },
+    /// The line of this number is no line of a schedule, or the schedule is too long, with 0.
+    BadSchedule { line: u64 },
+    /// A read failed. Nothing was written.
+    ReadFault,
+    /// A write failed.
+    WriteFault,
+    /// Memory was refused.
+    Memory,
+    /// The link of a node failed.
+    LinkFault,
+    /// The last answers that the link of a node gave were as many idle turns as it may have.
+    Idle,
+    /// A node took as many answers as it may.
+    Spent,
+    /// A fault ended the process of a node.
+    Faulted,
+}
+
+impl Status {
+    ghost use Rattle.da_commands.specs.ExitCode.{code_of};
+    ghost use Rattle.std.specs.Prelude.{◌≡◌};
+
+    /// The exit status of the process.
+    pub fn code(&self) -> u8
+        ensures { result ≡ code_of self.now }
+    {
+        match self {
+            Status::Done => 0,
+            Status::Refused { .. } => 1,
+            Status::Words => 2,
+            Status::Forbidden { .. } => 3,
+            Status::BadSchedule { .. } => 4,
+            Status::ReadFault => 5,
+            Status::WriteFault => 6,
+            Status::Memory => 7,
+            Status::LinkFault => 8,
+            Status::Idle => 9,
+            Status::Spent => 10,
+            Status::Faulted => 11,
+        }
+    }
+}

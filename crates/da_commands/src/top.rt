@@ -1,0 +1,105 @@
+//! The top call: all that the program does.
+ghost use Rattle.da_lang.specs.declared.event.Event.{Event};
+ghost use Rattle.da_lang.specs.declared.program.Program.{Program};
+ghost use Rattle.da_outside.specs.Outside.{Appends, AppendsFront, Rose};
+ghost use Rattle.da_commands.specs.NodeReplies.{HasAnswered, HasStopped, IsNode, IsServed, LinkFailed};
+ghost use Rattle.da_commands.specs.Replies.{HasLinkCause, HasReadCause, IsAnswer, IsAsking, IsCarriedOut, IsOther, IsReplay, ReplayReply, RunsWhole, TaskReply};
+ghost use Rattle.da_commands.specs.declared.words.NodeSetting.{NodeSetting};
+ghost use Rattle.da_commands.specs.declared.words.Task.{Task};
+ghost use Rattle.da_commands.specs.Told.{Begins, Gains, OfTold};
+ghost use Rattle.da_commands.specs.Verdict.{Accepts};
+ghost use Rattle.sched_text.specs.ScheduleText.{SpellsSchedule};
+ghost use Rattle.std.specs.Prelude.{ℕ, ◌≡◌, ◌<◌, ◌≤◌, List, Some, codes, map};
+ghost use Rattle.std.specs.String.{string_bytes};
+
+use crate::endings::{say, status_after};
+use crate::noding::run_node;
+use crate::replaying::replay;
+use crate::status::Status;
+use crate::tasks::carry_out;
+use crate::words::{Command, command_of};
+use da_outside::{Files, Link, Sink};
+use std::alloc::Global;
+
+/// Does what the words ask for, and says how that ended. The words are those after the program's name.
+pub fn dalgo<F: Files, K: Sink, L: Link>(
+    alloc: Global,
+    words: &[String],
+    files: &mut F,
+    out: &mut K,
+    link: &mut L,
+) -> Status
+    // The bytes that the sink took are the reply to the two texts, and the status is that of the reply. Where a text is not
+    // told, it is the reply to some text in its place.
+    ensures replies { (p q : List ℕ) → IsReplay (map string_bytes words.now) p q → IsAnswer result
+        → OfTold (F.told files.old p) (λ t. OfTold (F.told files.old q) (λ s. Gains (ReplayReply t s) result (K.taken out.old) (K.taken out.new))) }
+
+    // Each accepted program runs, unless a read or write failed or memory was refused.
+    ensures complete { (p q t s : List ℕ) (program : Program) (events : List Event) → IsReplay (map string_bytes words.now) p q
+        → F.told files.old p ≡ Some t → F.told files.old q ≡ Some s → Accepts t program → SpellsSchedule s events
+        → (Rose (F.faults files.old p) (F.faults files.new p) → ⊥) → (Rose (F.faults files.old q) (F.faults files.new q) → ⊥)
+        → (Rose (K.faults out.old) (K.faults out.new) → ⊥) → RunsWhole program events result (K.taken out.old) (K.taken out.new) }
+
+    // `check`, `plan` and `stress` are answered in the same way by the program's text alone.
+    ensures answers { (task : Task) (p : List ℕ) → IsAsking (map string_bytes words.now) task p → IsAnswer result
+        → OfTold (F.told files.old p) (λ t. Gains (TaskReply task t) result (K.taken out.old) (K.taken out.new)) }
+    ensures carried_out { (task : Task) (p t : List ℕ) (program : Program) → IsAsking (map string_bytes words.now) task p → F.told files.old p ≡ Some t → Accepts t program
+        → (Rose (F.faults files.old p) (F.faults files.new p) → ⊥) → (Rose (K.faults out.old) (K.faults out.new) → ⊥)
+        → IsCarriedOut task program result (K.taken out.old) (K.taken out.new) }
+
+    // A node answers by the program's text and by what its link answers. The link is bound once, unless the program is refused,
+    // and then tells the talk of the run. Where it fails to be bound nothing is written.
+    ensures node { (p : List ℕ) (setting : NodeSetting) → IsNode (map string_bytes words.now) p setting → IsAnswer result
+        → OfTold (F.told files.old p) (λ t. HasAnswered t setting result (L.told link.old) (L.told link.new) (K.taken out.old) (K.taken out.new)) }
+    ensures node_link { (p : List ℕ) (setting : NodeSetting) → IsNode (map string_bytes words.now) p setting → result ≡ Status.LinkFault
+        → OfTold (F.told files.old p) (λ t. LinkFailed t setting (L.told link.old) (L.told link.new) (K.taken out.old) (K.taken out.new)) }
+    ensures node_stopped { (p : List ℕ) (setting : NodeSetting) → IsNode (map string_bytes words.now) p setting → (IsAnswer result → ⊥) → (result ≡ Status.LinkFault → ⊥)
+        → OfTold (F.told files.old p) (λ t. HasStopped t setting (L.told link.old) (L.told link.new) (K.taken out.old) (K.taken out.new)) }
+
+    // Each accepted program is served, unless a read, a write or the link failed or memory was refused.
+    ensures served { (p t : List ℕ) (program : Program) (setting : NodeSetting) → IsNode (map string_bytes words.now) p setting → F.told files.old p ≡ Some t → Accepts t program
+        → (Rose (F.faults files.old p) (F.faults files.new p) → ⊥) → (Rose (K.faults out.old) (K.faults out.new) → ⊥) → (Rose (L.faults link.old) (L.faults link.new) → ⊥)
+        → IsServed t setting result (L.told link.old) (L.told link.new) (K.taken out.old) (K.taken out.new) }
+
+    // Words that ask for no node leave the link as it was.
+    ensures unlinked { ((p : List ℕ) (setting : NodeSetting) → IsNode (map string_bytes words.now) p setting → ⊥) → link.new ≡ link.old }
+
+    // Other words are answered so.
+    ensures words { IsOther (map string_bytes words.now) → IsAnswer result → (result ≡ Status.Words) × Appends (K.taken out.old) (K.taken out.new) (codes "words\n") }
+    ensures only_words { result ≡ Status.Words → IsOther (map string_bytes words.now) }
+
+    // Where a write failed or memory was refused, the sink gained a front of the bytes of a reply, or nothing.
+    ensures begun { (p q : List ℕ) → IsReplay (map string_bytes words.now) p q → (IsAnswer result → ⊥)
+        → OfTold (F.told files.old p) (λ t. OfTold (F.told files.old q) (λ s. Begins (ReplayReply t s) (K.taken out.old) (K.taken out.new))) }
+    ensures begun_task { (task : Task) (p : List ℕ) → IsAsking (map string_bytes words.now) task p → (IsAnswer result → ⊥)
+        → OfTold (F.told files.old p) (λ t. Begins (TaskReply task t) (K.taken out.old) (K.taken out.new)) }
+    ensures begun_words { IsOther (map string_bytes words.now) → (IsAnswer result → ⊥) → AppendsFront (K.taken out.old) (K.taken out.new) (codes "words\n") }
+
+    // Each fault has its cause, and where a count rose the status says so. What files tell stays as it was, and no count
+    // falls.
+    ensures read { result ≡ Status.ReadFault → HasReadCause (map string_bytes words.now) (F.told files.old) (F.faults files.old) (F.faults files.new) }
+    ensures unread { result ≡ Status.ReadFault → K.taken out.new ≡ K.taken out.old }
+    ensures unbound { result ≡ Status.ReadFault → link.new ≡ link.old }
+    ensures write { result ≡ Status.WriteFault → Rose (K.faults out.old) (K.faults out.new) }
+    ensures link { result ≡ Status.LinkFault → HasLinkCause (map string_bytes words.now) (L.faults link.old) (L.faults link.new) }
+    ensures link_failed { L.faults link.old < L.faults link.new → result ≡ Status.LinkFault }
+    ensures read_failed { (x : List ℕ) → F.faults files.old x < F.faults files.new x → result ≡ Status.ReadFault }
+    ensures write_failed { K.faults out.old < K.faults out.new → result ≡ Status.WriteFault }
+    ensures told { (x : List ℕ) → F.told files.new x ≡ F.told files.old x }
+    ensures counts { (x : List ℕ) → F.faults files.old x ≤ F.faults files.new x }
+    ensures writes { K.faults out.old ≤ K.faults out.new }
+    ensures links { L.faults link.old ≤ L.faults link.new }
+{
+    match command_of(words) {
+        Command::Replay(names) => {
+            status_after(replay(alloc, names.program, names.schedule, files, out))
+        }
+        Command::Carry { task, program } => {
+            status_after(carry_out(alloc, task, program, files, out))
+        }
+        Command::Node { setting, program } => {
+            status_after(run_node(alloc, setting, program, files, out, link))
+        }
+        Command::Other => status_after(say(out, b"words\n", Status::Words)),
+    }
+}

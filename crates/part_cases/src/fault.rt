@@ -1,0 +1,20 @@
+//! Why a row has no answer.
+use da_values::NoMemory;
+use thiserror::Error;
+
+/// Why a row has no answer.
+#[derive(Clone, Copy, Debug, PartialEq, Eq, Error)]
+pub enum RowFault {
+    /// No row is written so.
+    #[error("no row is written so")]
+    Unread,
+    /// Memory was refused.
+    #[error("no memory is left")]
+    Memory,
+}
+
+impl From<NoMemory> for RowFault {
+    fn from(_: NoMemory) -> RowFault {
+        RowFault::Memory
+    }
+}
