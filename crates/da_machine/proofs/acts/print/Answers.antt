@@ -1,7 +1,0 @@
-use Rattle.std.proofs.Common.{Some}
-use Rattle.da_lang.specs.declared.code.Instr.TheVariants as op
-use Rattle.da_machine.proofs.Fronts.{nothing_new, on_err}
-use Rattle.da_machine.proofs.acts.print.Goals as goal
-
-pub returns-in_err-output-clause-began : goal.returns-in_err-output-clause-began
-returns-in_err-output-clause-began g c = on_err _ _ (nothing_new (Some op.Output) c.args.m.now (g.S.Store.stands c.args.s.now) _ _ c.in_err-output.ensures.same)
