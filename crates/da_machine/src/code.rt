@@ -15,10 +15,10 @@ pub struct YieldPoint {
 pub struct Code {
     /// The instructions. Places in them are counted from 0.
     pub instrs: List<Instr>,
-    /// The yield points, in the order of the inlined text, counted from 0.
+    /// Where a process may stand still. Number n is the label or `await` that has n others before it, calls inlined.
     pub yields: List<YieldPoint>,
-    /// Where each process of the class begins, ascending by process.
+    /// Where each process of the class begins, lower process numbers first.
     pub starts: List<u64>,
-    /// Where the body of each handler begins, in text order.
+    /// Where the body of each handler begins; handlers stand as in the program.
     pub handlers: List<u64>,
 }

@@ -3,7 +3,7 @@ ghost use Rattle.da_lang.specs.Matching.{match_parts, matched, where_true};
 ghost use Rattle.da_pattern.specs.RowView.{row_of};
 ghost use Rattle.da_pattern.specs.Taken.{taken, taken_parts};
 ghost use Rattle.da_values.specs.Value.{val_of, vals};
-ghost use Rattle.std.specs.Prelude.{◌≡◌, ◌++◌, IfOk, is_some, map};
+ghost use Rattle.std.specs.Prelude.{◌≡◌, ◌++◌, IfOk, IsTrue, OnErr, is_some, map};
 
 use crate::process::Process;
 use crate::row::RowSoFar;
@@ -25,7 +25,8 @@ pub fn matches_pattern(p: &Pattern, v: &Value, row: &Row, slots: &Row, me: u16) 
 
 /// Matches a value against a pattern in process `me` with these slots. The answer is the row with the variables of the
 /// pattern at its end, or `None` exactly where the value does not match (`matches_pattern`). The value and the row are lent,
-/// and copied only where the value matches: of the value, the parts that variables take.
+/// and copied only where the value matches: of the value, the parts that variables take. So memory is wanted only there.
+#[tactic(auto, using(crate::proofs::PatternsAt::some_where))]
 pub fn match_pattern(
     alloc: Global,
     p: &Pattern,
@@ -34,7 +35,8 @@ pub fn match_pattern(
     slots: &Row,
     me: u16,
 ) -> Result<Option<Row>, NoMemory>
-    ensures { IfOk result (λ longer. longer ≡ matched me slots.now p.now (val_of v.now) row.now) }
+    ensures row { IfOk result (λ longer. longer ≡ matched me slots.now p.now (val_of v.now) row.now) }
+    ensures memory { OnErr result (IsTrue (is_some (matched me slots.now p.now (val_of v.now) row.now))) }
 {
     if !does_match(p, v, row, slots, me) {
         return Ok(None);

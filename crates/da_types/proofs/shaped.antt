@@ -7,6 +7,7 @@ pub mod Integers
 pub mod KeptShaped
 pub mod Known
 pub mod Messages
+pub mod Nested
 pub mod NoYields
 pub mod Operations
 pub mod Ranges

@@ -2,6 +2,7 @@
 use Rattle.std.specs.Prelude.{◌≡◌, ℕ, ◌^◌, ◌<◌, ◌≤◌, ◌⊎◌, true, false, List, [], ◌∷◌, Some}
 use Rattle.std.specs.List.{All}
 use Rattle.da_values.specs.declared.val.Val.{Val}
+use Rattle.da_values.specs.Nesting.{nesting}
 use Rattle.da_values.specs.Proper.{IsValue}
 use Rattle.da_values.specs.Sets.{Has}
 use Rattle.da_values.specs.Value.{val_of}
@@ -42,10 +43,12 @@ FitSlots p c (s ∷ ss) (v ∷ vs) = FitsSlot p c s v × FitSlots p c ss vs
 abbrev pub IsTypable : ExprType → Type 0
 IsTypable x = (ty : Ty) × ((x.type_ ≡ Some ty) ⊎ (x.fits ty ≡ true))
 
--- a declared message of the declared types, and processes that are there
+-- a declared message of the declared types, in which at most 32 tuples and sets stand in one another, and processes that are
+-- there
 pub record MaySend (p : Program) (m : Val) (to : List ℕ) : Type 0 where
   pub proper : IsValue m
   pub typed : well_typed p m ≡ true
+  pub nested : nesting m ≤ 32
   pub receivers : (q : ℕ) → Has to q → IsProcess p q
 
 -- Process `me` sends this, and its packet is small enough.
@@ -54,6 +57,7 @@ pub record IsSending (p : Program) (me sender receiver time : ℕ) (m : Val) : T
   pub there : IsProcess p receiver
   pub proper : IsValue m
   pub typed : well_typed p m ≡ true
+  pub nested : nesting m ≤ 32
   pub in_time : time < 2 ^ 63
   pub small : packet_len m ≤ max_packet
 

@@ -5,5 +5,6 @@ mod live;
 mod reading;
 mod term;
 
-pub use live::{Live, live_patterns};
+pub use live::{Live, is_history, live_patterns};
 pub use reading::matches;
+pub use term::{live_gen, live_pattern};

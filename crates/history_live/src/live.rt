@@ -17,8 +17,8 @@ pub struct Live {
     pub patterns: List<LivePattern>,
 }
 
-// Whether a source is a history.
-fn is_history(source: Source) -> bool
+/// Whether a source is a history.
+pub fn is_history(source: Source) -> bool
     ensures { result ≡ is_history_lem source }
 {
     match source {
@@ -64,7 +64,7 @@ fn add_node(alloc: Global, node: &Node, patterns: &mut List<LivePattern>) -> Res
     }
 }
 
-/// The live patterns of a plan.
+/// The live patterns of a plan. For the plan that `normalise` gives they are those of the class, as a set (its clause `live`).
 pub fn live_patterns(alloc: Global, plan: &Plan) -> Result<Live, NoMemory>
     ensures { IfOk result (λ live. live.patterns ≡ plan_live plan.now.nodes) }
 {

@@ -1,5 +1,5 @@
 -- What stands at the front of some bytes of a packet.
-use Rattle.std.specs.Prelude.{◌≡◌, ℕ, zero, suc, ◌-◌, ◌^◌, ◌<◌, ◌≤◌, IsTrue, FitsSigned, List, ◌∷◌, ◌++◌, length, map}
+use Rattle.std.specs.Prelude.{◌≡◌, ◌⊎◌, ℕ, zero, suc, ◌-◌, ◌^◌, ◌<◌, ◌≤◌, IsTrue, FitsSigned, List, [], ◌∷◌, ◌++◌, length, map}
 use Rattle.std.specs.Int.{w16, w32, w64, cast_unsigned, to_be_bytes}
 use Rattle.std.specs.List.{All, AllByRecursion, list_all}
 use Rattle.da_values.specs.declared.val.Val.{Val, out-Val}
@@ -67,3 +67,23 @@ Behind depth (Text text) letter bytes rest = (letter ≡ 115) × All IsTextByte 
 Behind depth (Proc process) letter bytes rest = (letter ≡ 112) × (0 < process) × (process < 2 ^ 16) × (bytes ≡ to_be_bytes w16 process ++ rest)
 Behind depth (Tuple parts) letter bytes rest = (letter ≡ 116) × (length parts ≤ 255) × AreInside depth parts × (bytes ≡ length parts ∷ joined (map value_bytes parts) ++ rest)
 Behind depth (Set elements) letter bytes rest = (letter ≡ 83) × Ascends val_cmp elements × AreInside depth elements × (bytes ≡ to_be_bytes w32 (length elements) ++ joined (map value_bytes elements) ++ rest)
+
+-- WHERE MEMORY MAY BE WANTED
+
+-- the letter of a text, a tuple or a set
+abbrev pub TakesMemory : ℕ → Type 0
+TakesMemory letter = (letter ≡ 115) ⊎ (letter ≡ 116) ⊎ (letter ≡ 83)
+
+-- bytes that begin with such a letter
+abbrev pub MayHoldMuch : List ℕ → Type 0
+MayHoldMuch [] = ⊥
+MayHoldMuch (letter ∷ rest) = TakesMemory letter
+
+-- bytes that begin as a packet does, up to such a letter, and are no more than a packet may have
+pub record MayWantMemory (bytes : List ℕ) : Type 0 where
+  pub sender : ℕ
+  pub clock : ℕ
+  pub rest : List ℕ
+  pub head : IsHead sender clock bytes rest
+  pub holds : MayHoldMuch rest
+  pub small : length bytes ≤ 60000

@@ -8,4 +8,4 @@ mod writing;
 
 pub use packet::{CodecFault, Packet};
 pub use reading::decode;
-pub use writing::encode;
+pub use writing::{encode, packet_len};

@@ -3,9 +3,9 @@ ghost use Rattle.da_values.specs.Value.{val_of, vals};
 ghost use Rattle.da_values.specs.declared.val.Val.{Val};
 ghost use Rattle.da_values.specs.declared.value.Value.{Value as Kept};
 ghost use Rattle.msg_codec.specs.Packets.{IsPacket};
-ghost use Rattle.msg_codec.specs.Pieces.{Begins, BeginsEach, Behind};
+ghost use Rattle.msg_codec.specs.Pieces.{Begins, BeginsEach, Behind, MayHoldMuch, MayWantMemory, TakesMemory};
 ghost use Rattle.msg_codec.specs.declared.packet.CodecFault.TheVariants.{Memory, NotAPacket};
-ghost use Rattle.std.specs.Prelude.{◌≡◌, ◌≤◌, ℕ, List, [], ◌++◌, length, IfOk, IsErrOf, MatchResult};
+ghost use Rattle.std.specs.Prelude.{◌≡◌, ◌≤◌, ℕ, List, [], ◌++◌, length, IfErr, IfOk, IsErrOf, MatchResult};
 
 use crate::front::{byte_at, head_at, long_at, short_at, word_at};
 use crate::packet::{CodecFault, Packet};
@@ -19,12 +19,16 @@ const MAX_PACKET: usize = 60_000;
 const MAX_DEPTH: u8 = 32;
 
 /// The message whose packet has these bytes. `NotAPacket` comes exactly where no packet has them. Memory is taken in
-/// step with the bytes, and not with the lengths that they tell.
+/// step with the bytes, and not with the lengths that they tell. More than 60,000 bytes, and bytes that begin otherwise than
+/// a packet, are refused without memory.
 pub fn decode(alloc: Global, bytes: &[u8]) -> Result<Packet, CodecFault>
     ensures packet { IfOk result (λ packet. IsPacket packet.sender packet.clock (val_of packet.value) bytes.now) }
     ensures none { IsErrOf result NotAPacket → (sender clock : ℕ) (v : Val) → IsPacket sender clock v bytes.now → ⊥ }
     ensures only { (sender clock : ℕ) (v : Val) → IsPacket sender clock v bytes.now
         → MatchResult result (λ packet. (packet.sender ≡ sender) × (packet.clock ≡ clock) × (val_of packet.value ≡ v)) (λ fault. fault ≡ Memory) }
+
+    // Want of memory comes only where a packet may stand, whose value is a text, a tuple or a set.
+    ensures memory { IsErrOf result Memory → MayWantMemory bytes.now }
 
     // No packet is the beginning of another one.
     ensures whole { IfOk result (λ packet. (sender clock : ℕ) (v : Val) (more : List ℕ) → IsPacket sender clock v (bytes.now ++ more) → more ≡ []) }
@@ -37,6 +41,7 @@ fn packet_of(alloc: Global, bytes: &[u8]) -> Result<Packet, CodecFault>
     ensures packet { IfOk result (λ packet. IsPacket packet.sender packet.clock (val_of packet.value) bytes.now) }
     ensures only { (sender clock : ℕ) (v : Val) → IsPacket sender clock v bytes.now
         → MatchResult result (λ packet. (packet.sender ≡ sender) × (packet.clock ≡ clock) × (val_of packet.value ≡ v)) (λ fault. fault ≡ Memory) }
+    ensures memory { IsErrOf result Memory → MayWantMemory bytes.now }
 {
     if bytes.len() > MAX_PACKET {
         return Err(CodecFault::NotAPacket);
@@ -62,6 +67,7 @@ fn value_at(alloc: Global, bytes: &[u8], depth: u8) -> Result<(Value, &[u8]), Co
     ensures front { IfOk result (λ found. Begins depth (val_of found.0) bytes.now found.1.now) }
     ensures only { (x : Val) (rest : List ℕ) → Begins depth x bytes.now rest
         → MatchResult result (λ found. (val_of found.0 ≡ x) × (found.1.now ≡ rest)) (λ fault. fault ≡ Memory) }
+    ensures memory { IsErrOf result Memory → MayHoldMuch bytes.now }
 {
     match byte_at(bytes) {
         Some((letter, rest)) => behind(alloc, letter, rest, depth),
@@ -76,6 +82,7 @@ fn behind(alloc: Global, letter: u8, bytes: &[u8], depth: u8) -> Result<(Value, 
     ensures front { IfOk result (λ found. Behind depth found.0 letter bytes.now found.1.now) }
     ensures only { (v : Kept) (rest : List ℕ) → Behind depth v letter bytes.now rest
         → MatchResult result (λ found. (found.0 ≡ v) × (found.1.now ≡ rest)) (λ fault. fault ≡ Memory) }
+    ensures memory { IsErrOf result Memory → TakesMemory letter }
 {
     match letter {
         b'i' => integer_at(bytes),
@@ -93,6 +100,7 @@ fn integer_at(bytes: &[u8]) -> Result<(Value, &[u8]), CodecFault>
     ensures front { IfOk result (λ found. (depth : ℕ) → Behind depth found.0 105 bytes.now found.1.now) }
     ensures only { (depth : ℕ) (v : Kept) (rest : List ℕ) → Behind depth v 105 bytes.now rest
         → MatchResult result (λ found. (found.0 ≡ v) × (found.1.now ≡ rest)) (λ fault. fault ≡ Memory) }
+    ensures refused { IfErr result (λ fault. fault ≡ NotAPacket) }
 {
     match long_at(bytes) {
         Some((number, rest)) => Ok((Value::Int(number.cast_signed() as i128), rest)),
@@ -105,6 +113,7 @@ fn truth_at(bytes: &[u8]) -> Result<(Value, &[u8]), CodecFault>
     ensures front { IfOk result (λ found. (depth : ℕ) → Behind depth found.0 98 bytes.now found.1.now) }
     ensures only { (depth : ℕ) (v : Kept) (rest : List ℕ) → Behind depth v 98 bytes.now rest
         → MatchResult result (λ found. (found.0 ≡ v) × (found.1.now ≡ rest)) (λ fault. fault ≡ Memory) }
+    ensures refused { IfErr result (λ fault. fault ≡ NotAPacket) }
 {
     match byte_at(bytes) {
         Some((0, rest)) => Ok((Value::Bool(false), rest)),
@@ -138,6 +147,7 @@ fn process_at(bytes: &[u8]) -> Result<(Value, &[u8]), CodecFault>
     ensures front { IfOk result (λ found. (depth : ℕ) → Behind depth found.0 112 bytes.now found.1.now) }
     ensures only { (depth : ℕ) (v : Kept) (rest : List ℕ) → Behind depth v 112 bytes.now rest
         → MatchResult result (λ found. (found.0 ≡ v) × (found.1.now ≡ rest)) (λ fault. fault ≡ Memory) }
+    ensures refused { IfErr result (λ fault. fault ≡ NotAPacket) }
 {
     match short_at(bytes) {
         Some((0, _)) => Err(CodecFault::NotAPacket),

@@ -7,9 +7,20 @@ ghost use Rattle.msg_codec.specs.Packets.{has_few_parts, joined, packet_bytes, v
 ghost use Rattle.msg_codec.specs.Pieces.{HasRoom, HaveRoom};
 ghost use Rattle.std.specs.Int.RustNames.{FitsSigned};
 ghost use Rattle.std.specs.Int.{w64};
-ghost use Rattle.std.specs.Prelude.{◌≡◌, ◌+◌, ◌^◌, ◌<◌, ◌≤◌, ◌++◌, length, map, take, IsTrue, OnErr, OnOk};
+ghost use Rattle.std.specs.Prelude.{◌≡◌, ◌+◌, ◌^◌, ◌<◌, ◌≤◌, ◌++◌, ℕ, length, map, min, take, IsTrue, OnErr, OnOk};
 
-use da_values::{Buf, NoMemory, Row, SetVal, Str, Value};
+use da_values::{Buf, NoMemory, Row, SetVal, Str, Value, encoded_len};
+
+/// The bytes of a packet in front of its value.
+const PACKET_HEAD: u64 = 13;
+
+/// How many bytes the packet of a message takes, whoever sends it and when; from the greatest u64 on, that number. `encode`
+/// asks for at most 60,000. It takes no memory.
+pub fn packet_len(v: &Value) -> u64
+    ensures { (sender clock : ℕ) → result ≡ min (length (packet_bytes sender clock (val_of v.now))) u64.MAX }
+{
+    encoded_len(v).saturating_add(PACKET_HEAD)
+}
 
 /// Appends the bytes of a message with its sender and its time: 13 bytes, and then those of the value. Its integers lie in
 /// 64 bits, and its tuples have at most 255 parts. The time is at most 2^63 - 1, and there are at most 60,000 bytes. They

@@ -2,15 +2,19 @@
 ghost use Rattle.std.specs.Prelude.{◌<◌, length};
 
 use crate::fault::RowFault;
-use crate::texts::bytes_of;
+use crate::texts::{bytes_of, value_of};
 use da_values::{Buf, List, NoMemory, write_number, write_value};
-use msg_codec::{CodecFault, decode, encode};
+use msg_codec::{CodecFault, decode, encode, packet_len};
 use std::alloc::Global;
 
 /// What bytes say. `packet BYTES` gives the sender, the time and the value of a packet which is written as it stands there,
 /// `again BYTES` only whether it is, and `exact BYTES` whether all of these are no packets or written as they stand: the
-/// bytes that are cut at any place, and those with any byte at any place. Bytes that are no packet give `none`.
+/// bytes that are cut at any place, and those with any byte at any place. Bytes that are no packet give `none`. `size VALUE`
+/// gives how many bytes the packet of a message has, also where that is too many.
 pub fn packet_reply(alloc: Global, kind: &str, words: &str, out: &mut Buf) -> Result<(), RowFault> {
+    if kind == "size" {
+        return Ok(write_number(packet_len(&value_of(alloc, words)?), out)?);
+    }
     let bytes = bytes_of(alloc, words)?;
     match answer(alloc, kind, bytes.as_slice(), out) {
         Ok(()) => Ok(()),

@@ -1,5 +1,5 @@
 -- Aggregates that are bound: each row of the place has a longer one, over which what stands for the operand has its value.
-use Rattle.std.specs.Prelude.{◌≡◌, ◌==◌, ℕ, suc, Bool, true, false, if◌then◌else◌, List, [], ◌∷◌, ◌++◌, map, length, slice_get, Option, Some, None, refl}
+use Rattle.std.specs.Prelude.{◌≡◌, ◌≤◌, ◌==◌, ℕ, suc, Bool, true, false, if◌then◌else◌, List, [], ◌∷◌, ◌++◌, map, length, slice_get, Option, Some, None, refl}
 use Rattle.std.specs.List.{filter}
 use Rattle.std.proofs.Common.{ap, sym, subst, ◌∙◌, arith, append_assoc, append-nil}
 use Rattle.std.proofs.lemmas.Bool.{eqb-true}
@@ -30,7 +30,8 @@ use Rattle.query_plan.proofs.NodeLaws.{Extends-from_test, test_from_Extends}
 use Rattle.quant_norm.specs.GoodPlaces.{AllIn, Good}
 use Rattle.quant_norm.proofs.PlaceLaws.{Grown, grown_itself, grown_on, width_stays, good_on, Made, later, sooner, row_wide, Kept, kept_by, filter_kept, semi_kept}
 use Rattle.quant_norm.proofs.RangeLaws.{one_front, Ranged, of_longer, in_longer, whole_grown}
-use Rattle.quant_norm.proofs.RenameLaws.{seen, wider, seen_front, get_behind, known_value}
+use Rattle.quant_norm.specs.Filtering.{seen}
+use Rattle.quant_norm.proofs.RenameLaws.{wider, seen_front, get_behind, known_value}
 
 pub two_same : {A B : Type 0} (a b : A) (x y : B) → a ≡ b → x ≡ y → ◌≡◌ {A = A × B} (a, x) (b, y)
 two_same a b x y e f = cc
@@ -49,6 +50,7 @@ module _ (d : Data) where
     pub grown : Grown nodes end.0
     pub good : Good end.0 end.1
     pub vars_same : end.1.vars ≡ at.vars
+    pub no_narrower : at.width ≤ end.1.width
     pub into : (r : Row) → Has (node_rows d nodes at.node) r → (more : Row) × Has (node_rows d end.0 end.1.node) (r ++ more)
     pub from : (q : Row) → Has (node_rows d end.0 end.1.node) q → (r : Row) × (more : Row) × Has (node_rows d nodes at.node) r × (q ≡ r ++ more) × ((u : Row) → value end.2 (q ++ u) ≡ meant (seen at.vars r))
 
@@ -57,6 +59,7 @@ module _ (d : Data) where
     grown = grown_itself nodes;
     good = good;
     vars_same = refl;
+    no_narrower = omega arith;
     into = λ r h. ([], subst (Has (node_rows d nodes at.node)) (sym (append-nil r)) h);
     from = λ q h. (q, [], h, sym (append-nil q), λ u. worth q u h);
   }
@@ -67,6 +70,7 @@ module _ (d : Data) where
     grown = grown_on nodes middle.0 end.0 one.grown two.grown;
     good = two.good;
     vars_same = two.vars_same ∙ one.vars_same;
+    no_narrower = omega (arith, one.no_narrower, two.no_narrower);
     into = λ r h.
         let (more, between) = one.into r h in
         let (most, there) = two.into (r ++ more) between in
@@ -90,6 +94,7 @@ module _ (d : Data) where
     grown = bound.grown;
     good = bound.good;
     vars_same = bound.vars_same;
+    no_narrower = bound.no_narrower;
     into = bound.into;
     from = λ q h. let (r, more, there, longer, is) = bound.from q h in (r, more, there, longer, λ u. made end.2 (q ++ u) ∙ ap worth (is u) ∙ sym (same (seen at.vars r)));
   }
@@ -150,7 +155,7 @@ module _ (d : Data) where
               let same : s ≡ r = one_front s r (r ++ more) (rest, front) (more, refl) (wide_alike s r begin h) in
               (r ++ more, inner.into (r ++ more) between (compared_at (r ++ more) s is ∙ subst (λ z. meets z ≡ true) (sym same) passes), (more, refl))),
         ))
-        (semi_kept d nodes at child good (grown_on nodes all child.0 bound.grown inner.grown) inner.good.plan inner.good.there)
+        (semi_kept d nodes at child good (grown_on nodes all child.0 bound.grown inner.grown) inner.good.plan inner.good.there (omega (arith, inner.good.wide, bound.no_narrower)))
 
     choose : (flat : Bool) → (at.node == last.node) ≡ flat → Kept d (λ r. meets r ≡ true) nodes at (if flat then filter_on (condition.Cmp op a b) at all else semi_on at child)
     choose true e = flat_kept (eqb-true at.node last.node e)
@@ -228,9 +233,9 @@ module _ (d : Data) where
             there = made.there;
             wide = made.wide ∙ ap suc (width_stays nodes child.0 at.node grown good.there ∙ good.wide);
             vars_in = wider at.vars at.width (suc at.width) (omega arith) good.vars_in;
-            tight = omega (arith, good.tight, made.reads.0);
           };
           vars_same = refl;
+          no_narrower = omega arith;
           into = λ r h. (part r ∷ [], made.into (r ++ part r ∷ []) (r, later d nodes child.0 at.node r grown good.there h, refl));
           from = λ q h.
               let (r, there, e) = made.from q h in

@@ -3,6 +3,7 @@ pub mod AwaitedLaws
 pub mod BoundLaws
 pub mod ClassLaw
 pub mod CountSteps
+pub mod FilterLaw
 pub mod FullNodes
 pub mod FullPlans
 pub mod GatherLaws

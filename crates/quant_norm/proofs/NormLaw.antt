@@ -2,7 +2,7 @@
 -- one that keeps no rule of types.
 use Rattle.std.specs.Prelude.{◌≡◌, ◌⊎◌, ℕ, suc, ℤ, ◌+ℤ◌, neg_ℤ, Bool, true, false, not, ◌||◌, if◌then◌else◌, List, [], ◌∷◌, ◌++◌, map, Option, Some, None, refl}
 use Rattle.std.specs.List.{AllByRecursion, list_any, list_all, filter}
-use Rattle.std.proofs.Common.{ap, sym, subst, ◌∙◌, inl, inr}
+use Rattle.std.proofs.Common.{ap, sym, subst, ◌∙◌, arith, inl, inr}
 use Rattle.std.proofs.lemmas.Bool.{and_parts, and_from, or_cases, or_left, or_right}
 use Rattle.da_values.specs.declared.val.Val.{Val}
 use Rattle.da_values.specs.declared.val.Val.TheVariants as val
@@ -33,9 +33,10 @@ use Rattle.da_lang.proofs.QueryLaws.{holds-Truth, holds-Cmp, holds-Not, holds-An
 use Rattle.query_plan.specs.Plans.{Place, Norm, Binding, added, at_node, filter_on, anti_on, gens_on, all_on, or_on, any_on, test_on, denied_on, some_on, each_on, all_bound, compared, cond_step, operand_step, behind_agg, agg_step, signed_step, norm, operand_bound, agg_bound, signed_bound, norm_if, known, rename, rename_other}
 use Rattle.quant_norm.proofs.BoundLaws.{Bound, bound_none, bound_then, bound_by, compared_kept, agg_bound_law, term_behind}
 use Rattle.quant_norm.specs.GoodPlaces.{Good}
-use Rattle.quant_norm.proofs.PlaceLaws.{Grown, grown_on, still_there, good_on, added_made, Kept, kept_by, kept_then, kept_all, filter_kept, union_kept}
+use Rattle.quant_norm.proofs.PlaceLaws.{Grown, grown_on, still_there, width_stays, good_on, added_made, Kept, kept_by, kept_then, kept_all, filter_kept, union_kept}
 use Rattle.quant_norm.proofs.RangeLaws.{IsNorm, gens_ranged, not_kept, some_kept, each_kept}
-use Rattle.quant_norm.proofs.RenameLaws.{seen, known_value}
+use Rattle.quant_norm.specs.Filtering.{seen}
+use Rattle.quant_norm.proofs.RenameLaws.{known_value}
 
 or_false : (x : Bool) → (x || false) ≡ x
 or_false true = refl
@@ -245,7 +246,8 @@ module _ (d : Data) where
       bound_by d (operand_value d) (λ s. aggregate op (other_value d s other) (term_set d t (filter (holds_where d b) (extensions d gens s)))) (operand_value d) (agg_value d (made_agg op gens b t other))
       (λ x. x) (λ z. z) nodes at (end.0, behind_agg at end.1, operand.Term (term.Part (suc at.width))) (λ x r. refl) (λ r. agg-made d r op gens b t other)
       (agg_bound_law d op t other (extensions d gens) (holds_where d b) nodes at last child good ranged kept end
-      (added_made d child.0 n kept.good.plan (still_there nodes child.0 at.node grown good.there, (kept.good.there, tt)) tt))
+      (added_made d child.0 n kept.good.plan (still_there nodes child.0 at.node grown good.there, (kept.good.there, tt))
+      (omega (arith, width_stays nodes child.0 at.node grown good.there, good.wide, kept.good.wide, ranged.no_narrower))))
 
   over_case : (op : AggOp) (gens : List RGen) (b : Option Cond) (t : Term) (other : Option Term) → Where OfCond b → OfAgg (made_agg op gens b t other)
   over_case op gens b t other law =

@@ -43,10 +43,10 @@ even_local : (f g : ℕ → ℕ) (n : Node) → AllByRecursion (λ j. f j ≡ g 
 even_local f g node.Root same even = even
 even_local f g (node.Gen p gen) same even = even
 even_local f g (node.Filter p b) same even = even
-even_local f g (node.Semi p c) same even = even
-even_local f g (node.Anti p c) same even = even
+even_local f g (node.Semi p c) same even = omega (arith, even, same.0, same.1.0)
+even_local f g (node.Anti p c) same even = omega (arith, even, same.0, same.1.0)
 even_local f g (node.Union a b) same even = sym same.0 ∙ even ∙ same.1.0
-even_local f g (node.AggBind p c op t other) same even = even
+even_local f g (node.AggBind p c op t other) same even = omega (arith, even, same.0, same.1.0)
 
 same_widths : (nodes more : List Node) (js : List ℕ) (i : ℕ) → i ≤ length nodes → AllByRecursion (λ j. j < i) js → AllByRecursion (λ j. width_of nodes j ≡ width_of (nodes ++ more) j) js
 same_widths nodes more [] i less all = tt
@@ -82,7 +82,6 @@ good_on nodes longer at good grown plan = record {
   there = still_there nodes longer at.node grown good.there;
   wide = width_stays nodes longer at.node grown good.there ∙ good.wide;
   vars_in = good.vars_in;
-  tight = good.tight;
 }
 
 module _ (d : Data) where
@@ -91,7 +90,6 @@ module _ (d : Data) where
     pub grown : Grown nodes end.0
     pub plan : IsPlan end.0
     pub there : end.1 < length end.0
-    pub reads : ReadsBelow end.1 n
     pub wide : width_of end.0 end.1 ≡ width_step (width_of nodes) n
     pub into : (r : Row) → InNode d (node_rows d nodes) n r → Has (node_rows d end.0 end.1) r
     pub from : (r : Row) → Has (node_rows d end.0 end.1) r → InNode d (node_rows d nodes) n r
@@ -101,7 +99,6 @@ module _ (d : Data) where
     grown = (n ∷ [], refl);
     plan = plan_push nodes n plan below even;
     there = omega (arith, one_behind nodes n);
-    reads = below;
     wide = width_of-last nodes n;
     into = λ r k. subst (λ z. Has z r) (sym (node_rows-last d nodes n)) (in_set d (node_rows d nodes) n r k);
     from = λ r h. of_set d (node_rows d nodes) n r (subst (λ z. Has z r) (node_rows-last d nodes n) h);
@@ -112,7 +109,6 @@ module _ (d : Data) where
     grown = grown_itself nodes;
     plan = plan;
     there = slice_get_within nodes k n found;
-    reads = (plan k n found).0;
     wide = width_of-at nodes k n found (plan k n found).0;
     into = λ r h. in_rows d nodes k n r found (plan k n found).0 h;
     from = λ r h. of_rows d nodes k n r found (plan k n found).0 h;
@@ -173,11 +169,11 @@ module _ (d : Data) where
   }
 
   -- from what a node that was added has
-  kept_made : (P : Row → Type 0) (n : Node) (nodes before : List Node) (at : Place) (end : List Node × ℕ) → Good nodes at → Grown nodes before → Made n before end → width_step (width_of before) n ≡ at.width → at.width ≤ length at.vars + end.1
+  kept_made : (P : Row → Type 0) (n : Node) (nodes before : List Node) (at : Place) (end : List Node × ℕ) → Good nodes at → Grown nodes before → Made n before end → width_step (width_of before) n ≡ at.width
       → ((r : Row) → Has (node_rows d nodes at.node) r → P r → InNode d (node_rows d before) n r) → ((r : Row) → InNode d (node_rows d before) n r → Has (node_rows d nodes at.node) r × P r) → Kept P nodes at end
-  kept_made P n nodes before at end good grown made wide tight into from = record {
+  kept_made P n nodes before at end good grown made wide into from = record {
     grown = grown_on nodes before end.0 grown made.grown;
-    good = record { plan = made.plan; there = made.there; wide = made.wide ∙ wide; vars_in = good.vars_in; tight = tight };
+    good = record { plan = made.plan; there = made.there; wide = made.wide ∙ wide; vars_in = good.vars_in };
     into = λ r h p. made.into r (into r h p);
     from = λ r h. from r (made.from r h);
   }
@@ -186,26 +182,26 @@ module _ (d : Data) where
   filter_kept b nodes at good =
       let made = added_made nodes (node.Filter at.node b) good.plan (good.there, tt) tt in
       kept_made (λ r. holds d b r ≡ true) (node.Filter at.node b) nodes nodes at (filter_on b at nodes) good (grown_itself nodes)
-      made good.wide (omega (arith, good.tight, made.reads.0)) (λ r h e. (h, e)) (λ r k. k)
+      made good.wide (λ r h e. (h, e)) (λ r k. k)
 
   -- a place, and a node that stands behind it
-  pub semi_kept : (nodes : List Node) (at : Place) (child : List Node × ℕ) → Good nodes at → Grown nodes child.0 → IsPlan child.0 → child.1 < length child.0 → Kept (λ r. (s : Row) × Has (node_rows d child.0 child.1) s × Extends r s) nodes at (semi_on at child)
-  semi_kept nodes at child good grown plan there =
-      let made = added_made child.0 (node.Semi at.node child.1) plan (still_there nodes child.0 at.node grown good.there, (there, tt)) tt in
+  pub semi_kept : (nodes : List Node) (at : Place) (child : List Node × ℕ) → Good nodes at → Grown nodes child.0 → IsPlan child.0 → child.1 < length child.0 → at.width ≤ width_of child.0 child.1 → Kept (λ r. (s : Row) × Has (node_rows d child.0 child.1) s × Extends r s) nodes at (semi_on at child)
+  semi_kept nodes at child good grown plan there fits =
+      let wide : width_of child.0 at.node ≡ at.width = width_stays nodes child.0 at.node grown good.there ∙ good.wide in
+      let made = added_made child.0 (node.Semi at.node child.1) plan (still_there nodes child.0 at.node grown good.there, (there, tt)) (omega (arith, wide, fits)) in
       kept_made (λ r. (s : Row) × Has (node_rows d child.0 child.1) s × Extends r s) (node.Semi at.node child.1) nodes child.0 at (semi_on at child) good grown
       made
-      (width_stays nodes child.0 at.node grown good.there ∙ good.wide)
-      (omega (arith, good.tight, made.reads.0))
+      wide
       (λ r h found. (later nodes child.0 at.node r grown good.there h, found))
       (λ r k. (sooner nodes child.0 at.node r grown good.there k.0, k.1))
 
-  pub anti_kept : (nodes : List Node) (at : Place) (child : List Node × ℕ) → Good nodes at → Grown nodes child.0 → IsPlan child.0 → child.1 < length child.0 → Kept (λ r. (s : Row) → Has (node_rows d child.0 child.1) s → Extends r s → ⊥) nodes at (anti_on at child)
-  anti_kept nodes at child good grown plan there =
-      let made = added_made child.0 (node.Anti at.node child.1) plan (still_there nodes child.0 at.node grown good.there, (there, tt)) tt in
+  pub anti_kept : (nodes : List Node) (at : Place) (child : List Node × ℕ) → Good nodes at → Grown nodes child.0 → IsPlan child.0 → child.1 < length child.0 → at.width ≤ width_of child.0 child.1 → Kept (λ r. (s : Row) → Has (node_rows d child.0 child.1) s → Extends r s → ⊥) nodes at (anti_on at child)
+  anti_kept nodes at child good grown plan there fits =
+      let wide : width_of child.0 at.node ≡ at.width = width_stays nodes child.0 at.node grown good.there ∙ good.wide in
+      let made = added_made child.0 (node.Anti at.node child.1) plan (still_there nodes child.0 at.node grown good.there, (there, tt)) (omega (arith, wide, fits)) in
       kept_made (λ r. (s : Row) → Has (node_rows d child.0 child.1) s → Extends r s → ⊥) (node.Anti at.node child.1) nodes child.0 at (anti_on at child) good grown
       made
-      (width_stays nodes child.0 at.node grown good.there ∙ good.wide)
-      (omega (arith, good.tight, made.reads.0))
+      wide
       (λ r h none. (later nodes child.0 at.node r grown good.there h, none))
       (λ r k. (sooner nodes child.0 at.node r grown good.there k.0, k.1))
 
@@ -218,7 +214,6 @@ module _ (d : Data) where
       kept_made (λ r. P r ⊎ Q r) (node.Union left.1 right.1) nodes right.0 at (added right.0 (node.Union left.1 right.1)) good (grown_on nodes left.0 right.0 one.grown two.grown)
       made
       left_wide
-      (omega (arith, one.good.tight, made.reads.0))
       (λ r h either. elim either [
         | inl p ↦ inl (later left.0 right.0 left.1 r two.grown one.good.there (one.into r h p))
         | inr q ↦ inr (two.into r (later nodes left.0 at.node r one.grown good.there h) q)

@@ -1,8 +1,7 @@
 -- The rows of a chain of generators are the extensions of the rows that it stands on.
-use Rattle.std.specs.Prelude.{◌≡◌, ◌+◌, ℕ, suc, Bool, true, not, List, [], ◌∷◌, ◌++◌, length, Option, Some, None, refl}
+use Rattle.std.specs.Prelude.{◌≡◌, ◌≤◌, ◌+◌, ℕ, suc, Bool, true, not, List, [], ◌∷◌, ◌++◌, length, Option, Some, None, refl}
 use Rattle.std.specs.List.{list_any, list_all, range_with_len}
-use Rattle.std.proofs.Common.{ap, sym, subst, ◌∙◌, inl, inr, arith, length-append, append-nil}
-use Rattle.std.proofs.lemmas.List.FromFn.{length-range_with_len}
+use Rattle.std.proofs.Common.{ap, sym, subst, ◌∙◌, inl, inr, arith, append-nil}
 use Rattle.std.proofs.lemmas.Bool.{false≢true, not-true, not_from_false, false_from_ne_true, cases_Bool}
 use Rattle.da_values.specs.Sets.{Has}
 use Rattle.da_values.proofs.Members.{of_filter_map, Has-filter_map, of_flat_map, Has-flat_map, Has-from_any, any_from_has, each_from_all, all_from_each}
@@ -18,7 +17,8 @@ use Rattle.query_plan.specs.Plans.{Place, Norm, added, behind, vars_behind, gen_
 use Rattle.query_plan.proofs.WidthLaws.{candidate_of}
 use Rattle.quant_norm.specs.GoodPlaces.{AllIn, Good}
 use Rattle.quant_norm.proofs.PlaceLaws.{Grown, grown_itself, grown_on, Made, added_made, Kept, kept_by, semi_kept, anti_kept, row_wide}
-use Rattle.quant_norm.proofs.RenameLaws.{seen, AllIn-append, AllIn-range, wider, seen_more, Tracks, behind_tracks, HasParts, Both, candidate_follows, parts_renamed}
+use Rattle.quant_norm.specs.Filtering.{seen}
+use Rattle.quant_norm.proofs.RenameLaws.{AllIn-append, AllIn-range, wider, seen_more, Tracks, behind_tracks, HasParts, Both, candidate_follows, parts_renamed}
 
 -- two beginnings of one row that are equally long
 pub same_front : (a b xs ys : Row) → a ++ xs ≡ b ++ ys → length a ≡ length b → a ≡ b
@@ -61,6 +61,7 @@ module _ (d : Data) where
   pub record Ranged (more : Row → List Row) (nodes : List Node) (at : Place) (end : List Node × Place) : Type 0 where
     pub grown : Grown nodes end.0
     pub good : Good end.0 end.1
+    pub no_narrower : at.width ≤ end.1.width
     pub into : (r s : Row) → Has (node_rows d nodes at.node) r → Has (more (seen at.vars r)) s → (q : Row) × Has (node_rows d end.0 end.1.node) q × Extends r q × (seen end.1.vars q ≡ s)
     pub from : (q : Row) → Has (node_rows d end.0 end.1.node) q → (r : Row) × Has (node_rows d nodes at.node) r × Extends r q × Has (more (seen at.vars r)) (seen end.1.vars q)
 
@@ -68,6 +69,7 @@ module _ (d : Data) where
   ranged_itself nodes at good = record {
     grown = grown_itself nodes;
     good = good;
+    no_narrower = omega arith;
     into = λ r s h k. elim k [ inl e ↦ (r, h, extends_itself r, sym e) | inr none ↦ absurd none ];
     from = λ q h. (q, h, extends_itself q, inl refl);
   }
@@ -76,6 +78,7 @@ module _ (d : Data) where
   ranged_then g gs nodes at middle end one others = record {
     grown = grown_on nodes middle.0 end.0 one.grown others.grown;
     good = others.good;
+    no_narrower = omega (arith, one.no_narrower, others.no_narrower);
     into = λ r s h k.
         let (t, first, more) = of_flat_map (extensions d gs) (step_rows d g (seen at.vars r)) s k in
         let (p, there, longer, is) = one.into r t h first in
@@ -125,13 +128,13 @@ module _ (d : Data) where
       vars_in = AllIn-append at.vars (range_with_len (suc at.width) (parts_added g)) (at.width + parts_added g)
           (wider at.vars at.width (at.width + parts_added g) (omega arith) good.vars_in)
           (AllIn-range (parts_added g) (suc at.width) (at.width + parts_added g) (omega arith) (omega arith));
-      tight = omega (arith, good.tight, made.reads.0, length-append at.vars (range_with_len (suc at.width) (parts_added g)), length-range_with_len (suc at.width) (parts_added g));
     }
 
     step_ranged : Ranged (step_rows d g) nodes at (end.0, last)
     step_ranged = record {
       grown = made.grown;
       good = good_behind;
+      no_narrower = omega arith;
       into = λ r s h k.
           let (c, element, e) = of_filter_map (λ c. matched_candidate d g.message g.peer c (seen at.vars r)) (candidates d g.source) s k in
           let (more, is, found, long) = both_right (parts_added g) r (seen at.vars r) s _ _ (follows c r element h) e in (
@@ -172,7 +175,7 @@ module _ (d : Data) where
             let same : s ≡ r = extends_same r s longer (row_wide d nodes at good r h ∙ sym (row_wide d nodes at good s begin)) in
             false≢true (sym (not-true (test r) e) ∙ ap test (sym same) ∙ holds_there)),
       ))
-      (anti_kept d nodes at child good kept.grown kept.good.plan kept.good.there)
+      (anti_kept d nodes at child good kept.grown kept.good.plan kept.good.there (omega (arith, kept.good.wide)))
 
   -- rows behind a range, of which some meet a test
   module _ (more : Row → List Row) (test : Row → Bool) (nodes : List Node) (at : Place) (last : List Node × Place) (end : List Node × ℕ) (good : Good nodes at) (ranged : Ranged more nodes at last) (kept : Kept d (λ q. test (seen last.1.vars q) ≡ true) last.0 last.1 end) where
@@ -199,7 +202,7 @@ module _ (d : Data) where
           (λ found. let (q, there, longer) = found in let (one, passes) = of_longer r q h there longer in any_from_has test (more (seen at.vars r)) (seen last.1.vars q) one passes),
           (λ e. let (s, one, passes) = Has-from_any test (more (seen at.vars r)) e in let (q, there, longer, is) = in_longer r s h one passes in (q, there, longer)),
         ))
-        (semi_kept d nodes at end good whole_grown kept.good.plan kept.good.there)
+        (semi_kept d nodes at end good whole_grown kept.good.plan kept.good.there (omega (arith, kept.good.wide, ranged.no_narrower)))
 
   pub each_kept : (more : Row → List Row) (test : Row → Bool) (nodes : List Node) (at : Place) (last : List Node × Place) (end : List Node × ℕ) → Good nodes at → Ranged more nodes at last → Kept d (λ q. not (test (seen last.1.vars q)) ≡ true) last.0 last.1 end
       → Kept d (λ r. list_all test (more (seen at.vars r)) ≡ true) nodes at (anti_on at end)
@@ -214,4 +217,4 @@ module _ (d : Data) where
             let (one, fails) = of_longer more (λ z. not (test z)) nodes at last end good ranged kept r q h there longer in
             false≢true (sym (not-true (test (seen last.1.vars q)) fails) ∙ each_from_all test (more (seen at.vars r)) (seen last.1.vars q) e one)),
       ))
-      (anti_kept d nodes at end good (whole_grown more (λ z. not (test z)) nodes at last end good ranged kept) kept.good.plan kept.good.there)
+      (anti_kept d nodes at end good (whole_grown more (λ z. not (test z)) nodes at last end good ranged kept) kept.good.plan kept.good.there (omega (arith, kept.good.wide, ranged.no_narrower)))

@@ -23,14 +23,11 @@ use Rattle.da_lang.proofs.LiveMatchLaws.{behind}
 use Rattle.da_lang.proofs.MatchingLaws.{term-Const, term-Me, term-Slot, term-Part, term-Tuple, term-Foreign, match-Any, match-Bind, match-Const, match-Me, match-Equal, match-Tuple}
 use Rattle.da_lang.proofs.TermInduction.{term_induction, pattern_induction}
 use Rattle.quant_norm.specs.GoodPlaces.{IsIn, AllIn}
+use Rattle.quant_norm.specs.Filtering.{seen}
 use Rattle.query_plan.specs.Nodes.{binds, parts_added}
 use Rattle.query_plan.proofs.WidthLaws.{binds-Any, binds-Bind, binds-Const, binds-Me, binds-Equal, binds-Tuple, IsOf}
 use Rattle.query_plan.specs.Plans.{part_of, known, rename, rename_pattern, rename_gen}
 use Rattle.query_plan.proofs.PlansAt.{rename-Const, rename-Me, rename-Slot, rename-Part, rename-Tuple, rename-Foreign, renamed-Any, renamed-Bind, renamed-Const, renamed-Me, renamed-Equal, renamed-Tuple}
-
--- the values of the variables that stand in these parts of a row
-abbrev pub seen : List ℕ → Row → Row
-seen vars row = map (λ part. or_nothing (at_number row part)) vars
 
 -- Members of lists one behind the other.
 

@@ -3,10 +3,11 @@ use Rattle.std.specs.Prelude.{◌≡◌, ◌==◌, ℕ, zero, suc, Bool, true, f
 use Rattle.std.specs.List.{AllByRecursion, list_all, list_any, flat_map}
 use Rattle.std.specs.Option.{option_map}
 use Rattle.std.proofs.Common.{ap, sym, subst, ◌∙◌, inl, inr}
-use Rattle.std.proofs.lemmas.Bool.{and_parts, or_from}
+use Rattle.std.proofs.lemmas.Bool.{and_parts, false_from_ne_true, false≢true, or_from}
 use Rattle.std.proofs.lemmas.List.Folds.{list_any-append}
 use Rattle.da_values.specs.declared.value.Value.TheVariants as kept
 use Rattle.da_values.specs.Sets.{Has}
+use Rattle.da_values.proofs.Members.{any_from_has}
 use Rattle.da_lang.specs.declared.program.Class.{Class}
 use Rattle.da_lang.specs.declared.program.Program.{Program}
 use Rattle.da_lang.specs.declared.query.Agg.{Agg, roll-Agg}
@@ -42,6 +43,7 @@ use Rattle.query_plan.specs.Spelled.{same_node}
 use Rattle.query_plan.proofs.PlansAt.{norm-Truth, norm-Cmp, norm-Not, norm-And, norm-Or, norm-Quant, bound-Term, bound-Agg, bound-Chain, bound-agg, bound-signed}
 use Rattle.query_plan.proofs.PlanTermsAt.{names-Const, names-Part, operand_terms, signed_terms, terms-Truth, terms-Cmp, terms-Term, terms-Chain, terms_of_signed}
 use Rattle.quant_norm.specs.KeepsTypes.{KeepsTypes}
+use Rattle.quant_norm.specs.SetSlots.{SparesSets}
 use Rattle.quant_norm.proofs.NormGathers.{rows_found}
 use Rattle.quant_norm.proofs.SetTerms.{term_kept, gen_kept, term_free, gen_free}
 use Rattle.quant_norm.proofs.TypedLaws.{typed_keeps}
@@ -390,5 +392,11 @@ module _ (rules : Known) (s : ℕ) (held : Ty) (there : slot_type rules s ≡ So
   class_spared class keeps = met_spared (class_met class) class.queries opening_plan keeps.queries keeps.conds refl
 
 -- of each class of a typed program
-pub typed_spared : (p : Program) (class : Class) → IsTyped p → Has p.classes class → (s : ℕ) (ty : Ty) → slot_type (known p.messages class.queries class.slots) s ≡ Some ty → is_set ty ≡ true → Spared s (norm_class class).nodes
+typed_spared : (p : Program) (class : Class) → IsTyped p → Has p.classes class → (s : ℕ) (ty : Ty) → slot_type (known p.messages class.queries class.slots) s ≡ Some ty → is_set ty ≡ true → Spared s (norm_class class).nodes
 typed_spared p class typed h s ty there set = class_spared (known p.messages class.queries class.slots) s ty there set class (typed_keeps p class typed h)
+
+-- so no node names such a slot
+pub typed_spares : (p : Program) (class : Class) → IsTyped p → Has p.classes class → SparesSets p class (norm_class class).nodes
+typed_spares p class typed h s (ty, there, set) n among =
+    false_from_ne_true (node_names s n)
+    (λ named. false≢true (sym (typed_spared p class typed h s ty there set) ∙ any_from_has (node_names s) (norm_class class).nodes n among named))

@@ -1,9 +1,12 @@
 -- What is said of the class at a place of a program.
-use Rattle.std.specs.Prelude.{◌≡◌, ◌<◌, ℕ, length, get_or, slice_get, Some, Result, Ok, Err, IfOk, IfErr}
+use Rattle.std.specs.Prelude.{◌≡◌, ◌<◌, ℕ, suc, length, get_or, slice_get, Some, Result, Ok, Err, IfOk, IfErr}
 use Rattle.std.proofs.Common.{ap, sym, subst, ◌∙◌}
 use Rattle.std.proofs.lemmas.Option.{slice_get-get_or}
+use Rattle.std.proofs.lemmas.Result.{IfOk-weaker}
+use Rattle.da_values.specs.Sets.{Has}
 use Rattle.da_lang.specs.declared.program.Class.{Class}
 use Rattle.da_lang.specs.declared.program.Program.{Program}
+use Rattle.da_types.proofs.totality.Worlds.{numbered_has}
 use Rattle.query_plan.specs.declared.plan.Plan.{Plan}
 use Rattle.query_plan.specs.Questions.{norm_class}
 use Rattle.quant_norm.specs.Making.{MakesPlan}
@@ -25,6 +28,12 @@ module _ (p q : Program) (number : ℕ) (its : Class) (same : q ≡ p) (inside :
   pub plan_answered : (P : Class → Plan → Type 0) (r : Result Plan PlanFault) → IfOk r (P its) → IfOk r (λ plan. (c : Class) → slice_get p.classes number ≡ Some c → P c plan)
   plan_answered P (Ok plan) holds = λ c there. subst (λ z. P z plan) (one c there) holds
   plan_answered P (Err e) holds = tt
+
+  -- what is so of the plan of each class of the program
+  pub law_answered : (P : Class → Plan → Type 0) → ((c : Class) → Has p.classes c → P c (norm_class c)) → (r : Result Plan PlanFault) → IfOk r (λ plan. plan ≡ norm_class its) → IfOk r (λ plan. (c : Class) → slice_get p.classes number ≡ Some c → P c plan)
+  law_answered P law r made =
+      IfOk-weaker r (λ plan. (c : Class) → slice_get p.classes number ≡ Some c → plan ≡ norm_class c) (λ plan. (c : Class) → slice_get p.classes number ≡ Some c → P c plan)
+      (λ plan all c there. subst (P c) (sym (all c there)) (law c (numbered_has p.classes (suc number) c there))) (plan_answered (λ c plan. plan ≡ norm_class c) r made)
 
   abbrev Exceeds : ℕ → Class → Type 0
   Exceeds line c = (line ≡ c.line) × (4096 < length (norm_class c).nodes)

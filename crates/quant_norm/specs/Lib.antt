@@ -1,4 +1,6 @@
 pub mod Either
+pub mod Filtering
 pub mod GoodPlaces
 pub mod KeepsTypes
 pub mod Making
+pub mod SetSlots

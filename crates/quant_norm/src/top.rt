@@ -1,6 +1,13 @@
 //! The plan of a class, where it has not too many nodes.
 ghost use Rattle.da_lang.specs.declared.program.Class.{Class as ClassOf};
+ghost use Rattle.da_lang.specs.Live.{live};
+ghost use Rattle.da_values.specs.Sets.{IsAlike};
+ghost use Rattle.quant_norm.specs.Filtering.{FiltersEach};
+ghost use Rattle.quant_norm.specs.SetSlots.{SparesSets};
 ghost use Rattle.quant_norm.specs.declared.top.PlanFault.TheVariants.{TooMany};
+ghost use Rattle.query_plan.specs.Nodes.{IsPlan};
+ghost use Rattle.query_plan.specs.PlainNodes.{PlainNodes};
+ghost use Rattle.query_plan.specs.PlanLive.{plan_live};
 ghost use Rattle.query_plan.specs.Questions.{norm_class};
 ghost use Rattle.query_plan.specs.Told.{IsPlanOf};
 ghost use Rattle.std.specs.Prelude.{◌≡◌, ◌<◌, ◌≤◌, ℕ, IfErr, IfOk, Some, length, slice_get};
@@ -48,6 +55,18 @@ pub fn normalise(alloc: Global, t: &Typed, class: usize) -> Result<Plan, PlanFau
     // In every world its nodes tell each numbered query of the class and each condition of an `await`.
     ensures told { IfOk result (λ plan. (c : ClassOf) → slice_get t.now.classes class ≡ Some c
         → IsPlanOf c plan) }
+
+    // Each node reads lower ones alone, and has a condition that asks nothing of histories and sets. At each place among the
+    // nodes the node of each condition has the rows of the place of which the condition holds.
+    ensures plan { IfOk result (λ plan. IsPlan plan.nodes) }
+    ensures plain { IfOk result (λ plan. PlainNodes plan.nodes) }
+    ensures filters { IfOk result (λ plan. FiltersEach plan.nodes) }
+
+    // No node names a slot of a set type, and the live patterns are those of the class, as a set.
+    ensures sets { IfOk result (λ plan. (c : ClassOf) → slice_get t.now.classes class ≡ Some c
+        → SparesSets t.now c plan.nodes) }
+    ensures live { IfOk result (λ plan. (c : ClassOf) → slice_get t.now.classes class ≡ Some c
+        → IsAlike (plan_live plan.nodes) (live c)) }
     ensures few { IfOk result (λ plan. length plan.nodes ≤ MOST_NODES) }
     ensures many { IfErr result (λ fault. (line : ℕ) → fault ≡ TooMany line
         → (c : ClassOf) → slice_get t.now.classes class ≡ Some c
@@ -62,6 +81,8 @@ pub fn normalise(alloc: Global, t: &Typed, class: usize) -> Result<Plan, PlanFau
 fn normal_form(alloc: Global, class: &Class) -> Result<Plan, PlanFault>
     ensures made { IfOk result (λ plan. plan ≡ norm_class class.now) }
     ensures told { IfOk result (λ plan. IsPlanOf class.now plan) }
+    ensures plan { IfOk result (λ plan. IsPlan plan.nodes) }
+    ensures plain { IfOk result (λ plan. PlainNodes plan.nodes) }
     ensures few { IfOk result (λ plan. length plan.nodes ≤ MOST_NODES) }
     ensures many { IfErr result (λ fault. (line : ℕ) → fault ≡ TooMany line
         → (line ≡ class.now.line) × (MOST_NODES < length (norm_class class.now).nodes)) }

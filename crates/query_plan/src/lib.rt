@@ -14,4 +14,4 @@ pub use copy::{copy_node, copy_nodes};
 pub use plan::Plan;
 pub use same::same_node;
 pub use text::{live_line, plan_lines, query_lines};
-pub use width::{added_by, plus};
+pub use width::{added_by, live_width, plus, width_at, widths_of};

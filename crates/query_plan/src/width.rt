@@ -4,7 +4,7 @@ ghost use Rattle.query_plan.specs.Nodes.{binds, in_order, parts_added, width_ste
 ghost use Rattle.std.specs.List.{sum_by};
 ghost use Rattle.std.specs.Prelude.{◌≡◌, ◌+◌, [], IfOk, get_or, if◌then◌else◌};
 
-use da_lang::{Node, Pattern, RGen, Source};
+use da_lang::{LivePattern, Node, Pattern, RGen, Source};
 use da_values::{List, NoMemory};
 use std::alloc::Global;
 
@@ -49,6 +49,16 @@ fn all_variables(patterns: &[Pattern]) -> Result<u16, NoMemory>
     Ok(count)
 }
 
+/// How many parts the rows of a live pattern have.
+pub fn live_width(live: &LivePattern) -> Result<u16, NoMemory>
+    ensures { IfOk result (λ count. count ≡ binds live.now.message + binds live.now.peer) }
+{
+    let message = variables(&live.message)?;
+    let peer = variables(&live.peer)?;
+    let count = plus(message, peer)?;
+    Ok(count)
+}
+
 /// How many parts a generator adds.
 pub fn added_by(gen_: &RGen) -> Result<u16, NoMemory>
     ensures { IfOk result (λ count. count ≡ parts_added gen_.now) }
@@ -78,7 +88,7 @@ fn added_by_peer(gen_: &RGen) -> Result<u16, NoMemory>
 }
 
 /// The width of the rows of a node among these, or 0 where it is not among them.
-pub(crate) fn width_at(widths: &[u16], node: u32) -> u16
+pub fn width_at(widths: &[u16], node: u32) -> u16
     ensures { result ≡ get_or widths.now node 0 }
 {
     match widths.get(node as usize) {
@@ -110,7 +120,7 @@ fn width_behind(node: &Node, widths: &[u16]) -> Result<u16, NoMemory>
 }
 
 /// The width of the rows of each node.
-pub(crate) fn widths_of(alloc: Global, nodes: &[Node]) -> Result<List<u16>, NoMemory>
+pub fn widths_of(alloc: Global, nodes: &[Node]) -> Result<List<u16>, NoMemory>
     ensures { IfOk result (λ widths. widths ≡ in_order 0 width_step [] nodes.now) }
 {
     let mut widths = List::new(alloc);

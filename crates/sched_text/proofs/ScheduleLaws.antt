@@ -7,7 +7,7 @@ use Rattle.da_lang.specs.declared.event.Event.{Event}
 use Rattle.sched_text.specs.declared.schedule.SchedFault.{SchedFault}
 use Rattle.sched_text.specs.declared.schedule.SchedFault.TheVariants.{BadLine, Memory}
 use Rattle.sched_text.specs.Reading.{IsRead}
-use Rattle.sched_text.specs.ScheduleText.{IsBadSchedule, IsLine, SpellsLines, SpellsSchedule, event, none, skipped}
+use Rattle.sched_text.specs.ScheduleText.{HasGoodFront, IsBadSchedule, IsLine, SpellsLines, SpellsSchedule, event, none, skipped}
 use Rattle.sched_text.proofs.EventLaws.{one_event, not_skipped}
 
 pub one_list_of : (all : List (List ℕ)) (events others : List Event) → SpellsLines all events → SpellsLines all others → events ≡ others
@@ -72,3 +72,7 @@ pub only_bad : (text : List ℕ) (result : Result (List Event) SchedFault) (numb
 only_bad text (Ok found) number read bad = not_bad text found number read bad
 only_bad text (Err (BadLine other)) number read bad = inl (ap BadLine (one_bad_line text other number read bad))
 only_bad text (Err Memory) number read bad = inr refl
+
+-- where memory was wanted
+pub memory_wanted : (text : List ℕ) (result : Result (List Event) SchedFault) → IsRead text result → result ≡ Err Memory → HasGoodFront text
+memory_wanted text result read wanted = subst (IsRead text) wanted read

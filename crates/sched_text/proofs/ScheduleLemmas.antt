@@ -89,6 +89,15 @@ read_bad text rest others line events number few came first bad = inr (
 -- a line that added nothing
 pub read_fault : (text rest others line : List ℕ) (events : List Event) (number : ℕ) (fault : SchedFault) → length text ≤ schedule_limit → Came text rest events number → lines rest ≡ line ∷ lines others
     → IsFaultAt line number fault → IsRead text (Err fault)
-read_fault text rest others line events number Memory few came first is = tt
+read_fault text rest others line events number Memory few came first is = record {
+  size = few;
+  before = came.passed;
+  line = line;
+  after = lines others;
+  cut = came.cut ∙ ap (λ x. came.passed ++ x) first;
+  good = all_lines came.passed events came.spelled;
+  event = is.0;
+  is = is.1;
+}
 read_fault text rest others line events number (BadLine n) few came first is =
     subst (IsBadSchedule text) (sym is.0) (read_bad text rest others line events number few came first is.1)

@@ -47,3 +47,14 @@ pub record SpellsSchedule (text : List ℕ) (events : List Event) : Type 0 where
 -- the text is no schedule: its first bad line, or 0 where it is too long
 abbrev pub IsBadSchedule : List ℕ → ℕ → Type 0
 IsBadSchedule text number = ((schedule_limit < length text) × (number ≡ 0)) ⊎ ((length text ≤ schedule_limit) × IsFirstBad (lines text) number)
+
+-- The lines of a text up to an event are lines of a schedule. Where it is read, this event may want memory.
+pub record HasGoodFront (text : List ℕ) : Type 0 where
+  pub size : length text ≤ schedule_limit
+  pub before : List (List ℕ)
+  pub line : List ℕ
+  pub after : List (List ℕ)
+  pub cut : lines text ≡ before ++ line ∷ after
+  pub good : All IsLine before
+  pub event : Event
+  pub is : IsLineOf event line

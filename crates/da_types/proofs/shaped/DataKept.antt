@@ -134,7 +134,7 @@ module _ (p : Program) (c : Class) where
   sent_shaped m (q ∷ qs) d shaped may =
       let entry : IsEntry p (entry_of m q (later d.clock)) = record { proper = may.proper; typed = may.typed; peer = may.receivers q (inl refl) } in
       sent_shaped m qs (sent_at m q (later d.clock) d) (sent_one_shaped m q (later d.clock) d shaped entry (later_below d.clock))
-      (record { proper = may.proper; typed = may.typed; receivers = λ r h. may.receivers r (inr h) })
+      (record { proper = may.proper; typed = may.typed; nested = may.nested; receivers = λ r h. may.receivers r (inr h) })
 
   pub sent-me : (m : Val) (to : List ℕ) (d : Data) → (sent_to m to d).me ≡ d.me
   sent-me m [] d = refl

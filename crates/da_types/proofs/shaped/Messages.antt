@@ -1,5 +1,5 @@
 -- A message that a statement sends has the tag that is written in it, and goes to the processes of its second expression.
-use Rattle.std.specs.Prelude.{◌≡◌, refl, ℕ, Bool, true, false, ◌&&◌, ◌||◌, List, [], ◌∷◌, map, length, Some, Ok, Err}
+use Rattle.std.specs.Prelude.{◌≡◌, refl, ℕ, ◌≤◌, Bool, true, false, ◌&&◌, ◌||◌, List, [], ◌∷◌, map, length, Some, Ok, Err}
 use Rattle.std.proofs.Common.{◌∙◌, ap, sym, subst, inl, inr}
 use Rattle.std.proofs.lemmas.Bool.{false≢true, and_from}
 use Rattle.da_values.specs.declared.val.Val.{Val, out-Val}
@@ -8,6 +8,7 @@ use Rattle.da_values.specs.declared.val.Val.TheOpen as vo
 use Rattle.da_values.specs.declared.val.Val.TheOpen.{Val-F}
 use Rattle.da_values.specs.declared.value.Value.TheVariants as kept
 use Rattle.da_values.specs.Narrow.{is_narrow}
+use Rattle.da_values.specs.Nesting.{nesting}
 use Rattle.da_values.specs.Sets.{Has}
 use Rattle.da_values.specs.Views.{proc_of}
 use Rattle.da_values.proofs.Members.{of_map}
@@ -33,9 +34,10 @@ use Rattle.da_lang.specs.Typing.{text_part, message_tag}
 use Rattle.da_lang.specs.World.{Data}
 use Rattle.da_lang.proofs.EvaluationLaws.{eval-Const, eval-Tuple}
 use Rattle.da_lang.proofs.typing.TypesAt.{is_of_at-Proc}
+use Rattle.da_types.proofs.shaped.Nested.{flat_nests}
 use Rattle.da_types.proofs.shaped.Wholes.{WholeOf, set_parts, process_there}
 use Rattle.da_types.proofs.totality.KindLaws.{holds_parts, set_type, from_layer}
-use Rattle.da_types.proofs.totality.TermLaws.{flat_is}
+use Rattle.da_types.proofs.totality.TermLaws.{flat_fits, flat_is}
 use Rattle.da_types.proofs.totality.WholeValues.{Whole}
 
 -- an expression with a tag is a tuple whose first part is the text
@@ -78,6 +80,10 @@ message_typed p known tag ty v same e tagged one =
     let of_tag : declared p.messages tag ≡ Some ty = ap (λ ms. declared ms tag) (sym same) ∙ flat_is (declared known.messages tag) ty e in
     let is : is_declared p.messages v ≡ true = ap (λ z. holds_of (given z (declared p.messages)) (λ ty. is_of ty v)) tagged ∙ ap (λ z. holds_of z (λ ty. is_of ty v)) of_tag ∙ one.0 in
     and_from (is_declared p.messages v && is_narrow v) (has_processes (length p.procs) v) (and_from (is_declared p.messages v) (is_narrow v) is one.1.1) one.1.2
+
+-- and in it at most 32 tuples and sets stand in one another
+pub message_nested : (known : Known) (tag : List ℕ) (ty : Ty) (v : Val) → message_type known tag ≡ Some ty → is_of ty v ≡ true → nesting v ≤ 32
+message_nested known tag ty v e is = flat_nests ty v (flat_fits (declared known.messages tag) ty e) is
 
 -- the receivers
 proc_type_layer : (x : Ty-F Ty) → proc_in x ≡ true → x ≡ to.Proc

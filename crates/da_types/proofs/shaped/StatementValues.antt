@@ -40,7 +40,7 @@ use Rattle.da_types.specs.KeepsShaped.{FitsSlot, FitsElement, FitSlots, MaySend}
 use Rattle.da_types.proofs.shaped.DataKept.{row_fits_slots}
 use Rattle.da_types.proofs.shaped.ExprValues.{AreThere, IsRight, expr_right}
 use Rattle.da_types.proofs.shaped.Known.{IsWholeProgram, meets}
-use Rattle.da_types.proofs.shaped.Messages.{message_typed, receivers_there, value_tag}
+use Rattle.da_types.proofs.shaped.Messages.{message_nested, message_typed, receivers_there, value_tag}
 use Rattle.da_types.proofs.shaped.Rules.{assign_rule, add_rule, del_rule, send_rule, output_rule, while_rule, for_rule, call_rule, branch_rule, alt_rule, handler_rule, args_rule}
 use Rattle.da_types.proofs.shaped.Wholes.{WholeOf, WholeEach, Gives, as_is_of, all_are_of, set_parts}
 use Rattle.da_types.proofs.totality.Awaits.{item_keeps}
@@ -188,6 +188,7 @@ module _ (p : Program) (c : Class) (d : Data) (f : IsWholeProgram p) (s : Shaped
         record {
           proper = one.1.0;
           typed = message_typed p known_of tag ty m refl over (value_tag c.queries d x tag m tagged message) one;
+          nested = message_nested known_of tag ty m over one.0;
           receivers = receivers_there p to_type w goes (of_type to to_type w (there_by (ItemKind-F.Send x to) to is (inr (inl refl))) has receivers);
         }
 

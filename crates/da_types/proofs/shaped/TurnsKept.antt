@@ -44,8 +44,8 @@ module _ (p : Program) where
   pub sending_told : (me : ℕ) (m : Val) (to : List ℕ) (clock : ℕ) → packet_len m ≤ max_packet → MaySend p m to → All (MayTell p me) (sending me m to clock)
   sending_told me m [] clock small may = All-nil (MayTell p me)
   sending_told me m (q ∷ qs) clock small may =
-      let is : IsSending p me me q (later clock) m = record { from_me = refl; there = may.receivers q (inl refl); proper = may.proper; typed = may.typed; in_time = later_below clock; small = small } in
-      let others = sending_told me m qs (later clock) small (record { proper = may.proper; typed = may.typed; receivers = λ r h. may.receivers r (inr h) }) in
+      let is : IsSending p me me q (later clock) m = record { from_me = refl; there = may.receivers q (inl refl); proper = may.proper; typed = may.typed; nested = may.nested; in_time = later_below clock; small = small } in
+      let others = sending_told me m qs (later clock) small (record { proper = may.proper; typed = may.typed; nested = may.nested; receivers = λ r h. may.receivers r (inr h) }) in
       All-cons (MayTell p me) (Sent me q (later clock) (value_of m)) (sending me m qs (later clock)) (subst (IsSending p me me q (later clock)) (sym (val_of-value_of m)) is) others
 
 module _ (p : Program) (c : Class) where

@@ -36,6 +36,13 @@ flat_is found ty e =
     let (a, is, e) = given_parts found flat ty e in
     is ∙ ap Some (when_parts (is_flat a) a ty e).1
 
+-- and it has at most 32
+pub flat_fits : (found : Option Ty) (ty : Ty) → given found flat ≡ Some ty → is_flat ty ≡ true
+flat_fits found ty e =
+    let (a, is, e) = given_parts found flat ty e in
+    let (deep, same) = when_parts (is_flat a) a ty e in
+    subst (λ x. is_flat x ≡ true) same deep
+
 pub no_set_is : (found : Option Ty) (ty : Ty) → given found no_set ≡ Some ty → found ≡ Some ty
 no_set_is found ty e =
     let (a, is, e) = given_parts found no_set ty e in
