@@ -32,7 +32,7 @@ struct Outside {
 
 /// How a call `KIND OPTIONS | WORDS` ends, and what it writes. The options are `width=16`, `read=0`, `write=0` and `link=0`,
 /// where no others are there. Behind `length` only the number of bytes is told. Behind `link` the link answers by one
-/// datagram that is none of a message, and how many entries it has is told, and how it was bound. Behind `next` it is told
+/// datagram that is none of a message, and its entries are told. Behind `next` it is told
 /// whether the next read of the schedule fails, and behind `udp` the call is over UDP.
 pub fn call_reply<R: Net + AllocGlobal>(
     rt: &R,
@@ -203,16 +203,32 @@ fn tell_length(
     Ok(out.append(b" bytes")?)
 }
 
-// How many entries a link has, and how it was bound.
+// The entries of a link: how it was bound, and of datagrams how many bytes they have.
 fn tell_entries(alloc: Global, entries: &[LinkEntry], out: &mut Buf) -> Result<(), CallFault> {
     out.append(b" [")?;
-    write_number(entries.len() as u64, out)?;
-    out.append(b" entries")?;
-    if let Some(LinkEntry::Bound { port, me, count }) = entries.first() {
-        let bound = format!(in alloc; ", bound {port} {me} {count}")?;
-        out.append(bound.as_str().as_bytes())?;
+    for (place, entry) in entries.iter().enumerate() {
+        if place > 0 {
+            out.append(b", ")?;
+        }
+        tell_entry(alloc, entry, out)?;
     }
     Ok(out.append(b"]")?)
+}
+
+fn tell_entry(alloc: Global, entry: &LinkEntry, out: &mut Buf) -> Result<(), CallFault> {
+    let text = match entry {
+        LinkEntry::Bound { port, me, count } => format!(in alloc; "bound {port} {me} {count}")?,
+        LinkEntry::Answered(LinkAnswer::Datagram(bytes)) => {
+            let size = bytes.len();
+            format!(in alloc; "datagram {size}")?
+        }
+        LinkEntry::Answered(LinkAnswer::Nothing) => format!(in alloc; "nothing")?,
+        LinkEntry::Gave { to, bytes } => {
+            let size = bytes.len();
+            format!(in alloc; "gave {to} {size}")?
+        }
+    };
+    Ok(out.append(text.as_str().as_bytes())?)
 }
 
 // Whether the next read fails.

@@ -14,7 +14,7 @@ use std::{fs, rt};
 use texts::bytes_of;
 
 /// The files of calls, in the order of the answers.
-const FILES: [&str; 5] = ["replays", "words", "faults", "links", "long"];
+const FILES: [&str; 6] = ["replays", "words", "faults", "links", "long", "many"];
 
 /// How many calls there were, and how many of them differ.
 #[derive(Drop)]

@@ -1,8 +1,8 @@
 //! Texts in files, and the bytes that they stand for.
 //!
-//! `@COUNT PART@` stands for so many copies of the part. `\n`, `\r`, `\t` and `\0` stand for the bytes that they have in
-//! Rust, and so does `\x` with two digits.
-use da_values::{Buf, List, NoMemory};
+//! `@COUNT PART@` stands for so many copies of the part, in which `#` is the number of the copy, from 1 on. `\n`, `\r`, `\t`
+//! and `\0` stand for the bytes that they have in Rust, and so does `\x` with two digits.
+use da_values::{Buf, List, NoMemory, write_number};
 use std::alloc::Global;
 
 /// The bytes that a text stands for.
@@ -23,8 +23,20 @@ fn push_copies(alloc: Global, copies: &str, bytes: &mut Buf) -> Result<(), NoMem
     let (count, part) = copies.split_once(' ').unwrap_or(("0", ""));
     let mut one = List::new(alloc);
     push_escaped(part, &mut one)?;
-    for _ in 0..count.parse::<u32>().unwrap_or(0) {
-        bytes.append(one.as_slice())?;
+    for number in 1..=count.parse::<u32>().unwrap_or(0) {
+        push_copy(one.as_slice(), number, bytes)?;
+    }
+    Ok(())
+}
+
+// Adds a copy of a part.
+fn push_copy(part: &[u8], number: u32, bytes: &mut Buf) -> Result<(), NoMemory> {
+    for byte in part {
+        if *byte == b'#' {
+            write_number(u64::from(number), bytes)?;
+        } else {
+            bytes.push(*byte)?;
+        }
     }
     Ok(())
 }

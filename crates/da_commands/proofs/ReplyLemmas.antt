@@ -1,13 +1,13 @@
 -- The replies of the commands.
-use Rattle.std.proofs.Common.{◌≡◌, refl, sym, ◌∙◌, ap, subst, Bool, true, false, ℕ, ◌+◌, ◌^◌, ◌<◌, ◌≤◌, inl, inr, ◌⊎◌, List, [], take, length, codes, decimal, arith}
-use Rattle.std.specs.Prelude.{◌↔◌, Option, Some, None, Result, Ok, Err, IfErr, IfOk, IsErrOf, IsTrue}
-use Rattle.std.proofs.lemmas.Bool.{false≢true}
+use Rattle.std.proofs.Common.{◌≡◌, refl, sym, ◌∙◌, ap, subst, ℕ, ◌+◌, ◌^◌, ◌≤◌, inl, inr, ◌⊎◌, List, take, length, codes, decimal, arith}
+use Rattle.std.specs.Prelude.{Option, Some, None}
 use Rattle.da_lang.specs.declared.event.Event.{Event}
 use Rattle.da_lang.specs.declared.program.Program.{Program}
 use Rattle.da_lang.specs.declared.tree.Tree.{Tree}
 use Rattle.da_lang.specs.Limits.{Resolves}
 use Rattle.da_lang.specs.Typing.{Typed}
-use Rattle.da_outside.specs.Outside.{Appends, AppendsFront, IsWhole, Rose}
+use Rattle.da_outside.specs.Outside.{Appends, AppendsFront, HasCause, IsWhole, Rose}
+use Rattle.da_outside.proofs.OutsideLemmas.{cause_as}
 use Rattle.da_core.specs.PlanLimit.{nodes_fault}
 use Rattle.da_system.specs.declared.system.System.{System}
 use Rattle.da_system.specs.SourceRun.{src_run}
@@ -16,24 +16,22 @@ use Rattle.da_system.specs.StressRun.{stress_text, stress_text_from}
 use Rattle.da_system.specs.SystemStep.{start}
 use Rattle.replay_run.specs.declared.outcome.Outcome.{Outcome}
 use Rattle.replay_run.specs.declared.outcome.Outcome.TheVariants as outcome
-use Rattle.replay_run.specs.Replay.{HasRun, outcome_of}
+use Rattle.replay_run.specs.Replay.{HasEnded, HasRun, outcome_of}
 use Rattle.replay_run.specs.Replay.{run_text as text_on}
+use Rattle.replay_run.specs.Stress.{HasPicked}
 use Rattle.da_commands.specs.declared.program.ProgramFault.{ProgramFault}
 use Rattle.da_commands.specs.declared.program.ProgramFault.TheVariants as fault
 use Rattle.da_commands.specs.declared.status.RefusedKind.{RefusedKind}
-use Rattle.da_commands.specs.declared.status.RefusedKind.TheVariants as kind_is
 use Rattle.da_commands.specs.declared.status.Status.{Status}
-use Rattle.da_commands.specs.declared.status.Status.TheVariants.{BadSchedule, Done, Faulted, Forbidden, Idle, LinkFault, Memory, ReadFault, Refused, Spent, Words, WriteFault}
-use Rattle.da_commands.specs.declared.endings.Ending.{Ending}
-use Rattle.da_commands.specs.declared.endings.Ending.TheVariants as ending
+use Rattle.da_commands.specs.declared.status.Status.TheVariants.{Done, Forbidden, Memory, ReadFault, WriteFault}
 use Rattle.da_commands.specs.declared.words.Task.{Task}
 use Rattle.da_commands.specs.declared.words.Task.TheVariants.{Check, Plan, Stress}
 use Rattle.da_values.proofs.Numerals.{decimal_injective_wide}
-use Rattle.da_commands.specs.Replies.{TaskReply, carried_out, declined, IsAnswer, IsAsking, IsCarriedOut, IsRefused, IsReplay, IsReply, MayRead, ReadCause, ReplayReply, refused, answered, RunReply, bad_schedule, ran, RunsWhole, ended_by, run_status, run_text, task_text, words_of}
-use Rattle.da_commands.specs.Told.{Gains, OfTold}
-use Rattle.da_commands.specs.Top.{status_after}
+use Rattle.da_commands.specs.Replies.{TaskReply, carried_out, declined, IsAnswer, IsAsking, IsCarriedOut, IsEnd, IsRefused, IsReplay, MayRead, ReadCause, ReplayReply, refused, answered, RunReply, bad_schedule, ran, RunsWhole, ended_by, run_status, run_text, task_text, words_of}
+use Rattle.da_commands.specs.Endings.{status_of_run}
+use Rattle.da_commands.specs.Told.{Gains, HasReplied, HasSaid, OfTold, said, unsaid}
 use Rattle.da_commands.specs.Verdict.{Accepts, HasTree, IsRefusedAs, Refuses, program_limit}
-use Rattle.da_commands.proofs.ToldLemmas.{of_known, take_beyond, take_within}
+use Rattle.da_commands.proofs.ToldLemmas.{of_known, quiet_replied, take_beyond, take_within}
 use Rattle.da_commands.proofs.VerdictLemmas.{accepted_or_not, accepts_one, not_refused}
 use Rattle.sched_text.specs.ScheduleText.{IsBadSchedule, SpellsSchedule, schedule_limit}
 use Rattle.sched_text.proofs.ScheduleLaws.{not_bad, one_schedule}
@@ -70,41 +68,6 @@ may_read (Some t) text whole never = never t whole
 pub rose_later : (before mid now : ℕ) → before ≤ mid → Rose mid now → Rose before now
 rose_later before mid now later rose = grind (arith, later, rose)
 
--- THE STATUS OF A CALL
-
--- an answer is that of the command
-pub after_answer : (P : Status → Type 0) (r : Result Status Ending) (status : Status) → status ≡ status_after r → IsAnswer status → IfOk r P → P status
-after_answer P (Ok o) status same answer holds = subst P (sym same) holds
-after_answer P (Err ending.Read) status same answer holds = let never : IsAnswer ReadFault = subst IsAnswer same answer in absurd never
-after_answer P (Err ending.Write) status same answer holds = let never : IsAnswer WriteFault = subst IsAnswer same answer in absurd never
-after_answer P (Err ending.Memory) status same answer holds = let never : IsAnswer Memory = subst IsAnswer same answer in absurd never
-
-is_answer : (s : Status) → IsReply s → IsAnswer s
-is_answer Done is = tt
-is_answer (Refused kind line) is = tt
-is_answer Words is = absurd is
-is_answer (Forbidden event) is = tt
-is_answer (BadSchedule line) is = tt
-is_answer ReadFault is = absurd is
-is_answer WriteFault is = absurd is
-is_answer Memory is = absurd is
-is_answer LinkFault is = absurd is
-is_answer Idle is = tt
-is_answer Spent is = tt
-is_answer Faulted is = tt
-
--- what is no answer is an error of the command
-pub after_begun : (Begun : Type 0) (r : Result Status Ending) (status : Status) → status ≡ status_after r → IfOk r IsReply → (IsAnswer status → ⊥) → IfErr r (λ _. Begun) → Begun
-after_begun Begun (Ok o) status same is never begun = absurd (never (subst IsAnswer (sym same) (is_answer o is)))
-after_begun Begun (Err e) status same is never begun = begun
-
--- where neither a read nor a write failed, what the command did holds of the status, or memory was refused
-pub after_quiet : (P : Status → Type 0) (r : Result Status Ending) (status : Status) → status ≡ status_after r → (IsErrOf r ending.Read → ⊥) → (IsErrOf r ending.Write → ⊥) → IfOk r P → (status ≡ Memory) ⊎ P status
-after_quiet P (Ok o) status same read write holds = inr (subst P (sym same) holds)
-after_quiet P (Err ending.Read) status same read write holds = absurd (read refl)
-after_quiet P (Err ending.Write) status same read write holds = absurd (write refl)
-after_quiet P (Err ending.Memory) status same read write holds = inl same
-
 -- THE REPLIES OF `replay`
 
 -- the reply to an accepted program and a schedule is its run
@@ -121,72 +84,107 @@ whole_reply t s program events _ _ runs good (refused kind line refuses) = absur
 whole_reply t s program events _ _ runs good (answered other also status bytes reply) =
     run_reply s program events status bytes good (subst (λ p. RunReply p s status bytes) (accepts_one t program other runs also) reply)
 
-pub runs_whole : (told_program told_schedule : Option (List ℕ)) (t s : List ℕ) (program : Program) (events : List Event) (r : Result Status Ending) (status : Status) (before after : Option (List ℕ))
-    → status ≡ status_after r → told_program ≡ Some t → told_schedule ≡ Some s → Accepts t program → SpellsSchedule s events → (IsErrOf r ending.Read → ⊥) → (IsErrOf r ending.Write → ⊥)
-    → IfOk r (λ status. OfTold told_program (λ t. OfTold told_schedule (λ s. Gains (ReplayReply t s) status before after))) → RunsWhole program events status before after
-runs_whole p q t s program events r status before after same told_p told_q runs good read write replies =
-    either (after_quiet (λ o. OfTold p (λ t. OfTold q (λ s. Gains (ReplayReply t s) o before after))) r status same read write replies)
+-- where neither a read nor a write failed, the run was carried out whole, or memory was refused
+pub runs_whole : (told_program told_schedule : Option (List ℕ)) (t s : List ℕ) (program : Program) (events : List Event) (status : Status) (before after : Option (List ℕ))
+    → told_program ≡ Some t → told_schedule ≡ Some s → Accepts t program → SpellsSchedule s events → IsEnd status → (status ≡ ReadFault → ⊥) → (status ≡ WriteFault → ⊥)
+    → OfTold told_program (λ t. OfTold told_schedule (λ s. HasReplied (ReplayReply t s) status before after)) → RunsWhole program events status before after
+runs_whole p q t s program events status before after told_p told_q runs good ends read write replies =
+    either (quiet_replied (ReplayReply t s) before after status ends read write replied)
   where
-    either : (status ≡ Memory) ⊎ OfTold p (λ t. OfTold q (λ s. Gains (ReplayReply t s) status before after)) → RunsWhole program events status before after
+    replied : HasReplied (ReplayReply t s) status before after
+    replied =
+        of_known q (λ s. HasReplied (ReplayReply t s) status before after) s told_q
+        (of_known p (λ t. OfTold q (λ s. HasReplied (ReplayReply t s) status before after)) t told_p replies)
+
+    either : (status ≡ Memory) ⊎ Gains (ReplayReply t s) status before after → RunsWhole program events status before after
     either (inl memory) = inl memory
-    either (inr told) =
-        let gains : Gains (ReplayReply t s) status before after =
-        of_known q (λ s. Gains (ReplayReply t s) status before after) s told_q (of_known p (λ t. OfTold q (λ s. Gains (ReplayReply t s) status before after)) t told_p told) in
+    either (inr gains) =
         let (status_is, bytes_are) = whole_reply t s program events status gains.bytes runs good gains.reply in
         inr (status_is, subst (Appends before after) bytes_are gains.written)
 
-pub to_the_end : (stop : Option ℕ) → outcome.Done ≡ outcome_of stop → Done ≡ ended_by stop
-to_the_end None is = refl
-to_the_end (Some i) is = absurd (let clash : outcome.Done ≡ outcome.Forbidden i = is in cc)
+-- A RUN OF A SYSTEM IN ITS OPENING
 
-pub to_the_stop : (i : ℕ) (stop : Option ℕ) → outcome.Forbidden i ≡ outcome_of stop → Forbidden i ≡ ended_by stop
-to_the_stop i None is = absurd (let clash : outcome.Forbidden i ≡ outcome.Done = is in cc)
-to_the_stop i (Some k) is = ap Forbidden (let same : outcome.Forbidden i ≡ outcome.Forbidden k = is in cc)
+-- its status
+stopped_so : (how : Outcome) (stop : Option ℕ) → how ≡ outcome_of stop → status_of_run how ≡ ended_by stop
+stopped_so how None is = ap status_of_run is
+stopped_so how (Some i) is = ap status_of_run is
 
--- the replay of a system in its opening is the run of the program
-module _ (program p : Program) (opened system : System) (events : List Event) (how : Outcome) (before after : Option (List ℕ)) (same : p ≡ program) (stands : Stands opened (start program))
-    (ran : Whichever opened (λ s. HasRun p s events how system before after)) where
-  has : HasRun program (start program) events how system before after
-  has = subst (λ q. HasRun q (start program) events how system before after) same (ran (start program) stands)
+ended_answers : (stop : Option ℕ) → IsAnswer (ended_by stop)
+ended_answers None = tt
+ended_answers (Some i) = tt
 
-  -- the status of a run that ended so
-  pub ran_to : (status : Status) → ((stop : Option ℕ) → how ≡ outcome_of stop → status ≡ ended_by stop) → (status ≡ run_status program events) × Appends before after (run_text program events)
-  ran_to status ends = (ends (src_run program events).stop has.outcome_is, has.written)
+pub run_answers : (program : Program) (events : List Event) → IsAnswer (run_status program events)
+run_answers program events = ended_answers (src_run program events).stop
 
-pub ran_front : (program p : Program) (opened : System) (events : List Event) (before after : Option (List ℕ)) → p ≡ program → Stands opened (start program)
-    → Whichever opened (λ s. AppendsFront before after (text_on p s events)) → AppendsFront before after (run_text program events)
-ran_front program p opened events before after same stands front = subst (λ q. AppendsFront before after (text_on q (start program) events)) same (front (start program) stands)
+pub run_ends : (how : Outcome) → IsEnd (status_of_run how)
+run_ends outcome.Done = tt
+run_ends (outcome.Forbidden i) = tt
+run_ends outcome.WriteFault = tt
+run_ends outcome.Memory = tt
+
+pub run_unread : (how : Outcome) → status_of_run how ≡ ReadFault → ⊥
+run_unread outcome.Done is = let clash : Done ≡ ReadFault = is in cc
+run_unread (outcome.Forbidden i) is = let clash : Forbidden i ≡ ReadFault = is in cc
+run_unread outcome.WriteFault is = let clash : WriteFault ≡ ReadFault = is in cc
+run_unread outcome.Memory is = let clash : Memory ≡ ReadFault = is in cc
+
+unwritten_run : (how : Outcome) → status_of_run how ≡ WriteFault → how ≡ outcome.WriteFault
+unwritten_run outcome.Done is = absurd (let clash : Done ≡ WriteFault = is in cc)
+unwritten_run (outcome.Forbidden i) is = absurd (let clash : Forbidden i ≡ WriteFault = is in cc)
+unwritten_run outcome.WriteFault is = refl
+unwritten_run outcome.Memory is = absurd (let clash : Memory ≡ WriteFault = is in cc)
+
+pub run_cause : (how : Outcome) (before now : ℕ) → HasCause before now (how ≡ outcome.WriteFault) → HasCause before now (status_of_run how ≡ WriteFault)
+run_cause how before now cause = cause_as before now (λ is. ap status_of_run is) (unwritten_run how) cause
+
+-- what a run says: its status and bytes, or a front of these
+module _ (status : Status) (bytes : List ℕ) (before after : Option (List ℕ)) (front : AppendsFront before after bytes) where
+  run_said : (how : Outcome) → (HasEnded how → (status_of_run how ≡ status) × Appends before after bytes) → HasSaid status bytes (status_of_run how) before after
+  run_said outcome.Done ended = said (ended tt).0 (ended tt).1
+  run_said (outcome.Forbidden i) ended = said (ended tt).0 (ended tt).1
+  run_said outcome.WriteFault ended = unsaid tt front
+  run_said outcome.Memory ended = unsaid tt front
+
+module _ (program p : Program) (opened : System) (same : p ≡ program) (stands : Stands opened (start program)) where
+  -- the replay of a system in its opening is the run of the program
+  pub replayed : (events : List Event) (how : Outcome) (left : System) (before after : Option (List ℕ)) → (HasEnded how → Whichever opened (λ s. HasRun p s events how left before after))
+      → Whichever opened (λ s. AppendsFront before after (text_on p s events)) → HasSaid (run_status program events) (run_text program events) (status_of_run how) before after
+  replayed events how left before after runs front =
+      run_said (run_status program events) (run_text program events) before after (subst (λ q. AppendsFront before after (text_on q (start program) events)) same (front (start program) stands)) how
+      (λ ended.
+      let has : HasRun program (start program) events how left before after = subst (λ q. HasRun q (start program) events how left before after) same (runs ended (start program) stands) in
+      (stopped_so how (src_run program events).stop has.outcome_is, has.written))
+
+  -- and what is told of a generated schedule is told of the program
+  pub stressed : (first most : ℕ) (how : Outcome) (left : System) (before after : Option (List ℕ)) → (HasEnded how → Whichever opened (λ s. HasPicked p s first most left before after)) → (HasEnded how → how ≡ outcome.Done)
+      → Whichever opened (λ s. AppendsFront before after (stress_text_from p s first most)) → HasSaid Done (stress_text program first most) (status_of_run how) before after
+  stressed first most how left before after runs done front =
+      run_said Done (stress_text program first most) before after (subst (λ q. AppendsFront before after (stress_text_from q (start program) first most)) same (front (start program) stands)) how
+      (λ ended.
+      let has : HasPicked program (start program) first most left before after = subst (λ q. HasPicked q (start program) first most left before after) same (runs ended (start program) stands) in
+      (ap status_of_run (done ended), has.written))
 
 -- THE REPLIES TO TASKS
-
--- what is written of a generated schedule over a system in its opening is a front of what is told of the program
-pub stressed_front : (program p : Program) (opened : System) (first most : ℕ) (before after : Option (List ℕ)) → p ≡ program → Stands opened (start program)
-    → Whichever opened (λ s. AppendsFront before after (stress_text_from p s first most)) → AppendsFront before after (stress_text program first most)
-stressed_front program p opened first most before after same stands front =
-    subst (λ q. AppendsFront before after (stress_text_from q (start program) first most)) same (front (start program) stands)
 
 carried_reply : (task : Task) (t : List ℕ) (program : Program) (status : Status) (bytes : List ℕ) → Accepts t program → TaskReply task t status bytes → (status ≡ Done) × (bytes ≡ task_text task program)
 carried_reply task t program _ _ accepts (declined kind line refuses) = absurd (accepted_or_not t program kind line accepts refuses)
 carried_reply task t program _ _ accepts (carried_out other also) = (refl, ap (task_text task) (accepts_one t program other accepts also))
 
-pub is_carried_out : (task : Task) (told : Option (List ℕ)) (t : List ℕ) (program : Program) (r : Result Status Ending) (status : Status) (before after : Option (List ℕ)) → status ≡ status_after r → told ≡ Some t
-    → Accepts t program → (IsErrOf r ending.Read → ⊥) → (IsErrOf r ending.Write → ⊥) → IfOk r (λ status. OfTold told (λ t. Gains (TaskReply task t) status before after)) → IsCarriedOut task program status before after
-is_carried_out task told t program r status before after same told_t accepts read write replies =
-    either (after_quiet (λ o. OfTold told (λ t. Gains (TaskReply task t) o before after)) r status same read write replies)
+pub is_carried_out : (task : Task) (told : Option (List ℕ)) (t : List ℕ) (program : Program) (status : Status) (before after : Option (List ℕ)) → told ≡ Some t → Accepts t program → IsEnd status
+    → (status ≡ ReadFault → ⊥) → (status ≡ WriteFault → ⊥) → OfTold told (λ t. HasReplied (TaskReply task t) status before after) → IsCarriedOut task program status before after
+is_carried_out task told t program status before after told_t accepts ends read write replies =
+    either (quiet_replied (TaskReply task t) before after status ends read write (of_known told (λ t. HasReplied (TaskReply task t) status before after) t told_t replies))
   where
-    either : (status ≡ Memory) ⊎ OfTold told (λ t. Gains (TaskReply task t) status before after) → IsCarriedOut task program status before after
+    either : (status ≡ Memory) ⊎ Gains (TaskReply task t) status before after → IsCarriedOut task program status before after
     either (inl memory) = inl memory
-    either (inr holds) =
-        let gains : Gains (TaskReply task t) status before after = of_known told (λ t. Gains (TaskReply task t) status before after) t told_t holds in
+    either (inr gains) =
         let (status_is, bytes_are) = carried_reply task t program status gains.bytes accepts gains.reply in
         inr (status_is, subst (Appends before after) bytes_are gains.written)
 
 -- THE NAMES ARE THOSE OF THE WORDS
 
-pub at_names : (P : List ℕ → List ℕ → Status → Type 0) (p q a b : List ℕ) (status : Status) → (p ≡ a) × (q ≡ b) → P a b status → P p q status
-at_names P p q a b status same holds =
-    let half : P p b status = subst (λ x. P x b status) (sym same.0) holds in
-    subst (λ y. P p y status) (sym same.1) half
+pub at_names : (P : List ℕ → List ℕ → Type 0) (p q a b : List ℕ) → (p ≡ a) × (q ≡ b) → P a b → P p q
+at_names P p q a b same holds = subst (P p) (sym same.1) (subst (λ x. P x b) (sym same.0) holds)
 
 pub not_read : (told : Option (List ℕ)) (before now : List ℕ → ℕ) (p q : List ℕ) → ReadCause told before now p q → (Rose (before p) (now p) → ⊥) → (Rose (before q) (now q) → ⊥) → ⊥
 not_read told before now p q (inl rose) program schedule = program rose

@@ -1,13 +1,15 @@
 -- From the texts that were read to those that are told, and to what a sink gained of a reply.
-use Rattle.std.proofs.Common.{◌≡◌, refl, sym, ◌∙◌, ap, subst, ℕ, ◌+◌, ◌<◌, ◌≤◌, inl, inr, List, [], take, length, arith, take_all, length-take}
-use Rattle.std.proofs.lemmas.List.{append-nil}
-use Rattle.std.specs.Prelude.{Option, Some, None, Result, Ok, Err, IfErr, IfOk}
-use Rattle.da_outside.specs.Outside.{Appends, AppendsFront, IsWhole}
+use Rattle.std.proofs.Common.{◌≡◌, refl, sym, ◌∙◌, ap, subst, ℕ, ◌+◌, ◌<◌, ◌≤◌, inl, inr, ◌⊎◌, List, [], take, length, arith, take_all, length-take}
+use Rattle.std.specs.Prelude.{Option, Some, None, Result, Ok, Err}
+use Rattle.da_outside.specs.declared.outside.Trouble.{Trouble}
+use Rattle.da_outside.specs.declared.outside.Trouble.TheVariants.{Failed}
+use Rattle.da_outside.specs.Outside.{HasCause, IsWhole}
+use Rattle.da_outside.proofs.OutsideLemmas.{appends_none, cause_as, front_none, no_cause}
 use Rattle.da_commands.specs.declared.status.Status.{Status}
+use Rattle.da_commands.specs.declared.status.Status.TheVariants.{BadSchedule, Done, Faulted, Forbidden, Idle, LinkFault, Memory, ReadFault, Refused, Spent, Words, WriteFault}
 use Rattle.da_commands.specs.declared.words.Task.{Task}
-use Rattle.da_commands.specs.declared.endings.Ending.{Ending}
-use Rattle.da_commands.specs.Replies.{TaskReply, ReplayReply}
-use Rattle.da_commands.specs.Told.{Begins, Gains, OfTold}
+use Rattle.da_commands.specs.Replies.{IsAnswer, IsEnd, TaskReply, ReplayReply}
+use Rattle.da_commands.specs.Told.{Begins, Gains, HasReplied, HasSaid, IsUnwritten, OfTold, said, unsaid}
 
 -- a text that was read up to its limit and one byte
 pub take_within : (n : ℕ) (text whole : List ℕ) → text ≡ take (n + 1) whole → length text ≤ n → text ≡ whole
@@ -36,66 +38,60 @@ of_read (Some whole) P limit text is holds = holds whole is
 pub of_known : (told : Option (List ℕ)) (P : List ℕ → Type 0) (text : List ℕ) → told ≡ Some text → OfTold told P → P text
 of_known told P text is holds = let here : OfTold (Some text) P = subst (λ o. OfTold o P) is holds in here
 
-pub ok_of_read : (told : Option (List ℕ)) (P : List ℕ → Status → Type 0) (limit : ℕ) (text : List ℕ) (r : Result Status Ending) → IsWhole told limit text
-    → ((whole : List ℕ) → text ≡ take (limit + 1) whole → IfOk r (P whole)) → IfOk r (λ status. OfTold told (λ whole. P whole status))
-ok_of_read told P limit text (Ok status) read holds = of_read told (λ whole. P whole status) limit text read holds
-ok_of_read told P limit text (Err e) read holds = tt
+pub of_map : (told : Option (List ℕ)) (P Q : List ℕ → Type 0) → ((t : List ℕ) → P t → Q t) → OfTold told P → OfTold told Q
+of_map None P Q go (t, holds) = (t, go t holds)
+of_map (Some t) P Q go holds = go t holds
 
-pub err_of_read : (told : Option (List ℕ)) (P : List ℕ → Type 0) (limit : ℕ) (text : List ℕ) (r : Result Status Ending) → IsWhole told limit text
-    → ((whole : List ℕ) → text ≡ take (limit + 1) whole → IfErr r (λ _. P whole)) → IfErr r (λ _. OfTold told P)
-err_of_read told P limit text (Ok status) read holds = tt
-err_of_read told P limit text (Err e) read holds = of_read told P limit text read holds
+-- STATUSES
 
--- WHAT A SINK GAINED
+-- which faults the status of a call that asks for no node can be
+pub end_no_words : (status : Status) → IsEnd status → status ≡ Words → ⊥
+end_no_words status ends is = subst IsEnd is ends
 
--- the bytes that were said are those of a reply
-pub gains_said : (Reply : Status → List ℕ → Type 0) (status : Status) (bytes : List ℕ) (r : Result Status Ending) (before after : Option (List ℕ)) → Reply status bytes
-    → IfOk r (λ s. (s ≡ status) × Appends before after bytes) → IfOk r (λ s. Gains Reply s before after)
-gains_said Reply status bytes (Ok s) before after reply said = record { bytes = bytes; reply = subst (λ x. Reply x bytes) (sym said.0) reply; written = said.1 }
-gains_said Reply status bytes (Err e) before after reply said = tt
+pub end_no_link : (status : Status) → IsEnd status → status ≡ LinkFault → ⊥
+end_no_link status ends is = subst IsEnd is ends
 
--- whatever the other text is
-pub gains_any : (told : Option (List ℕ)) (Reply : List ℕ → Status → List ℕ → Type 0) (status : Status) (bytes : List ℕ) (r : Result Status Ending) (before after : Option (List ℕ))
-    → ((text : List ℕ) → Reply text status bytes) → IfOk r (λ s. (s ≡ status) × Appends before after bytes) → IfOk r (λ s. OfTold told (λ text. Gains (Reply text) s before after))
-gains_any told Reply status bytes (Ok s) before after reply said =
-    of_any told (λ text. Gains (Reply text) s before after) (λ text. gains_said (Reply text) status bytes (Ok s) before after (reply text) said)
-gains_any told Reply status bytes (Err e) before after reply said = tt
+-- and of one that writes an answer
+read_or_unwritten : (status : Status) → IsUnwritten status → status ≡ ReadFault → ⊥
+read_or_unwritten status cut is = subst IsUnwritten is cut
 
--- a reply of one kind is one of the other
-pub gains_as : (One Other : Status → List ℕ → Type 0) (r : Result Status Ending) (before after : Option (List ℕ)) → ((status : Status) (bytes : List ℕ) → One status bytes → Other status bytes)
-    → IfOk r (λ s. Gains One s before after) → IfOk r (λ s. Gains Other s before after)
-gains_as One Other (Ok s) before after becomes gains = record { bytes = gains.bytes; reply = becomes s gains.bytes gains.reply; written = gains.written }
-gains_as One Other (Err e) before after becomes gains = tt
+pub unwritten_or_answer : (status : Status) → IsUnwritten status → IsAnswer status → ⊥
+unwritten_or_answer WriteFault cut answer = answer
+unwritten_or_answer Memory cut answer = answer
+unwritten_or_answer _ cut answer = cut
 
--- NOTHING, OR A FRONT OF A REPLY
+unwritten_ends : (status : Status) → IsUnwritten status → IsEnd status
+unwritten_ends WriteFault cut = tt
+unwritten_ends Memory cut = tt
+unwritten_ends _ cut = absurd cut
 
-nothing : (x : Option (List ℕ)) → Appends x x []
-nothing None = refl
-nothing (Some told) = ap Some (sym (append-nil told))
+pub said_ends : (status : Status) (bytes : List ℕ) (result : Status) (before after : Option (List ℕ)) → IsEnd status → HasSaid status bytes result before after → IsEnd result
+said_ends status bytes result before after ends (said is written) = subst IsEnd (sym is) ends
+said_ends status bytes result before after ends (unsaid cut front) = unwritten_ends result cut
+
+pub said_unread : (status : Status) (bytes : List ℕ) (result : Status) (before after : Option (List ℕ)) → IsAnswer status → HasSaid status bytes result before after → result ≡ ReadFault → ⊥
+said_unread status bytes result before after answer (said is written) read = let never : IsAnswer ReadFault = subst IsAnswer (sym is ∙ read) answer in never
+said_unread status bytes result before after answer (unsaid cut front) read = read_or_unwritten result cut read
+
+pub said_unlinked : (status : Status) (bytes : List ℕ) (result : Status) (before after : Option (List ℕ)) → IsAnswer status → HasSaid status bytes result before after → result ≡ LinkFault → ⊥
+said_unlinked status bytes result before after answer (said is written) link = let never : IsAnswer LinkFault = subst IsAnswer (sym is ∙ link) answer in never
+said_unlinked status bytes result before after answer (unsaid cut front) link = subst IsUnwritten link cut
+
+-- a call that asks for no node does nothing with the link
+pub ends_unlinked : (status : Status) (faults : ℕ) → IsEnd status → HasCause faults faults (status ≡ LinkFault)
+ends_unlinked status faults ends = no_cause faults (end_no_link status ends)
+
+-- an answer is no fault
+pub answer_cause : {T : Type 0} {done : T} (status : Status) (before now : ℕ) → IsAnswer status → HasCause before now (◌≡◌ {A = Result T Trouble} (Ok done) (Err Failed)) → HasCause before now (status ≡ WriteFault)
+answer_cause status before now answer cause = cause_as before now (λ never. absurd (cc)) (λ is. let never : IsAnswer WriteFault = subst IsAnswer is answer in absurd never) cause
+
+-- WHAT WAS WRITTEN, where memory was refused before
+pub memory_said : (status : Status) (bytes : List ℕ) (taken : Option (List ℕ)) → HasSaid status bytes Memory taken taken
+memory_said status bytes taken = unsaid tt (front_none taken bytes)
 
 pub begins_nothing : (Reply : Status → List ℕ → Type 0) (x : Option (List ℕ)) → Begins Reply x x
-begins_nothing Reply x = inl (nothing x)
+begins_nothing Reply x = inl (appends_none x)
 
-pub begins_by : (Reply : Status → List ℕ → Type 0) (r : Result Status Ending) (status : Status) (bytes : List ℕ) (before after : Option (List ℕ)) → Reply status bytes
-    → IfErr r (λ _. AppendsFront before after bytes) → IfErr r (λ _. Begins Reply before after)
-begins_by Reply (Ok s) status bytes before after reply front = tt
-begins_by Reply (Err e) status bytes before after reply front = inr (status, bytes, reply, front)
-
-pub begins_any : (told : Option (List ℕ)) (Reply : List ℕ → Status → List ℕ → Type 0) (status : Status) (bytes : List ℕ) (r : Result Status Ending) (before after : Option (List ℕ))
-    → ((text : List ℕ) → Reply text status bytes) → IfErr r (λ _. AppendsFront before after bytes) → IfErr r (λ _. OfTold told (λ text. Begins (Reply text) before after))
-begins_any told Reply status bytes (Ok s) before after reply front = tt
-begins_any told Reply status bytes (Err e) before after reply front = of_any told (λ text. Begins (Reply text) before after) (λ text. inr (status, bytes, reply text, front))
-
-pub begins_as : (One Other : Status → List ℕ → Type 0) (r : Result Status Ending) (before after : Option (List ℕ)) → ((status : Status) (bytes : List ℕ) → One status bytes → Other status bytes)
-    → IfErr r (λ _. Begins One before after) → IfErr r (λ _. Begins Other before after)
-begins_as One Other (Ok s) before after becomes begins = tt
-begins_as One Other (Err e) before after becomes begins = either begins
-  where
-    either : Begins One before after → Begins Other before after
-    either (inl none) = inl none
-    either (inr (status, bytes, reply, front)) = inr (status, bytes, becomes status bytes reply, front)
-
--- nothing was written
 pub none_carried : (task : Task) (told x : Option (List ℕ)) → OfTold told (λ t. Begins (TaskReply task t) x x)
 none_carried task told x = of_any told _ (λ t. begins_nothing (TaskReply task t) x)
 
@@ -104,3 +100,78 @@ none_begun t told x = of_any told _ (λ s. begins_nothing (ReplayReply t s) x)
 
 pub none_replayed : (told_program told_schedule x : Option (List ℕ)) → OfTold told_program (λ t. OfTold told_schedule (λ s. Begins (ReplayReply t s) x x))
 none_replayed told_program told_schedule x = of_any told_program _ (λ t. none_begun t told_schedule x)
+
+-- A REPLY, BY THE STATUS
+
+module _ (Reply : Status → List ℕ → Type 0) (before after : Option (List ℕ)) where
+  -- an answer has all its bytes
+  gained : (status : Status) → IsAnswer status → Gains Reply status before after → HasReplied Reply status before after
+  gained Done answer gains = gains
+  gained (Refused kind line) answer gains = gains
+  gained Words answer gains = gains
+  gained (Forbidden event) answer gains = gains
+  gained (BadSchedule line) answer gains = gains
+  gained ReadFault answer gains = absurd answer
+  gained WriteFault answer gains = absurd answer
+  gained Memory answer gains = absurd answer
+  gained LinkFault answer gains = absurd answer
+  gained Idle answer gains = gains
+  gained Spent answer gains = gains
+  gained Faulted answer gains = gains
+
+  pub whole_replied : (status : Status) → IsAnswer status → HasReplied Reply status before after → Gains Reply status before after
+  whole_replied Done answer replied = replied
+  whole_replied (Refused kind line) answer replied = replied
+  whole_replied Words answer replied = replied
+  whole_replied (Forbidden event) answer replied = replied
+  whole_replied (BadSchedule line) answer replied = replied
+  whole_replied ReadFault answer replied = absurd answer
+  whole_replied WriteFault answer replied = absurd answer
+  whole_replied Memory answer replied = absurd answer
+  whole_replied LinkFault answer replied = absurd answer
+  whole_replied Idle answer replied = replied
+  whole_replied Spent answer replied = replied
+  whole_replied Faulted answer replied = replied
+
+  -- what is no answer has at most a front
+  pub begun_replied : (status : Status) → (IsAnswer status → ⊥) → HasReplied Reply status before after → Begins Reply before after
+  begun_replied ReadFault never replied = replied
+  begun_replied WriteFault never replied = replied
+  begun_replied Memory never replied = replied
+  begun_replied LinkFault never replied = replied
+  begun_replied _ never replied = absurd (never tt)
+
+  -- where neither a read nor a write failed, it is an answer, or memory was refused
+  pub quiet_replied : (status : Status) → IsEnd status → (status ≡ ReadFault → ⊥) → (status ≡ WriteFault → ⊥) → HasReplied Reply status before after → (status ≡ Memory) ⊎ Gains Reply status before after
+  quiet_replied ReadFault ends read write replied = absurd (read refl)
+  quiet_replied WriteFault ends read write replied = absurd (write refl)
+  quiet_replied Memory ends read write replied = inl refl
+  quiet_replied LinkFault ends read write replied = absurd ends
+  quiet_replied _ ends read write replied = inr replied
+
+  unwritten_replied : (status : Status) → IsUnwritten status → Begins Reply before after → HasReplied Reply status before after
+  unwritten_replied WriteFault cut begins = begins
+  unwritten_replied Memory cut begins = begins
+  unwritten_replied _ cut begins = absurd cut
+
+  -- what was said is the reply
+  pub said_replied : (status : Status) (bytes : List ℕ) (result : Status) → IsAnswer status → Reply status bytes → HasSaid status bytes result before after → HasReplied Reply result before after
+  said_replied status bytes result answer reply (said is written) =
+      subst (λ s. HasReplied Reply s before after) (sym is) (gained status answer (record { bytes = bytes; reply = reply; written = written }))
+  said_replied status bytes result answer reply (unsaid cut front) = unwritten_replied result cut (inr (status, bytes, reply, front))
+
+-- a reply of one kind is one of the other
+module _ (One Other : Status → List ℕ → Type 0) (before after : Option (List ℕ)) (becomes : (status : Status) (bytes : List ℕ) → One status bytes → Other status bytes) where
+  begins_as : Begins One before after → Begins Other before after
+  begins_as (inl none) = inl none
+  begins_as (inr (status, bytes, reply, front)) = inr (status, bytes, becomes status bytes reply, front)
+
+  gains_as : (status : Status) → Gains One status before after → Gains Other status before after
+  gains_as status gains = record { bytes = gains.bytes; reply = becomes status gains.bytes gains.reply; written = gains.written }
+
+  pub replied_as : (status : Status) → HasReplied One status before after → HasReplied Other status before after
+  replied_as ReadFault begins = begins_as begins
+  replied_as WriteFault begins = begins_as begins
+  replied_as Memory begins = begins_as begins
+  replied_as LinkFault begins = begins_as begins
+  replied_as status gains = gains_as status gains

@@ -1,23 +1,20 @@
 -- What the top call says of a node, from what the command leaves; and which words ask for one.
-use Rattle.std.proofs.Common.{◌≡◌, refl, sym, ◌∙◌, ap, subst, ℕ, ◌+◌, ◌<◌, ◌≤◌, ◌^◌, inl, inr, ◌⊎◌, List, [], ◌∷◌, length, codes, decimal, arith}
-use Rattle.std.specs.Prelude.{Option, Some, None, Result, Ok, Err, IfErr, IfOk, IsErrOf}
-use Rattle.da_lang.specs.declared.program.Program.{Program}
+use Rattle.std.proofs.Common.{◌≡◌, refl, sym, ◌∙◌, ap, subst, ℕ, ◌≤◌, ◌^◌, inl, inr, List, [], ◌∷◌, length, codes, decimal, arith}
+use Rattle.std.specs.Prelude.{Option, Some}
 use Rattle.da_values.proofs.Numerals.{decimal_injective_wide}
 use Rattle.da_outside.specs.declared.link.LinkEntry.{LinkEntry}
-use Rattle.da_outside.specs.Outside.{Rose}
-use Rattle.da_commands.specs.declared.endings.Ending.{Ending}
-use Rattle.da_commands.specs.declared.endings.Ending.TheVariants as ending
+use Rattle.da_outside.specs.Outside.{Appends, AppendsFront}
+use Rattle.da_outside.proofs.OutsideLemmas.{front_whole}
 use Rattle.da_commands.specs.declared.status.Status.{Status}
-use Rattle.da_commands.specs.declared.status.Status.TheVariants.{BadSchedule, Done, Faulted, Forbidden, Idle, LinkFault, Memory, ReadFault, Refused, Spent, Words, WriteFault}
+use Rattle.da_commands.specs.declared.status.Status.TheVariants.{LinkFault, Memory, ReadFault, WriteFault}
 use Rattle.da_commands.specs.declared.words.NodeSetting.{NodeSetting}
 use Rattle.da_commands.specs.declared.words.Task.{Task}
 use Rattle.da_commands.specs.declared.words.Task.TheVariants.{Check, Plan, Stress}
 use Rattle.da_commands.specs.NodeReplies.{HasAnswered, HasStopped, IsNode, IsServed, IsSetting, LinkFailed}
-use Rattle.da_commands.specs.NodeSteps.{EndsAs, HasServed, HasServedAs, IsNodeStatus}
-use Rattle.da_commands.specs.Replies.{IsAnswer, IsAsking, IsReplay, IsReply, words_of}
-use Rattle.da_commands.specs.Told.{OfTold}
-use Rattle.da_commands.specs.Top.{status_after}
-use Rattle.da_commands.proofs.ToldLemmas.{of_known}
+use Rattle.da_commands.specs.NodeSteps.{HasServed}
+use Rattle.da_commands.specs.Replies.{IsAnswer, IsAsking, IsReplay}
+use Rattle.da_commands.specs.Told.{Begins, Gains, HasReplied, HasSaid, OfTold, said, unsaid}
+use Rattle.da_commands.proofs.ToldLemmas.{begun_replied, of_known, of_map, unwritten_or_answer, whole_replied}
 
 -- WORDS
 
@@ -67,106 +64,78 @@ same_node words a p one other (port, me, idle, turns, is, spelled) (port', me', 
 pub at_node : (P : List ℕ → NodeSetting → Type 0) (p a : List ℕ) (other one : NodeSetting) → (p ≡ a) × (other ≡ one) → P a one → P p other
 at_node P p a other one same holds = subst (P p) (sym same.1) (subst (λ x. P x one) (sym same.0) holds)
 
--- STATUSES
+-- WHAT A NODE LEAVES, by its status
 
--- only a node ends by its link
-pub reply_no_link : (r : Result Status Ending) (status : Status) → status ≡ status_after r → IfOk r IsReply → status ≡ LinkFault → ⊥
-reply_no_link (Ok o) status same reply is = let never : IsReply LinkFault = subst IsReply (sym same ∙ is) reply in never
-reply_no_link (Err ending.Read) status same reply is = absurd (let clash : ReadFault ≡ LinkFault = sym same ∙ is in cc)
-reply_no_link (Err ending.Write) status same reply is = absurd (let clash : WriteFault ≡ LinkFault = sym same ∙ is in cc)
-reply_no_link (Err ending.Memory) status same reply is = absurd (let clash : Memory ≡ LinkFault = sym same ∙ is in cc)
+module _ (setting : NodeSetting) (told_before told_after : Option (List LinkEntry)) (before after : Option (List ℕ)) where
+  abbrev Served : Status → List ℕ → Type 0
+  Served status text = HasServed text setting status told_before told_after before after
 
-of_map : (told : Option (List ℕ)) (P Q : List ℕ → Type 0) → ((t : List ℕ) → P t → Q t) → OfTold told P → OfTold told Q
-of_map None P Q go (t, holds) = (t, go t holds)
-of_map (Some t) P Q go holds = go t holds
+  answered : (text : List ℕ) (status : Status) → IsAnswer status → Served status text → HasAnswered text setting status told_before told_after before after
+  answered text ReadFault answer has = absurd answer
+  answered text WriteFault answer has = absurd answer
+  answered text Memory answer has = absurd answer
+  answered text LinkFault answer has = absurd answer
+  answered text status answer has = has
 
-module _ (told : Option (List ℕ)) (setting : NodeSetting) (r : Result Status Ending) (status : Status) (same : status ≡ status_after r)
-    (told_before told_after : Option (List LinkEntry)) (before after : Option (List ℕ)) (served : OfTold told (λ t. HasServed t setting r told_before told_after before after)) where
-  answered_as : (t : List ℕ) (o : Status) → IsAnswer o → HasServedAs t setting o told_before told_after before after → HasAnswered t setting o told_before told_after before after
-  answered_as t Done answer has = has
-  answered_as t (Refused kind line) answer has = has
-  answered_as t Words answer has = has
-  answered_as t (Forbidden event) answer has = has
-  answered_as t (BadSchedule line) answer has = has
-  answered_as t ReadFault answer has = absurd answer
-  answered_as t WriteFault answer has = absurd answer
-  answered_as t Memory answer has = absurd answer
-  answered_as t LinkFault answer has = absurd answer
-  answered_as t Idle answer has = has
-  answered_as t Spent answer has = has
-  answered_as t Faulted answer has = has
+  stopped : (text : List ℕ) (status : Status) → (IsAnswer status → ⊥) → (status ≡ LinkFault → ⊥) → Served status text → HasStopped text setting status told_before told_after before after
+  stopped text ReadFault never unlinked has = has
+  stopped text WriteFault never unlinked has = has
+  stopped text Memory never unlinked has = has
+  stopped text LinkFault never unlinked has = absurd (unlinked refl)
+  stopped text _ never unlinked has = absurd (never tt)
 
-  by_answer : (t : List ℕ) (q : Result Status Ending) → IsAnswer (status_after q) → HasServed t setting q told_before told_after before after → HasAnswered t setting (status_after q) told_before told_after before after
-  by_answer t (Ok o) answer has = answered_as t o answer has
-  by_answer t (Err ending.Read) answer has = absurd answer
-  by_answer t (Err ending.Write) answer has = absurd answer
-  by_answer t (Err ending.Memory) answer has = absurd answer
+  quiet : (text : List ℕ) (status : Status) → (status ≡ ReadFault → ⊥) → (status ≡ WriteFault → ⊥) → (status ≡ LinkFault → ⊥) → Served status text → IsServed text setting status told_before told_after before after
+  quiet text ReadFault read write link has = absurd (read refl)
+  quiet text WriteFault read write link has = absurd (write refl)
+  quiet text Memory read write link has = inl refl
+  quiet text LinkFault read write link has = absurd (link refl)
+  quiet text status read write link has = inr has
 
-  -- a status that tells of an answer
-  pub node_answered : IsAnswer status → OfTold told (λ t. HasAnswered t setting status told_before told_after before after)
-  node_answered answer =
-      subst (λ s. OfTold told (λ t. HasAnswered t setting s told_before told_after before after)) (sym same)
-      (of_map told (λ t. HasServed t setting r told_before told_after before after) (λ t. HasAnswered t setting (status_after r) told_before told_after before after) (λ t has. by_answer t r (subst IsAnswer same answer) has) served)
+  module _ (told : Option (List ℕ)) (status : Status) (served : OfTold told (Served status)) where
+    -- a status that tells of an answer
+    pub node_answered : IsAnswer status → OfTold told (λ t. HasAnswered t setting status told_before told_after before after)
+    node_answered answer = of_map told (Served status) (λ t. HasAnswered t setting status told_before told_after before after) (λ t has. answered t status answer has) served
 
-  by_link : (t : List ℕ) (q : Result Status Ending) → status_after q ≡ LinkFault → HasServed t setting q told_before told_after before after → LinkFailed t setting told_before told_after before after
-  by_link t (Ok o) is has = subst (λ s. HasServedAs t setting s told_before told_after before after) is has
-  by_link t (Err ending.Read) is has = absurd (let clash : ReadFault ≡ LinkFault = is in cc)
-  by_link t (Err ending.Write) is has = absurd (let clash : WriteFault ≡ LinkFault = is in cc)
-  by_link t (Err ending.Memory) is has = absurd (let clash : Memory ≡ LinkFault = is in cc)
+    -- the link failed
+    pub node_link_failed : status ≡ LinkFault → OfTold told (λ t. LinkFailed t setting told_before told_after before after)
+    node_link_failed is =
+        of_map told (Served status) (λ t. LinkFailed t setting told_before told_after before after) (λ t has. let failed : Served LinkFault t = subst (λ s. Served s t) is has in failed) served
 
-  -- the link failed
-  pub node_link_failed : status ≡ LinkFault → OfTold told (λ t. LinkFailed t setting told_before told_after before after)
-  node_link_failed is = of_map told (λ t. HasServed t setting r told_before told_after before after) (λ t. LinkFailed t setting told_before told_after before after) (λ t has. by_link t r (sym same ∙ is) has) served
+    -- a read or a write failed, or memory was refused
+    pub node_has_stopped : (IsAnswer status → ⊥) → (status ≡ LinkFault → ⊥) → OfTold told (λ t. HasStopped t setting status told_before told_after before after)
+    node_has_stopped never unlinked =
+        of_map told (Served status) (λ t. HasStopped t setting status told_before told_after before after) (λ t has. stopped t status never unlinked has) served
 
-  answer_or_link : (o : Status) → IsNodeStatus o → IsAnswer o ⊎ (o ≡ LinkFault)
-  answer_or_link Done is = inl tt
-  answer_or_link (Refused kind line) is = inl tt
-  answer_or_link Words is = absurd is
-  answer_or_link (Forbidden event) is = inl tt
-  answer_or_link (BadSchedule line) is = inl tt
-  answer_or_link ReadFault is = absurd is
-  answer_or_link WriteFault is = absurd is
-  answer_or_link Memory is = absurd is
-  answer_or_link LinkFault is = inr refl
-  answer_or_link Idle is = inl tt
-  answer_or_link Spent is = inl tt
-  answer_or_link Faulted is = inl tt
+    -- nothing failed
+    pub node_served : (t : List ℕ) → told ≡ Some t → (status ≡ ReadFault → ⊥) → (status ≡ WriteFault → ⊥) → (status ≡ LinkFault → ⊥) → IsServed t setting status told_before told_after before after
+    node_served t told_t read write link = quiet t status read write link (of_known told (Served status) t told_t served)
 
-  by_stop : (t : List ℕ) (q : Result Status Ending) → IfOk q IsNodeStatus → (IsAnswer (status_after q) → ⊥) → (status_after q ≡ LinkFault → ⊥) → HasServed t setting q told_before told_after before after
-      → HasStopped t setting told_before told_after before after
-  by_stop t (Ok o) is never unlinked has = absurd (either (answer_or_link o is))
-    where
-      either : IsAnswer o ⊎ (o ≡ LinkFault) → ⊥
-      either (inl answer) = never answer
-      either (inr link) = unlinked link
-  by_stop t (Err why) is never unlinked has = has
+-- THE OTHER COMMANDS
 
-  -- a read or a write failed, or memory was refused
-  pub node_has_stopped : IfOk r IsNodeStatus → (IsAnswer status → ⊥) → (status ≡ LinkFault → ⊥) → OfTold told (λ t. HasStopped t setting told_before told_after before after)
-  node_has_stopped is never unlinked =
-      of_map told (λ t. HasServed t setting r told_before told_after before after) (λ t. HasStopped t setting told_before told_after before after)
-      (λ t has. by_stop t r is (λ answer. never (subst IsAnswer (sym same) answer)) (λ link. unlinked (same ∙ link)) has) served
+module _ (Reply : List ℕ → Status → List ℕ → Type 0) (told : Option (List ℕ)) (status : Status) (before after : Option (List ℕ)) (replies : OfTold told (λ t. HasReplied (Reply t) status before after)) where
+  pub told_whole : IsAnswer status → OfTold told (λ t. Gains (Reply t) status before after)
+  told_whole answer = of_map told (λ t. HasReplied (Reply t) status before after) (λ t. Gains (Reply t) status before after) (λ t. whole_replied (Reply t) before after status answer) replies
 
-  by_quiet : (t : List ℕ) (q : Result Status Ending) → IfOk q IsNodeStatus → (IsErrOf q ending.Read → ⊥) → (IsErrOf q ending.Write → ⊥) → (q ≡ Ok LinkFault → ⊥) → HasServed t setting q told_before told_after before after
-      → IsServed t setting (status_after q) told_before told_after before after
-  by_quiet t (Ok o) is read write link has = either (answer_or_link o is)
-    where
-      either : IsAnswer o ⊎ (o ≡ LinkFault) → IsServed t setting o told_before told_after before after
-      either (inl answer) = inr (answered_as t o answer has)
-      either (inr fault) = absurd (link (ap Ok fault))
-  by_quiet t (Err ending.Read) is read write link has = absurd (read refl)
-  by_quiet t (Err ending.Write) is read write link has = absurd (write refl)
-  by_quiet t (Err ending.Memory) is read write link has = inl refl
+  pub told_begun : (IsAnswer status → ⊥) → OfTold told (λ t. Begins (Reply t) before after)
+  told_begun never = of_map told (λ t. HasReplied (Reply t) status before after) (λ t. Begins (Reply t) before after) (λ t. begun_replied (Reply t) before after status never) replies
 
-  -- nothing failed
-  pub node_served : (t : List ℕ) → told ≡ Some t → IfOk r IsNodeStatus → (IsErrOf r ending.Read → ⊥) → (IsErrOf r ending.Write → ⊥) → (r ≡ Ok LinkFault → ⊥) → IsServed t setting status told_before told_after before after
-  node_served t told_t is read write link =
-      subst (λ s. IsServed t setting s told_before told_after before after) (sym same)
-      (by_quiet t r is read write link (of_known told (λ t. HasServed t setting r told_before told_after before after) t told_t served))
+module _ (Reply : List ℕ → List ℕ → Status → List ℕ → Type 0) (one other : Option (List ℕ)) (status : Status) (before after : Option (List ℕ))
+    (replies : OfTold one (λ t. OfTold other (λ s. HasReplied (Reply t s) status before after))) where
+  pub both_whole : IsAnswer status → OfTold one (λ t. OfTold other (λ s. Gains (Reply t s) status before after))
+  both_whole answer =
+      of_map one (λ t. OfTold other (λ s. HasReplied (Reply t s) status before after)) (λ t. OfTold other (λ s. Gains (Reply t s) status before after))
+      (λ t held. told_whole (Reply t) other status before after held answer) replies
 
--- the status of a node is that of its link's fault only so
-pub link_after : (r : Result Status Ending) (status : Status) → status ≡ status_after r → status ≡ LinkFault → r ≡ Ok LinkFault
-link_after (Ok o) status same is = ap Ok (sym same ∙ is)
-link_after (Err ending.Read) status same is = absurd (let clash : ReadFault ≡ LinkFault = sym same ∙ is in cc)
-link_after (Err ending.Write) status same is = absurd (let clash : WriteFault ≡ LinkFault = sym same ∙ is in cc)
-link_after (Err ending.Memory) status same is = absurd (let clash : Memory ≡ LinkFault = sym same ∙ is in cc)
+  pub both_begun : (IsAnswer status → ⊥) → OfTold one (λ t. OfTold other (λ s. Begins (Reply t s) before after))
+  both_begun never =
+      of_map one (λ t. OfTold other (λ s. HasReplied (Reply t s) status before after)) (λ t. OfTold other (λ s. Begins (Reply t s) before after))
+      (λ t held. told_begun (Reply t) other status before after held never) replies
+
+-- what was said to other words
+pub said_whole : (status : Status) (bytes : List ℕ) (result : Status) (before after : Option (List ℕ)) → HasSaid status bytes result before after → IsAnswer result → (result ≡ status) × Appends before after bytes
+said_whole status bytes result before after (said is written) answer = (is, written)
+said_whole status bytes result before after (unsaid cut front) answer = absurd (unwritten_or_answer result cut answer)
+
+pub said_front : (status : Status) (bytes : List ℕ) (result : Status) (before after : Option (List ℕ)) → HasSaid status bytes result before after → AppendsFront before after bytes
+said_front status bytes result before after (said is written) = front_whole before after bytes written
+said_front status bytes result before after (unsaid cut front) = front

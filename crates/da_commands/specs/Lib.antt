@@ -1,3 +1,4 @@
+pub mod Endings
 pub mod ExitCode
 pub mod Faults
 pub mod Lines
@@ -5,6 +6,5 @@ pub mod NodeReplies
 pub mod NodeSteps
 pub mod Replies
 pub mod Told
-pub mod Top
 pub mod Verdict
 pub mod Words

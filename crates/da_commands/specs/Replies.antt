@@ -74,10 +74,11 @@ IsAnswer Memory = ⊥
 IsAnswer LinkFault = ⊥
 IsAnswer _ = Unit {0}
 
--- the status of an answer to texts
-abbrev pub IsReply : Status → Type 0
-IsReply Words = ⊥
-IsReply status = IsAnswer status
+-- a status with which a call may end that asks for no node
+abbrev pub IsEnd : Status → Type 0
+IsEnd Words = ⊥
+IsEnd LinkFault = ⊥
+IsEnd _ = Unit {0}
 
 -- the words ask to replay these names
 abbrev pub IsReplay : List (List ℕ) → List ℕ → List ℕ → Type 0
@@ -120,7 +121,3 @@ HasReadCause words told before now =
     ((p : List ℕ) × (q : List ℕ) × IsReplay words p q × ReadCause (told p) before now p q)
     ⊎ ((task : Task) × (p : List ℕ) × IsAsking words task p × Rose (before p) (now p))
     ⊎ ((p : List ℕ) × (setting : NodeSetting) × IsNode words p setting × Rose (before p) (now p))
-
--- a link failed, and the words ask for a node
-abbrev pub HasLinkCause : List (List ℕ) → ℕ → ℕ → Type 0
-HasLinkCause words before now = (p : List ℕ) × (setting : NodeSetting) × IsNode words p setting × Rose before now

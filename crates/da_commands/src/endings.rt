@@ -1,97 +1,82 @@
-//! How the parts of a call end, and the lines that end one.
+//! The lines that end a call, and the statuses of calls whose parts ended so.
+ghost use Rattle.da_commands.specs.Endings.{status_of_node as status_of_node_lem, status_of_run as status_of_run_lem};
 ghost use Rattle.da_commands.specs.Lines.{badline_text, refused_text};
-ghost use Rattle.da_outside.specs.Outside.{Appends, AppendsFront, Rose};
-ghost use Rattle.da_commands.specs.Top.{status_after as status_after_lem};
-ghost use Rattle.std.specs.Prelude.{◌≡◌, ◌<◌, ◌≤◌, IfErr, IfOk, IsErrOf};
+ghost use Rattle.da_commands.specs.Replies.{IsAnswer, IsEnd};
+ghost use Rattle.da_commands.specs.Told.{HasSaid};
+ghost use Rattle.da_outside.specs.Outside.{HasCause};
+ghost use Rattle.std.specs.Prelude.{◌≡◌};
 
 use crate::lines::{bad_line, refused_line};
 use crate::status::{RefusedKind, Status};
 use da_outside::{Sink, Trouble, write_all};
-use da_values::NoMemory;
+use node_run::NodeOutcome;
+use replay_run::Outcome;
 use std::alloc::Global;
-use thiserror::Error;
 
-/// Why a call could not be carried out.
-#[derive(Clone, Copy, Debug, PartialEq, Eq, Error)]
-pub enum Ending {
-    #[error("a read failed")]
-    Read,
-    #[error("a write failed")]
-    Write,
-    #[error("no memory is left")]
-    Memory,
-}
-
-impl From<NoMemory> for Ending {
-    ghost use Rattle.da_commands.specs.declared.endings.Ending.TheVariants.{Memory};
-    ghost use Rattle.std.specs.Prelude.{◌≡◌};
-
-    ghost from_gives = { λ _ ending. ending ≡ Memory };
-
-    fn from(_: NoMemory) -> Ending {
-        Ending::Memory
+/// The status of a call whose run ended so.
+pub fn status_of_run(outcome: Outcome) -> Status
+    ensures { result ≡ status_of_run_lem outcome }
+{
+    match outcome {
+        Outcome::Done => Status::Done,
+        Outcome::Forbidden(event) => Status::Forbidden { event },
+        Outcome::WriteFault => Status::WriteFault,
+        Outcome::Memory => Status::Memory,
     }
 }
 
-/// The status of a call that ended so.
-pub fn status_after(outcome: Result<Status, Ending>) -> Status
-    ensures { result ≡ status_after_lem outcome }
+/// The status of a call whose node ended so.
+pub fn status_of_node(outcome: NodeOutcome) -> Status
+    ensures { result ≡ status_of_node_lem outcome }
 {
     match outcome {
-        Ok(status) => status,
-        Err(Ending::Read) => Status::ReadFault,
-        Err(Ending::Write) => Status::WriteFault,
-        Err(Ending::Memory) => Status::Memory,
+        NodeOutcome::Done => Status::Done,
+        NodeOutcome::Faulted => Status::Faulted,
+        NodeOutcome::Idle => Status::Idle,
+        NodeOutcome::Spent => Status::Spent,
+        NodeOutcome::LinkFault => Status::LinkFault,
+        NodeOutcome::WriteFault => Status::WriteFault,
+        NodeOutcome::Memory => Status::Memory,
     }
 }
 
 /// Refuses the program.
-#[tactic(auto, using(da_outside::proofs::OutsideLemmas::front_none))]
-pub fn refuse<K: Sink>(
-    alloc: Global,
-    out: &mut K,
-    kind: RefusedKind,
-    line: u32,
-) -> Result<Status, Ending>
-    ensures said { IfOk result (λ s. (s ≡ Status.Refused kind line)
-        × Appends (K.taken out.old) (K.taken out.new) (refused_text kind line)) }
-    ensures front { IfErr result (λ _. AppendsFront (K.taken out.old) (K.taken out.new) (refused_text kind line)) }
-    ensures write { IsErrOf result Ending.Write → Rose (K.faults out.old) (K.faults out.new) }
-    ensures read { IsErrOf result Ending.Read → ⊥ }
-    ensures writes { K.faults out.old ≤ K.faults out.new }
-    ensures failed { K.faults out.old < K.faults out.new → IsErrOf result Ending.Write }
+#[tactic(auto, using(crate::proofs::ToldLemmas::memory_said, crate::proofs::ToldLemmas::said_ends, crate::proofs::ToldLemmas::said_unread))]
+pub fn refuse<K: Sink>(alloc: Global, out: &mut K, kind: RefusedKind, line: u32) -> Status
+    ensures said { HasSaid (Status.Refused kind line) (refused_text kind line) result (K.taken out.old) (K.taken out.new) }
+    ensures ends { IsEnd result }
+    ensures read { result ≡ Status.ReadFault → ⊥ }
+    ensures write { HasCause (K.faults out.old) (K.faults out.new) (result ≡ Status.WriteFault) }
 {
-    let text = refused_line(alloc, kind, line)?;
+    let Ok(text) = refused_line(alloc, kind, line) else {
+        return Status::Memory;
+    };
     say(out, text.as_slice(), Status::Refused { kind, line })
 }
 
 /// Refuses the schedule.
-#[tactic(auto, using(da_outside::proofs::OutsideLemmas::front_none))]
-pub fn refuse_schedule<K: Sink>(alloc: Global, out: &mut K, line: u64) -> Result<Status, Ending>
-    ensures said { IfOk result (λ s. (s ≡ Status.BadSchedule line)
-        × Appends (K.taken out.old) (K.taken out.new) (badline_text line)) }
-    ensures front { IfErr result (λ _. AppendsFront (K.taken out.old) (K.taken out.new) (badline_text line)) }
-    ensures write { IsErrOf result Ending.Write → Rose (K.faults out.old) (K.faults out.new) }
-    ensures read { IsErrOf result Ending.Read → ⊥ }
-    ensures writes { K.faults out.old ≤ K.faults out.new }
-    ensures failed { K.faults out.old < K.faults out.new → IsErrOf result Ending.Write }
+#[tactic(auto, using(crate::proofs::ToldLemmas::memory_said, crate::proofs::ToldLemmas::said_ends, crate::proofs::ToldLemmas::said_unread))]
+pub fn refuse_schedule<K: Sink>(alloc: Global, out: &mut K, line: u64) -> Status
+    ensures said { HasSaid (Status.BadSchedule line) (badline_text line) result (K.taken out.old) (K.taken out.new) }
+    ensures ends { IsEnd result }
+    ensures read { result ≡ Status.ReadFault → ⊥ }
+    ensures write { HasCause (K.faults out.old) (K.faults out.new) (result ≡ Status.WriteFault) }
 {
-    let text = bad_line(alloc, line)?;
+    let Ok(text) = bad_line(alloc, line) else {
+        return Status::Memory;
+    };
     say(out, text.as_slice(), Status::BadSchedule { line })
 }
 
 /// Writes the bytes, with which the call ends so.
-pub fn say<K: Sink>(out: &mut K, bytes: &[u8], status: Status) -> Result<Status, Ending>
-    ensures said { IfOk result (λ s. (s ≡ status) × Appends (K.taken out.old) (K.taken out.new) bytes.now) }
-    ensures front { IfErr result (λ _. AppendsFront (K.taken out.old) (K.taken out.new) bytes.now) }
-    ensures write { IsErrOf result Ending.Write → Rose (K.faults out.old) (K.faults out.new) }
-    ensures read { IsErrOf result Ending.Read → ⊥ }
-    ensures writes { K.faults out.old ≤ K.faults out.new }
-    ensures failed { K.faults out.old < K.faults out.new → IsErrOf result Ending.Write }
+pub fn say<K: Sink>(out: &mut K, bytes: &[u8], status: Status) -> Status
+    requires { IsAnswer status }
+    ensures said { HasSaid status bytes.now result (K.taken out.old) (K.taken out.new) }
+    ensures write { HasCause (K.faults out.old) (K.faults out.new) (result ≡ Status.WriteFault) }
 {
     match write_all(out, bytes) {
-        Ok(()) => Ok(status),
-        Err(Trouble::Failed) => Err(Ending::Write),
-        Err(Trouble::Memory) => Err(Ending::Memory),
+        Ok(()) => status,
+        Err(Trouble::Failed) => Status::WriteFault,
+        Err(Trouble::Memory) => Status::Memory,
     }
 }

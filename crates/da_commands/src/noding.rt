@@ -1,19 +1,20 @@
 //! The command `node`.
 ghost use Rattle.da_core.specs.Compiled.{IsCompiled, program_of};
-ghost use Rattle.da_outside.specs.Outside.{Rose};
+ghost use Rattle.da_outside.specs.Outside.{HasCause, Rose};
 ghost use Rattle.da_commands.specs.NodeReplies.{IsWithin};
-ghost use Rattle.da_commands.specs.NodeSteps.{EndsAs, HasServed, RunsBound, RunsProgram, after_node as after_node_lem};
+ghost use Rattle.da_commands.specs.NodeSteps.{HasServed, RunsBound, RunsProgram};
 ghost use Rattle.da_commands.specs.Told.{OfTold};
-ghost use Rattle.std.specs.Prelude.{ℕ, ◌≡◌, ◌+◌, ◌<◌, ◌≤◌, List, take, IsErrOf, length};
+ghost use Rattle.node_run.specs.NodeCall.{GivesPackets};
+ghost use Rattle.std.specs.Prelude.{ℕ, ◌≡◌, ◌+◌, ◌<◌, ◌≤◌, List, take, length};
 
-use crate::endings::{Ending, refuse};
+use crate::endings::{refuse, status_of_node};
 use crate::program::{PROGRAM_LIMIT, ProgramFault, read_program};
 use crate::status::{RefusedKind, Status};
 use crate::words::NodeSetting;
 use da_core::Compiled;
 use da_lang::ChannelKind;
 use da_outside::{Files, Link, Sink, Trouble, read_all};
-use node_run::{NodeOutcome, node};
+use node_run::node;
 use std::alloc::Global;
 
 /// Reads the program, and refuses it or binds the link and runs a process of it as a node.
@@ -24,21 +25,24 @@ pub fn run_node<F: Files, K: Sink, L: Link>(
     files: &mut F,
     out: &mut K,
     link: &mut L,
-) -> Result<Status, Ending>
+) -> Status
     requires { IsWithin setting }
     ensures served { OfTold (F.told files.old program.now) (λ t. HasServed t setting result (L.told link.old) (L.told link.new) (K.taken out.old) (K.taken out.new)) }
-    ensures read { IsErrOf result Ending.Read → Rose (F.faults files.old program.now) (F.faults files.new program.now) }
-    ensures unread { IsErrOf result Ending.Read → K.taken out.new ≡ K.taken out.old }
-    ensures unbound { IsErrOf result Ending.Read → link.new ≡ link.old }
+    ensures packets { GivesPackets setting.me (L.told link.old) (L.told link.new) }
+    ensures words { result ≡ Status.Words → ⊥ }
+    ensures read { result ≡ Status.ReadFault → Rose (F.faults files.old program.now) (F.faults files.new program.now) }
+    ensures unread { result ≡ Status.ReadFault → K.taken out.new ≡ K.taken out.old }
+    ensures unbound { result ≡ Status.ReadFault → link.new ≡ link.old }
     ensures told { (x : List ℕ) → F.told files.new x ≡ F.told files.old x }
     ensures later { (x : List ℕ) → F.faults files.old x ≤ F.faults files.new x }
-    ensures rises { (x : List ℕ) → F.faults files.old x < F.faults files.new x → IsErrOf result Ending.Read }
-    ensures ends { EndsAs (L.faults link.old) (L.faults link.new) (K.faults out.old) (K.faults out.new) result }
+    ensures rises { (x : List ℕ) → F.faults files.old x < F.faults files.new x → result ≡ Status.ReadFault }
+    ensures write { HasCause (K.faults out.old) (K.faults out.new) (result ≡ Status.WriteFault) }
+    ensures link { HasCause (L.faults link.old) (L.faults link.new) (result ≡ Status.LinkFault) }
 {
     match read_all(alloc, files, program, PROGRAM_LIMIT) {
         Ok(text) => answer_text(alloc, setting, text.as_slice(), out, link),
-        Err(Trouble::Failed) => Err(Ending::Read),
-        Err(Trouble::Memory) => Err(Ending::Memory),
+        Err(Trouble::Failed) => Status::ReadFault,
+        Err(Trouble::Memory) => Status::Memory,
     }
 }
 
@@ -49,12 +53,15 @@ fn answer_text<K: Sink, L: Link>(
     text: &[u8],
     out: &mut K,
     link: &mut L,
-) -> Result<Status, Ending>
+) -> Status
     requires { IsWithin setting }
     ensures served { (t : List ℕ) → text.now ≡ take (PROGRAM_LIMIT + 1) t
         → HasServed t setting result (L.told link.old) (L.told link.new) (K.taken out.old) (K.taken out.new) }
-    ensures read { IsErrOf result Ending.Read → ⊥ }
-    ensures ends { EndsAs (L.faults link.old) (L.faults link.new) (K.faults out.old) (K.faults out.new) result }
+    ensures packets { GivesPackets setting.me (L.told link.old) (L.told link.new) }
+    ensures words { result ≡ Status.Words → ⊥ }
+    ensures read { result ≡ Status.ReadFault → ⊥ }
+    ensures write { HasCause (K.faults out.old) (K.faults out.new) (result ≡ Status.WriteFault) }
+    ensures link { HasCause (L.faults link.old) (L.faults link.new) (result ≡ Status.LinkFault) }
 {
     if text.len() > PROGRAM_LIMIT {
         return refuse(alloc, out, RefusedKind::Size, 0);
@@ -62,7 +69,7 @@ fn answer_text<K: Sink, L: Link>(
     match read_program(alloc, text) {
         Ok(compiled) => answer_program(alloc, setting, &compiled, out, link),
         Err(ProgramFault::Refused { kind, line }) => refuse(alloc, out, kind, line),
-        Err(ProgramFault::Memory) => Err(Ending::Memory),
+        Err(ProgramFault::Memory) => Status::Memory,
     }
 }
 
@@ -73,13 +80,16 @@ fn answer_program<K: Sink, L: Link>(
     compiled: &Compiled,
     out: &mut K,
     link: &mut L,
-) -> Result<Status, Ending>
+) -> Status
     requires compiled { IsCompiled compiled.now }
     requires few { length (program_of compiled.now).procs ≤ 64 }
     requires within { IsWithin setting }
     ensures runs { RunsProgram (program_of compiled.now) setting result (L.told link.old) (L.told link.new) (K.taken out.old) (K.taken out.new) }
-    ensures read { IsErrOf result Ending.Read → ⊥ }
-    ensures ends { EndsAs (L.faults link.old) (L.faults link.new) (K.faults out.old) (K.faults out.new) result }
+    ensures packets { GivesPackets setting.me (L.told link.old) (L.told link.new) }
+    ensures words { result ≡ Status.Words → ⊥ }
+    ensures read { result ≡ Status.ReadFault → ⊥ }
+    ensures write { HasCause (K.faults out.old) (K.faults out.new) (result ≡ Status.WriteFault) }
+    ensures link { HasCause (L.faults link.old) (L.faults link.new) (result ≡ Status.LinkFault) }
 {
     let program = compiled.program();
     let count = program.procs.len();
@@ -91,8 +101,8 @@ fn answer_program<K: Sink, L: Link>(
     }
     match link.bind(setting.port, setting.me, count as u16) {
         Ok(()) => run_bound(alloc, setting, compiled, out, link),
-        Err(Trouble::Failed) => Ok(Status::LinkFault),
-        Err(Trouble::Memory) => Err(Ending::Memory),
+        Err(Trouble::Failed) => Status::LinkFault,
+        Err(Trouble::Memory) => Status::Memory,
     }
 }
 
@@ -103,16 +113,19 @@ fn run_bound<K: Sink, L: Link>(
     compiled: &Compiled,
     out: &mut K,
     link: &mut L,
-) -> Result<Status, Ending>
+) -> Status
     requires compiled { IsCompiled compiled.now }
     requires within { IsWithin setting }
     requires there { setting.me ≤ length (program_of compiled.now).procs }
     requires bound { L.count link.old ≡ length (program_of compiled.now).procs }
     ensures runs { RunsBound (program_of compiled.now) setting result (L.told link.old) (L.told link.new) (K.taken out.old) (K.taken out.new) }
-    ensures read { IsErrOf result Ending.Read → ⊥ }
-    ensures ends { EndsAs (L.faults link.old) (L.faults link.new) (K.faults out.old) (K.faults out.new) result }
+    ensures packets { GivesPackets setting.me (L.told link.old) (L.told link.new) }
+    ensures words { result ≡ Status.Words → ⊥ }
+    ensures read { result ≡ Status.ReadFault → ⊥ }
+    ensures write { HasCause (K.faults out.old) (K.faults out.new) (result ≡ Status.WriteFault) }
+    ensures link { HasCause (L.faults link.old) (L.faults link.new) (result ≡ Status.LinkFault) }
 {
-    let outcome = node(
+    status_of_node(node(
         alloc,
         compiled,
         setting.me,
@@ -120,21 +133,5 @@ fn run_bound<K: Sink, L: Link>(
         setting.turns,
         link,
         out,
-    );
-    after_node(outcome)
-}
-
-// How a call ends whose node ended so.
-fn after_node(outcome: NodeOutcome) -> Result<Status, Ending>
-    ensures { result ≡ after_node_lem outcome }
-{
-    match outcome {
-        NodeOutcome::Done => Ok(Status::Done),
-        NodeOutcome::Faulted => Ok(Status::Faulted),
-        NodeOutcome::Idle => Ok(Status::Idle),
-        NodeOutcome::Spent => Ok(Status::Spent),
-        NodeOutcome::LinkFault => Ok(Status::LinkFault),
-        NodeOutcome::WriteFault => Err(Ending::Write),
-        NodeOutcome::Memory => Err(Ending::Memory),
-    }
+    ))
 }

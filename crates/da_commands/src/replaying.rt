@@ -1,18 +1,17 @@
 //! The command `replay`.
 ghost use Rattle.da_core.specs.Compiled.{IsCompiled, program_of};
-ghost use Rattle.da_outside.specs.Outside.{Appends, AppendsFront, Rose};
-ghost use Rattle.da_commands.specs.Replies.{IsRefused, IsReply, ReadCause, ReplayReply, RunReply, run_status, run_text};
-ghost use Rattle.da_commands.specs.Told.{Begins, Gains, OfTold};
-ghost use Rattle.std.specs.Prelude.{ℕ, ◌≡◌, ◌+◌, ◌<◌, ◌≤◌, List, take, IfErr, IfOk, IsErrOf};
+ghost use Rattle.da_outside.specs.Outside.{HasCause, Rose};
+ghost use Rattle.da_commands.specs.Replies.{IsEnd, IsRefused, ReadCause, ReplayReply, RunReply, run_status, run_text};
+ghost use Rattle.da_commands.specs.Told.{HasReplied, HasSaid, OfTold};
+ghost use Rattle.std.specs.Prelude.{ℕ, ◌≡◌, ◌+◌, ◌<◌, ◌≤◌, List, take};
 
-use crate::endings::{Ending, refuse, refuse_schedule};
+use crate::endings::{refuse, refuse_schedule, status_of_run};
 use crate::program::{PROGRAM_LIMIT, ProgramFault, read_program};
 use crate::status::{RefusedKind, Status};
 use da_core::Compiled;
 use da_lang::Event;
 use da_outside::{Files, Sink, Trouble, read_all};
 use da_system::System;
-use replay_run::Outcome;
 use sched_text::{SCHEDULE_LIMIT, SchedFault, read_schedule};
 use std::alloc::Global;
 
@@ -24,28 +23,22 @@ pub fn replay<F: Files, K: Sink>(
     schedule: &str,
     files: &mut F,
     out: &mut K,
-) -> Result<Status, Ending>
-    ensures replies { IfOk result (λ status. OfTold (F.told files.old program.now)
-        (λ t. OfTold (F.told files.old schedule.now)
-        (λ s. Gains (ReplayReply t s) status (K.taken out.old) (K.taken out.new)))) }
-    ensures begun { IfErr result (λ _. OfTold (F.told files.old program.now)
-        (λ t. OfTold (F.told files.old schedule.now)
-        (λ s. Begins (ReplayReply t s) (K.taken out.old) (K.taken out.new)))) }
-    ensures read { IsErrOf result Ending.Read
+) -> Status
+    ensures replies { OfTold (F.told files.old program.now) (λ t. OfTold (F.told files.old schedule.now)
+        (λ s. HasReplied (ReplayReply t s) result (K.taken out.old) (K.taken out.new))) }
+    ensures ends { IsEnd result }
+    ensures read { result ≡ Status.ReadFault
         → ReadCause (F.told files.old program.now) (F.faults files.old) (F.faults files.new) program.now schedule.now }
-    ensures status { IfOk result IsReply }
-    ensures write { IsErrOf result Ending.Write → Rose (K.faults out.old) (K.faults out.new) }
-    ensures unread { IsErrOf result Ending.Read → K.taken out.new ≡ K.taken out.old }
+    ensures unread { result ≡ Status.ReadFault → K.taken out.new ≡ K.taken out.old }
     ensures told { (x : List ℕ) → F.told files.new x ≡ F.told files.old x }
     ensures later { (x : List ℕ) → F.faults files.old x ≤ F.faults files.new x }
-    ensures rises { (x : List ℕ) → F.faults files.old x < F.faults files.new x → IsErrOf result Ending.Read }
-    ensures writes { K.faults out.old ≤ K.faults out.new }
-    ensures failed { K.faults out.old < K.faults out.new → IsErrOf result Ending.Write }
+    ensures rises { (x : List ℕ) → F.faults files.old x < F.faults files.new x → result ≡ Status.ReadFault }
+    ensures write { HasCause (K.faults out.old) (K.faults out.new) (result ≡ Status.WriteFault) }
 {
     match read_all(alloc, files, program, PROGRAM_LIMIT) {
         Ok(text) => answer_program(alloc, text.as_slice(), schedule, files, out),
-        Err(Trouble::Failed) => Err(Ending::Read),
-        Err(Trouble::Memory) => Err(Ending::Memory),
+        Err(Trouble::Failed) => Status::ReadFault,
+        Err(Trouble::Memory) => Status::Memory,
     }
 }
 
@@ -57,24 +50,18 @@ fn answer_program<F: Files, K: Sink>(
     name: &str,
     files: &mut F,
     out: &mut K,
-) -> Result<Status, Ending>
-    ensures replies { (t : List ℕ) → text.now ≡ take (PROGRAM_LIMIT + 1) t → IfOk result
-        (λ status. OfTold (F.told files.old name.now)
-        (λ s. Gains (ReplayReply t s) status (K.taken out.old) (K.taken out.new))) }
-    ensures begun { (t : List ℕ) → text.now ≡ take (PROGRAM_LIMIT + 1) t → IfErr result
-        (λ _. OfTold (F.told files.old name.now)
-        (λ s. Begins (ReplayReply t s) (K.taken out.old) (K.taken out.new))) }
-    ensures refused { (t : List ℕ) → text.now ≡ take (PROGRAM_LIMIT + 1) t → IsErrOf result Ending.Read → IsRefused t
+) -> Status
+    ensures replies { (t : List ℕ) → text.now ≡ take (PROGRAM_LIMIT + 1) t → OfTold (F.told files.old name.now)
+        (λ s. HasReplied (ReplayReply t s) result (K.taken out.old) (K.taken out.new)) }
+    ensures refused { (t : List ℕ) → text.now ≡ take (PROGRAM_LIMIT + 1) t → result ≡ Status.ReadFault → IsRefused t
         → ⊥ }
-    ensures read { IsErrOf result Ending.Read → Rose (F.faults files.old name.now) (F.faults files.new name.now) }
-    ensures status { IfOk result IsReply }
-    ensures write { IsErrOf result Ending.Write → Rose (K.faults out.old) (K.faults out.new) }
-    ensures unread { IsErrOf result Ending.Read → K.taken out.new ≡ K.taken out.old }
+    ensures ends { IsEnd result }
+    ensures read { result ≡ Status.ReadFault → Rose (F.faults files.old name.now) (F.faults files.new name.now) }
+    ensures unread { result ≡ Status.ReadFault → K.taken out.new ≡ K.taken out.old }
     ensures told { (x : List ℕ) → F.told files.new x ≡ F.told files.old x }
     ensures later { (x : List ℕ) → F.faults files.old x ≤ F.faults files.new x }
-    ensures rises { (x : List ℕ) → F.faults files.old x < F.faults files.new x → IsErrOf result Ending.Read }
-    ensures writes { K.faults out.old ≤ K.faults out.new }
-    ensures failed { K.faults out.old < K.faults out.new → IsErrOf result Ending.Write }
+    ensures rises { (x : List ℕ) → F.faults files.old x < F.faults files.new x → result ≡ Status.ReadFault }
+    ensures write { HasCause (K.faults out.old) (K.faults out.new) (result ≡ Status.WriteFault) }
 {
     if text.len() > PROGRAM_LIMIT {
         return refuse(alloc, out, RefusedKind::Size, 0);
@@ -82,68 +69,49 @@ fn answer_program<F: Files, K: Sink>(
     let compiled = match read_program(alloc, text) {
         Ok(compiled) => compiled,
         Err(ProgramFault::Refused { kind, line }) => return refuse(alloc, out, kind, line),
-        Err(ProgramFault::Memory) => return Err(Ending::Memory),
+        Err(ProgramFault::Memory) => return Status::Memory,
     };
     match read_all(alloc, files, name, SCHEDULE_LIMIT) {
         Ok(schedule) => answer_schedule(alloc, &compiled, schedule.as_slice(), out),
-        Err(Trouble::Failed) => Err(Ending::Read),
-        Err(Trouble::Memory) => Err(Ending::Memory),
+        Err(Trouble::Failed) => Status::ReadFault,
+        Err(Trouble::Memory) => Status::Memory,
     }
 }
 
 // Refuses the schedule, or runs it.
 #[tactic(auto, using(crate::proofs::ToldLemmas::begins_nothing))]
-fn answer_schedule<K: Sink>(
-    alloc: Global,
-    compiled: &Compiled,
-    text: &[u8],
-    out: &mut K,
-) -> Result<Status, Ending>
+fn answer_schedule<K: Sink>(alloc: Global, compiled: &Compiled, text: &[u8], out: &mut K) -> Status
     requires { IsCompiled compiled.now }
-    ensures answers { (whole : List ℕ) → text.now ≡ take (SCHEDULE_LIMIT + 1) whole
-        → IfOk result (λ status. Gains (RunReply (program_of compiled.now) whole) status
-        (K.taken out.old) (K.taken out.new)) }
-    ensures begun { (whole : List ℕ) → text.now ≡ take (SCHEDULE_LIMIT + 1) whole
-        → IfErr result (λ _. Begins (RunReply (program_of compiled.now) whole)
-        (K.taken out.old) (K.taken out.new)) }
-    ensures status { IfOk result IsReply }
-    ensures write { IsErrOf result Ending.Write → Rose (K.faults out.old) (K.faults out.new) }
-    ensures read { IsErrOf result Ending.Read → ⊥ }
-    ensures writes { K.faults out.old ≤ K.faults out.new }
-    ensures failed { K.faults out.old < K.faults out.new → IsErrOf result Ending.Write }
+    ensures replies { (whole : List ℕ) → text.now ≡ take (SCHEDULE_LIMIT + 1) whole
+        → HasReplied (RunReply (program_of compiled.now) whole) result (K.taken out.old) (K.taken out.new) }
+    ensures ends { IsEnd result }
+    ensures read { result ≡ Status.ReadFault → ⊥ }
+    ensures write { HasCause (K.faults out.old) (K.faults out.new) (result ≡ Status.WriteFault) }
 {
     match read_schedule(alloc, text) {
         Ok(events) => answer_events(alloc, compiled, events.as_slice(), out),
         Err(SchedFault::BadLine(line)) => refuse_schedule(alloc, out, line),
-        Err(SchedFault::Memory) => Err(Ending::Memory),
+        Err(SchedFault::Memory) => Status::Memory,
     }
 }
 
 // Runs the events, and writes their actions.
-#[tactic(auto, using(da_outside::proofs::OutsideLemmas::front_none))]
+#[tactic(auto, using(crate::proofs::ToldLemmas::memory_said))]
 fn answer_events<K: Sink>(
     alloc: Global,
     compiled: &Compiled,
     events: &[Event],
     out: &mut K,
-) -> Result<Status, Ending>
+) -> Status
     requires { IsCompiled compiled.now }
-    ensures ran { IfOk result (λ status. (status ≡ run_status (program_of compiled.now) events.now)
-        × Appends (K.taken out.old) (K.taken out.new)
-        (run_text (program_of compiled.now) events.now)) }
-    ensures front { IfErr result (λ _. AppendsFront (K.taken out.old) (K.taken out.new)
-        (run_text (program_of compiled.now) events.now)) }
-    ensures status { IfOk result IsReply }
-    ensures write { IsErrOf result Ending.Write → Rose (K.faults out.old) (K.faults out.new) }
-    ensures read { IsErrOf result Ending.Read → ⊥ }
-    ensures writes { K.faults out.old ≤ K.faults out.new }
-    ensures failed { K.faults out.old < K.faults out.new → IsErrOf result Ending.Write }
+    ensures said { HasSaid (run_status (program_of compiled.now) events.now) (run_text (program_of compiled.now) events.now) result
+        (K.taken out.old) (K.taken out.new) }
+    ensures ends { IsEnd result }
+    ensures read { result ≡ Status.ReadFault → ⊥ }
+    ensures write { HasCause (K.faults out.old) (K.faults out.new) (result ≡ Status.WriteFault) }
 {
-    let mut system = System::new(alloc, compiled)?;
-    match replay_run::replay(alloc, &mut system, events, out) {
-        Outcome::Done => Ok(Status::Done),
-        Outcome::Forbidden(event) => Ok(Status::Forbidden { event }),
-        Outcome::WriteFault => Err(Ending::Write),
-        Outcome::Memory => Err(Ending::Memory),
-    }
+    let Ok(mut system) = System::new(alloc, compiled) else {
+        return Status::Memory;
+    };
+    status_of_run(replay_run::replay(alloc, &mut system, events, out))
 }

@@ -14,7 +14,7 @@ pub enum RefusedKind {
     /// A line is set in by a width at which no open block stands.
     #[error("the indentation is that of no open block")]
     Indent,
-    /// Bytes begin no token, or an integer has a leading zero or is too large.
+    /// No token is spelled so. An integer past the limit is none, and neither is one with a zero in front.
     #[error("no token is spelled like this: texts stand in single quotes, integers have no leading zero and are at most 9223372036854775807")]
     Token,
     /// A text literal or a bracket is not closed.

@@ -1,12 +1,12 @@
 //! What is asked of a program alone: whether it is accepted, its plans, and generated schedules.
 ghost use Rattle.da_core.specs.Compiled.{IsCompiled, program_of};
-ghost use Rattle.da_outside.specs.Outside.{Appends, AppendsFront, Rose};
+ghost use Rattle.da_outside.specs.Outside.{HasCause, Rose};
 ghost use Rattle.da_system.specs.StressRun.{stress_text};
-ghost use Rattle.da_commands.specs.Replies.{IsReply, TaskReply, task_text};
-ghost use Rattle.da_commands.specs.Told.{Begins, Gains, OfTold};
-ghost use Rattle.std.specs.Prelude.{ℕ, ◌≡◌, ◌+◌, ◌<◌, ◌≤◌, List, take, IfErr, IfOk, IsErrOf};
+ghost use Rattle.da_commands.specs.Replies.{IsEnd, TaskReply, task_text};
+ghost use Rattle.da_commands.specs.Told.{HasReplied, HasSaid, OfTold};
+ghost use Rattle.std.specs.Prelude.{ℕ, ◌≡◌, ◌+◌, ◌<◌, ◌≤◌, List, take};
 
-use crate::endings::{Ending, refuse, say};
+use crate::endings::{refuse, say, status_of_run};
 use crate::lines::accepted_line;
 use crate::program::{PROGRAM_LIMIT, ProgramFault, read_program};
 use crate::status::{RefusedKind, Status};
@@ -15,7 +15,6 @@ use da_core::Compiled;
 use da_outside::{Files, Sink, Trouble, read_all};
 use da_system::System;
 use plan_json::plan_line;
-use replay_run::Outcome;
 use std::alloc::Global;
 
 /// Reads the program, and refuses it or carries out the task on it.
@@ -26,45 +25,32 @@ pub fn carry_out<F: Files, K: Sink>(
     program: &str,
     files: &mut F,
     out: &mut K,
-) -> Result<Status, Ending>
-    ensures replies { IfOk result (λ status. OfTold (F.told files.old program.now)
-        (λ t. Gains (TaskReply task t) status (K.taken out.old) (K.taken out.new))) }
-    ensures begun { IfErr result (λ _. OfTold (F.told files.old program.now)
-        (λ t. Begins (TaskReply task t) (K.taken out.old) (K.taken out.new))) }
-    ensures status { IfOk result IsReply }
-    ensures read { IsErrOf result Ending.Read → Rose (F.faults files.old program.now) (F.faults files.new program.now) }
-    ensures write { IsErrOf result Ending.Write → Rose (K.faults out.old) (K.faults out.new) }
-    ensures unread { IsErrOf result Ending.Read → K.taken out.new ≡ K.taken out.old }
+) -> Status
+    ensures replies { OfTold (F.told files.old program.now)
+        (λ t. HasReplied (TaskReply task t) result (K.taken out.old) (K.taken out.new)) }
+    ensures ends { IsEnd result }
+    ensures read { result ≡ Status.ReadFault → Rose (F.faults files.old program.now) (F.faults files.new program.now) }
+    ensures unread { result ≡ Status.ReadFault → K.taken out.new ≡ K.taken out.old }
     ensures told { (x : List ℕ) → F.told files.new x ≡ F.told files.old x }
     ensures later { (x : List ℕ) → F.faults files.old x ≤ F.faults files.new x }
-    ensures rises { (x : List ℕ) → F.faults files.old x < F.faults files.new x → IsErrOf result Ending.Read }
-    ensures writes { K.faults out.old ≤ K.faults out.new }
-    ensures failed { K.faults out.old < K.faults out.new → IsErrOf result Ending.Write }
+    ensures rises { (x : List ℕ) → F.faults files.old x < F.faults files.new x → result ≡ Status.ReadFault }
+    ensures write { HasCause (K.faults out.old) (K.faults out.new) (result ≡ Status.WriteFault) }
 {
     match read_all(alloc, files, program, PROGRAM_LIMIT) {
         Ok(text) => answer_text(alloc, task, text.as_slice(), out),
-        Err(Trouble::Failed) => Err(Ending::Read),
-        Err(Trouble::Memory) => Err(Ending::Memory),
+        Err(Trouble::Failed) => Status::ReadFault,
+        Err(Trouble::Memory) => Status::Memory,
     }
 }
 
 // Refuses the program, or carries out the task on it.
 #[tactic(auto, using(crate::proofs::ToldLemmas::begins_nothing))]
-fn answer_text<K: Sink>(
-    alloc: Global,
-    task: Task,
-    text: &[u8],
-    out: &mut K,
-) -> Result<Status, Ending>
-    ensures replies { (t : List ℕ) → text.now ≡ take (PROGRAM_LIMIT + 1) t → IfOk result
-        (λ status. Gains (TaskReply task t) status (K.taken out.old) (K.taken out.new)) }
-    ensures begun { (t : List ℕ) → text.now ≡ take (PROGRAM_LIMIT + 1) t → IfErr result
-        (λ _. Begins (TaskReply task t) (K.taken out.old) (K.taken out.new)) }
-    ensures status { IfOk result IsReply }
-    ensures write { IsErrOf result Ending.Write → Rose (K.faults out.old) (K.faults out.new) }
-    ensures read { IsErrOf result Ending.Read → ⊥ }
-    ensures writes { K.faults out.old ≤ K.faults out.new }
-    ensures failed { K.faults out.old < K.faults out.new → IsErrOf result Ending.Write }
+fn answer_text<K: Sink>(alloc: Global, task: Task, text: &[u8], out: &mut K) -> Status
+    ensures replies { (t : List ℕ) → text.now ≡ take (PROGRAM_LIMIT + 1) t
+        → HasReplied (TaskReply task t) result (K.taken out.old) (K.taken out.new) }
+    ensures ends { IsEnd result }
+    ensures read { result ≡ Status.ReadFault → ⊥ }
+    ensures write { HasCause (K.faults out.old) (K.faults out.new) (result ≡ Status.WriteFault) }
 {
     if text.len() > PROGRAM_LIMIT {
         return refuse(alloc, out, RefusedKind::Size, 0);
@@ -72,66 +58,52 @@ fn answer_text<K: Sink>(
     match read_program(alloc, text) {
         Ok(compiled) => answer_task(alloc, task, &compiled, out),
         Err(ProgramFault::Refused { kind, line }) => refuse(alloc, out, kind, line),
-        Err(ProgramFault::Memory) => Err(Ending::Memory),
+        Err(ProgramFault::Memory) => Status::Memory,
     }
 }
 
 // Carries out the task on an accepted program.
-#[tactic(auto, using(da_outside::proofs::OutsideLemmas::front_none))]
-fn answer_task<K: Sink>(
-    alloc: Global,
-    task: Task,
-    compiled: &Compiled,
-    out: &mut K,
-) -> Result<Status, Ending>
+#[tactic(auto, using(crate::proofs::ToldLemmas::memory_said, crate::proofs::ToldLemmas::said_ends, crate::proofs::ToldLemmas::said_unread))]
+fn answer_task<K: Sink>(alloc: Global, task: Task, compiled: &Compiled, out: &mut K) -> Status
     requires { IsCompiled compiled.now }
-    ensures said { IfOk result (λ s. (s ≡ Status.Done)
-        × Appends (K.taken out.old) (K.taken out.new) (task_text task (program_of compiled.now))) }
-    ensures front { IfErr result
-        (λ _. AppendsFront (K.taken out.old) (K.taken out.new) (task_text task (program_of compiled.now))) }
-    ensures write { IsErrOf result Ending.Write → Rose (K.faults out.old) (K.faults out.new) }
-    ensures read { IsErrOf result Ending.Read → ⊥ }
-    ensures writes { K.faults out.old ≤ K.faults out.new }
-    ensures failed { K.faults out.old < K.faults out.new → IsErrOf result Ending.Write }
+    ensures said { HasSaid Status.Done (task_text task (program_of compiled.now)) result (K.taken out.old) (K.taken out.new) }
+    ensures ends { IsEnd result }
+    ensures read { result ≡ Status.ReadFault → ⊥ }
+    ensures write { HasCause (K.faults out.old) (K.faults out.new) (result ≡ Status.WriteFault) }
 {
     match task {
         Task::Check => {
             let program = compiled.program();
-            let line = accepted_line(alloc, program.classes.len(), program.procs.len())?;
-            say(out, line.as_slice(), Status::Done)
+            match accepted_line(alloc, program.classes.len(), program.procs.len()) {
+                Ok(line) => say(out, line.as_slice(), Status::Done),
+                Err(_) => Status::Memory,
+            }
         }
-        Task::Plan => {
-            let line = plan_line(alloc, compiled)?;
-            say(out, line.as_slice(), Status::Done)
-        }
+        Task::Plan => match plan_line(alloc, compiled) {
+            Ok(line) => say(out, line.as_slice(), Status::Done),
+            Err(_) => Status::Memory,
+        },
         Task::Stress { start, most } => answer_stress(alloc, compiled, start, most, out),
     }
 }
 
 // Runs a generated schedule of at most so many events, and says what it came to.
-#[tactic(auto, using(da_outside::proofs::OutsideLemmas::front_none))]
+#[tactic(auto, using(crate::proofs::ToldLemmas::memory_said, crate::proofs::ToldLemmas::said_ends, crate::proofs::ToldLemmas::said_unread))]
 fn answer_stress<K: Sink>(
     alloc: Global,
     compiled: &Compiled,
     start: u64,
     most: u64,
     out: &mut K,
-) -> Result<Status, Ending>
+) -> Status
     requires { IsCompiled compiled.now }
-    ensures said { IfOk result (λ s. (s ≡ Status.Done)
-        × Appends (K.taken out.old) (K.taken out.new) (stress_text (program_of compiled.now) start most)) }
-    ensures front { IfErr result
-        (λ _. AppendsFront (K.taken out.old) (K.taken out.new) (stress_text (program_of compiled.now) start most)) }
-    ensures write { IsErrOf result Ending.Write → Rose (K.faults out.old) (K.faults out.new) }
-    ensures read { IsErrOf result Ending.Read → ⊥ }
-    ensures writes { K.faults out.old ≤ K.faults out.new }
-    ensures failed { K.faults out.old < K.faults out.new → IsErrOf result Ending.Write }
+    ensures said { HasSaid Status.Done (stress_text (program_of compiled.now) start most) result (K.taken out.old) (K.taken out.new) }
+    ensures ends { IsEnd result }
+    ensures read { result ≡ Status.ReadFault → ⊥ }
+    ensures write { HasCause (K.faults out.old) (K.faults out.new) (result ≡ Status.WriteFault) }
 {
-    let mut system = System::new(alloc, compiled)?;
-    match replay_run::stress(alloc, &mut system, start, most, out) {
-        Outcome::Done => Ok(Status::Done),
-        Outcome::Forbidden(_) => unreachable!(),
-        Outcome::WriteFault => Err(Ending::Write),
-        Outcome::Memory => Err(Ending::Memory),
-    }
+    let Ok(mut system) = System::new(alloc, compiled) else {
+        return Status::Memory;
+    };
+    status_of_run(replay_run::stress(alloc, &mut system, start, most, out))
 }

@@ -1,18 +1,19 @@
 //! The top call: all that the program does.
 ghost use Rattle.da_lang.specs.declared.event.Event.{Event};
 ghost use Rattle.da_lang.specs.declared.program.Program.{Program};
-ghost use Rattle.da_outside.specs.Outside.{Appends, AppendsFront, Rose};
+ghost use Rattle.da_outside.specs.Outside.{Appends, AppendsFront, HasCause, Rose};
 ghost use Rattle.da_commands.specs.NodeReplies.{HasAnswered, HasStopped, IsNode, IsServed, LinkFailed};
-ghost use Rattle.da_commands.specs.Replies.{HasLinkCause, HasReadCause, IsAnswer, IsAsking, IsCarriedOut, IsOther, IsReplay, ReplayReply, RunsWhole, TaskReply};
+ghost use Rattle.da_commands.specs.Replies.{HasReadCause, IsAnswer, IsAsking, IsCarriedOut, IsOther, IsReplay, ReplayReply, RunsWhole, TaskReply};
 ghost use Rattle.da_commands.specs.declared.words.NodeSetting.{NodeSetting};
 ghost use Rattle.da_commands.specs.declared.words.Task.{Task};
 ghost use Rattle.da_commands.specs.Told.{Begins, Gains, OfTold};
 ghost use Rattle.da_commands.specs.Verdict.{Accepts};
+ghost use Rattle.node_run.specs.NodeCall.{GivesPackets};
 ghost use Rattle.sched_text.specs.ScheduleText.{SpellsSchedule};
 ghost use Rattle.std.specs.Prelude.{ℕ, ◌≡◌, ◌<◌, ◌≤◌, List, Some, codes, map};
 ghost use Rattle.std.specs.String.{string_bytes};
 
-use crate::endings::{say, status_after};
+use crate::endings::say;
 use crate::noding::run_node;
 use crate::replaying::replay;
 use crate::status::Status;
@@ -48,13 +49,17 @@ pub fn dalgo<F: Files, K: Sink, L: Link>(
         → IsCarriedOut task program result (K.taken out.old) (K.taken out.new) }
 
     // A node answers by the program's text and by what its link answers. The link is bound once, unless the program is refused,
-    // and then tells the talk of the run. Where it fails to be bound nothing is written.
+    // and then tells the talk of the run. Where it fails to be bound nothing is written. Where a write fails, it tells the talk
+    // up to there, and only lines of the last event are missing.
     ensures node { (p : List ℕ) (setting : NodeSetting) → IsNode (map string_bytes words.now) p setting → IsAnswer result
         → OfTold (F.told files.old p) (λ t. HasAnswered t setting result (L.told link.old) (L.told link.new) (K.taken out.old) (K.taken out.new)) }
     ensures node_link { (p : List ℕ) (setting : NodeSetting) → IsNode (map string_bytes words.now) p setting → result ≡ Status.LinkFault
         → OfTold (F.told files.old p) (λ t. LinkFailed t setting (L.told link.old) (L.told link.new) (K.taken out.old) (K.taken out.new)) }
     ensures node_stopped { (p : List ℕ) (setting : NodeSetting) → IsNode (map string_bytes words.now) p setting → (IsAnswer result → ⊥) → (result ≡ Status.LinkFault → ⊥)
-        → OfTold (F.told files.old p) (λ t. HasStopped t setting (L.told link.old) (L.told link.new) (K.taken out.old) (K.taken out.new)) }
+        → OfTold (F.told files.old p) (λ t. HasStopped t setting result (L.told link.old) (L.told link.new) (K.taken out.old) (K.taken out.new)) }
+
+    // However it ends, a node gives nothing but packets of messages that its process sent.
+    ensures node_packets { (p : List ℕ) (setting : NodeSetting) → IsNode (map string_bytes words.now) p setting → GivesPackets setting.me (L.told link.old) (L.told link.new) }
 
     // Each accepted program is served, unless a read, a write or the link failed or memory was refused.
     ensures served { (p t : List ℕ) (program : Program) (setting : NodeSetting) → IsNode (map string_bytes words.now) p setting → F.told files.old p ≡ Some t → Accepts t program
@@ -78,28 +83,19 @@ pub fn dalgo<F: Files, K: Sink, L: Link>(
     // Each fault has its cause, and where a count rose the status says so. What files tell stays as it was, and no count
     // falls.
     ensures read { result ≡ Status.ReadFault → HasReadCause (map string_bytes words.now) (F.told files.old) (F.faults files.old) (F.faults files.new) }
+    ensures read_failed { (x : List ℕ) → F.faults files.old x < F.faults files.new x → result ≡ Status.ReadFault }
     ensures unread { result ≡ Status.ReadFault → K.taken out.new ≡ K.taken out.old }
     ensures unbound { result ≡ Status.ReadFault → link.new ≡ link.old }
-    ensures write { result ≡ Status.WriteFault → Rose (K.faults out.old) (K.faults out.new) }
-    ensures link { result ≡ Status.LinkFault → HasLinkCause (map string_bytes words.now) (L.faults link.old) (L.faults link.new) }
-    ensures link_failed { L.faults link.old < L.faults link.new → result ≡ Status.LinkFault }
-    ensures read_failed { (x : List ℕ) → F.faults files.old x < F.faults files.new x → result ≡ Status.ReadFault }
-    ensures write_failed { K.faults out.old < K.faults out.new → result ≡ Status.WriteFault }
     ensures told { (x : List ℕ) → F.told files.new x ≡ F.told files.old x }
     ensures counts { (x : List ℕ) → F.faults files.old x ≤ F.faults files.new x }
-    ensures writes { K.faults out.old ≤ K.faults out.new }
-    ensures links { L.faults link.old ≤ L.faults link.new }
+    ensures write { HasCause (K.faults out.old) (K.faults out.new) (result ≡ Status.WriteFault) }
+    ensures link { HasCause (L.faults link.old) (L.faults link.new) (result ≡ Status.LinkFault) }
+    ensures only_node { result ≡ Status.LinkFault → (p : List ℕ) × (setting : NodeSetting) × IsNode (map string_bytes words.now) p setting }
 {
     match command_of(words) {
-        Command::Replay(names) => {
-            status_after(replay(alloc, names.program, names.schedule, files, out))
-        }
-        Command::Carry { task, program } => {
-            status_after(carry_out(alloc, task, program, files, out))
-        }
-        Command::Node { setting, program } => {
-            status_after(run_node(alloc, setting, program, files, out, link))
-        }
-        Command::Other => status_after(say(out, b"words\n", Status::Words)),
+        Command::Replay(names) => replay(alloc, names.program, names.schedule, files, out),
+        Command::Carry { task, program } => carry_out(alloc, task, program, files, out),
+        Command::Node { setting, program } => run_node(alloc, setting, program, files, out, link),
+        Command::Other => say(out, b"words\n", Status::Words),
     }
 }

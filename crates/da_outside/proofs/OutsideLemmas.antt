@@ -1,14 +1,30 @@
 -- What several calls of a source or a sink come to.
-use Rattle.std.proofs.Common.{◌≡◌, refl, ◌∙◌, ap, subst, sym, ℕ, ◌+◌, ◌-◌, ◌≤◌, List, ◌++◌, take, drop, length, arith, append_assoc, append-nil, length-append, length-drop, length-take-le, take_all}
+use Rattle.std.proofs.Common.{◌≡◌, refl, ◌∙◌, ap, subst, sym, ℕ, ◌+◌, ◌-◌, ◌≤◌, ◌<◌, List, ◌++◌, [], take, drop, length, arith, append_assoc, append-nil, length-append, length-drop, length-take-le, take_all}
 use Rattle.std.specs.Prelude.{Option, Some, None, min}
 use Rattle.std.proofs.Math.Seq.{take-add, take-append-add, take-length}
 use Rattle.std.proofs.lemmas.List.{take-append-le, take_min}
-use Rattle.da_outside.specs.Outside.{Appends, AppendsFront, IsFront, ReadsTold}
+use Rattle.da_outside.specs.Outside.{Appends, AppendsFront, HasCause, IsFront, ReadsTold}
 
--- one write after another
+-- THE CAUSE OF A FAULT
+
+-- the same fault by another name
+pub cause_as : {P Q : Type 0} (before now : ℕ) → (P → Q) → (Q → P) → HasCause before now P → HasCause before now Q
+cause_as before now to from cause = record { later = cause.later; failed = λ q. cause.failed (from q); rises = λ rose. to (cause.rises rose) }
+
+-- one that never comes, where nothing was done
+pub no_cause : {P : Type 0} (n : ℕ) → (P → ⊥) → HasCause n n P
+no_cause n never = record { later = omega arith; failed = λ p. absurd (never p); rises = λ rose. absurd (let rose : n < n = rose in omega (arith, rose)) }
+
+-- ONE WRITE AFTER ANOTHER
+
 pub appends_then : (a b c : Option (List ℕ)) (xs ys : List ℕ) → Appends a b xs → Appends b c ys → Appends a c (xs ++ ys)
 appends_then None b c xs ys first next = rw (next, first) refl
 appends_then (Some told) b c xs ys first next = rw (next, first) (ap Some (append_assoc told xs ys))
+
+-- no byte more
+pub appends_none : (a : Option (List ℕ)) → Appends a a []
+appends_none None = refl
+appends_none (Some told) = ap Some (sym (append-nil told))
 
 -- THE FRONT OF BYTES
 

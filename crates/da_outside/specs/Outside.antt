@@ -1,18 +1,16 @@
 -- Sources and sinks: what a call does to what they tell, and when it may fail.
-use Rattle.std.specs.Prelude.{◌≡◌, ℕ, ◌+◌, ◌-◌, ◌^◌, ◌<◌, ◌≤◌, min, List, ◌++◌, ⊤, length, take, drop, Option, Some, None, Result, IsErrOf}
+use Rattle.std.specs.Prelude.{◌≡◌, ℕ, ◌+◌, ◌-◌, ◌^◌, ◌<◌, ◌≤◌, min, List, ◌++◌, ⊤, length, take, drop, Option, Some, None}
 use Rattle.std.specs.Option.{option_map}
-use Rattle.da_outside.specs.declared.outside.Trouble.{Trouble}
-use Rattle.da_outside.specs.declared.outside.Trouble.TheVariants.{Failed}
 
 -- a count rose, or it stands at the greatest value of a u64
 abbrev pub Rose : ℕ → ℕ → Type 0
 Rose before now = min (before + 1) (2 ^ 64 - 1) ≤ now
 
--- the count does not fall, `Failed` comes only where it rose, and it rises only with `Failed`
-pub record HasCause {T : Type 0} (before now : ℕ) (result : Result T Trouble) : Type 0 where
+-- A count tells of a fault: it does not fall, the fault comes only where it rose, and it rises only with the fault.
+pub record HasCause (before now : ℕ) (fault : Type 0) : Type 0 where
   pub later : before ≤ now
-  pub failed : IsErrOf result Failed → Rose before now
-  pub rises : before < now → IsErrOf result Failed
+  pub failed : fault → Rose before now
+  pub rises : before < now → fault
 
 -- a piece of n bytes that begins at a place: the buffer holds it in front, and it is empty only at the end or for want of room
 pub record ReadsFrom (bytes : List ℕ) (at n : ℕ) (buf : List ℕ) : Type 0 where

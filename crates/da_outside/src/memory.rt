@@ -71,7 +71,7 @@ impl Files for MemFiles {
         ensures bound { IfOk result (λ n. n ≤ length buf.new) }
         ensures bytes { IfOk result (λ n. ReadsTold (bytes_named (files_of self.old) name.now) at n buf.new) }
         ensures same { (x : List ℕ) → bytes_named (files_of self.new) x ≡ bytes_named (files_of self.old) x }
-        ensures cause { HasCause (reads_of self.old).faults (reads_of self.new).faults result }
+        ensures cause { HasCause (reads_of self.old).faults (reads_of self.new).faults (IsErrOf result Trouble.Failed) }
         ensures later { (x : List ℕ) → (reads_of self.old).faults ≤ (reads_of self.new).faults }
         ensures rises { (x : List ℕ) → (reads_of self.old).faults < (reads_of self.new).faults → IsErrOf result Trouble.Failed }
         ensures fails { MatchBool (read_fails self.old name.now) (IsErrOf result Trouble.Failed) (IsOk result) }
@@ -153,7 +153,7 @@ impl Sink for MemSink {
         ensures some { IfOk result (λ n. 0 < length bytes.now → 0 < n) }
         ensures took { IfOk result (λ n. Appends (Some (bytes_of self.old)) (Some (bytes_of self.new)) (take n bytes.now)) }
         ensures same { OnErr result (Some (bytes_of self.new) ≡ Some (bytes_of self.old)) }
-        ensures cause { HasCause (writes_of self.old).faults (writes_of self.new).faults result }
+        ensures cause { HasCause (writes_of self.old).faults (writes_of self.new).faults (IsErrOf result Trouble.Failed) }
         ensures count { IfOk result (λ n. n ≡ min (length bytes.now) (most_of self.old)) }
         ensures fails { MatchBool (write_fails self.old bytes.now) (IsErrOf result Trouble.Failed) (IsErrOf result Trouble.Failed → ⊥) }
         ensures script { writes_of self.new ≡ script_after (writes_of self.old) result }

@@ -43,7 +43,7 @@ pub trait Files {
         ensures bound { IfOk result (λ n. n ≤ length buf.new) }
         ensures bytes { IfOk result (λ n. ReadsTold (told self.old name.now) at n buf.new) }
         ensures same { (x : List ℕ) → told self.new x ≡ told self.old x }
-        ensures cause { HasCause (faults self.old name.now) (faults self.new name.now) result }
+        ensures cause { HasCause (faults self.old name.now) (faults self.new name.now) (IsErrOf result Trouble.Failed) }
         ensures later { (x : List ℕ) → faults self.old x ≤ faults self.new x }
         ensures rises { (x : List ℕ) → faults self.old x < faults self.new x → IsErrOf result Trouble.Failed };
 }
@@ -63,5 +63,5 @@ pub trait Sink {
         ensures some { IfOk result (λ n. 0 < length bytes.now → 0 < n) }
         ensures took { IfOk result (λ n. Appends (taken self.old) (taken self.new) (take n bytes.now)) }
         ensures same { OnErr result (taken self.new ≡ taken self.old) }
-        ensures cause { HasCause (faults self.old) (faults self.new) result };
+        ensures cause { HasCause (faults self.old) (faults self.new) (IsErrOf result Trouble.Failed) };
 }

@@ -81,7 +81,7 @@ impl Link for ScriptLink {
         ensures unbound { OnErr result (count_of self.new ≡ count_of self.old) }
         ensures adds { OnOk result (Gains (Some (entries_of self.old)) (Some (entries_of self.new)) (LinkEntry.Bound port me count ∷ [])) }
         ensures same { OnErr result (Gains (Some (entries_of self.old)) (Some (entries_of self.new)) []) }
-        ensures cause { HasCause (calls_of self.old).faults (calls_of self.new).faults result }
+        ensures cause { HasCause (calls_of self.old).faults (calls_of self.new).faults (IsErrOf result Trouble.Failed) }
         ensures fails { MatchBool (is_named (calls_of self.old)) (IsErrOf result Trouble.Failed) (IsErrOf result Trouble.Failed → ⊥) }
         ensures script { calls_of self.new ≡ script_after (calls_of self.old) result }
         ensures answers { answers_of self.new ≡ answers_of self.old }
@@ -100,7 +100,7 @@ impl Link for ScriptLink {
         ensures adds { IfOk result (λ taken. Gains (Some (entries_of self.old)) (Some (entries_of self.new)) (LinkEntry.Answered (answer_of taken buf.new) ∷ [])) }
         ensures same { OnErr result (Gains (Some (entries_of self.old)) (Some (entries_of self.new)) []) }
         ensures kept { count_of self.new ≡ count_of self.old }
-        ensures cause { HasCause (calls_of self.old).faults (calls_of self.new).faults result }
+        ensures cause { HasCause (calls_of self.old).faults (calls_of self.new).faults (IsErrOf result Trouble.Failed) }
         ensures fails { MatchBool (is_named (calls_of self.old)) (IsErrOf result Trouble.Failed) (IsErrOf result Trouble.Failed → ⊥) }
         ensures script { calls_of self.new ≡ script_after (calls_of self.old) result }
         ensures answer { IfOk result (λ taken. answer_of taken buf.new ≡ next_answer (answers_of self.old)) }
@@ -122,7 +122,7 @@ impl Link for ScriptLink {
         ensures adds { OnOk result (Gains (Some (entries_of self.old)) (Some (entries_of self.new)) (LinkEntry.Gave to bytes.now ∷ [])) }
         ensures same { OnErr result (Gains (Some (entries_of self.old)) (Some (entries_of self.new)) []) }
         ensures kept { count_of self.new ≡ count_of self.old }
-        ensures cause { HasCause (calls_of self.old).faults (calls_of self.new).faults result }
+        ensures cause { HasCause (calls_of self.old).faults (calls_of self.new).faults (IsErrOf result Trouble.Failed) }
         ensures fails { MatchBool (is_named (calls_of self.old)) (IsErrOf result Trouble.Failed) (IsErrOf result Trouble.Failed → ⊥) }
         ensures script { calls_of self.new ≡ script_after (calls_of self.old) result }
         ensures answers { answers_of self.new ≡ answers_of self.old }

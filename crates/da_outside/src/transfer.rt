@@ -18,7 +18,7 @@ pub fn read_all<F: Files>(
     requires { limit ≤ 16777216 }
     ensures whole { IfOk result (λ text. IsWhole (F.told files.old name.now) limit text) }
     ensures same { (x : List ℕ) → F.told files.new x ≡ F.told files.old x }
-    ensures cause { HasCause (F.faults files.old name.now) (F.faults files.new name.now) result }
+    ensures cause { HasCause (F.faults files.old name.now) (F.faults files.new name.now) (IsErrOf result Trouble.Failed) }
     ensures later { (x : List ℕ) → F.faults files.old x ≤ F.faults files.new x }
     ensures rises { (x : List ℕ) → F.faults files.old x < F.faults files.new x → IsErrOf result Trouble.Failed }
 {
@@ -46,7 +46,7 @@ fn read_piece<F: Files>(
     ensures front { OnOk result (IsFront (F.told files.old name.now) text.old → IsFront (F.told files.old name.now) text.new) }
     ensures end { IfOk result (λ count. count ≡ 0 → EndsAt (F.told files.old name.now) (length text.new)) }
     ensures same { (x : List ℕ) → F.told files.new x ≡ F.told files.old x }
-    ensures cause { HasCause (F.faults files.old name.now) (F.faults files.new name.now) result }
+    ensures cause { HasCause (F.faults files.old name.now) (F.faults files.new name.now) (IsErrOf result Trouble.Failed) }
     ensures later { (x : List ℕ) → F.faults files.old x ≤ F.faults files.new x }
     ensures rises { (x : List ℕ) → F.faults files.old x < F.faults files.new x → IsErrOf result Trouble.Failed }
 {
@@ -60,7 +60,7 @@ fn read_piece<F: Files>(
 pub fn write_all<K: Sink>(out: &mut K, bytes: &[u8]) -> Result<(), Trouble>
     ensures ok { OnOk result (Appends (K.taken out.old) (K.taken out.new) bytes.now) }
     ensures prefix { OnErr result (AppendsFront (K.taken out.old) (K.taken out.new) bytes.now) }
-    ensures cause { HasCause (K.faults out.old) (K.faults out.new) result }
+    ensures cause { HasCause (K.faults out.old) (K.faults out.new) (IsErrOf result Trouble.Failed) }
 {
     let mut place = 0;
     'pieces: while place < bytes.len() {

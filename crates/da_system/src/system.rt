@@ -19,7 +19,7 @@ use std::alloc::Global;
 
 /// The processes of a compiled program, which run by the events of a schedule. Contracts see the states that they stand
 /// for, by `Stands`.
-#[derive(Debug, Drop)]
+#[derive(Drop)]
 pub struct System<'c> {
     alloc: Global,
     compiled: &'c Compiled,
@@ -223,7 +223,7 @@ impl System<'_> {
         self.compiled.program().kind
     }
 
-    // Whether the channel from `p` to `q` has a message `i`.
+    // Whether there is a message of number `i` among those that are under way from `p` to `q`.
     fn has_letter(&self, p: u32, q: u32, i: u32) -> bool
         ensures { Whichever self.now (λ s. result ≡ is_some (at_number (channel s.channels p q) i)) }
     {

@@ -1,5 +1,5 @@
 -- The end of a node that runs, and its run answer by answer.
-use Rattle.std.proofs.Common.{◌≡◌, refl, sym, ◌∙◌, ap, subst, ℕ, ◌+◌, ◌-◌, ◌^◌, ◌≤◌, ◌<◌, List, Bool, true, false, arith}
+use Rattle.std.proofs.Common.{◌≡◌, refl, sym, ◌∙◌, ap, subst, ℕ, ◌+◌, ◌^◌, ◌≤◌, ◌<◌, List, Bool, true, false, arith}
 use Rattle.std.specs.Prelude.{Option, Some, None, nat_le, if◌then◌else◌}
 use Rattle.std.proofs.lemmas.Bool.{le-leb, leb-false, lt-leb}
 use Rattle.da_lang.specs.declared.program.Program.{Program}
@@ -8,14 +8,12 @@ use Rattle.da_core.specs.declared.place.Stopped.TheVariants as stopped
 use Rattle.da_core.specs.Made.{phase_of}
 use Rattle.da_outside.specs.declared.link.LinkEntry.{LinkEntry}
 use Rattle.node_run.specs.declared.hearing.Running.{Running}
-use Rattle.node_run.specs.declared.outcome.NodeFault.{NodeFault}
 use Rattle.node_run.specs.declared.outcome.NodeOutcome.{NodeOutcome}
 use Rattle.node_run.specs.declared.outcome.NodeOutcome.TheVariants as outcome
-use Rattle.node_run.specs.Gifts.{CutText}
 use Rattle.node_run.specs.Hearing.{HasBegun, HasHeard, IsListening, StandsAs, WasCutBeginning, WasCutHearing, unanswered, behind, end_at}
-use Rattle.node_run.specs.NodeCall.{HasEnded, HasRun, WasCut, end_for}
-use Rattle.node_run.specs.NodeRun.{Node, NodeEnd, Done, Faulted, Idle, Spent, AsksAgain, end_in, end_of}
-use Rattle.node_run.proofs.RunLaws.{CameTo, came_ends, came_first, came_on, cut_behind, cut_first, cut_unanswered, one_taken}
+use Rattle.node_run.specs.NodeCall.{HasEnded, HasRun, end_for}
+use Rattle.node_run.specs.NodeRun.{Node, NodeEnd, Idle, Spent, AsksAgain, end_in, end_of}
+use Rattle.node_run.proofs.RunLaws.{CameTo, IsCut, came_ends, came_first, came_on, cut_behind, cut_first, cut_unanswered, one_taken}
 
 -- THE END
 
@@ -95,7 +93,7 @@ module _ {program : Program} {me most turns : ℕ} {told_before told_now : Optio
     many = refl;
   }
 
-  pub cut_at_first : {fault : NodeFault} → WasCutBeginning fault program me told_before told_now before now → WasCut program me most turns told_before told_now before now (CutText fault)
+  pub cut_at_first : {how : NodeOutcome} → WasCutBeginning how program me told_before told_now before now → IsCut how program me most turns told_before told_now before now
   cut_at_first cut = cut_first _ _ _ _ _ _ _ _ _ cut.start _ cut.cut
 
   module _ {taken : ℕ} {running : Running} (runs : IsRunning program me most turns taken told_before told_now before now running) where
@@ -123,13 +121,13 @@ module _ {program : Program} {me most turns : ℕ} {told_before told_now : Optio
           many = one_taken acted.hears ∙ ap (λ n. n + 1) runs.many;
         }
 
-    pub cut_here : {fault : NodeFault} {told_after : Option (List LinkEntry)} {after : Option (List ℕ)} → end_at running.stopped running.idle most ≡ None → taken < turns
-        → ((node : Node) → StandsAs program running node → WasCutHearing fault program node told_now told_after now after) → WasCut program me most turns told_before told_after before after (CutText fault)
-    cut_here {fault} {told_after} {after} none few cut = by_cut (cut runs.node runs.stands)
+    pub cut_here : {how : NodeOutcome} {told_after : Option (List LinkEntry)} {after : Option (List ℕ)} → end_at running.stopped running.idle most ≡ None → taken < turns
+        → ((node : Node) → StandsAs program running node → WasCutHearing how program node told_now told_after now after) → IsCut how program me most turns told_before told_after before after
+    cut_here {how} {told_after} {after} none few cut = by_cut (cut runs.node runs.stands)
       where
-        by_cut : WasCutHearing fault program runs.node told_now told_after now after → WasCut program me most turns told_before told_after before after (CutText fault)
-        by_cut (unanswered told written) = cut_unanswered _ _ _ _ _ _ _ _ _ runs.came fault told_after after told written
-        by_cut (behind answer told_between answered acting) = cut_behind _ _ _ _ _ _ _ _ _ runs.came (asks none few) answer acting.actions acting.then' acting.hears told_between answered told_after after fault acting.cut
+        by_cut : WasCutHearing how program runs.node told_now told_after now after → IsCut how program me most turns told_before told_after before after
+        by_cut (unanswered told written) = cut_unanswered _ _ _ _ _ _ _ _ _ runs.came how told_after after told written
+        by_cut (behind answer told_between answered acting) = cut_behind _ _ _ _ _ _ _ _ _ runs.came (asks none few) answer acting.actions acting.then' acting.hears told_between answered told_after after how acting.cut
 
     pub ends_here : (end : NodeOutcome) → end_at running.stopped running.idle most ≡ Some end → HasRun program me most turns (end_for end) told_before told_now before now
     ends_here end is = came_ends _ _ _ _ _ _ _ _ _ runs.came (end_for end) (end_found most turns runs.node running.stopped running.idle end runs.stands.stopped runs.stands.idle is)

@@ -1,14 +1,14 @@
 -- What is given and written of some actions up to a fault.
 use Rattle.std.proofs.Common.{◌≡◌, refl, sym, ◌∙◌, ap, subst, ℕ, suc, ◌<◌, List, [], ◌∷◌, ◌++◌, length, get_or, take, drop, arith, append-nil, length-append, take-append-drop, drop-cons}
-use Rattle.std.specs.Prelude.{Option, Some, None}
+use Rattle.std.specs.Prelude.{Option}
 use Rattle.std.proofs.lemmas.Grind.{flat_map-append}
 use Rattle.da_lang.specs.declared.event.Action.{Action}
 use Rattle.da_outside.specs.declared.link.LinkEntry.{LinkEntry}
 use Rattle.da_outside.specs.declared.outside.Trouble.{Trouble}
 use Rattle.da_outside.specs.declared.outside.Trouble.TheVariants as trouble
 use Rattle.da_outside.specs.Link.{Gains}
-use Rattle.da_outside.specs.Outside.{Appends, AppendsFront}
-use Rattle.da_outside.proofs.OutsideLemmas.{front_none}
+use Rattle.da_outside.specs.Outside.{AppendsFront}
+use Rattle.da_outside.proofs.OutsideLemmas.{appends_none, front_none}
 use Rattle.sched_text.specs.ActionText.{action_text}
 use Rattle.node_run.specs.Faults.{link_fault, sink_fault}
 use Rattle.node_run.specs.Gifts.{CutText, GainsSome, IsCutShort, MayLeave, due}
@@ -44,13 +44,9 @@ link_cut why actions told_before told_after taken some = record {
     by_trouble trouble.Failed = some.some_left
     by_trouble trouble.Memory = tt
 
-    nothing : (taken : Option (List ℕ)) → Appends taken taken []
-    nothing None = refl
-    nothing (Some told) = ap Some (sym (append-nil told))
-
     unwritten : (why : Trouble) (left : List LinkEntry) → 0 < length left → CutText (link_fault why) taken taken (due left (action_text actions))
     unwritten why [] left = absurd (omega arith)
-    unwritten trouble.Failed (entry ∷ more) left = nothing taken
+    unwritten trouble.Failed (entry ∷ more) left = appends_none taken
     unwritten trouble.Memory (entry ∷ more) left = front_none taken []
 
 -- a sink that did not take all
@@ -63,7 +59,7 @@ sink_cut why actions told_before told_after before after gave front = record {
 }
   where
     by_trouble : (why : Trouble) → MayLeave (sink_fault why) []
-    by_trouble trouble.Failed = tt
+    by_trouble trouble.Failed = refl
     by_trouble trouble.Memory = tt
 
     written_so : (why : Trouble) → CutText (sink_fault why) before after (action_text actions)

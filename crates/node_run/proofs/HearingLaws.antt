@@ -1,7 +1,7 @@
 -- What may be given behind an event, and what a node does at any answer.
-use Rattle.std.specs.Prelude.{◌≡◌, refl, ℕ, zero, suc, ◌+◌, ◌<◌, ◌≤◌, ◌⊎◌, ◌↔◌, nat_le, nat_lt, Bool, true, false, ◌&&◌, List, [], ◌∷◌, ◌++◌, length, Option, Some, None, IsSome, is_some, Result, Ok, Err, IfErr, IsErrAnd, OnOk}
+use Rattle.std.specs.Prelude.{◌≡◌, refl, ℕ, zero, suc, ◌+◌, ◌<◌, ◌≤◌, ◌⊎◌, ◌↔◌, nat_le, nat_lt, Bool, true, false, ◌&&◌, List, [], ◌∷◌, ◌++◌, length, Option, Some, None, IsSome, is_some, Result, Ok, Err, IfErr, OnOk}
 use Rattle.std.specs.List.{All}
-use Rattle.std.proofs.Common.{◌∙◌, ap, sym, subst, subst₂, arith, inl, inr, append-nil, ltb-true, ltb-false, leb-true, leb-false}
+use Rattle.std.proofs.Common.{◌∙◌, ap, sym, subst, subst₂, arith, inl, inr, ltb-true, ltb-false, leb-true, leb-false}
 use Rattle.std.proofs.lemmas.Bool.{true≢false, false≢true, and_parts}
 use Rattle.std.proofs.lemmas.List.Elements.{All-head, All-tail}
 use Rattle.std.proofs.lemmas.Result.{IfErr-weaker}
@@ -22,7 +22,7 @@ use Rattle.da_outside.specs.declared.link.LinkAnswer.TheVariants.{Datagram, Noth
 use Rattle.da_outside.specs.declared.link.LinkEntry.{LinkEntry}
 use Rattle.da_outside.specs.Link.{Gains}
 use Rattle.da_outside.specs.Outside.{Appends}
-use Rattle.da_outside.proofs.OutsideLemmas.{front_none}
+use Rattle.da_outside.proofs.OutsideLemmas.{appends_none, front_none}
 use Rattle.da_types.specs.KeepsShaped.{IsSending, MayStep, MayTell}
 use Rattle.da_types.proofs.sound.AcceptedShaped.{keeps_shaped}
 use Rattle.da_core.specs.declared.place.Stopped.{Stopped}
@@ -36,8 +36,8 @@ use Rattle.msg_codec.proofs.Decided.{packet_once, packet_or_none}
 use Rattle.msg_codec.proofs.SizeLaws.{packet_size}
 use Rattle.sched_text.specs.ActionText.{action_text}
 use Rattle.node_run.specs.declared.hearing.Running.{Running}
-use Rattle.node_run.specs.declared.outcome.NodeFault.{NodeFault}
-use Rattle.node_run.specs.declared.outcome.NodeFault.TheVariants.{Memory}
+use Rattle.node_run.specs.declared.outcome.NodeOutcome.{NodeOutcome}
+use Rattle.node_run.specs.declared.outcome.NodeOutcome.TheVariants.{Memory}
 use Rattle.node_run.specs.Gifts.{IsCutShort, IsGift, MayGive, MayGiveAll, due}
 use Rattle.node_run.specs.Hearing.{HasActed, IsListening, StandsAs, WasCutActing, WasCutBeginning}
 use Rattle.node_run.specs.NodeRun.{Hears, delivers, drops, moves, idles, IsMessage, Node, after_drop, after_event, after_idle_turn, gifts, move_of}
@@ -76,15 +76,6 @@ module _ (p : Program) (accepted : IsAccepted p) (me : ℕ) where
 both_ok : {T E P Q R : Type 0} (r : Result T E) → OnOk r P → OnOk r Q → (P → Q → R) → OnOk r R
 both_ok (Ok x) p q go = go p q
 both_ok (Err y) p q go = tt
-
-pub err_as : {T E : Type 0} (r : Result T E) (e : E) (P : E → Type 0) → IsErrAnd r (λ y. y ≡ e) → P e → IfErr r P
-err_as (Ok x) e P is p = absurd is
-err_as (Err y) e P is p = subst P (sym is) p
-
--- nothing is written
-appends_nothing : (taken : Option (List ℕ)) → Appends taken taken []
-appends_nothing None = refl
-appends_nothing (Some told) = ap Some (sym (append-nil told))
 
 -- memory is refused before anything is given
 pub nothing_given : (actions : List Action) (told : Option (List LinkEntry)) (taken : Option (List ℕ)) → IsCutShort Memory actions told told taken taken
@@ -218,7 +209,7 @@ module _ (running next : Running) (step : Step) (actions : List Action) (stepped
       written = subst (λ l. Appends before after (action_text l)) its.added written;
     }
 
-    step_cut : (fault : NodeFault) → IsCutShort fault actions told_before told_after before after → WasCutActing fault (process.program_of running.core) node answer told_before told_after before after
+    step_cut : (fault : NodeOutcome) → IsCutShort fault actions told_before told_after before after → WasCutActing fault (process.program_of running.core) node answer told_before told_after before after
     step_cut fault cut = record {
       actions = its.after.actions;
       then' = after_event node its.after.world;
@@ -227,7 +218,7 @@ module _ (running next : Running) (step : Step) (actions : List Action) (stepped
     }
 
 -- what was told of it has this result
-module _ {T : Type 0} (told_before told_after : Option (List LinkEntry)) (before after : Option (List ℕ)) (result : Result T NodeFault) where
+module _ {T : Type 0} (told_before told_after : Option (List LinkEntry)) (before after : Option (List ℕ)) (result : Result T NodeOutcome) where
   -- the delivery of a message
   module _ (running next : Running) (m : Value) (sender time : ℕ) (actions : List Action) (arrives : MayArrive (process.program_of running.core) m sender time) (stepped : HasStepped running next (arrival m sender time) actions) where
     delivers_so : (bytes : List ℕ) → IsPacket sender time (val_of m) bytes → (node : Node) (stood : StandsAs (process.program_of running.core) running node)
@@ -288,7 +279,7 @@ module _ (program : Program) (running : Running) (node : Node) (stood : StandsAs
     hears = drops bytes none;
     stands = record { stands = stood.stands; same = stood.same; stopped = stood.stopped; idle = refl };
     gave = gains_nothing told;
-    written = appends_nothing taken;
+    written = appends_none taken;
   }
 
   pub idle_acted : (idle : ℕ) → idle ≡ running.idle + 1 → move_of node.process ≡ None → HasActed program node Nothing (record { core = running.core; stopped = running.stopped; idle = idle }) told told taken taken
@@ -298,7 +289,7 @@ module _ (program : Program) (running : Running) (node : Node) (stood : StandsAs
     hears = idles none;
     stands = record { stands = stood.stands; same = stood.same; stopped = stood.stopped; idle = more ∙ ap (λ n. n + 1) stood.idle };
     gave = gains_nothing told;
-    written = appends_nothing taken;
+    written = appends_none taken;
   }
 
 -- where memory is refused before anything is given
@@ -321,14 +312,14 @@ module _ (program : Program) (me : ℕ) (core : Core) (stands : process.StandsFo
       let all : length (process.program_of core).procs ≡ count = ap (λ (p : Program). length p.procs) same ∙ sym bound in
       subst₂ MayGiveAll all (sym first_actions) (gifts_allowed core (opening program me) stands (move_step 0) made.after tt made.leads)
 
-  -- a fault cut it short
-  pub first_cut : {T : Type 0} (result : Result T NodeFault) (fault : NodeFault) (told_before told_after : Option (List LinkEntry)) (before after : Option (List ℕ)) → IsErrAnd result (λ why. why ≡ fault)
-      → IsCutShort fault actions told_before told_after before after → IfErr result (λ why. WasCutBeginning why program me told_before told_after before after)
-  first_cut result fault told_before told_after before after is cut = err_as result fault (λ why. WasCutBeginning why program me told_before told_after before after) is (record {
+  -- it was cut short
+  pub first_cut : (how : NodeOutcome) (told_before told_after : Option (List LinkEntry)) (before after : Option (List ℕ)) → IsCutShort how actions told_before told_after before after
+      → WasCutBeginning how program me told_before told_after before after
+  first_cut how told_before told_after before after cut = record {
     started = made.after;
     start = subst (λ p. proc_step p (opening program me) (move_step 0) ≡ Some made.after) same made.leads;
-    cut = subst (λ l. IsCutShort fault l told_before told_after before after) first_actions cut;
-  })
+    cut = subst (λ l. IsCutShort how l told_before told_after before after) first_actions cut;
+  }
 
 -- where memory is refused before anything is given
 pub refused_beginning : (program : Program) (me : ℕ) → IsAccepted program → IsProcess program me → (told : Option (List LinkEntry)) (taken : Option (List ℕ)) → WasCutBeginning Memory program me told told taken taken
@@ -337,7 +328,7 @@ refused_beginning program me accepted there told taken =
     record { started = started.0; start = started.1; cut = nothing_given started.0.actions told taken }
 
 -- what a call leaves of a node of the program of its core, it leaves of one of this program
-pub cut_so : (program : Program) (running : Running) (node : Node) (fault : NodeFault) (answer : LinkAnswer) (told_before told_after : Option (List LinkEntry)) (before after : Option (List ℕ)) → StandsAs program running node
+pub cut_so : (program : Program) (running : Running) (node : Node) (fault : NodeOutcome) (answer : LinkAnswer) (told_before told_after : Option (List LinkEntry)) (before after : Option (List ℕ)) → StandsAs program running node
     → ((other : Node) → StandsAs (process.program_of running.core) running other → WasCutActing fault (process.program_of running.core) other answer told_before told_after before after)
     → WasCutActing fault program node answer told_before told_after before after
 cut_so program running node fault answer told_before told_after before after stood cut =

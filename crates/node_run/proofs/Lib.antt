@@ -4,4 +4,5 @@ pub mod GivingLaws
 pub mod HearingLaws
 pub mod MoveLaws
 pub mod OneRun
+pub mod PacketLaws
 pub mod RunLaws

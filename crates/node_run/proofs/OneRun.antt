@@ -1,5 +1,5 @@
 -- A list of answers has one run at most: what a node does is settled by its program, its bounds, and what its link answers.
-use Rattle.std.specs.Prelude.{◌≡◌, ℕ, List, [], ◌∷◌, Option, Some, None}
+use Rattle.std.specs.Prelude.{◌≡◌, ℕ, List, ◌∷◌, Option, Some, None}
 use Rattle.std.proofs.Common.{◌∙◌, ap, refl, subst, sym}
 use Rattle.da_values.specs.declared.val.Val.{Val}
 use Rattle.da_lang.specs.declared.event.Action.{Action}

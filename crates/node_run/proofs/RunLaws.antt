@@ -1,8 +1,9 @@
--- The laws of the run of a node, answer by answer, and of where a fault cuts it short.
-use Rattle.std.proofs.Common.{◌≡◌, refl, sym, ◌∙◌, ap, subst, ℕ, ◌+◌, ◌-◌, ◌≤◌, ◌<◌, List, [], ◌∷◌, ◌++◌, length, arith, append-nil, append_assoc, length-append, Bool, true, false}
+-- The laws of the run of a node, answer by answer, and of where it is cut short.
+use Rattle.std.proofs.Common.{◌≡◌, refl, sym, ◌∙◌, ap, subst, ℕ, ◌+◌, ◌-◌, ◌≤◌, ◌<◌, List, [], ◌∷◌, ◌++◌, length, take, drop, take-append-drop, arith, append-nil, append_assoc, length-append, Bool, true, false}
 use Rattle.std.specs.Prelude.{Option, Some, None, nat_le, if◌then◌else◌}
 use Rattle.std.proofs.lemmas.Bool.{le-leb, leb-false, lt-leb}
 use Rattle.std.proofs.lemmas.Grind.{flat_map-append}
+use Rattle.std.proofs.Math.Seq.{take-append-add, take-append_seam, take-length, take-nil}
 use Rattle.da_lang.specs.declared.event.Action.{Action}
 use Rattle.da_lang.specs.declared.event.Action.TheVariants.{Sent}
 use Rattle.da_lang.specs.declared.program.Program.{Program}
@@ -13,13 +14,13 @@ use Rattle.da_outside.specs.declared.link.LinkAnswer.{LinkAnswer}
 use Rattle.da_outside.specs.declared.link.LinkEntry.{LinkEntry}
 use Rattle.da_outside.specs.declared.link.LinkEntry.TheVariants.{Answered}
 use Rattle.da_outside.specs.Link.{Gains}
-use Rattle.da_outside.specs.Outside.{Appends}
-use Rattle.da_outside.proofs.OutsideLemmas.{appends_then, front_behind}
+use Rattle.da_outside.specs.Outside.{Appends, AppendsFront}
+use Rattle.da_outside.proofs.OutsideLemmas.{appends_none, appends_then}
 use Rattle.sched_text.specs.ActionText.{action_line, action_text}
-use Rattle.node_run.specs.declared.outcome.NodeFault.{NodeFault}
-use Rattle.node_run.specs.declared.outcome.NodeFault.TheVariants.{Link, Write, Memory}
-use Rattle.node_run.specs.Gifts.{CutText, IsCutShort, due}
-use Rattle.node_run.specs.NodeCall.{HasRun, WasCut, answer_in, answers_in, given_rounds}
+use Rattle.node_run.specs.declared.outcome.NodeOutcome.{NodeOutcome}
+use Rattle.node_run.specs.declared.outcome.NodeOutcome.TheVariants as outcome
+use Rattle.node_run.specs.Gifts.{CutText, IsCutShort, MayLeave, due}
+use Rattle.node_run.specs.NodeCall.{HasEnded, HasCome, HasRun, WasCut, WroteAll, WroteToLast, all_but_last, answer_in, answers_in, given_rounds}
 use Rattle.node_run.specs.NodeRun.{Node, NodeEnd, Done, Faulted, Idle, Spent, AsksAgain, Hears, delivers, drops, moves, idles, HearsAll, none, next, NodeRun, Round, actions_of, answer_round, end_in, end_of, gift_of, gifts, start_round, talk_of, text_of}
 
 -- WHAT A LINK TELLS AND A SINK TAKES
@@ -36,12 +37,6 @@ gains_then (Some told) (Some mid) (Some now) xs ys first then' =
 pub gains_nothing : (a : Option (List LinkEntry)) → Gains a a []
 gains_nothing None = tt
 gains_nothing (Some told) = ap Some (sym (append-nil told))
-
--- what a fault leaves of a text, behind another that was written
-pub cut_then : (fault : NodeFault) (a b c : Option (List ℕ)) (xs ys : List ℕ) → Appends a b xs → CutText fault b c ys → CutText fault a c (xs ++ ys)
-cut_then Link a b c xs ys first cut = appends_then a b c xs ys first cut
-cut_then Write a b c xs ys first cut = front_behind a b c xs ys first cut
-cut_then Memory a b c xs ys first cut = front_behind a b c xs ys first cut
 
 -- ROUNDS ONE AFTER THE OTHER
 
@@ -97,23 +92,83 @@ given_more (round ∷ rounds) more n =
     let size : length (talk_of (round ∷ rounds)) + n ≡ length round.talk + (length (talk_of rounds) + n) = omega (arith, length-append round.talk (talk_of rounds)) in
     given_next (length (talk_of (round ∷ rounds)) + n) (length (talk_of rounds) + n) round (rounds ++ more) size ∙ ap (λ l. round ∷ l) (given_more rounds more n)
 
--- the text of the last round is due where nothing of its talk is left
-last_text : (round : Round) (given left : List LinkEntry) → round.talk ≡ given ++ left → text_of (given_rounds (length given) (round ∷ [])) ≡ due left (action_text round.actions)
-last_text round given [] whole =
+-- the last round is among them where nothing of its talk is left
+last_given : (rounds : List Round) (round : Round) (given : List LinkEntry) → round.talk ≡ given ++ []
+    → given_rounds (length (talk_of rounds ++ given)) (rounds ++ round ∷ []) ≡ rounds ++ round ∷ []
+last_given rounds round given whole =
     let size : length given ≡ length round.talk + 0 = omega (arith, ap length whole, length-append given []) in
-    ap text_of (given_next (length given) 0 round [] size) ∙ text_one round
-last_text round given (entry ∷ left) whole =
-    let size : length given < length round.talk = omega (arith, ap length whole, length-append given (entry ∷ left)) in
-    ap text_of (given_none (length given) round [] size)
+    ap (λ n. given_rounds n (rounds ++ round ∷ [])) (length-append (talk_of rounds) given)
+    ∙ given_more rounds (round ∷ []) (length given)
+    ∙ ap (λ l. rounds ++ l) (given_next (length given) 0 round [] size)
 
--- behind earlier rounds
-later_text : (rounds : List Round) (round : Round) (given left : List LinkEntry) → round.talk ≡ given ++ left
-    → text_of (given_rounds (length (talk_of rounds ++ given)) (rounds ++ round ∷ [])) ≡ text_of rounds ++ due left (action_text round.actions)
-later_text rounds round given left whole =
-    ap (λ n. text_of (given_rounds n (rounds ++ round ∷ []))) (length-append (talk_of rounds) given)
-    ∙ ap text_of (given_more rounds (round ∷ []) (length given))
-    ∙ text_then rounds (given_rounds (length given) (round ∷ []))
-    ∙ ap (λ text. text_of rounds ++ text) (last_text round given left whole)
+last_not_given : (rounds : List Round) (round : Round) (given left : List LinkEntry) (entry : LinkEntry) → round.talk ≡ given ++ entry ∷ left
+    → given_rounds (length (talk_of rounds ++ given)) (rounds ++ round ∷ []) ≡ rounds
+last_not_given rounds round given left entry whole =
+    let size : length given < length round.talk = omega (arith, ap length whole, length-append given (entry ∷ left)) in
+    ap (λ n. given_rounds n (rounds ++ round ∷ [])) (length-append (talk_of rounds) given)
+    ∙ given_more rounds (round ∷ []) (length given)
+    ∙ ap (λ l. rounds ++ l) (given_none (length given) round [] size)
+    ∙ append-nil rounds
+
+-- WHAT WAS WRITTEN OF ROUNDS, by what cut them short
+abbrev pub WroteUpTo : NodeOutcome → Option (List ℕ) → Option (List ℕ) → List Round → Type 0
+WroteUpTo outcome.LinkFault before after rounds = WroteAll before after rounds
+WroteUpTo outcome.WriteFault before after rounds = WroteToLast before after rounds
+WroteUpTo outcome.Memory before after rounds = WroteToLast before after rounds
+WroteUpTo _ before after rounds = ⊥
+
+text_size : (rounds : List Round) (n : ℕ) → length (text_of (take n rounds)) ≤ length (text_of rounds)
+text_size rounds n =
+    omega (arith, ap length (sym (text_then (take n rounds) (drop n rounds)) ∙ ap text_of (take-append-drop n rounds)), length-append (text_of (take n rounds)) (text_of (drop n rounds)))
+
+before_last : (rounds : List Round) (round : Round) → all_but_last (rounds ++ round ∷ []) ≡ rounds
+before_last rounds round =
+    let size : length (rounds ++ round ∷ []) - 1 ≡ length rounds = omega (arith, length-append rounds (round ∷ [])) in
+    ap (λ n. take n (rounds ++ round ∷ [])) size ∙ take-append_seam rounds (round ∷ [])
+
+text_last : (rounds : List Round) (round : Round) → text_of (rounds ++ round ∷ []) ≡ text_of rounds ++ action_text round.actions
+text_last rounds round = text_then rounds (round ∷ []) ∙ ap (λ text. text_of rounds ++ text) (text_one round)
+
+-- all lines of these rounds, where no more was written
+to_all : (before mid after : Option (List ℕ)) (rounds : List Round) → Appends before mid (text_of rounds) → AppendsFront mid after [] → WroteToLast before after rounds
+to_all before mid after rounds written empty = record {
+  size = length (text_of rounds);
+  written = subst (Appends before after) (append-nil (text_of rounds) ∙ sym (take-length (text_of rounds))) (appends_then before mid after (text_of rounds) [] written (no_more empty));
+  reaches = text_size rounds (length rounds - 1);
+}
+  where
+    no_more : AppendsFront mid after [] → Appends mid after []
+    no_more (n, front) = subst (Appends mid after) (take-nil n) front
+
+-- and a front of those of one more
+to_last : (before mid after : Option (List ℕ)) (rounds : List Round) (round : Round) → Appends before mid (text_of rounds) → AppendsFront mid after (action_text round.actions) → WroteToLast before after (rounds ++ round ∷ [])
+to_last before mid after rounds round written (n, front) = record {
+  size = length (text_of rounds) + n;
+  written = subst (Appends before after) (sym (ap (take (length (text_of rounds) + n)) (text_last rounds round) ∙ take-append-add (text_of rounds) (action_text round.actions) n))
+      (appends_then before mid after (text_of rounds) (take n (action_text round.actions)) written front);
+  reaches = omega (arith, ap (λ l. length (text_of l)) (before_last rounds round));
+}
+
+all_up_to : (how : NodeOutcome) (before mid after : Option (List ℕ)) (rounds : List Round) → Appends before mid (text_of rounds) → CutText how mid after [] → WroteUpTo how before after rounds
+all_up_to outcome.LinkFault before mid after rounds written empty = subst (Appends before after) (append-nil (text_of rounds)) (appends_then before mid after (text_of rounds) [] written empty)
+all_up_to outcome.WriteFault before mid after rounds written empty = to_all before mid after rounds written empty
+all_up_to outcome.Memory before mid after rounds written empty = to_all before mid after rounds written empty
+all_up_to _ before mid after rounds written empty = absurd empty
+
+last_up_to : (how : NodeOutcome) (before mid after : Option (List ℕ)) (rounds : List Round) (round : Round) → Appends before mid (text_of rounds) → CutText how mid after (action_text round.actions) → WroteUpTo how before after (rounds ++ round ∷ [])
+last_up_to outcome.LinkFault before mid after rounds round written more =
+    subst (Appends before after) (sym (text_last rounds round)) (appends_then before mid after (text_of rounds) (action_text round.actions) written more)
+last_up_to outcome.WriteFault before mid after rounds round written more = to_last before mid after rounds round written more
+last_up_to outcome.Memory before mid after rounds round written more = to_last before mid after rounds round written more
+last_up_to _ before mid after rounds round written more = absurd more
+
+-- behind earlier rounds one that was cut short
+cut_later : (how : NodeOutcome) (before mid after : Option (List ℕ)) (rounds : List Round) (round : Round) (given left : List LinkEntry) → round.talk ≡ given ++ left → Appends before mid (text_of rounds)
+    → CutText how mid after (due left (action_text round.actions)) → WroteUpTo how before after (given_rounds (length (talk_of rounds ++ given)) (rounds ++ round ∷ []))
+cut_later how before mid after rounds round given [] whole written cut =
+    subst (WroteUpTo how before after) (sym (last_given rounds round given whole)) (last_up_to how before mid after rounds round written cut)
+cut_later how before mid after rounds round given (entry ∷ left) whole written cut =
+    subst (WroteUpTo how before after) (sym (last_not_given rounds round given left entry whole)) (all_up_to how before mid after rounds written cut)
 
 -- ANSWERS ONE AFTER THE OTHER
 
@@ -152,6 +207,74 @@ module _ {program : Program} {idle turns : ℕ} where
   within (none node) few = few
   within (next node then' last answer answers actions rounds asks hears more) few = within more (omega (arith, one_taken hears, asks_few idle turns node asks))
 
+-- WHERE A NODE WAS CUT SHORT, and ends so
+
+-- a sink that failed leaves nothing to be given
+abbrev pub LeavesNone : NodeOutcome → List LinkEntry → Type 0
+LeavesNone outcome.WriteFault left = left ≡ []
+LeavesNone _ left = Unit {0}
+
+none_left : (how : NodeOutcome) → LeavesNone how []
+none_left outcome.WriteFault = refl
+none_left _ = tt
+
+leaves_none : (how : NodeOutcome) (left : List LinkEntry) → MayLeave how left → LeavesNone how left
+leaves_none outcome.WriteFault left may = may
+leaves_none _ left may = tt
+
+pub record IsCut (how : NodeOutcome) (program : Program) (me idle turns : ℕ) (told_before told_after : Option (List LinkEntry)) (before after : Option (List ℕ)) : Type 0 where
+  pub talk : List LinkEntry
+  pub rounds : List Round
+  pub end : NodeEnd
+  pub untold : List LinkEntry
+  pub told : Gains told_before told_after talk
+  pub run : NodeRun program me idle turns (answers_in talk) rounds end
+  pub few : length (answers_in talk) ≤ turns
+  pub front : talk_of rounds ≡ talk ++ untold
+  pub left : LeavesNone how untold
+  pub written : WroteUpTo how before after (given_rounds (length talk) rounds)
+
+module _ {program : Program} {me idle turns : ℕ} {told_before told_after : Option (List LinkEntry)} {before after : Option (List ℕ)} where
+  -- what ends by the rules was not cut short
+  pub cut_not_ended : (how : NodeOutcome) → IsCut how program me idle turns told_before told_after before after → HasEnded how → ⊥
+  cut_not_ended outcome.Done cut ended = cut.written
+  cut_not_ended outcome.Faulted cut ended = cut.written
+  cut_not_ended outcome.Idle cut ended = cut.written
+  cut_not_ended outcome.Spent cut ended = cut.written
+  cut_not_ended outcome.LinkFault cut ended = ended
+  cut_not_ended outcome.WriteFault cut ended = ended
+  cut_not_ended outcome.Memory cut ended = ended
+
+  pub cut_by_link : (how : NodeOutcome) → IsCut how program me idle turns told_before told_after before after → how ≡ outcome.LinkFault → WasCut program me idle turns told_before told_after before after WroteAll
+  cut_by_link how cut is = of (subst (λ h. IsCut h program me idle turns told_before told_after before after) is cut)
+    where
+      of : IsCut outcome.LinkFault program me idle turns told_before told_after before after → WasCut program me idle turns told_before told_after before after WroteAll
+      of cut = record { talk = cut.talk; rounds = cut.rounds; end = cut.end; untold = cut.untold; told = cut.told; run = cut.run; few = cut.few; front = cut.front; written = cut.written }
+
+  pub cut_by_memory : (how : NodeOutcome) → IsCut how program me idle turns told_before told_after before after → how ≡ outcome.Memory → WasCut program me idle turns told_before told_after before after WroteToLast
+  cut_by_memory how cut is = of (subst (λ h. IsCut h program me idle turns told_before told_after before after) is cut)
+    where
+      of : IsCut outcome.Memory program me idle turns told_before told_after before after → WasCut program me idle turns told_before told_after before after WroteToLast
+      of cut = record { talk = cut.talk; rounds = cut.rounds; end = cut.end; untold = cut.untold; told = cut.told; run = cut.run; few = cut.few; front = cut.front; written = cut.written }
+
+  pub cut_by_write : (how : NodeOutcome) → IsCut how program me idle turns told_before told_after before after → how ≡ outcome.WriteFault → (end : NodeEnd) × HasCome program me idle turns end told_before told_after before after WroteToLast
+  cut_by_write how cut is = of (subst (λ h. IsCut h program me idle turns told_before told_after before after) is cut)
+    where
+      of : IsCut outcome.WriteFault program me idle turns told_before told_after before after → (end : NodeEnd) × HasCome program me idle turns end told_before told_after before after WroteToLast
+      of cut =
+          let whole : cut.talk ≡ talk_of cut.rounds = sym (cut.front ∙ ap (λ l. cut.talk ++ l) cut.left ∙ append-nil cut.talk) in (
+            cut.end,
+            record {
+              talk = cut.talk;
+              rounds = cut.rounds;
+              told = cut.told;
+              run = cut.run;
+              few = cut.few;
+              whole = whole;
+              written = subst (WroteToLast before after) (ap (λ l. given_rounds (length l) cut.rounds) whole ∙ given_all cut.rounds) cut.written;
+            },
+          )
+
 -- THE RUN SO FAR
 
 -- The run of process `me` has come to this node: the link told its talk so far, and a sink gained its text so far.
@@ -180,9 +303,9 @@ module _ (program : Program) (me idle turns : ℕ) (told_before told_now : Optio
     written = subst (Appends before now) (sym (text_one (start_round started.actions))) written;
   }
 
-  -- a fault cut its start short
-  pub cut_first : (fault : NodeFault) → IsCutShort fault started.actions told_before told_now before now → WasCut program me idle turns told_before told_now before now (CutText fault)
-  cut_first fault cut =
+  -- its start was cut short
+  pub cut_first : (how : NodeOutcome) → IsCutShort how started.actions told_before told_now before now → IsCut how program me idle turns told_before told_now before now
+  cut_first how cut =
       let silent : answers_in cut.gained.given ≡ [] = no_answer_given started.actions cut.gained.given cut.gained.left cut.gained.whole in
       let first : Node = record { process = started.world; idle = 0; taken = 0 } in
       record {
@@ -202,7 +325,8 @@ module _ (program : Program) (me idle turns : ℕ) (told_before told_now : Optio
         };
         few = omega (arith, ap length silent);
         front = append-nil (gifts started.actions) ∙ cut.gained.whole;
-        written = subst (CutText fault before now) (sym (last_text (start_round started.actions) cut.gained.given cut.gained.left cut.gained.whole)) cut.written;
+        left = leaves_none how cut.gained.left cut.left;
+        written = cut_later how before before now [] (start_round started.actions) cut.gained.given cut.gained.left cut.gained.whole (appends_none before) cut.written;
       }
 
 module _ (program : Program) (me idle turns : ℕ) (told_before told_now : Option (List LinkEntry)) (before now : Option (List ℕ)) (node : Node) (came : CameTo program me idle turns told_before told_now before now node) where
@@ -244,10 +368,10 @@ module _ (program : Program) (me idle turns : ℕ) (told_before told_now : Optio
     written = came.written;
   }
 
-  -- a fault came before the next answer
-  pub cut_unanswered : (fault : NodeFault) (told_after : Option (List LinkEntry)) (after : Option (List ℕ)) → Gains told_now told_after [] → CutText fault now after []
-      → WasCut program me idle turns told_before told_after before after (CutText fault)
-  cut_unanswered fault told_after after told written = record {
+  -- it was cut short before the next answer
+  pub cut_unanswered : (how : NodeOutcome) (told_after : Option (List LinkEntry)) (after : Option (List ℕ)) → Gains told_now told_after [] → CutText how now after []
+      → IsCut how program me idle turns told_before told_after before after
+  cut_unanswered how told_after after told written = record {
     talk = talk_of so_far;
     rounds = so_far;
     end = end_of idle turns node;
@@ -256,7 +380,8 @@ module _ (program : Program) (me idle turns : ℕ) (told_before told_now : Optio
     run = run_so_far (end_of idle turns node) refl;
     few = few_answers;
     front = sym (append-nil (talk_of so_far));
-    written = subst (CutText fault before after) (append-nil (text_of so_far) ∙ ap text_of (sym (given_all so_far))) (cut_then fault before now after (text_of so_far) [] came.written written);
+    left = none_left how;
+    written = subst (WroteUpTo how before after) (sym (given_all so_far)) (all_up_to how before now after so_far came.written written);
   }
 
   -- THE NEXT ANSWER
@@ -295,9 +420,9 @@ module _ (program : Program) (me idle turns : ℕ) (told_before told_now : Optio
           (appends_then before now after (text_of so_far) (action_text actions) came.written written);
     }
 
-    -- a fault cut it short
-    pub cut_behind : (fault : NodeFault) → IsCutShort fault actions told_mid told_after now after → WasCut program me idle turns told_before told_after before after (CutText fault)
-    cut_behind fault cut =
+    -- that was cut short
+    pub cut_behind : (how : NodeOutcome) → IsCutShort how actions told_mid told_after now after → IsCut how program me idle turns told_before told_after before after
+    cut_behind how cut =
         let given = cut.gained.given in
         let left = cut.gained.left in
         let whole : Answered answer ∷ gifts actions ≡ (Answered answer ∷ given) ++ left = ap (λ l. Answered answer ∷ l) cut.gained.whole in
@@ -320,6 +445,6 @@ module _ (program : Program) (me idle turns : ℕ) (told_before told_now : Optio
           };
           few = omega (arith, ap length answers_are, all_taken heard, within heard (omega arith));
           front = talk_all ∙ ap (λ l. talk_of so_far ++ l) whole ∙ sym (append_assoc (talk_of so_far) (Answered answer ∷ given) left);
-          written = subst (CutText fault before after) (sym (later_text so_far (answer_round answer actions) (Answered answer ∷ given) left whole))
-              (cut_then fault before now after (text_of so_far) (due left (action_text actions)) came.written cut.written);
+          left = leaves_none how left cut.left;
+          written = cut_later how before now after so_far (answer_round answer actions) (Answered answer ∷ given) left whole came.written cut.written;
         }

@@ -11,8 +11,8 @@ use Rattle.da_outside.specs.Outside.{Appends, AppendsFront}
 use Rattle.da_values.specs.declared.value.Value.{Value}
 use Rattle.msg_codec.specs.Packets.{has_few_parts, packet_bytes}
 use Rattle.sched_text.specs.ActionText.{action_text}
-use Rattle.node_run.specs.declared.outcome.NodeFault.{NodeFault}
-use Rattle.node_run.specs.declared.outcome.NodeFault.TheVariants.{Link, Write, Memory}
+use Rattle.node_run.specs.declared.outcome.NodeOutcome.{NodeOutcome}
+use Rattle.node_run.specs.declared.outcome.NodeOutcome.TheVariants.{LinkFault, WriteFault, Memory}
 use Rattle.node_run.specs.NodeRun.{gifts}
 
 -- a message may be given: it keeps the bounds that its bytes need, and its recipient is one of so many processes
@@ -49,20 +49,21 @@ due [] text = text
 due (entry ∷ entries) text = []
 
 -- what was written of a text that was due, by what cut it short
-abbrev pub CutText : NodeFault → Option (List ℕ) → Option (List ℕ) → List ℕ → Type 0
-CutText Link before after text = Appends before after text
-CutText Write before after text = AppendsFront before after text
+abbrev pub CutText : NodeOutcome → Option (List ℕ) → Option (List ℕ) → List ℕ → Type 0
+CutText LinkFault before after text = Appends before after text
+CutText WriteFault before after text = AppendsFront before after text
 CutText Memory before after text = AppendsFront before after text
+CutText _ before after text = ⊥
 
--- by a link that failed something is left
-abbrev pub MayLeave : NodeFault → List LinkEntry → Type 0
-MayLeave Link left = 0 < length left
-MayLeave Write left = Unit {0}
-MayLeave Memory left = Unit {0}
+-- by a link that failed something is left, and by a sink that failed nothing
+abbrev pub MayLeave : NodeOutcome → List LinkEntry → Type 0
+MayLeave LinkFault left = 0 < length left
+MayLeave WriteFault left = left ≡ []
+MayLeave _ left = Unit {0}
 
--- The packets of some actions were given, and their lines written, up to a fault: a link gained a front of the gifts, and the
+-- The packets of some actions were given, and their lines written, up to what cut that short: a link gained a front of the gifts, and the
 -- lines were written, or a front of them, where none was left.
-pub record IsCutShort (fault : NodeFault) (actions : List Action) (told_before told_after : Option (List LinkEntry)) (before after : Option (List ℕ)) : Type 0 where
+pub record IsCutShort (outcome : NodeOutcome) (actions : List Action) (told_before told_after : Option (List LinkEntry)) (before after : Option (List ℕ)) : Type 0 where
   pub gained : GainsFront told_before told_after (gifts actions)
-  pub left : MayLeave fault gained.left
-  pub written : CutText fault before after (due gained.left (action_text actions))
+  pub left : MayLeave outcome gained.left
+  pub written : CutText outcome before after (due gained.left (action_text actions))

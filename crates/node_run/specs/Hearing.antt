@@ -15,7 +15,6 @@ use Rattle.da_outside.specs.Link.{Gains}
 use Rattle.da_outside.specs.Outside.{Appends}
 use Rattle.sched_text.specs.ActionText.{action_text}
 use Rattle.node_run.specs.declared.hearing.Running.{Running}
-use Rattle.node_run.specs.declared.outcome.NodeFault.{NodeFault}
 use Rattle.node_run.specs.declared.outcome.NodeOutcome.{NodeOutcome}
 use Rattle.node_run.specs.declared.outcome.NodeOutcome.TheVariants.{Done, Faulted, Idle}
 use Rattle.node_run.specs.Gifts.{CutText, IsCutShort}
@@ -57,11 +56,11 @@ pub record HasBegun (program : Program) (me : ℕ) (running : Running) (told_bef
   pub gave : Gains told_before told_after (gifts started.actions)
   pub written : Appends before after (action_text started.actions)
 
--- a fault cut the start short
-pub record WasCutBeginning (fault : NodeFault) (program : Program) (me : ℕ) (told_before told_after : Option (List LinkEntry)) (before after : Option (List ℕ)) : Type 0 where
+-- the start was cut short, and the node ends so
+pub record WasCutBeginning (outcome : NodeOutcome) (program : Program) (me : ℕ) (told_before told_after : Option (List LinkEntry)) (before after : Option (List ℕ)) : Type 0 where
   pub started : Stepped
   pub start : proc_step program (opening program me) Go ≡ Some started
-  pub cut : IsCutShort fault started.actions told_before told_after before after
+  pub cut : IsCutShort outcome started.actions told_before told_after before after
 
 -- AN ANSWER
 
@@ -74,12 +73,12 @@ pub record HasActed (program : Program) (node : Node) (answer : LinkAnswer) (run
   pub gave : Gains told_before told_after (gifts actions)
   pub written : Appends before after (action_text actions)
 
--- a fault cut it short
-pub record WasCutActing (fault : NodeFault) (program : Program) (node : Node) (answer : LinkAnswer) (told_before told_after : Option (List LinkEntry)) (before after : Option (List ℕ)) : Type 0 where
+-- that was cut short
+pub record WasCutActing (outcome : NodeOutcome) (program : Program) (node : Node) (answer : LinkAnswer) (told_before told_after : Option (List LinkEntry)) (before after : Option (List ℕ)) : Type 0 where
   pub actions : List Action
   pub then' : Node
   pub hears : Hears program node answer actions then'
-  pub cut : IsCutShort fault actions told_before told_after before after
+  pub cut : IsCutShort outcome actions told_before told_after before after
 
 -- the link was asked and told its answer, and then the node has done what the rules say
 pub record HasHeard (program : Program) (node : Node) (running : Running) (told_before told_after : Option (List LinkEntry)) (before after : Option (List ℕ)) : Type 0 where
@@ -88,8 +87,8 @@ pub record HasHeard (program : Program) (node : Node) (running : Running) (told_
   pub answered : Gains told_before told_between (Answered answer ∷ [])
   pub acted : HasActed program node answer running told_between told_after before after
 
--- a fault cut that short, before the answer or behind it
-pub data WasCutHearing (fault : NodeFault) (program : Program) (node : Node) (told_before told_after : Option (List LinkEntry)) (before after : Option (List ℕ)) : Type 0 where
-  unanswered : Gains told_before told_after [] → CutText fault before after [] → WasCutHearing fault program node told_before told_after before after
+-- that was cut short, before the answer or behind it
+pub data WasCutHearing (outcome : NodeOutcome) (program : Program) (node : Node) (told_before told_after : Option (List LinkEntry)) (before after : Option (List ℕ)) : Type 0 where
+  unanswered : Gains told_before told_after [] → CutText outcome before after [] → WasCutHearing outcome program node told_before told_after before after
   behind : (answer : LinkAnswer) (told_between : Option (List LinkEntry)) → Gains told_before told_between (Answered answer ∷ [])
-      → WasCutActing fault program node answer told_between told_after before after → WasCutHearing fault program node told_before told_after before after
+      → WasCutActing outcome program node answer told_between told_after before after → WasCutHearing outcome program node told_before told_after before after

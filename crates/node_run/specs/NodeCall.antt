@@ -1,12 +1,14 @@
 -- What a call that runs a node leaves: what its link has told since, and what was written.
-use Rattle.std.specs.Prelude.{◌≡◌, ℕ, ◌-◌, ◌≤◌, nat_le, if◌then◌else◌, List, [], ◌∷◌, ◌++◌, length, Option}
-use Rattle.std.specs.List.{flat_map}
+use Rattle.std.specs.Prelude.{◌≡◌, ℕ, ◌-◌, ◌≤◌, nat_le, if◌then◌else◌, List, [], ◌∷◌, ◌++◌, length, take, Option}
+use Rattle.std.specs.List.{All, flat_map}
+use Rattle.da_values.specs.declared.val.Val.{Val}
 use Rattle.da_lang.specs.declared.program.Program.{Program}
 use Rattle.da_outside.specs.declared.link.LinkAnswer.{LinkAnswer}
 use Rattle.da_outside.specs.declared.link.LinkEntry.{LinkEntry}
-use Rattle.da_outside.specs.declared.link.LinkEntry.TheVariants.{Answered}
+use Rattle.da_outside.specs.declared.link.LinkEntry.TheVariants.{Answered, Gave}
 use Rattle.da_outside.specs.Link.{Gains}
 use Rattle.da_outside.specs.Outside.{Appends}
+use Rattle.msg_codec.specs.Packets.{IsPacket}
 use Rattle.node_run.specs.declared.outcome.NodeOutcome.{NodeOutcome}
 use Rattle.node_run.specs.declared.outcome.NodeOutcome.TheVariants as outcome
 use Rattle.node_run.specs.NodeRun.{NodeEnd, Done, Faulted, Idle, Spent, AsksAgain, NodeRun, Round, talk_of, text_of}
@@ -19,15 +21,38 @@ answer_in _ = []
 abbrev pub answers_in : List LinkEntry → List LinkAnswer
 answers_in = flat_map answer_in
 
--- The node ran to this end, and took so many answers at most: the link told the talk of the run over the answers that it gave, and a sink gained the lines.
-pub record HasRun (program : Program) (me idle turns : ℕ) (end : NodeEnd) (told_before told_after : Option (List LinkEntry)) (before after : Option (List ℕ)) : Type 0 where
+-- THE LINES
+
+-- the lines of these rounds were written
+abbrev pub WroteAll : Option (List ℕ) → Option (List ℕ) → List Round → Type 0
+WroteAll before after rounds = Appends before after (text_of rounds)
+
+abbrev pub all_but_last : List Round → List Round
+all_but_last rounds = take (length rounds - 1) rounds
+
+-- a front of them was written, in which nothing is missing but of the last round
+pub record WroteToLast (before after : Option (List ℕ)) (rounds : List Round) : Type 0 where
+  pub size : ℕ
+  pub written : Appends before after (take size (text_of rounds))
+  pub reaches : length (text_of (all_but_last rounds)) ≤ size
+
+-- HOW FAR IT RAN
+
+-- The rules led to this end, after so many answers at most: the link told the talk of the run over the answers that it gave,
+-- and so much was written of its lines.
+pub record HasCome (program : Program) (me idle turns : ℕ) (end : NodeEnd) (told_before told_after : Option (List LinkEntry)) (before after : Option (List ℕ))
+    (Wrote : Option (List ℕ) → Option (List ℕ) → List Round → Type 0) : Type 0 where
   pub talk : List LinkEntry
   pub rounds : List Round
   pub told : Gains told_before told_after talk
   pub run : NodeRun program me idle turns (answers_in talk) rounds end
   pub few : length (answers_in talk) ≤ turns
   pub whole : talk ≡ talk_of rounds
-  pub written : Appends before after (text_of rounds)
+  pub written : Wrote before after rounds
+
+-- the same, with all lines
+abbrev pub HasRun : Program → ℕ → ℕ → ℕ → NodeEnd → Option (List LinkEntry) → Option (List LinkEntry) → Option (List ℕ) → Option (List ℕ) → Type 0
+HasRun program me idle turns end told_before told_after before after = HasCome program me idle turns end told_before told_after before after WroteAll
 
 -- where so many entries were told: the rounds before the first whose packets were not all given
 abbrev pub given_rounds : ℕ → List Round → List Round
@@ -35,10 +60,10 @@ given_rounds told [] = []
 given_rounds told (round ∷ rounds) =
     if nat_le (length round.talk) told then round ∷ given_rounds (told - length round.talk) rounds else []
 
--- A trouble cut the node short: the link told a front of the talk of the run over the answers that it gave. The lines of the
--- rounds whose packets were all given were written so: all of them, or a front.
+-- A node was cut short: the link told a front of the talk of the run over the answers that it gave. So much was written of the
+-- lines of the rounds whose packets were all given.
 pub record WasCut (program : Program) (me idle turns : ℕ) (told_before told_after : Option (List LinkEntry)) (before after : Option (List ℕ))
-    (Written : Option (List ℕ) → Option (List ℕ) → List ℕ → Type 0) : Type 0 where
+    (Wrote : Option (List ℕ) → Option (List ℕ) → List Round → Type 0) : Type 0 where
   pub talk : List LinkEntry
   pub rounds : List Round
   pub end : NodeEnd
@@ -47,7 +72,22 @@ pub record WasCut (program : Program) (me idle turns : ℕ) (told_before told_af
   pub run : NodeRun program me idle turns (answers_in talk) rounds end
   pub few : length (answers_in talk) ≤ turns
   pub front : talk_of rounds ≡ talk ++ untold
-  pub written : Written before after (text_of (given_rounds (length talk) rounds))
+  pub written : Wrote before after (given_rounds (length talk) rounds)
+
+-- WHAT THE LINK WAS GIVEN
+
+-- a gift is the packet of a message that process `me` sent
+abbrev pub IsPacketOf : ℕ → LinkEntry → Type 0
+IsPacketOf me (Gave to bytes) = (time : ℕ) × (message : Val) × IsPacket me time message bytes
+IsPacketOf me _ = Unit {0}
+
+-- each gift that a link told since is such a packet
+pub record GivesPackets (me : ℕ) (told_before told_after : Option (List LinkEntry)) : Type 0 where
+  pub talk : List LinkEntry
+  pub told : Gains told_before told_after talk
+  pub packets : All (IsPacketOf me) talk
+
+-- THE OUTCOME
 
 -- what ended a node by the rules: its end
 abbrev pub end_for : NodeOutcome → NodeEnd

@@ -4,13 +4,12 @@ ghost use Rattle.da_outside.specs.Outside.{Appends, AppendsFront, HasCause};
 ghost use Rattle.da_outside.specs.declared.link.LinkEntry.TheVariants.{Gave};
 ghost use Rattle.da_values.specs.Value.{val_of};
 ghost use Rattle.msg_codec.specs.Packets.{packet_bytes};
-ghost use Rattle.node_run.specs.Faults.{HaveCauses};
 ghost use Rattle.node_run.specs.Gifts.{GainsSome, IsCutShort, IsGift, MayGive, MayGiveAll};
 ghost use Rattle.node_run.specs.NodeRun.{gift_of, gifts};
 ghost use Rattle.sched_text.specs.ActionText.{action_text};
-ghost use Rattle.std.specs.Prelude.{◌≡◌, ◌<◌, ◌∷◌, [], IfErr, OnErr, OnOk, length};
+ghost use Rattle.std.specs.Prelude.{◌≡◌, ◌<◌, ◌∷◌, [], IfErr, IsErrOf, OnErr, OnOk, length};
 
-use crate::outcome::NodeFault;
+use crate::outcome::NodeOutcome;
 use da_lang::Action;
 use da_outside::{Link, Sink, Trouble, write_all};
 use da_values::{List, Value};
@@ -24,21 +23,22 @@ pub(crate) fn tell<L: Link, K: Sink>(
     actions: &[Action],
     link: &mut L,
     sink: &mut K,
-) -> Result<(), NodeFault>
+) -> Result<(), NodeOutcome>
     requires { MayGiveAll (L.count link.old) actions.now }
     ensures given { OnOk result (Gains (L.told link.old) (L.told link.new) (gifts actions.now)) }
     ensures written { OnOk result (Appends (K.taken sink.old) (K.taken sink.new) (action_text actions.now)) }
-    ensures cut { IfErr result (λ fault. IsCutShort fault actions.now (L.told link.old) (L.told link.new) (K.taken sink.old) (K.taken sink.new)) }
+    ensures cut { IfErr result (λ outcome. IsCutShort outcome actions.now (L.told link.old) (L.told link.new) (K.taken sink.old) (K.taken sink.new)) }
     ensures kept { L.count link.new ≡ L.count link.old }
-    ensures causes { HaveCauses (L.faults link.old) (L.faults link.new) (K.faults sink.old) (K.faults sink.new) result }
+    ensures link_cause { HasCause (L.faults link.old) (L.faults link.new) (IsErrOf result NodeOutcome.LinkFault) }
+    ensures sink_cause { HasCause (K.faults sink.old) (K.faults sink.new) (IsErrOf result NodeOutcome.WriteFault) }
 {
     match give_all(alloc, actions, link) {
         Ok(()) => {}
-        Err(trouble) => return Err(NodeFault::of_link(trouble)),
+        Err(trouble) => return Err(NodeOutcome::of_link(trouble)),
     }
     match write_actions(alloc, actions, sink) {
         Ok(()) => Ok(()),
-        Err(trouble) => Err(NodeFault::of_sink(trouble)),
+        Err(trouble) => Err(NodeOutcome::of_sink(trouble)),
     }
 }
 
@@ -48,7 +48,7 @@ fn give_all<L: Link>(alloc: Global, actions: &[Action], link: &mut L) -> Result<
     ensures given { OnOk result (Gains (L.told link.old) (L.told link.new) (gifts actions.now)) }
     ensures front { OnErr result (GainsSome (L.told link.old) (L.told link.new) (gifts actions.now)) }
     ensures kept { L.count link.new ≡ L.count link.old }
-    ensures cause { HasCause (L.faults link.old) (L.faults link.new) result }
+    ensures cause { HasCause (L.faults link.old) (L.faults link.new) (IsErrOf result Trouble.Failed) }
 {
     for action in actions {
         give(alloc, action, link)?;
@@ -63,7 +63,7 @@ fn give<L: Link>(alloc: Global, action: &Action, link: &mut L) -> Result<(), Tro
     ensures same { OnErr result (Gains (L.told link.old) (L.told link.new) []) }
     ensures some { OnErr result (0 < length (gift_of action.now)) }
     ensures kept { L.count link.new ≡ L.count link.old }
-    ensures cause { HasCause (L.faults link.old) (L.faults link.new) result }
+    ensures cause { HasCause (L.faults link.old) (L.faults link.new) (IsErrOf result Trouble.Failed) }
 {
     match action {
         Action::Sent { p, q, t, v } => give_message(alloc, *p, *q, *t, v, link),
@@ -84,7 +84,7 @@ fn give_message<L: Link>(
     ensures given { OnOk result (Gains (L.told link.old) (L.told link.new) (Gave recipient (packet_bytes sender time (val_of message.now)) ∷ [])) }
     ensures same { OnErr result (Gains (L.told link.old) (L.told link.new) []) }
     ensures kept { L.count link.new ≡ L.count link.old }
-    ensures cause { HasCause (L.faults link.old) (L.faults link.new) result }
+    ensures cause { HasCause (L.faults link.old) (L.faults link.new) (IsErrOf result Trouble.Failed) }
 {
     let mut packet = List::new(alloc);
     encode(sender, time, message, &mut packet)?;
@@ -95,7 +95,7 @@ fn give_message<L: Link>(
 fn write_actions<K: Sink>(alloc: Global, actions: &[Action], sink: &mut K) -> Result<(), Trouble>
     ensures written { OnOk result (Appends (K.taken sink.old) (K.taken sink.new) (action_text actions.now)) }
     ensures front { OnErr result (AppendsFront (K.taken sink.old) (K.taken sink.new) (action_text actions.now)) }
-    ensures cause { HasCause (K.faults sink.old) (K.faults sink.new) result }
+    ensures cause { HasCause (K.faults sink.old) (K.faults sink.new) (IsErrOf result Trouble.Failed) }
 {
     let mut text = List::new(alloc);
     for action in actions {

@@ -3,8 +3,6 @@ ghost use Rattle.node_run.specs.Faults.{link_fault, sink_fault};
 ghost use Rattle.std.specs.Prelude.{◌≡◌};
 
 use da_outside::Trouble;
-use da_values::NoMemory;
-use thiserror::Error;
 
 /// How a node ended.
 #[derive(Clone, Copy, Debug, PartialEq, Eq)]
@@ -25,49 +23,24 @@ pub enum NodeOutcome {
     Memory,
 }
 
-/// What cuts a node short.
-#[derive(Clone, Copy, Debug, PartialEq, Eq, Error)]
-pub(crate) enum NodeFault {
-    /// The link failed.
-    #[error("the link failed")]
-    Link,
-    /// The sink failed.
-    #[error("the sink failed")]
-    Write,
-    /// Memory was refused.
-    #[error("no memory is left")]
-    Memory,
-}
-
-impl NodeFault {
-    /// The fault of a link with this trouble.
-    pub(crate) fn of_link(trouble: Trouble) -> NodeFault
+impl NodeOutcome {
+    /// The outcome of a node whose link had this trouble.
+    pub(crate) fn of_link(trouble: Trouble) -> NodeOutcome
         ensures { result ≡ link_fault trouble }
     {
         match trouble {
-            Trouble::Failed => NodeFault::Link,
-            Trouble::Memory => NodeFault::Memory,
+            Trouble::Failed => NodeOutcome::LinkFault,
+            Trouble::Memory => NodeOutcome::Memory,
         }
     }
 
-    /// The fault of a sink with this trouble.
-    pub(crate) fn of_sink(trouble: Trouble) -> NodeFault
+    /// The outcome of a node whose sink had this trouble.
+    pub(crate) fn of_sink(trouble: Trouble) -> NodeOutcome
         ensures { result ≡ sink_fault trouble }
     {
         match trouble {
-            Trouble::Failed => NodeFault::Write,
-            Trouble::Memory => NodeFault::Memory,
+            Trouble::Failed => NodeOutcome::WriteFault,
+            Trouble::Memory => NodeOutcome::Memory,
         }
-    }
-}
-
-impl From<NoMemory> for NodeFault {
-    ghost use Rattle.node_run.specs.declared.outcome.NodeFault.TheVariants.{Memory};
-    ghost use Rattle.std.specs.Prelude.{◌≡◌};
-
-    ghost from_gives = { λ _ fault. fault ≡ Memory };
-
-    fn from(_: NoMemory) -> NodeFault {
-        NodeFault::Memory
     }
 }

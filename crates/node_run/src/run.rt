@@ -1,15 +1,14 @@
 //! The run of a node, answer by answer.
 ghost use Rattle.da_core.specs.Compiled.{IsCompiled, program_of};
 ghost use Rattle.da_lang.specs.Shaped.{IsProcess};
-ghost use Rattle.da_outside.specs.Outside.{Appends, AppendsFront, Rose};
-ghost use Rattle.node_run.specs.Faults.{HaveCauses};
-ghost use Rattle.node_run.specs.Gifts.{CutText};
+ghost use Rattle.da_outside.specs.Outside.{HasCause};
 ghost use Rattle.node_run.specs.Hearing.{end_at as end_lem};
-ghost use Rattle.node_run.specs.NodeCall.{HasEnded, HasRun, WasCut, end_for};
-ghost use Rattle.std.specs.Prelude.{◌≡◌, ◌<◌, ◌≤◌, IfErr, IfOk, length};
+ghost use Rattle.node_run.specs.NodeCall.{GivesPackets, HasCome, HasEnded, HasRun, WasCut, WroteAll, WroteToLast, end_for};
+ghost use Rattle.node_run.specs.NodeRun.{NodeEnd};
+ghost use Rattle.std.specs.Prelude.{◌≡◌, ◌≤◌, length};
 
 use crate::hearing::{begin, hear};
-use crate::outcome::{NodeFault, NodeOutcome};
+use crate::outcome::NodeOutcome;
 use da_core::{Compiled, Stopped};
 use da_outside::{DATAGRAM_MAX, Link, Sink};
 use std::alloc::Global;
@@ -38,65 +37,39 @@ pub fn node<L: Link, K: Sink>(
     // Where the rules end it: the link told the talk of the run over the answers that it gave, and the sink gained its lines.
     ensures ran { HasEnded result → HasRun (program_of c.now) me idle turns (end_for result) (L.told link.old) (L.told link.new) (K.taken sink.old) (K.taken sink.new) }
 
-    // Where it is cut short: the link told a front of the talk of the run over these answers. The lines of the events whose
-    // packets were all given were written, or a front of them.
-    ensures link { result ≡ NodeOutcome.LinkFault → WasCut (program_of c.now) me idle turns (L.told link.old) (L.told link.new) (K.taken sink.old) (K.taken sink.new) Appends }
-    ensures write { result ≡ NodeOutcome.WriteFault → WasCut (program_of c.now) me idle turns (L.told link.old) (L.told link.new) (K.taken sink.old) (K.taken sink.new) AppendsFront }
-    ensures memory { result ≡ NodeOutcome.Memory → WasCut (program_of c.now) me idle turns (L.told link.old) (L.told link.new) (K.taken sink.old) (K.taken sink.new) AppendsFront }
+    // Where the sink failed: the link told the talk of the run up to there, and no line is missing but of the last event.
+    ensures write { result ≡ NodeOutcome.WriteFault → (end : NodeEnd) × HasCome (program_of c.now) me idle turns end (L.told link.old) (L.told link.new) (K.taken sink.old) (K.taken sink.new) WroteToLast }
 
-    // A fault has its cause, and a count rises for no other reason.
-    ensures link_failed { result ≡ NodeOutcome.LinkFault → Rose (L.faults link.old) (L.faults link.new) }
-    ensures link_later { L.faults link.old ≤ L.faults link.new }
-    ensures link_rises { L.faults link.old < L.faults link.new → result ≡ NodeOutcome.LinkFault }
-    ensures write_failed { result ≡ NodeOutcome.WriteFault → Rose (K.faults sink.old) (K.faults sink.new) }
-    ensures write_later { K.faults sink.old ≤ K.faults sink.new }
-    ensures write_rises { K.faults sink.old < K.faults sink.new → result ≡ NodeOutcome.WriteFault }
-    ensures kept { L.count link.new ≡ L.count link.old }
-{
-    match run(alloc, c, me, idle, turns, link, sink) {
-        Ok(end) => end,
-        Err(NodeFault::Link) => NodeOutcome::LinkFault,
-        Err(NodeFault::Write) => NodeOutcome::WriteFault,
-        Err(NodeFault::Memory) => NodeOutcome::Memory,
-    }
-}
+    // Where the link failed or memory was refused: the link told a front of the talk of the run over these answers. The lines of
+    // the events whose packets were all given were written; for want of memory some of the last of them may be missing.
+    ensures link { result ≡ NodeOutcome.LinkFault → WasCut (program_of c.now) me idle turns (L.told link.old) (L.told link.new) (K.taken sink.old) (K.taken sink.new) WroteAll }
+    ensures memory { result ≡ NodeOutcome.Memory → WasCut (program_of c.now) me idle turns (L.told link.old) (L.told link.new) (K.taken sink.old) (K.taken sink.new) WroteToLast }
 
-// The same, with what cuts it short.
-fn run<L: Link, K: Sink>(
-    alloc: Global,
-    c: &Compiled,
-    me: u16,
-    idle: u64,
-    turns: u64,
-    link: &mut L,
-    sink: &mut K,
-) -> Result<NodeOutcome, NodeFault>
-    requires compiled { IsCompiled c.now }
-    requires there { IsProcess (program_of c.now) me }
-    requires bound { L.count link.old ≡ length (program_of c.now).procs }
-    ensures ran { IfOk result (λ outcome. HasRun (program_of c.now) me idle turns (end_for outcome) (L.told link.old) (L.told link.new) (K.taken sink.old) (K.taken sink.new)) }
-    ensures ended { IfOk result HasEnded }
-    ensures cut { IfErr result (λ fault. WasCut (program_of c.now) me idle turns (L.told link.old) (L.told link.new) (K.taken sink.old) (K.taken sink.new) (CutText fault)) }
+    // However it ended, the link was given nothing but packets of messages that this process sent.
+    ensures packets { GivesPackets me (L.told link.old) (L.told link.new) }
+
+    // Each fault has its cause.
+    ensures link_cause { HasCause (L.faults link.old) (L.faults link.new) (result ≡ NodeOutcome.LinkFault) }
+    ensures sink_cause { HasCause (K.faults sink.old) (K.faults sink.new) (result ≡ NodeOutcome.WriteFault) }
     ensures kept { L.count link.new ≡ L.count link.old }
-    ensures causes { HaveCauses (L.faults link.old) (L.faults link.new) (K.faults sink.old) (K.faults sink.new) result }
 {
     let mut running = match begin(alloc, c, me, link, sink) {
         Ok(running) => running,
-        Err(fault) => return Err(fault),
+        Err(outcome) => return outcome,
     };
     let mut buffer = [0u8; DATAGRAM_MAX];
     'answers: for _taken in 0..turns {
         if let Some(end) = end_at(running.stopped, running.idle, idle) {
-            return Ok(end);
+            return end;
         }
         match hear(alloc, c, &mut running, &mut buffer, link, sink) {
             Ok(()) => {}
-            Err(fault) => return Err(fault),
+            Err(outcome) => return outcome,
         }
     }
     match end_at(running.stopped, running.idle, idle) {
-        Some(end) => Ok(end),
-        None => Ok(NodeOutcome::Spent),
+        Some(end) => end,
+        None => NodeOutcome::Spent,
     }
 }
 

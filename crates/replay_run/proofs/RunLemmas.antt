@@ -10,7 +10,7 @@ use Rattle.da_lang.specs.declared.event.Action.TheVariants.{Stop}
 use Rattle.da_lang.specs.declared.event.Event.{Event}
 use Rattle.da_lang.specs.declared.program.Program.{Program}
 use Rattle.da_outside.specs.Outside.{Appends, AppendsFront}
-use Rattle.da_outside.proofs.OutsideLemmas.{appends_then, front_before, front_behind}
+use Rattle.da_outside.proofs.OutsideLemmas.{appends_none, appends_then, front_before, front_behind}
 use Rattle.da_system.specs.declared.system.System.{System}
 use Rattle.da_system.specs.SourceRun.{EndsByStop, SrcRun, and_then, at_event, src_run_from}
 use Rattle.da_system.specs.State.{HasStepped, Stands, Whichever}
@@ -39,12 +39,8 @@ came_first program s events system taken stands = record {
   now = s;
   run_is = refl;
   stands = stands;
-  written = nothing taken;
+  written = appends_none taken;
 }
-  where
-    nothing : (taken : Option (List ℕ)) → Appends taken taken []
-    nothing None = refl
-    nothing (Some told) = ap Some (sym (append-nil told))
 
 then_then : (xs ys : List Action) (rest : SrcRun) → and_then xs (and_then ys rest) ≡ and_then (xs ++ ys) rest
 then_then xs ys rest = ap (λ (actions : List Action). let run : SrcRun = record rest { actions = actions } in run) (sym (append_assoc xs ys rest.actions))
@@ -123,15 +119,15 @@ module _ (program : Program) (s : SystemState) (events : List Event) (place : �
     stop_fails true next_system still new tried is front = absurd (false≢true (sym is))
     stop_fails false next_system still new tried is front = front_left new _ (left_is None tried.is) (subst (λ x. AppendsFront x new (action_text (Stop (place + 1) ∷ []))) tried.unwritten front)
 
-    -- the whole line was written
+    -- the whole line was written, and the replay ended so
     pub stops_here : (allowed : Bool) (next_system : System) (still new : Option (List ℕ)) → IsTried p came.now next allowed next_system mid still → allowed ≡ false
-        → Appends still new (action_text (Stop (place + 1) ∷ [])) → HasRun program s events (Forbidden (place + 1)) next_system before new
-    stops_here true next_system still new tried is written = absurd (false≢true (sym is))
-    stops_here false next_system still new tried is written =
+        → (how : Outcome) → how ≡ Forbidden (place + 1) → Appends still new (action_text (Stop (place + 1) ∷ [])) → HasRun program s events how next_system before new
+    stops_here true next_system still new tried is how ends written = absurd (false≢true (sym is))
+    stops_here false next_system still new tried is how ends written =
         let whole : run_on program s events ≡ and_then came.told (record { actions = Stop (place + 1) ∷ []; stop = Some (place + 1); state = came.now }) =
         came.run_is ∙ ap (and_then came.told) (left_is None tried.is) in
         record {
-          outcome_is = ap (λ (run : SrcRun). outcome_of run.stop) (sym whole);
+          outcome_is = ends ∙ ap (λ (run : SrcRun). outcome_of run.stop) (sym whole);
           stands = subst (λ (run : SrcRun). Stands next_system run.state) (sym whole) tried.stands;
           written = subst (λ (run : SrcRun). Appends before new (action_text run.actions)) (sym whole)
               (subst (Appends before new) (sym (text-append came.told (Stop (place + 1) ∷ [])))

@@ -1,20 +1,20 @@
 -- The run of a generated schedule, event by event.
-use Rattle.std.proofs.Common.{◌≡◌, refl, sym, ◌∙◌, ap, subst, ℕ, suc, ◌+◌, ◌-◌, ◌<◌, ◌≤◌, List, [], ◌∷◌, ◌++◌, length, arith, append-nil, append_assoc, length-append}
-use Rattle.std.specs.Prelude.{Option, Some, None, codes}
+use Rattle.std.proofs.Common.{◌≡◌, refl, sym, ◌∙◌, ap, subst, ℕ, ◌+◌, ◌-◌, ◌<◌, ◌≤◌, List, [], ◌∷◌, ◌++◌, length, arith, append-nil, append_assoc, length-append}
+use Rattle.std.specs.Prelude.{Some, None, codes}
 use Rattle.da_lang.specs.declared.event.Action.{Action}
 use Rattle.da_lang.specs.declared.event.Event.{Event}
 use Rattle.da_lang.specs.declared.program.Program.{Program}
 use Rattle.da_system.specs.declared.system.System.{System}
 use Rattle.da_system.specs.Choices.{choices}
-use Rattle.da_system.specs.SourceRun.{SrcRun, src_run_from}
+use Rattle.da_system.specs.SourceRun.{SrcRun}
 use Rattle.da_system.specs.State.{Stands}
 use Rattle.da_system.specs.StressRun.{StressRun, next_number, number_line, pick, stress_from, stress_text_from}
-use Rattle.da_system.specs.SystemStep.{AfterEvent, SystemState, sys_step}
+use Rattle.da_system.specs.SystemStep.{SystemState, sys_step}
 use Rattle.da_system.proofs.StressLaws.{picks_none, picks_one, run_more}
 use Rattle.replay_run.specs.declared.counts.Counts.{Counts}
 use Rattle.replay_run.specs.declared.generated.Summary.{Summary}
 use Rattle.replay_run.specs.Replay.{run_on}
-use Rattle.replay_run.specs.Stress.{AreCounts, HasCome, IsNext, IsOver, WasPicked, lines_of, picked_on}
+use Rattle.replay_run.specs.Stress.{AreCounts, HasCome, IsNext, WasPicked, lines_of, picked_on}
 
 -- these events before those of a run
 abbrev behind_events : List Event → StressRun → StressRun

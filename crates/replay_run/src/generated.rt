@@ -1,10 +1,10 @@
 //! The run of a generated schedule, whose events are picked by numbers.
-ghost use Rattle.da_outside.specs.Outside.{Appends, AppendsFront, HasCause, Rose};
+ghost use Rattle.da_outside.specs.Outside.{Appends, AppendsFront, HasCause};
 ghost use Rattle.da_system.specs.State.{IsReady, Whichever, is_spent, program_of};
 ghost use Rattle.da_system.specs.StressRun.{next_number as next_lem, number_line, place_in as place_lem, stress_text_from};
-ghost use Rattle.replay_run.specs.Replay.{HasEnded, run_on};
+ghost use Rattle.replay_run.specs.Replay.{HasEnded, StandsBehind, run_on};
 ghost use Rattle.replay_run.specs.Stress.{HasCome, HasPicked, HasRoom, IsNext, UsesRoom, lines_of, picked_on};
-ghost use Rattle.std.specs.Prelude.{◌≡◌, ◌++◌, ◌<◌, ◌≤◌, ◌^◌, None, false, IfOk, OnErr, OnOk, length};
+ghost use Rattle.std.specs.Prelude.{◌≡◌, ◌++◌, ◌<◌, ◌≤◌, ◌^◌, None, false, true, IfOk, IsErrOf, OnErr, OnOk, length};
 
 use crate::counts::Counts;
 use crate::outcome::Outcome;
@@ -15,8 +15,7 @@ use std::alloc::Global;
 
 /// Carries out at most `n` events, each of which a number picks among those that may be picked, until there are none. The
 /// first number comes behind `start`. Then it writes how many events there were, how many actions of each kind, and the last
-/// number. The system may have made steps before. Where the run ends in `WriteFault` or `Memory`, the system is good for
-/// nothing more: only its program is still known.
+/// number. The system may have made steps before.
 pub fn stress<K: Sink>(
     alloc: Global,
     system: &mut System,
@@ -30,8 +29,12 @@ pub fn stress<K: Sink>(
     // From each state that the system stands for: the sink gained the eight lines, and the system stands where the events that
     // were picked lead.
     ensures ran { HasEnded result → Whichever system.old (λ s. HasPicked (program_of system.old) s start n system.new (K.taken sink.old) (K.taken sink.new)) }
-    ensures ready { HasEnded result → IsReady system.new }
+    ensures ready { IsReady system.new }
     ensures program { program_of system.new ≡ program_of system.old }
+
+    // However it ended, even where a write failed: the system is spent, or it stands where the events that were picked lead, and
+    // no further.
+    ensures left { is_spent system.new ≡ false → Whichever system.old (λ s. StandsBehind (program_of system.old) s (picked_on (program_of system.old) s start n) system.new) }
 
     // Each event that is picked is allowed, and there are at most n of them. So the run is never `Forbidden`.
     ensures allowed { Whichever system.old (λ s. (run_on (program_of system.old) s (picked_on (program_of system.old) s start n)).stop ≡ None) }
@@ -41,12 +44,13 @@ pub fn stress<K: Sink>(
     // However it ended, no more was written than the front of the eight lines.
     ensures front { Whichever system.old (λ s. AppendsFront (K.taken sink.old) (K.taken sink.new) (stress_text_from (program_of system.old) s start n)) }
 
-    // A fault has its cause, and the count rises for no other reason.
-    ensures write { result ≡ Outcome.WriteFault → Rose (K.faults sink.old) (K.faults sink.new) }
-    ensures later { K.faults sink.old ≤ K.faults sink.new }
-    ensures rises { K.faults sink.old < K.faults sink.new → result ≡ Outcome.WriteFault }
+    // `WriteFault` has its cause.
+    ensures write { HasCause (K.faults sink.old) (K.faults sink.new) (result ≡ Outcome.WriteFault) }
 {
-    match run_and_tell(alloc, system, start, n, sink) {
+    let Ok(summary) = run_picked(alloc, system, start, n) else {
+        return Outcome::Memory;
+    };
+    match write_summary(alloc, &summary, sink) {
         Ok(()) => Outcome::Done,
         Err(Trouble::Failed) => Outcome::WriteFault,
         Err(Trouble::Memory) => Outcome::Memory,
@@ -61,33 +65,11 @@ struct Summary {
     last: u64,
 }
 
-// Carries out the events, and writes the eight lines.
-fn run_and_tell<K: Sink>(
-    alloc: Global,
-    system: &mut System,
-    start: u64,
-    n: u64,
-    sink: &mut K,
-) -> Result<(), Trouble>
-    requires { IsReady system.old }
-    ensures ran { OnOk result (Whichever system.old (λ s. HasPicked (program_of system.old) s start n system.new (K.taken sink.old) (K.taken sink.new))) }
-    ensures ready { OnOk result (IsReady system.new) }
-    ensures program { program_of system.new ≡ program_of system.old }
-    ensures front { OnErr result (Whichever system.old (λ s. AppendsFront (K.taken sink.old) (K.taken sink.new) (stress_text_from (program_of system.old) s start n))) }
-    ensures cause { HasCause (K.faults sink.old) (K.faults sink.new) result }
-{
-    let summary = run_picked(alloc, system, start, n)?;
-    match write_summary(alloc, &summary, sink) {
-        Ok(()) => Ok(()),
-        Err(trouble) => Err(trouble),
-    }
-}
-
 // Writes the eight lines of a summary.
 fn write_summary<K: Sink>(alloc: Global, summary: &Summary, sink: &mut K) -> Result<(), Trouble>
     ensures written { OnOk result (Appends (K.taken sink.old) (K.taken sink.new) (lines_of summary.now)) }
     ensures front { OnErr result (AppendsFront (K.taken sink.old) (K.taken sink.new) (lines_of summary.now)) }
-    ensures cause { HasCause (K.faults sink.old) (K.faults sink.new) result }
+    ensures cause { HasCause (K.faults sink.old) (K.faults sink.new) (IsErrOf result Trouble.Failed) }
 {
     let mut text = List::new(alloc);
     put_summary(summary, &mut text)?;
@@ -98,7 +80,8 @@ fn write_summary<K: Sink>(alloc: Global, summary: &Summary, sink: &mut K) -> Res
 fn run_picked(alloc: Global, system: &mut System, start: u64, n: u64) -> Result<Summary, NoMemory>
     requires { IsReady system.old }
     ensures ran { IfOk result (λ summary. Whichever system.old (λ s. HasCome (program_of system.old) s start n summary system.new)) }
-    ensures ready { OnOk result (IsReady system.new) }
+    ensures spent { OnErr result (is_spent system.new ≡ true) }
+    ensures ready { IsReady system.new }
     ensures program { program_of system.new ≡ program_of system.old }
 {
     let mut counts = Counts::new();
@@ -133,7 +116,8 @@ fn run_next(
     requires room { HasRoom counts.old (2 ^ 64) }
     ensures next { IfOk result (λ number. Whichever system.old (λ s. IsNext (program_of system.old) s last number counts.old counts.new system.new)) }
     ensures room { OnOk result (UsesRoom (2 ^ 64) counts.old counts.new) }
-    ensures ready { OnOk result (IsReady system.new) }
+    ensures spent { OnErr result (is_spent system.new ≡ true) }
+    ensures ready { IsReady system.new }
     ensures program { program_of system.new ≡ program_of system.old }
 {
     let choices = system.choices();

@@ -1,11 +1,11 @@
 //! The run of a schedule, event by event.
 ghost use Rattle.da_lang.specs.declared.event.Action.TheVariants as action;
-ghost use Rattle.da_outside.specs.Outside.{Appends, AppendsFront, HasCause, Rose};
+ghost use Rattle.da_outside.specs.Outside.{Appends, AppendsFront, HasCause};
 ghost use Rattle.da_system.specs.SourceRun.{EndsByStop};
 ghost use Rattle.da_system.specs.State.{IsReady, Whichever, program_of};
 ghost use Rattle.replay_run.specs.Replay.{HasEnded, HasRun, IsTried, run_on, run_text, step_text};
 ghost use Rattle.sched_text.specs.ActionText.{action_line, action_text};
-ghost use Rattle.std.specs.Prelude.{ℕ, ◌≡◌, ◌↔◌, ◌∷◌, ◌<◌, ◌≤◌, List, [], IfOk, OnErr, OnOk};
+ghost use Rattle.std.specs.Prelude.{ℕ, ◌≡◌, ◌↔◌, ◌∷◌, List, [], IfOk, IsErrOf, OnErr, OnOk};
 
 use crate::outcome::Outcome;
 use da_lang::{Action, Event};
@@ -16,20 +16,20 @@ use sched_text::write_action;
 use std::alloc::Global;
 
 /// Steps the system through the events, and writes the lines of each behind its step, until they are used up or one is not
-/// allowed. The system may have made steps before. Where the replay ends in `WriteFault` or `Memory`, the system is good
-/// for nothing more: only its program is still known.
+/// allowed. The system may have made steps before. Where the replay ends in `WriteFault` or `Memory`, it is not told how far
+/// the system has come.
 pub fn replay<K: Sink>(
     alloc: Global,
     system: &mut System,
     events: &[Event],
     sink: &mut K,
 ) -> Outcome
-    requires { IsReady system.old }
+    requires ready { IsReady system.old }
 
     // From each state that the system stands for: the sink gained the text of the run, and the system stands where the events
     // that were carried out lead.
     ensures ran { HasEnded result → Whichever system.old (λ s. HasRun (program_of system.old) s events.now result system.new (K.taken sink.old) (K.taken sink.new)) }
-    ensures ready { HasEnded result → IsReady system.new }
+    ensures ready { IsReady system.new }
     ensures program { program_of system.new ≡ program_of system.old }
 
     // It is `Forbidden` exactly where the run ends by a stop, at the event of its number.
@@ -38,41 +38,18 @@ pub fn replay<K: Sink>(
     // However it ended, no more was written than the front of that text.
     ensures front { Whichever system.old (λ s. AppendsFront (K.taken sink.old) (K.taken sink.new) (run_text (program_of system.old) s events.now)) }
 
-    // A fault has its cause, and the count rises for no other reason.
-    ensures write { result ≡ Outcome.WriteFault → Rose (K.faults sink.old) (K.faults sink.new) }
-    ensures later { K.faults sink.old ≤ K.faults sink.new }
-    ensures rises { K.faults sink.old < K.faults sink.new → result ≡ Outcome.WriteFault }
-{
-    match run_events(alloc, system, events, sink) {
-        Ok(outcome) => outcome,
-        Err(Trouble::Failed) => Outcome::WriteFault,
-        Err(Trouble::Memory) => Outcome::Memory,
-    }
-}
-
-// Carries out the events up to the first that is not allowed, at which it writes that the run stops.
-fn run_events<K: Sink>(
-    alloc: Global,
-    system: &mut System,
-    events: &[Event],
-    sink: &mut K,
-) -> Result<Outcome, Trouble>
-    requires { IsReady system.old }
-    ensures ran { IfOk result (λ outcome. Whichever system.old (λ s. HasRun (program_of system.old) s events.now outcome system.new (K.taken sink.old) (K.taken sink.new))) }
-    ensures ended { IfOk result HasEnded }
-    ensures ready { IfOk result (λ _. IsReady system.new) }
-    ensures program { program_of system.new ≡ program_of system.old }
-    ensures front { OnErr result (Whichever system.old (λ s. AppendsFront (K.taken sink.old) (K.taken sink.new) (run_text (program_of system.old) s events.now))) }
-    ensures cause { HasCause (K.faults sink.old) (K.faults sink.new) result }
+    // `WriteFault` has its cause.
+    ensures write { HasCause (K.faults sink.old) (K.faults sink.new) (result ≡ Outcome.WriteFault) }
 {
     for (place, event) in events.iter().enumerate() {
-        if !try_event(alloc, system, event, sink)? {
-            let i = place as u64 + 1;
-            write_stop(alloc, i, sink)?;
-            return Ok(Outcome::Forbidden(i));
+        match try_event(alloc, system, event, sink) {
+            Ok(true) => {}
+            Ok(false) => return stop_at(alloc, place as u64 + 1, sink),
+            Err(Trouble::Failed) => return Outcome::WriteFault,
+            Err(Trouble::Memory) => return Outcome::Memory,
         }
     }
-    Ok(Outcome::Done)
+    Outcome::Done
 }
 
 // Carries out an event that is allowed, and writes its lines; says whether it is. Where it is not, nothing has changed.
@@ -84,10 +61,10 @@ fn try_event<K: Sink>(
 ) -> Result<bool, Trouble>
     requires { IsReady system.old }
     ensures tried { IfOk result (λ allowed. Whichever system.old (λ s. IsTried (program_of system.old) s event.now allowed system.new (K.taken sink.old) (K.taken sink.new))) }
-    ensures ready { IfOk result (λ _. IsReady system.new) }
+    ensures ready { IsReady system.new }
     ensures program { program_of system.new ≡ program_of system.old }
     ensures front { OnErr result (Whichever system.old (λ s. AppendsFront (K.taken sink.old) (K.taken sink.new) (step_text (program_of system.old) s event.now))) }
-    ensures cause { HasCause (K.faults sink.old) (K.faults sink.new) result }
+    ensures cause { HasCause (K.faults sink.old) (K.faults sink.new) (IsErrOf result Trouble.Failed) }
 {
     let mut actions = List::new(alloc);
     match system.step(event, &mut actions) {
@@ -103,7 +80,7 @@ fn try_event<K: Sink>(
 fn write_actions<K: Sink>(alloc: Global, actions: &[Action], sink: &mut K) -> Result<(), Trouble>
     ensures written { OnOk result (Appends (K.taken sink.old) (K.taken sink.new) (action_text actions.now)) }
     ensures front { OnErr result (AppendsFront (K.taken sink.old) (K.taken sink.new) (action_text actions.now)) }
-    ensures cause { HasCause (K.faults sink.old) (K.faults sink.new) result }
+    ensures cause { HasCause (K.faults sink.old) (K.faults sink.new) (IsErrOf result Trouble.Failed) }
 {
     let mut text = List::new(alloc);
     for action in actions {
@@ -112,11 +89,15 @@ fn write_actions<K: Sink>(alloc: Global, actions: &[Action], sink: &mut K) -> Re
     write_all(sink, text.as_slice())
 }
 
-// Writes the line that the run stops at this event.
-fn write_stop<K: Sink>(alloc: Global, i: u64, sink: &mut K) -> Result<(), Trouble>
-    ensures written { OnOk result (Appends (K.taken sink.old) (K.taken sink.new) (action_text (action.Stop i ∷ []))) }
-    ensures front { OnErr result (AppendsFront (K.taken sink.old) (K.taken sink.new) (action_text (action.Stop i ∷ []))) }
-    ensures cause { HasCause (K.faults sink.old) (K.faults sink.new) result }
+// Writes the line that the run stops at this event, with which the replay ends.
+fn stop_at<K: Sink>(alloc: Global, i: u64, sink: &mut K) -> Outcome
+    ensures stopped { HasEnded result → (result ≡ Outcome.Forbidden i) × Appends (K.taken sink.old) (K.taken sink.new) (action_text (action.Stop i ∷ [])) }
+    ensures front { AppendsFront (K.taken sink.old) (K.taken sink.new) (action_text (action.Stop i ∷ [])) }
+    ensures write { HasCause (K.faults sink.old) (K.faults sink.new) (result ≡ Outcome.WriteFault) }
 {
-    write_actions(alloc, &[Action::Stop { i }], sink)
+    match write_actions(alloc, &[Action::Stop { i }], sink) {
+        Ok(()) => Outcome::Forbidden(i),
+        Err(Trouble::Failed) => Outcome::WriteFault,
+        Err(Trouble::Memory) => Outcome::Memory,
+    }
 }

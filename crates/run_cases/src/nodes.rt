@@ -7,7 +7,7 @@ use crate::compiling::compiled_of;
 use anyhow::anyhow;
 use da_core::Compiled;
 use da_outside::{DATAGRAM_MAX, Link, LinkAnswer, LinkEntry, MemSink, ScriptLink, Trouble};
-use da_values::List;
+use da_values::{Buf, List, NoMemory};
 use node_run::{NodeOutcome, node};
 use std::alloc::Global;
 use std::str;
@@ -22,7 +22,7 @@ struct Setting {
 
 /// What a node writes, then what it gives, and its status where that is not 0. The words are the process, the most idle
 /// turns, the most answers, the number of the call of the link that fails (0 where none does), and the answers of the link:
-/// datagrams in hexadecimal digits, and `nothing`.
+/// datagrams in hexadecimal digits, and `nothing`. In `DIGITS*COUNT` the last byte stands so many times.
 pub fn node_reply(alloc: Global, program: &[u8], words: &str) -> anyhow::Result<String> {
     let compiled = compiled_of(alloc, program)?;
     let mut list: Vec<&str> = Vec::new(alloc);
@@ -59,13 +59,25 @@ fn answer_of(alloc: Global, word: &str) -> anyhow::Result<LinkAnswer>
     if word == "nothing" {
         return Ok(LinkAnswer::Nothing);
     }
-    let bytes = hex::decode(alloc, word)?;
-    if bytes.len() > DATAGRAM_MAX {
+    let (digits, count) = word.split_once('*').unwrap_or((word, "1"));
+    let bytes = hex::decode(alloc, digits)?;
+    let datagram = with_last(alloc, bytes.as_slice(), count.parse::<u32>()?)?;
+    if datagram.len() > DATAGRAM_MAX {
         return Err(anyhow!("a datagram is too long"));
     }
-    let mut datagram = List::new(alloc);
-    datagram.append(bytes.as_slice())?;
     Ok(LinkAnswer::Datagram(datagram))
+}
+
+// The bytes, of which the last one stands so many times.
+fn with_last(alloc: Global, bytes: &[u8], count: u32) -> Result<Buf, NoMemory> {
+    let mut whole = List::new(alloc);
+    whole.append(bytes)?;
+    if let Some(last) = bytes.last() {
+        for _ in 1..count {
+            whole.push(*last)?;
+        }
+    }
+    Ok(whole)
 }
 
 // Binds the link for a process of the program, and runs it as a node.

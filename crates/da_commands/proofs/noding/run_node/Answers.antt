@@ -12,7 +12,7 @@ returns-in-Ok-clause-served g c =
     program_limit c.in-Ok.text c.in-Ok.ensures.whole (λ t is. c.answer_text.ensures.served t (c.as_slice.ensures ∙ is))
 
 pub returns-in-Err-Failed-clause-served : goal.returns-in-Err-Failed-clause-served
-returns-in-Err-Failed-clause-served g c = none_served _ _ _ _
+returns-in-Err-Failed-clause-served g c = none_served _ _ _ _ _
 
 pub returns-in-Err-Memory-clause-served : goal.returns-in-Err-Memory-clause-served
-returns-in-Err-Memory-clause-served g c = none_served _ _ _ _
+returns-in-Err-Memory-clause-served g c = none_served _ _ _ _ _

@@ -5,11 +5,11 @@ use Rattle.da_commands.specs.declared.status.RefusedKind.TheVariants.{Size}
 use Rattle.da_commands.specs.declared.status.Status.TheVariants.{Refused}
 use Rattle.da_commands.specs.Lines.{refused_text}
 use Rattle.da_commands.specs.Replies.{ReplayReply, RunReply, answered, refused}
-use Rattle.da_commands.specs.Told.{Begins, Gains}
+use Rattle.da_commands.specs.Told.{HasReplied}
 use Rattle.da_commands.specs.Verdict.{program_limit, too_long}
 use Rattle.sched_text.specs.ScheduleText.{schedule_limit}
 use Rattle.da_commands.proofs.ReplyLemmas.{read_within, refuses_within}
-use Rattle.da_commands.proofs.ToldLemmas.{begins_any, begins_as, err_of_read, gains_any, gains_as, ok_of_read, take_beyond}
+use Rattle.da_commands.proofs.ToldLemmas.{of_any, of_read, replied_as, said_replied, take_beyond}
 use Rattle.da_commands.proofs.VerdictLemmas.{not_refused}
 use Rattle.da_commands.proofs.replaying.answer_program.Goals as goal
 
@@ -17,39 +17,21 @@ pub returns-then-text-gt-PROGRAM_LIMIT-clause-replies : goal.returns-then-text-g
 returns-then-text-gt-PROGRAM_LIMIT-clause-replies g c = λ t is.
     let kind : RefusedKind = Size in
     let line : ℕ = 0 in
-    gains_any _ (λ s. ReplayReply t s) (Refused kind line) (refused_text kind line) _ _ _ (λ s. refused kind line (too_long (take_beyond program_limit _ t is c.if-text-gt-PROGRAM_LIMIT.true))) c.refuse.ensures.said
-
-pub returns-then-text-gt-PROGRAM_LIMIT-clause-begun : goal.returns-then-text-gt-PROGRAM_LIMIT-clause-begun
-returns-then-text-gt-PROGRAM_LIMIT-clause-begun g c = λ t is.
-    let kind : RefusedKind = Size in
-    let line : ℕ = 0 in
-    begins_any _ (λ s. ReplayReply t s) (Refused kind line) (refused_text kind line) c.refuse.result _ _ (λ s. refused kind line (too_long (take_beyond program_limit _ t is c.if-text-gt-PROGRAM_LIMIT.true))) c.refuse.ensures.front
+    of_any _ _ (λ s. said_replied (ReplayReply t s) _ _ (Refused kind line) (refused_text kind line) _ tt (refused kind line (too_long (take_beyond program_limit _ t is c.if-text-gt-PROGRAM_LIMIT.true))) c.refuse.ensures.said)
 
 pub returns-in-Err-Refused-clause-replies : goal.returns-in-Err-Refused-clause-replies
 returns-in-Err-Refused-clause-replies g c = λ t is.
     let kind = c.in-Err-Refused.kind in
     let line = c.in-Err-Refused.line in
-    gains_any _ (λ s. ReplayReply t s) (Refused kind line) (refused_text kind line) _ _ _ (λ s. refused kind line (refuses_within _ t _ _ _ is c.if-text-gt-PROGRAM_LIMIT.false c.in-Err-Refused.field-0-is c.in-Err-Refused.ensures.refused)) c.refuse-in-Err-Refused.ensures.said
-
-pub returns-in-Err-Refused-clause-begun : goal.returns-in-Err-Refused-clause-begun
-returns-in-Err-Refused-clause-begun g c = λ t is.
-    let kind = c.in-Err-Refused.kind in
-    let line = c.in-Err-Refused.line in
-    begins_any _ (λ s. ReplayReply t s) (Refused kind line) (refused_text kind line) c.refuse-in-Err-Refused.result _ _ (λ s. refused kind line (refuses_within _ t _ _ _ is c.if-text-gt-PROGRAM_LIMIT.false c.in-Err-Refused.field-0-is c.in-Err-Refused.ensures.refused)) c.refuse-in-Err-Refused.ensures.front
+    of_any _ _ (λ s. said_replied (ReplayReply t s) _ _ (Refused kind line) (refused_text kind line) _ tt
+    (refused kind line (refuses_within _ t _ _ _ is c.if-text-gt-PROGRAM_LIMIT.false c.in-Err-Refused.field-0-is c.in-Err-Refused.ensures.refused)) c.refuse-in-Err-Refused.ensures.said)
 
 pub returns-in-Ok-read_all-clause-replies : goal.returns-in-Ok-read_all-clause-replies
 returns-in-Ok-read_all-clause-replies g c = λ t is.
     let accepts = read_within _ t _ is c.if-text-gt-PROGRAM_LIMIT.false c.in-Ok.ensures.read in
-    ok_of_read (g.F.Files.told c.args.files.now c.args.name.now) (λ s status. Gains (ReplayReply t s) status (g.K.Sink.taken c.args.out.now) (g.K.Sink.taken c.answer_schedule.new.out)) schedule_limit c.in-Ok-read_all.schedule c.answer_schedule.result c.in-Ok-read_all.ensures.whole
+    of_read (g.F.Files.told c.args.files.now c.args.name.now) (λ s. HasReplied (ReplayReply t s) c.answer_schedule.result (g.K.Sink.taken c.args.out.now) (g.K.Sink.taken c.answer_schedule.new.out)) schedule_limit c.in-Ok-read_all.schedule c.in-Ok-read_all.ensures.whole
     (λ s read.
-    gains_as (RunReply (program_of c.in-Ok.compiled) s) (ReplayReply t s) c.answer_schedule.result _ _ (answered (program_of c.in-Ok.compiled) accepts) (c.answer_schedule.ensures.answers s (c.as_slice.ensures ∙ read)))
-
-pub returns-in-Ok-read_all-clause-begun : goal.returns-in-Ok-read_all-clause-begun
-returns-in-Ok-read_all-clause-begun g c = λ t is.
-    let accepts = read_within _ t _ is c.if-text-gt-PROGRAM_LIMIT.false c.in-Ok.ensures.read in
-    err_of_read (g.F.Files.told c.args.files.now c.args.name.now) (λ s. Begins (ReplayReply t s) (g.K.Sink.taken c.args.out.now) (g.K.Sink.taken c.answer_schedule.new.out)) schedule_limit c.in-Ok-read_all.schedule c.answer_schedule.result c.in-Ok-read_all.ensures.whole
-    (λ s read.
-    begins_as (RunReply (program_of c.in-Ok.compiled) s) (ReplayReply t s) c.answer_schedule.result _ _ (answered (program_of c.in-Ok.compiled) accepts) (c.answer_schedule.ensures.begun s (c.as_slice.ensures ∙ read)))
+    replied_as (RunReply (program_of c.in-Ok.compiled) s) (ReplayReply t s) _ _ (answered (program_of c.in-Ok.compiled) accepts) c.answer_schedule.result (c.answer_schedule.ensures.replies s (c.as_slice.ensures ∙ read)))
 
 pub returns-in-Err-Failed-clause-refused : goal.returns-in-Err-Failed-clause-refused
 returns-in-Err-Failed-clause-refused g c = λ t is failed. not_refused t (program_of c.in-Ok.compiled) (read_within _ t _ is c.if-text-gt-PROGRAM_LIMIT.false c.in-Ok.ensures.read)

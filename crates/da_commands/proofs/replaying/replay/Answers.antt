@@ -1,10 +1,10 @@
 use Rattle.std.proofs.Common.{inr, ◌∙◌, subst, List, ℕ}
-use Rattle.std.specs.Prelude.{IfErr, IfOk, Option}
+use Rattle.std.specs.Prelude.{Option}
 use Rattle.da_commands.specs.Replies.{ReplayReply}
-use Rattle.da_commands.specs.Told.{Begins, Gains, OfTold}
+use Rattle.da_commands.specs.Told.{HasReplied, OfTold}
 use Rattle.da_commands.specs.Verdict.{program_limit}
 use Rattle.da_commands.proofs.ReplyLemmas.{may_read, rose_later}
-use Rattle.da_commands.proofs.ToldLemmas.{err_of_read, ok_of_read}
+use Rattle.da_commands.proofs.ToldLemmas.{of_read}
 use Rattle.da_commands.proofs.replaying.replay.Goals as goal
 
 pub returns-in-Ok-clause-read : goal.returns-in-Ok-clause-read
@@ -16,14 +16,7 @@ returns-in-Ok-clause-read g c = λ failed.
 
 pub returns-in-Ok-clause-replies : goal.returns-in-Ok-clause-replies
 returns-in-Ok-clause-replies g c =
-    ok_of_read (g.F.Files.told c.args.files.now c.args.program.now) (λ t status. OfTold (g.F.Files.told c.args.files.now c.args.schedule.now) (λ s. Gains (ReplayReply t s) status (g.K.Sink.taken c.args.out.now) (g.K.Sink.taken c.answer_program.new.out))) program_limit c.in-Ok.text c.answer_program.result c.in-Ok.ensures.whole
+    of_read (g.F.Files.told c.args.files.now c.args.program.now) (λ t. OfTold (g.F.Files.told c.args.files.now c.args.schedule.now) (λ s. HasReplied (ReplayReply t s) c.answer_program.result (g.K.Sink.taken c.args.out.now) (g.K.Sink.taken c.answer_program.new.out))) program_limit c.in-Ok.text c.in-Ok.ensures.whole
     (λ t is.
-    subst (λ (o : Option (List ℕ)). IfOk c.answer_program.result (λ status. OfTold o (λ s. Gains (ReplayReply t s) status (g.K.Sink.taken c.args.out.now) (g.K.Sink.taken c.answer_program.new.out)))) (c.in-Ok.ensures.same c.args.schedule.now)
+    subst (λ (o : Option (List ℕ)). OfTold o (λ s. HasReplied (ReplayReply t s) c.answer_program.result (g.K.Sink.taken c.args.out.now) (g.K.Sink.taken c.answer_program.new.out))) (c.in-Ok.ensures.same c.args.schedule.now)
     (c.answer_program.ensures.replies t (c.as_slice.ensures ∙ is)))
-
-pub returns-in-Ok-clause-begun : goal.returns-in-Ok-clause-begun
-returns-in-Ok-clause-begun g c =
-    err_of_read (g.F.Files.told c.args.files.now c.args.program.now) (λ t. OfTold (g.F.Files.told c.args.files.now c.args.schedule.now) (λ s. Begins (ReplayReply t s) (g.K.Sink.taken c.args.out.now) (g.K.Sink.taken c.answer_program.new.out))) program_limit c.in-Ok.text c.answer_program.result c.in-Ok.ensures.whole
-    (λ t is.
-    subst (λ (o : Option (List ℕ)). IfErr c.answer_program.result (λ _. OfTold o (λ s. Begins (ReplayReply t s) (g.K.Sink.taken c.args.out.now) (g.K.Sink.taken c.answer_program.new.out)))) (c.in-Ok.ensures.same c.args.schedule.now)
-    (c.answer_program.ensures.begun t (c.as_slice.ensures ∙ is)))

@@ -1,15 +1,29 @@
 use Rattle.std.proofs.Common.{◌≡◌, subst, List, ℕ, sym}
 use Rattle.std.specs.Prelude.{Some}
 use Rattle.da_outside.specs.Outside.{Rose}
-use Rattle.da_commands.specs.declared.status.Status.{Status}
+use Rattle.da_outside.proofs.OutsideLemmas.{no_cause}
+use Rattle.node_run.specs.NodeCall.{GivesPackets}
+use Rattle.da_commands.specs.declared.words.NodeSetting.{NodeSetting}
 use Rattle.da_commands.specs.declared.words.Task.{Task}
+use Rattle.da_commands.specs.NodeReplies.{HasAnswered, HasStopped, IsServed, LinkFailed}
 use Rattle.da_commands.specs.Replies.{IsCarriedOut, ReplayReply, TaskReply}
 use Rattle.da_commands.specs.Told.{Begins, Gains, OfTold}
-use Rattle.da_commands.proofs.ReplyLemmas.{after_answer, after_begun, at_names, is_carried_out, not_read, runs_whole, same_names, same_task}
-use Rattle.da_commands.specs.declared.words.NodeSetting.{NodeSetting}
-use Rattle.da_commands.specs.NodeReplies.{HasAnswered, HasStopped, IsServed, LinkFailed}
-use Rattle.da_commands.proofs.TopLemmas.{at_node, link_after, no_replay, no_task, node_answered, node_has_stopped, node_link_failed, node_served, reply_no_link, same_node}
+use Rattle.da_commands.proofs.ReplyLemmas.{at_names, is_carried_out, not_read, runs_whole, same_names, same_task}
+use Rattle.da_commands.proofs.TopLemmas.{at_node, both_begun, both_whole, node_answered, node_has_stopped, node_link_failed, node_served, said_front, said_whole, same_node, told_begun, told_whole}
+use Rattle.da_commands.proofs.ToldLemmas.{end_no_link, end_no_words, ends_unlinked, said_unlinked, said_unread}
 use Rattle.da_commands.proofs.top.dalgo.Goals as goal
+
+-- A REPLAY
+
+pub returns-in-Replay-clause-replies : goal.returns-in-Replay-clause-replies
+returns-in-Replay-clause-replies g c = λ p q words answer.
+    let R : List ℕ → List ℕ → Type 0 = λ x y. OfTold (g.F.Files.told c.args.files.now x) (λ t. OfTold (g.F.Files.told c.args.files.now y) (λ s. Gains (ReplayReply t s) c.replay.result (g.K.Sink.taken c.args.out.now) (g.K.Sink.taken c.replay.new.out))) in
+    at_names R p q _ _ (same_names _ _ _ _ _ c.in-Replay.ensures words) (both_whole ReplayReply _ _ c.replay.result _ _ c.replay.ensures.replies answer)
+
+pub returns-in-Replay-clause-begun : goal.returns-in-Replay-clause-begun
+returns-in-Replay-clause-begun g c = λ p q words never.
+    let B : List ℕ → List ℕ → Type 0 = λ x y. OfTold (g.F.Files.told c.args.files.now x) (λ t. OfTold (g.F.Files.told c.args.files.now y) (λ s. Begins (ReplayReply t s) (g.K.Sink.taken c.args.out.now) (g.K.Sink.taken c.replay.new.out))) in
+    at_names B p q _ _ (same_names _ _ _ _ _ c.in-Replay.ensures words) (both_begun ReplayReply _ _ c.replay.result _ _ c.replay.ensures.replies never)
 
 pub returns-in-Replay-clause-complete : goal.returns-in-Replay-clause-complete
 returns-in-Replay-clause-complete g c = λ p q t s program events words told_p told_q accepts good not_p not_q not_out.
@@ -20,8 +34,33 @@ returns-in-Replay-clause-complete g c = λ p q t s program events words told_p t
     subst (λ n. Rose (g.F.Files.faults c.args.files.now n) (g.F.Files.faults c.replay.new.files n) → ⊥) same.0 not_p in
     let quiet_q : Rose (g.F.Files.faults c.args.files.now c.in-Replay.names.schedule.now) (g.F.Files.faults c.replay.new.files c.in-Replay.names.schedule.now) → ⊥ =
     subst (λ n. Rose (g.F.Files.faults c.args.files.now n) (g.F.Files.faults c.replay.new.files n) → ⊥) same.1 not_q in
-    runs_whole _ _ t s program events _ _ _ _ c.status_after.ensures here there accepts good (λ failed. not_read (g.F.Files.told c.args.files.now c.in-Replay.names.program.now) (g.F.Files.faults c.args.files.now) (g.F.Files.faults c.replay.new.files) c.in-Replay.names.program.now c.in-Replay.names.schedule.now (c.replay.ensures.read failed) quiet_p quiet_q)
-    (λ failed. not_out (c.replay.ensures.write failed)) c.replay.ensures.replies
+    runs_whole _ _ t s program events c.replay.result _ _ here there accepts good c.replay.ensures.ends (λ failed. not_read (g.F.Files.told c.args.files.now c.in-Replay.names.program.now) (g.F.Files.faults c.args.files.now) (g.F.Files.faults c.replay.new.files) c.in-Replay.names.program.now c.in-Replay.names.schedule.now (c.replay.ensures.read failed) quiet_p quiet_q)
+    (λ failed. not_out (c.replay.ensures.write.failed failed)) c.replay.ensures.replies
+
+pub returns-in-Replay-clause-link : goal.returns-in-Replay-clause-link
+returns-in-Replay-clause-link g c = ends_unlinked c.replay.result _ c.replay.ensures.ends
+
+pub returns-in-Replay-clause-only_words : goal.returns-in-Replay-clause-only_words
+returns-in-Replay-clause-only_words g c = λ is. absurd (end_no_words c.replay.result c.replay.ensures.ends is)
+
+pub returns-in-Replay-clause-only_node : goal.returns-in-Replay-clause-only_node
+returns-in-Replay-clause-only_node g c = λ is. absurd (end_no_link c.replay.result c.replay.ensures.ends is)
+
+-- A TASK
+
+pub returns-in-Carry-clause-answers : goal.returns-in-Carry-clause-answers
+returns-in-Carry-clause-answers g c = λ task p words answer.
+    let same = same_task _ _ _ _ _ c.in-Carry.ensures words in
+    let R : Task → List ℕ → Type 0 = λ k x. OfTold (g.F.Files.told c.args.files.now x) (λ t. Gains (TaskReply k t) c.carry_out.result (g.K.Sink.taken c.args.out.now) (g.K.Sink.taken c.carry_out.new.out)) in
+    let here : R c.in-Carry.task c.in-Carry.program.now = told_whole (TaskReply c.in-Carry.task) _ c.carry_out.result _ _ c.carry_out.ensures.replies answer in
+    subst (λ k. R k p) (sym same.0) (subst (R c.in-Carry.task) (sym same.1) here)
+
+pub returns-in-Carry-clause-begun_task : goal.returns-in-Carry-clause-begun_task
+returns-in-Carry-clause-begun_task g c = λ task p words never.
+    let same = same_task _ _ _ _ _ c.in-Carry.ensures words in
+    let B : Task → List ℕ → Type 0 = λ k x. OfTold (g.F.Files.told c.args.files.now x) (λ t. Begins (TaskReply k t) (g.K.Sink.taken c.args.out.now) (g.K.Sink.taken c.carry_out.new.out)) in
+    let here : B c.in-Carry.task c.in-Carry.program.now = told_begun (TaskReply c.in-Carry.task) _ c.carry_out.result _ _ c.carry_out.ensures.replies never in
+    subst (λ k. B k p) (sym same.0) (subst (B c.in-Carry.task) (sym same.1) here)
 
 pub returns-in-Carry-clause-carried_out : goal.returns-in-Carry-clause-carried_out
 returns-in-Carry-clause-carried_out g c = λ task p t program words told accepts quiet quiet_out.
@@ -29,54 +68,39 @@ returns-in-Carry-clause-carried_out g c = λ task p t program words told accepts
     let here : g.F.Files.told c.args.files.now c.in-Carry.program.now ≡ Some t = subst (λ n. g.F.Files.told c.args.files.now n ≡ Some t) same.1 told in
     let quiet_here : Rose (g.F.Files.faults c.args.files.now c.in-Carry.program.now) (g.F.Files.faults c.carry_out.new.files c.in-Carry.program.now) → ⊥ =
     subst (λ n. Rose (g.F.Files.faults c.args.files.now n) (g.F.Files.faults c.carry_out.new.files n) → ⊥) same.1 quiet in
-    subst (λ k. IsCarriedOut k program c.status_after-in-Carry.result (g.K.Sink.taken c.args.out.now) (g.K.Sink.taken c.carry_out.new.out)) (sym same.0)
-    (is_carried_out c.in-Carry.task _ t program _ _ _ _ c.status_after-in-Carry.ensures here accepts (λ failed. quiet_here (c.carry_out.ensures.read failed)) (λ failed. quiet_out (c.carry_out.ensures.write failed))
+    subst (λ k. IsCarriedOut k program c.carry_out.result (g.K.Sink.taken c.args.out.now) (g.K.Sink.taken c.carry_out.new.out)) (sym same.0)
+    (is_carried_out c.in-Carry.task _ t program c.carry_out.result _ _ here accepts c.carry_out.ensures.ends (λ failed. quiet_here (c.carry_out.ensures.read failed)) (λ failed. quiet_out (c.carry_out.ensures.write.failed failed))
     c.carry_out.ensures.replies)
 
-pub returns-in-Replay-clause-replies : goal.returns-in-Replay-clause-replies
-returns-in-Replay-clause-replies g c = λ p q words answer.
-    let same = same_names _ _ _ _ _ c.in-Replay.ensures words in
-    let R : List ℕ → List ℕ → Status → Type 0 = λ x y status. OfTold (g.F.Files.told c.args.files.now x) (λ t. OfTold (g.F.Files.told c.args.files.now y) (λ s. Gains (ReplayReply t s) status (g.K.Sink.taken c.args.out.now) (g.K.Sink.taken c.replay.new.out))) in
-    let here : R c.in-Replay.names.program.now c.in-Replay.names.schedule.now c.status_after.result =
-    after_answer (R c.in-Replay.names.program.now c.in-Replay.names.schedule.now) c.replay.result c.status_after.result c.status_after.ensures answer c.replay.ensures.replies in
-    at_names R p q _ _ _ same here
+pub returns-in-Carry-clause-link : goal.returns-in-Carry-clause-link
+returns-in-Carry-clause-link g c = ends_unlinked c.carry_out.result _ c.carry_out.ensures.ends
 
-pub returns-in-Replay-clause-begun : goal.returns-in-Replay-clause-begun
-returns-in-Replay-clause-begun g c = λ p q words never.
-    let same = same_names _ _ _ _ _ c.in-Replay.ensures words in
-    let B : List ℕ → List ℕ → Status → Type 0 = λ x y status. OfTold (g.F.Files.told c.args.files.now x) (λ t. OfTold (g.F.Files.told c.args.files.now y) (λ s. Begins (ReplayReply t s) (g.K.Sink.taken c.args.out.now) (g.K.Sink.taken c.replay.new.out))) in
-    let here : B c.in-Replay.names.program.now c.in-Replay.names.schedule.now c.status_after.result = after_begun _ c.replay.result c.status_after.result c.status_after.ensures c.replay.ensures.status never c.replay.ensures.begun in
-    at_names B p q _ _ c.status_after.result same here
+pub returns-in-Carry-clause-only_words : goal.returns-in-Carry-clause-only_words
+returns-in-Carry-clause-only_words g c = λ is. absurd (end_no_words c.carry_out.result c.carry_out.ensures.ends is)
 
-pub returns-in-Carry-clause-answers : goal.returns-in-Carry-clause-answers
-returns-in-Carry-clause-answers g c = λ task p words answer.
-    let same = same_task _ _ _ _ _ c.in-Carry.ensures words in
-    let R : Task → List ℕ → Status → Type 0 = λ k x status. OfTold (g.F.Files.told c.args.files.now x) (λ t. Gains (TaskReply k t) status (g.K.Sink.taken c.args.out.now) (g.K.Sink.taken c.carry_out.new.out)) in
-    let here : R c.in-Carry.task c.in-Carry.program.now c.status_after-in-Carry.result =
-    after_answer (R c.in-Carry.task c.in-Carry.program.now) c.carry_out.result c.status_after-in-Carry.result c.status_after-in-Carry.ensures answer c.carry_out.ensures.replies in
-    subst (λ k. R k p c.status_after-in-Carry.result) (sym same.0) (subst (λ x. R c.in-Carry.task x c.status_after-in-Carry.result) (sym same.1) here)
+pub returns-in-Carry-clause-only_node : goal.returns-in-Carry-clause-only_node
+returns-in-Carry-clause-only_node g c = λ is. absurd (end_no_link c.carry_out.result c.carry_out.ensures.ends is)
 
-pub returns-in-Carry-clause-begun_task : goal.returns-in-Carry-clause-begun_task
-returns-in-Carry-clause-begun_task g c = λ task p words never.
-    let same = same_task _ _ _ _ _ c.in-Carry.ensures words in
-    let B : Task → List ℕ → Type 0 = λ k x. OfTold (g.F.Files.told c.args.files.now x) (λ t. Begins (TaskReply k t) (g.K.Sink.taken c.args.out.now) (g.K.Sink.taken c.carry_out.new.out)) in
-    let here : B c.in-Carry.task c.in-Carry.program.now = after_begun _ c.carry_out.result c.status_after-in-Carry.result c.status_after-in-Carry.ensures c.carry_out.ensures.status never c.carry_out.ensures.begun in
-    subst (λ k. B k p) (sym same.0) (subst (B c.in-Carry.task) (sym same.1) here)
+-- A NODE
 
 pub returns-in-Node-clause-node : goal.returns-in-Node-clause-node
 returns-in-Node-clause-node g c = λ p setting words answer.
-    let P : List ℕ → NodeSetting → Type 0 = λ x s. OfTold (g.F.Files.told c.args.files.now x) (λ t. HasAnswered t s c.status_after-in-Node.result (g.L.Link.told c.args.link.now) (g.L.Link.told c.run_node.new.link) (g.K.Sink.taken c.args.out.now) (g.K.Sink.taken c.run_node.new.out)) in
-    at_node P p _ setting _ (same_node _ _ _ _ _ c.in-Node.ensures words) (node_answered _ _ _ _ c.status_after-in-Node.ensures _ _ _ _ c.run_node.ensures.served answer)
+    let P : List ℕ → NodeSetting → Type 0 = λ x s. OfTold (g.F.Files.told c.args.files.now x) (λ t. HasAnswered t s c.run_node.result (g.L.Link.told c.args.link.now) (g.L.Link.told c.run_node.new.link) (g.K.Sink.taken c.args.out.now) (g.K.Sink.taken c.run_node.new.out)) in
+    at_node P p _ setting _ (same_node _ _ _ _ _ c.in-Node.ensures words) (node_answered _ _ _ _ _ _ c.run_node.result c.run_node.ensures.served answer)
 
 pub returns-in-Node-clause-node_link : goal.returns-in-Node-clause-node_link
 returns-in-Node-clause-node_link g c = λ p setting words is.
     let P : List ℕ → NodeSetting → Type 0 = λ x s. OfTold (g.F.Files.told c.args.files.now x) (λ t. LinkFailed t s (g.L.Link.told c.args.link.now) (g.L.Link.told c.run_node.new.link) (g.K.Sink.taken c.args.out.now) (g.K.Sink.taken c.run_node.new.out)) in
-    at_node P p _ setting _ (same_node _ _ _ _ _ c.in-Node.ensures words) (node_link_failed _ _ _ _ c.status_after-in-Node.ensures _ _ _ _ c.run_node.ensures.served is)
+    at_node P p _ setting _ (same_node _ _ _ _ _ c.in-Node.ensures words) (node_link_failed _ _ _ _ _ _ c.run_node.result c.run_node.ensures.served is)
 
 pub returns-in-Node-clause-node_stopped : goal.returns-in-Node-clause-node_stopped
 returns-in-Node-clause-node_stopped g c = λ p setting words never unlinked.
-    let P : List ℕ → NodeSetting → Type 0 = λ x s. OfTold (g.F.Files.told c.args.files.now x) (λ t. HasStopped t s (g.L.Link.told c.args.link.now) (g.L.Link.told c.run_node.new.link) (g.K.Sink.taken c.args.out.now) (g.K.Sink.taken c.run_node.new.out)) in
-    at_node P p _ setting _ (same_node _ _ _ _ _ c.in-Node.ensures words) (node_has_stopped _ _ _ _ c.status_after-in-Node.ensures _ _ _ _ c.run_node.ensures.served c.run_node.ensures.ends.status never unlinked)
+    let P : List ℕ → NodeSetting → Type 0 = λ x s. OfTold (g.F.Files.told c.args.files.now x) (λ t. HasStopped t s c.run_node.result (g.L.Link.told c.args.link.now) (g.L.Link.told c.run_node.new.link) (g.K.Sink.taken c.args.out.now) (g.K.Sink.taken c.run_node.new.out)) in
+    at_node P p _ setting _ (same_node _ _ _ _ _ c.in-Node.ensures words) (node_has_stopped _ _ _ _ _ _ c.run_node.result c.run_node.ensures.served never unlinked)
+
+pub returns-in-Node-clause-node_packets : goal.returns-in-Node-clause-node_packets
+returns-in-Node-clause-node_packets g c = λ p setting words.
+    subst (λ (s : NodeSetting). GivesPackets s.me (g.L.Link.told c.args.link.now) (g.L.Link.told c.run_node.new.link)) (sym (same_node _ _ _ _ _ c.in-Node.ensures words).1) c.run_node.ensures.packets
 
 pub returns-in-Node-clause-served : goal.returns-in-Node-clause-served
 returns-in-Node-clause-served g c = λ p t program setting words told accepts quiet quiet_out quiet_link.
@@ -84,9 +108,9 @@ returns-in-Node-clause-served g c = λ p t program setting words told accepts qu
     let here : g.F.Files.told c.args.files.now c.in-Node.program.now ≡ Some t = subst (λ n. g.F.Files.told c.args.files.now n ≡ Some t) same.0 told in
     let quiet_here : Rose (g.F.Files.faults c.args.files.now c.in-Node.program.now) (g.F.Files.faults c.run_node.new.files c.in-Node.program.now) → ⊥ =
     subst (λ n. Rose (g.F.Files.faults c.args.files.now n) (g.F.Files.faults c.run_node.new.files n) → ⊥) same.0 quiet in
-    subst (λ s. IsServed t s c.status_after-in-Node.result (g.L.Link.told c.args.link.now) (g.L.Link.told c.run_node.new.link) (g.K.Sink.taken c.args.out.now) (g.K.Sink.taken c.run_node.new.out)) (sym same.1)
-    (node_served _ _ _ _ c.status_after-in-Node.ensures _ _ _ _ c.run_node.ensures.served t here c.run_node.ensures.ends.status (λ failed. quiet_here (c.run_node.ensures.read failed))
-    (λ failed. quiet_out (c.run_node.ensures.ends.sink_failed failed)) (λ failed. quiet_link (c.run_node.ensures.ends.link_failed failed)))
+    subst (λ s. IsServed t s c.run_node.result (g.L.Link.told c.args.link.now) (g.L.Link.told c.run_node.new.link) (g.K.Sink.taken c.args.out.now) (g.K.Sink.taken c.run_node.new.out)) (sym same.1)
+    (node_served _ _ _ _ _ _ c.run_node.result c.run_node.ensures.served t here (λ failed. quiet_here (c.run_node.ensures.read failed))
+    (λ failed. quiet_out (c.run_node.ensures.write.failed failed)) (λ failed. quiet_link (c.run_node.ensures.link.failed failed)))
 
 pub returns-in-Node-clause-unlinked : goal.returns-in-Node-clause-unlinked
 returns-in-Node-clause-unlinked g c = λ never. absurd (never _ _ c.in-Node.ensures)
@@ -97,6 +121,17 @@ returns-in-Node-clause-words g c = λ other. absurd (other.2 _ _ c.in-Node.ensur
 pub returns-in-Node-clause-begun_words : goal.returns-in-Node-clause-begun_words
 returns-in-Node-clause-begun_words g c = λ other. absurd (other.2 _ _ c.in-Node.ensures)
 
+pub returns-in-Node-clause-only_words : goal.returns-in-Node-clause-only_words
+returns-in-Node-clause-only_words g c = λ is. absurd (c.run_node.ensures.words is)
+
+-- OTHER WORDS
+
+pub returns-in-Other-clause-words : goal.returns-in-Other-clause-words
+returns-in-Other-clause-words g c = λ other answer. said_whole _ _ c.say.result _ _ c.say.ensures.said answer
+
+pub returns-in-Other-clause-begun_words : goal.returns-in-Other-clause-begun_words
+returns-in-Other-clause-begun_words g c = λ other never. said_front _ _ c.say.result _ _ c.say.ensures.said
+
 pub returns-in-Other-clause-node : goal.returns-in-Other-clause-node
 returns-in-Other-clause-node g c = λ p setting words. absurd (c.in-Other.ensures.2 p setting words)
 
@@ -105,3 +140,15 @@ returns-in-Other-clause-node_stopped g c = λ p setting words. absurd (c.in-Othe
 
 pub returns-in-Other-clause-served : goal.returns-in-Other-clause-served
 returns-in-Other-clause-served g c = λ p t program setting words. absurd (c.in-Other.ensures.2 p setting words)
+
+pub returns-in-Other-clause-read : goal.returns-in-Other-clause-read
+returns-in-Other-clause-read g c = λ is. absurd (said_unread _ _ c.say.result _ _ tt c.say.ensures.said is)
+
+pub returns-in-Other-clause-unread : goal.returns-in-Other-clause-unread
+returns-in-Other-clause-unread g c = λ is. absurd (said_unread _ _ c.say.result _ _ tt c.say.ensures.said is)
+
+pub returns-in-Other-clause-link : goal.returns-in-Other-clause-link
+returns-in-Other-clause-link g c = no_cause _ (said_unlinked _ _ c.say.result _ _ tt c.say.ensures.said)
+
+pub returns-in-Other-clause-only_node : goal.returns-in-Other-clause-only_node
+returns-in-Other-clause-only_node g c = λ is. absurd (said_unlinked _ _ c.say.result _ _ tt c.say.ensures.said is)

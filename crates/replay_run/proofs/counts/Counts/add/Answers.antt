@@ -1,4 +1,4 @@
-use Rattle.std.proofs.Common.{◌≡◌, ◌+◌, ◌-◌, ◌∙◌, Some, ap, arith, length, subst, sym, take}
+use Rattle.std.proofs.Common.{◌≡◌, ◌+◌, ◌-◌, ◌∙◌, Some, ap, arith, length, subst, sym}
 use Rattle.std.specs.Prelude.{slice_get}
 use Rattle.da_system.proofs.PlaceLemmas.{get_is}
 use Rattle.da_system.proofs.QueueLaws.{take_whole}

@@ -1,7 +1,7 @@
 use Rattle.std.proofs.Common.{◌≡◌}
 use Rattle.da_system.specs.State.{IsReady, Whichever, program_of}
 use Rattle.replay_run.proofs.RunLemmas.{Came}
-use Rattle.replay_run.proofs.run.run_events.Given as goal
+use Rattle.replay_run.proofs.run.replay.Given as goal
 
 abbrev pub invariant-loop-place : goal.invariant-loop-place
 invariant-loop-place g l = record {

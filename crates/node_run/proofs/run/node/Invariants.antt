@@ -1,7 +1,7 @@
 use Rattle.std.proofs.Common.{◌≡◌}
 use Rattle.da_core.specs.Compiled.{program_of}
 use Rattle.node_run.proofs.EndLaws.{IsRunning}
-use Rattle.node_run.proofs.run.run.Given as goal
+use Rattle.node_run.proofs.run.node.Given as goal
 
 abbrev pub invariant-answers : goal.invariant-answers
 invariant-answers g l = record {
