@@ -1,7 +1,9 @@
 pub mod CodeLemmas
+pub mod FrontKeys
 pub mod GroupLaws
 pub mod KeyLaws
 pub mod KeyedLaws
 pub mod PlaceLaws
 pub mod SetLemmas
 pub mod SettleLaws
+pub mod TurnLaws

@@ -2,3 +2,4 @@ pub mod Answers
 pub mod Groups
 pub mod Orders
 pub mod Settle
+pub mod Turns

@@ -1,0 +1,4 @@
+pub mod FilterLaws
+pub mod FrontLaws
+pub mod JoinLaws
+pub mod UnionLaws

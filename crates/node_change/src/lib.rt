@@ -1,0 +1,16 @@
+//! The rows of nodes that are chosen from those of the nodes before them, kept by changes: those of which a condition holds,
+//! those that some row of another node extends, those that none does, and those of two nodes.
+//!
+//! Each function takes the sets that a node reads, new already, with their changes, and the node's own set, which is still old.
+//! It settles the rows that may have changed, and answers the change of its own set.
+#![tactic(auto)]
+
+mod filter;
+mod fronts;
+mod sides;
+mod union;
+
+pub use filter::{filter_anew, filter_change};
+pub use fronts::front;
+pub use sides::{Sides, anti_change, semi_change};
+pub use union::union_change;

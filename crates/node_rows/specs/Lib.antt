@@ -1,5 +1,0 @@
-pub mod Bound
-pub mod Facts
-pub mod Generators
-pub mod Tables
-pub mod Told

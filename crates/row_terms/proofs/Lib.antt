@@ -1,0 +1,6 @@
+pub mod CanonLaws
+pub mod ListedLaws
+pub mod LocalsLaws
+pub mod PlainForms
+pub mod RowForms
+pub mod TermForms
