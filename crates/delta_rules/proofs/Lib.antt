@@ -1,0 +1,16 @@
+pub mod EmptyLaws
+pub mod EntryLaws
+pub mod FirstLaws
+pub mod GenTurnLaws
+pub mod KeyLaws
+pub mod LayingLaws
+pub mod LiveTurns
+pub mod NamingAt
+pub mod ReadingLaws
+pub mod SlotLaws
+pub mod Steadiness
+pub mod TakingLaws
+pub mod TurnLaws
+pub mod TurnLoop
+pub mod UpdateLaws
+pub mod UpdateSteps

@@ -1,0 +1,10 @@
+pub mod Empty
+pub mod Entering
+pub mod Keeping
+pub mod Keys
+pub mod Laid
+pub mod Laying
+pub mod Naming
+pub mod Passing
+pub mod Told
+pub mod Turning

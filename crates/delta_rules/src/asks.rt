@@ -1,0 +1,158 @@
+//! What kept answers tell of the numbered queries of a class.
+ghost use Rattle.da_lang.specs.World.{at_number};
+ghost use Rattle.std.specs.Option.{option_copied};
+ghost use Rattle.std.specs.Prelude.{◌≡◌};
+
+use crate::answers::Answers;
+use crate::reading::{all_rows, front_row, least_row};
+use da_lang::{QueryNode, Shape};
+use da_values::{List, NoMemory, Row, SetVal, Value};
+use query_plan::Plan;
+use row_terms::{Locals, told_listed, told_value};
+use std::alloc::Global;
+
+// The node of a query, numbered from 1, or `None` where there is no such query.
+fn query_node(plan: &Plan, q: u32) -> Option<&QueryNode>
+    ensures { option_copied result ≡ at_number plan.now.queries q }
+{
+    match q.checked_sub(1) {
+        Some(at) => plan.queries.get(at as usize),
+        None => None,
+    }
+}
+
+impl Answers {
+    ghost use Rattle.answer_index.specs.Answers.{IsSet};
+    ghost use Rattle.da_lang.specs.Queries.{first};
+    ghost use Rattle.da_lang.specs.World.{Data};
+    ghost use Rattle.da_values.specs.declared.val.Val.TheVariants as val;
+    ghost use Rattle.da_values.specs.Value.{val_of};
+    ghost use Rattle.delta_rules.specs.Keeping.{Keeps};
+    ghost use Rattle.delta_rules.specs.Laid.{IsLaid};
+    ghost use Rattle.delta_rules.specs.Told.{asked, kept_rows, least_found, set_listed};
+    ghost use Rattle.query_plan.specs.Told.{told_least, told_shown, told_value as told_value_lem};
+    ghost use Rattle.std.specs.List.{All};
+    ghost use Rattle.std.specs.Prelude.{◌≡◌, IfOk, map, take};
+
+    /// The value of query `q`, numbered from 1; process 0, which is no process, where there is no such query. A sum outside an
+    /// i128 answers `NoMemory`.
+    pub fn ask(&self, alloc: Global, plan: &Plan, q: u32) -> Result<Value, NoMemory>
+        ensures { IfOk result (λ v. (d : Data) → Keeps self.now plan.now.nodes d → val_of v ≡ asked d plan.now q) }
+    {
+        match query_node(plan, q) {
+            Some(query) => self.value_at(alloc, query),
+            None => Ok(Value::Proc(0)),
+        }
+    }
+
+    /// The least row of query `q`, numbered from 1, where it is a `some` that holds.
+    pub fn found(&self, alloc: Global, plan: &Plan, q: u32) -> Result<Option<Row>, NoMemory>
+        ensures { IfOk result (λ row. (d : Data) → Keeps self.now plan.now.nodes d → row ≡ least_found d plan.now q) }
+    {
+        match query_node(plan, q) {
+            Some(query) => self.least_at(alloc, query),
+            None => Ok(None),
+        }
+    }
+
+    /// The set that `show` lists of query `q`, numbered from 1: its rows as tuples.
+    pub fn listed(&self, alloc: Global, plan: &Plan, q: u32) -> Result<SetVal, NoMemory>
+        requires { IsLaid self.now plan.now.nodes }
+        ensures { IfOk result (λ set. (d : Data) → Keeps self.now plan.now.nodes d → set ≡ set_listed d plan.now q) }
+    {
+        match query_node(plan, q) {
+            Some(query) => self.set_at(alloc, query),
+            None => Ok(SetVal::new(alloc)),
+        }
+    }
+
+    // The number and the slots.
+    fn locals(&self, alloc: Global) -> Locals<'_>
+        ensures me { result.me ≡ self.now.me }
+        ensures slots { result.slots.now ≡ self.now.slots }
+    {
+        Locals {
+            alloc,
+            me: self.me,
+            slots: &self.slots,
+        }
+    }
+
+    // The rows of a node.
+    fn rows_at(&self, alloc: Global, node: u32) -> Result<List<Row>, NoMemory>
+        ensures { IfOk result (λ rows. rows ≡ kept_rows self.now node) }
+    {
+        match self.nodes.get(node as usize) {
+            Some(set) => all_rows(alloc, set),
+            None => Ok(List::new(alloc)),
+        }
+    }
+
+    // The first of them, if there is one, as a list.
+    fn front_at(&self, alloc: Global, node: u32) -> Result<List<Row>, NoMemory>
+        ensures { IfOk result (λ rows. rows ≡ take 1 (kept_rows self.now node)) }
+    {
+        match self.nodes.get(node as usize) {
+            Some(set) => front_row(alloc, set),
+            None => Ok(List::new(alloc)),
+        }
+    }
+
+    // The first of them, if there is one.
+    fn first_at(&self, alloc: Global, node: u32) -> Result<Option<Row>, NoMemory>
+        ensures { IfOk result (λ row. row ≡ first (kept_rows self.now node)) }
+    {
+        match self.nodes.get(node as usize) {
+            Some(set) => least_row(alloc, set),
+            None => Ok(None),
+        }
+    }
+
+    // As many of them as the value of a query needs: of a comprehension all, and else the first.
+    fn rows_for(&self, alloc: Global, query: &QueryNode) -> Result<List<Row>, NoMemory>
+        ensures { IfOk result (λ rows. (d : Data)
+            → told_value_lem d query.now.shape rows ≡ told_value_lem d query.now.shape (kept_rows self.now query.now.node)) }
+    {
+        match query.shape {
+            Shape::Exists => self.front_at(alloc, query.node),
+            Shape::Each => self.front_at(alloc, query.node),
+            Shape::Comp(_) => self.rows_at(alloc, query.node),
+            Shape::Agg => self.front_at(alloc, query.node),
+        }
+    }
+
+    // The value of a query.
+    fn value_at(&self, alloc: Global, query: &QueryNode) -> Result<Value, NoMemory>
+        ensures { IfOk result (λ v. (d : Data) → d.me ≡ self.now.me → d.slots ≡ self.now.slots
+            → val_of v ≡ told_value_lem d query.now.shape (kept_rows self.now query.now.node)) }
+    {
+        let rows = self.rows_for(alloc, query)?;
+        let locals = self.locals(alloc);
+        let v = told_value(&locals, &query.shape, rows.as_slice())?;
+        Ok(v)
+    }
+
+    // The set that `show` lists of a query.
+    fn set_at(&self, alloc: Global, query: &QueryNode) -> Result<SetVal, NoMemory>
+        requires { All IsSet self.now.nodes.items }
+        ensures { IfOk result (λ set. (d : Data) → d.me ≡ self.now.me → d.slots ≡ self.now.slots
+            → set ≡ map val.Tuple (told_shown d query.now.shape (kept_rows self.now query.now.node))) }
+    {
+        let rows = self.rows_at(alloc, query.node)?;
+        let locals = self.locals(alloc);
+        let set = told_listed(&locals, &query.shape, rows.as_slice())?;
+        Ok(set)
+    }
+
+    // The row that a query binds, if any.
+    fn least_at(&self, alloc: Global, query: &QueryNode) -> Result<Option<Row>, NoMemory>
+        ensures { IfOk result (λ row. row ≡ told_least query.now.shape (kept_rows self.now query.now.node)) }
+    {
+        match query.shape {
+            Shape::Exists => self.first_at(alloc, query.node),
+            Shape::Each => Ok(None),
+            Shape::Comp(_) => Ok(None),
+            Shape::Agg => Ok(None),
+        }
+    }
+}

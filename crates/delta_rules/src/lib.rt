@@ -1,0 +1,21 @@
+//! The answers to all queries and conditions of a class, kept by changes.
+#![tactic(auto)]
+
+mod answers;
+mod asks;
+mod empty;
+mod entries;
+mod first;
+mod fixed;
+mod keys;
+mod laying;
+mod naming;
+mod reading;
+mod slots;
+mod turn;
+mod turn_gen;
+mod turn_node;
+mod turn_sides;
+mod updates;
+
+pub use answers::Answers;
