@@ -179,7 +179,7 @@ rest_handled x hs n d = handle x.class.now (val_of x.message.now) x.from hs n d
 pub record CameBy (p : Program) (x : Delivery) (left : List Handler) (n : ℕ) (d : Data) (first now : Known) : Type 0 where
   pub so_far : Data
   pub may : MayHandle p x now so_far
-  pub mine : now.me ≡ first.me
+  pub mine : now.answers.me ≡ first.answers.me
   pub actions : List Action
   pub added : now.actions ≡ first.actions ++ actions
   pub rest : IsAlike (all_handled x d) (behind actions (rest_handled x left n so_far))

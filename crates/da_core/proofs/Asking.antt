@@ -1,35 +1,26 @@
 -- What a process in code asks of the plan of its class.
-use Rattle.std.proofs.Common.{◌≡◌, ℕ, ◌+◌, ◌-◌, ◌<◌, ◌≤◌, suc, List, [], ◌∷◌, ◌++◌, length, map, sym, ap, ◌∙◌, subst, append_assoc, append-nil, arith}
+use Rattle.std.proofs.Common.{◌≡◌, ℕ, ◌+◌, ◌-◌, ◌<◌, ◌≤◌, suc, List, [], ◌∷◌, ◌++◌, length, map, Option, sym, ap, ◌∙◌, subst, append-nil, arith}
 use Rattle.std.specs.List.{range_with_len}
-use Rattle.std.proofs.lemmas.Simd.{map-map}
 use Rattle.std.proofs.lemmas.Slice.Zip.{AllZip-long}
 use Rattle.da_values.specs.declared.val.Val.{Val}
 use Rattle.da_lang.specs.declared.event.Action.{Action}
 use Rattle.da_lang.specs.declared.event.Action.TheVariants.{Answer}
 use Rattle.da_lang.specs.declared.program.Class.{Class}
 use Rattle.da_lang.specs.declared.program.Program.{Program}
+use Rattle.da_lang.specs.Matching.{Row}
 use Rattle.da_lang.specs.Queries.{least_row, query_value, shown_set}
 use Rattle.da_lang.specs.World.{Data}
 use Rattle.da_machine.specs.RunsTo.{IsFront}
 use Rattle.da_machine.proofs.Fronts.{IsPart, part_front, part_then, part_whole}
-use Rattle.query_plan.specs.declared.plan.Plan.{Plan}
-use Rattle.query_plan.specs.Nodes.{node_rows}
-use Rattle.query_plan.specs.PlainNodes.{PlainNodes}
-use Rattle.query_plan.specs.Told.{IsPlanOf, TellsQuery, has_row}
+use Rattle.query_plan.specs.Told.{IsPlanOf, TellsQuery}
 use Rattle.quant_norm.proofs.ClassLaw.{class_law}
-use Rattle.quant_norm.proofs.PlainLaw.{class_plain}
-use Rattle.node_rows.specs.Told.{asked, least_found, set_listed}
-use Rattle.node_rows.proofs.PlanLaws.{row_found, set_shown, value_asked}
+use Rattle.delta_rules.specs.Keeping.{Keeps}
+use Rattle.delta_rules.specs.Told.{asked, least_found, set_listed}
 use Rattle.da_core.specs.declared.known.Known.{Known}
-use Rattle.da_core.specs.declared.waits.Alternative.{Alternative}
-use Rattle.da_core.specs.Begins.{flags_told}
-use Rattle.da_core.specs.Known.{Each, Knows, KnowsSome}
+use Rattle.da_core.specs.Known.{Each, Knows}
 use Rattle.da_core.specs.Told.{answers}
-use Rattle.da_core.proofs.KnownLaws.{me_is, plan_is}
-
--- its nodes are plain
-pub plain_nodes : (known : Known) → KnowsSome known → PlainNodes known.plan.now.nodes
-plain_nodes known (p, class, d, knows) = subst (λ (x : Plan). PlainNodes x.nodes) (sym (plan_is known p class d knows)) (class_plain class)
+use Rattle.da_core.proofs.KnownLaws.{me_is, plan_is, told_by_plan}
+use Rattle.da_core.proofs.PlanLaws.{row_found, set_shown, value_asked}
 
 -- WHAT IT TELLS OF A QUERY
 
@@ -40,16 +31,16 @@ module _ (known : Known) (p : Program) (class : Class) (d : Data) (knows : Knows
   pub query_count : length known.plan.now.queries ≡ length class.queries
   query_count = AllZip-long (TellsQuery d known.plan.now.nodes) class.queries known.plan.now.queries (of_class.queries d)
 
-  -- where what it lends is what the process knows
-  module _ (lends : Data) (same : lends ≡ d) (q : ℕ) where
-    pub value_told : asked lends known.plan.now q ≡ query_value class.queries q d
-    value_told = value_asked class known.plan.now of_class lends q ∙ ap (query_value class.queries q) same
+  -- what its answers tell is so of the class
+  module _ (q : ℕ) where
+    pub value_told : (v : Val) → ((e : Data) → Keeps known.answers known.plan.now.nodes e → v ≡ asked e known.plan.now q) → v ≡ query_value class.queries q d
+    value_told v told = told_by_plan known p class d knows (λ e. v ≡ asked e known.plan.now q) told ∙ value_asked class known.plan.now of_class d q
 
-    pub row_told : least_found lends known.plan.now q ≡ least_row class.queries q d
-    row_told = row_found class known.plan.now of_class lends q ∙ ap (least_row class.queries q) same
+    pub row_told : (row : Option Row) → ((e : Data) → Keeps known.answers known.plan.now.nodes e → row ≡ least_found e known.plan.now q) → row ≡ least_row class.queries q d
+    row_told row told = told_by_plan known p class d knows (λ e. row ≡ least_found e known.plan.now q) told ∙ row_found class known.plan.now of_class d q
 
-    pub set_told : set_listed lends known.plan.now q ≡ shown_set class.queries q d
-    set_told = set_shown class known.plan.now of_class lends q ∙ ap (shown_set class.queries q) same
+    pub set_told : (set : List Val) → ((e : Data) → Keeps known.answers known.plan.now.nodes e → set ≡ set_listed e known.plan.now q) → set ≡ shown_set class.queries q d
+    set_told set told = told_by_plan known p class d knows (λ e. set ≡ set_listed e known.plan.now q) told ∙ set_shown class known.plan.now of_class d q
 
 -- THE ANSWERS, ONE BY ONE
 
@@ -75,14 +66,14 @@ one_due class d place there =
     ap (λ n. map (answer class d) (range_with_len (place + 1) n)) count
 
 pub one_answered : (known : Known) (old now new : List Action) (place n : ℕ) (rows : List Val) → place < length known.plan.now.queries → n ≡ place + 1
-    → Each known (λ p class d. rows ≡ shown_set class.queries n d) → new ≡ now ++ Answer known.me n rows ∷ [] → HasAnswered known old now place
+    → Each known (λ p class d. rows ≡ shown_set class.queries n d) → new ≡ now ++ Answer known.answers.me n rows ∷ [] → HasAnswered known old now place
     → HasAnswered known old new (place + 1)
 one_answered known old now new place n rows within number shown pushed so_far p class d knows =
     let there : place < length class.queries = omega (arith, within, query_count known p class d knows) in
-    let told : Answer known.me n rows ≡ answer class d (place + 1) =
+    let told : Answer known.answers.me n rows ≡ answer class d (place + 1) =
     ap (λ me. Answer me n rows) (sym (me_is known p class d knows)) ∙ ap (Answer d.me n) (shown p class d knows) ∙ ap (answer class d) number in
     part_then old now new (answers d.me class.queries d) (answers_left class d place) (answers_left class d (place + 1)) (so_far p class d knows)
-    (Answer known.me n rows ∷ [], pushed, one_due class d place there ∙ ap (λ (a : Action). a ∷ answers_left class d (place + 1)) (sym told))
+    (Answer known.answers.me n rows ∷ [], pushed, one_due class d place there ∙ ap (λ (a : Action). a ∷ answers_left class d (place + 1)) (sym told))
 
 pub all_answered : (known : Known) (old now : List Action) (place : ℕ) → length known.plan.now.queries ≤ place → HasAnswered known old now place
     → Each known (λ p class d. now ≡ old ++ answers d.me class.queries d)
@@ -99,12 +90,3 @@ pub answers_front : (known : Known) (old now new : List Action) (place : ℕ) �
 answers_front known old now new place stays so_far p class d knows =
     let (told, is, whole) = so_far p class d knows in
     part_front old new (answers d.me class.queries d) (answers_left class d place) (told, stays ∙ is, whole)
-
--- THE FLAGS
-
-pub flags_listed : (known : Known) (lends : Data) (nodes : List ℕ) (alternatives : List Alternative) → Each known (λ p class d. lends ≡ d) → nodes ≡ map (λ a. a.flag) alternatives
-    → Each known (λ p class d. map (λ i. has_row (node_rows lends known.plan.now.nodes i)) nodes ≡ flags_told class d alternatives)
-flags_listed known lends nodes alternatives same are p class d knows =
-    ap (map (λ i. has_row (node_rows lends known.plan.now.nodes i))) are ∙ map-map (λ i. has_row (node_rows lends known.plan.now.nodes i)) (λ a. a.flag) alternatives
-    ∙ ap (λ (x : Data). map (λ a. has_row (node_rows x known.plan.now.nodes a.flag)) alternatives) (same p class d knows)
-    ∙ ap (λ (x : Plan). map (λ a. has_row (node_rows d x.nodes a.flag)) alternatives) (plan_is known p class d knows)

@@ -11,7 +11,7 @@ use Rattle.da_lang.specs.World.{Data, put_slot}
 use Rattle.da_core.specs.declared.known.Known.{Known}
 use Rattle.da_core.specs.declared.waits.Alternative.{Alternative}
 use Rattle.da_core.specs.Begins.{bound_by}
-use Rattle.da_core.specs.Known.{Becomes, Each, Knows}
+use Rattle.da_core.specs.Known.{Becomes, Each, Knows, KnowsSome}
 
 -- THE PARTS OF A ROW
 
@@ -31,20 +31,23 @@ binds_first slots left row parts first is those p class d knows = record {
   same = ap (λ l. bind_all l (vals parts) d) is ∙ ap (λ vs. bind_all slots vs d) those;
 }
 
--- the next slot takes a copy of the next part
-pub binds_on : (slots left rest : List ℕ) (row : List Val) (parts others : List Value) (s : ℕ) (v copy : Value) (first now next : Known) → left ≡ s ∷ rest → parts ≡ v ∷ others
-    → copy ≡ v → Becomes now next (λ d. put_slot d s (val_of copy)) → Binds slots row left (vals parts) first now → Binds slots row rest (vals others) first next
-binds_on slots left rest row parts others s v copy first now next is those copied puts so_far p class d knows =
+-- the next slot takes the next part
+pub binds_on : (slots left rest : List ℕ) (row : List Val) (parts others : List Value) (s : ℕ) (v : Value) (first now next : Known) → left ≡ s ∷ rest → parts ≡ v ∷ others
+    → Becomes now next (λ d. put_slot d s (val_of v)) → Binds slots row left (vals parts) first now → Binds slots row rest (vals others) first next
+binds_on slots left rest row parts others s v first now next is those puts so_far p class d knows =
     let by = so_far p class d knows in
     record {
-      so_far = put_slot by.so_far s (val_of copy);
+      so_far = put_slot by.so_far s (val_of v);
       knows = puts p class by.so_far by.knows;
       same =
-          ap (λ x. bind_all rest (vals others) (put_slot by.so_far s (val_of x))) copied
-          ∙ sym (ap (λ l. bind_all l (vals (v ∷ others)) by.so_far) is)
+          sym (ap (λ l. bind_all l (vals (v ∷ others)) by.so_far) is)
           ∙ sym (ap (λ vs. bind_all left (vals vs) by.so_far) those)
           ∙ by.same;
     }
+
+-- it still stands for some process
+pub binds_some : (slots left : List ℕ) (row parts : List Val) (first now : Known) → KnowsSome first → Binds slots row left parts first now → KnowsSome now
+binds_some slots left row parts first now (p, class, d, knows) so_far = let by = so_far p class d knows in (p, class, by.so_far, by.knows)
 
 none_left : (slots : List ℕ) (parts : List Value) (d : Data) → (slots ≡ []) ⊎ (parts ≡ []) → d ≡ bind_all slots (vals parts) d
 none_left [] parts d is = refl

@@ -14,10 +14,10 @@ use Rattle.da_machine.specs.Stops.{IsReady, IsRun}
 use Rattle.da_core.specs.declared.compiled.ClassCode.{ClassCode}
 use Rattle.da_core.specs.declared.known.Known.{Known}
 use Rattle.da_core.specs.declared.moves.Begin.{Begin}
-use Rattle.da_core.specs.declared.moves.Standing.{Standing}
+use Rattle.da_core.specs.declared.place.Place.{Place}
 use Rattle.da_core.specs.declared.waits.Alternative.{Alternative}
 use Rattle.da_core.specs.Begins.{HasRun, HasStopped, MayRun, MayStop, alternative_at, bound_by, move_actions}
-use Rattle.da_core.specs.Known.{Each, Knows, KnowsSome, rows_kept}
+use Rattle.da_core.specs.Known.{Each, Knows, KnowsSome}
 use Rattle.da_core.proofs.Entering.{alternative-me}
 use Rattle.da_machine.proofs.Fronts.{same_front}
 use Rattle.da_core.proofs.KnownLaws.{me_is, with_actions}
@@ -38,10 +38,10 @@ Partly code known m begin k new =
 -- the move was told, and then the row was bound
 pub record HasBound (code : ClassCode) (known : Known) (m : Machine) (k : ℕ) (bound : Known) : Type 0 where
   pub knows : Each known (λ p class d. Knows bound p class (bound_by class (alternative_at code m.place k) d))
-  pub told : bound.actions ≡ known.actions ++ action.Took known.me k ∷ []
+  pub told : bound.actions ≡ known.actions ++ action.Took known.answers.me k ∷ []
 
 pub has_bound : (code : ClassCode) (known : Known) (m : Machine) (k : ℕ) (bound : Known) (alternative : Option Alternative) (pushed : List Action) → alternative ≡ alternative_at code m.place k
-    → pushed ≡ known.actions ++ action.Took known.me k ∷ [] → Each (record known { actions = pushed }) (λ p class d. Knows bound p class (bound_by class alternative d))
+    → pushed ≡ known.actions ++ action.Took known.answers.me k ∷ [] → Each (record known { actions = pushed }) (λ p class d. Knows bound p class (bound_by class alternative d))
     → bound.actions ≡ pushed → HasBound code known m k bound
 has_bound code known m k bound alternative pushed taken told binds stays = record {
   knows = λ p class d knows. subst (λ x. Knows bound p class (bound_by class x d)) taken (binds p class d (with_actions known p class d knows pushed));
@@ -55,7 +55,7 @@ module _ (p : Program) (class : Class) (code : ClassCode) (known : Known) (m : M
   pub ready : IsReady p class code.code (record m { place = begin.entry; turns = begin.turns }) d todo
   ready = record { accepted = may.accepted; knows = may.knows; tasks = may.tasks; code_for = may.code_for }
 
-  itself : d.me ≡ known.me
+  itself : d.me ≡ known.answers.me
   itself = ap (λ (x : Data). x.me) may.bound ∙ alternative-me p class (alternative_at code m.place k) may.before ∙ me_is known p class may.before may.stands
 
   -- what is kept when the move was told
@@ -63,7 +63,7 @@ module _ (p : Program) (class : Class) (code : ClassCode) (known : Known) (m : M
   told_it pushed = (p, class, may.before, with_actions known p class may.before may.stands pushed)
 
   -- where memory is refused before the run, only the move was told
-  pub front_of_row : (new : List Action) → new ≡ known.actions ++ action.Took known.me k ∷ [] → IsFront known.actions new (move_actions d.me k ran)
+  pub front_of_row : (new : List Action) → new ≡ known.actions ++ action.Took known.answers.me k ∷ [] → IsFront known.actions new (move_actions d.me k ran)
   front_of_row new told =
       run_front known.actions new ran.actions (closing d.me ran.halt) (action.Took d.me k)
       (same_front (known.actions ++ action.Took d.me k ∷ []) new ran.actions (told ∙ ap (λ x. known.actions ++ action.Took x k ∷ []) (sym itself)))
@@ -82,16 +82,13 @@ module _ (p : Program) (class : Class) (code : ClassCode) (known : Known) (m : M
       pub stops_there : MayStop code answer
       stops_there = may_stop class code may.waits answer m1 ran.todo ran.halt run.stops
 
-      pub stands : KnowsSome after
-      stands = (p, class, ran.data', run.known)
-
       so_far : after.actions ≡ (known.actions ++ action.Took d.me k ∷ []) ++ ran.actions
       so_far = run.actions ∙ ap (λ xs. xs ++ ran.actions) so_told
 
       pub front_of_stop : (new : List Action) → new ≡ after.actions → IsFront known.actions new (move_actions d.me k ran)
       front_of_stop new stays = stop_front known.actions after.actions new ran.actions (closing d.me ran.halt) (action.Took d.me k) so_far stays
 
-      pub run_whole : (new : Known) (s : Standing) → HasStopped code after new answer s → Each after (λ p class d. s.kept ≡ rows_kept code.live.patterns d) → HasRun p class code d.me k ran known new m1 s
-      run_whole new s stopped rows =
-          has_run class code may.waits p d.me k ran.data' ran.todo ran.actions known after new m1 answer s run.known
-          (leaves p class code known m k begin d todo may).same (rows p class ran.data' run.known) so_far ran.turns ran.halt run.stops stopped
+      pub run_whole : (new : Known) (spot : Place) → HasStopped code after new answer spot → HasRun p class code d.me k ran known new m1 spot
+      run_whole new spot stopped =
+          has_run class code may.waits p d.me k ran.data' ran.todo ran.actions known after new m1 answer spot run.known
+          (leaves p class code known m k begin d todo may).same so_far ran.turns ran.halt run.stops stopped

@@ -22,7 +22,7 @@ use Rattle.da_core.specs.declared.compiled.ClassCode.{ClassCode}
 use Rattle.da_core.specs.declared.process.Core.{Core}
 use Rattle.da_core.specs.declared.deliveries.Delivery.{Delivery}
 use Rattle.da_core.specs.declared.known.Known.{Known}
-use Rattle.da_core.specs.declared.moves.Standing.{Standing}
+use Rattle.da_core.specs.declared.place.Place.{Place}
 use Rattle.da_core.specs.declared.place.Stopped.{Stopped}
 use Rattle.da_core.specs.Arrivals.{HasTakenIn, MayArrive, MayHandle, MayTakeIn, all_handled, arrival, delivery_actions, received}
 use Rattle.da_core.specs.Compiled.{IsCodeFor, code_of}
@@ -30,7 +30,6 @@ use Rattle.da_core.specs.Known.{Knows}
 use Rattle.da_core.specs.Made.{HasBegun, HasMade, phase_of, stopped_at}
 use Rattle.da_core.specs.StandsFor.{IsAt, IsWaiting, StandsFor, program_of}
 use Rattle.da_core.proofs.Entering.{is_code}
-use Rattle.da_core.proofs.KeptLaw.{rows_are}
 use Rattle.da_core.proofs.KnownLaws.{me_is, with_actions}
 use Rattle.da_core.proofs.Laws.{class_has, keeps_shaped}
 use Rattle.da_core.proofs.Moving.{stops_so}
@@ -57,7 +56,7 @@ module _ (core : Core) (w : World) (s : StandsFor core w) (m : Val) (from time :
 
 -- the message, with the class of the process and its code, as they were found
 module _ (core : Core) (w : World) (s : StandsFor core w) (waits : w.phase ≡ Waiting) (x : Delivery) (time : ℕ)
-    (classed : Some x.class.now ≡ class_of (program_of core) core.known.me) (coded : Some x.code.now ≡ code_of core.compiled.now core.known.me)
+    (classed : Some x.class.now ≡ class_of (program_of core) core.known.answers.me) (coded : Some x.code.now ≡ code_of core.compiled.now core.known.answers.me)
     (arrives : MayArrive (program_of core) x.message.now x.from time) where
   abbrev p : Program
   p = program_of core
@@ -71,7 +70,7 @@ module _ (core : Core) (w : World) (s : StandsFor core w) (waits : w.phase ≡ W
   abbrev code : ClassCode
   code = x.code.now
 
-  itself : d.me ≡ core.known.me
+  itself : d.me ≡ core.known.answers.me
   itself = me_is core.known p s.class d s.stands
 
   is_class : class_of p d.me ≡ Some class
@@ -140,7 +139,7 @@ module _ (core : Core) (w : World) (s : StandsFor core w) (waits : w.phase ≡ W
     leads : proc_step p w (arrival x.message.now x.from time) ≡ Some after
     leads = rw (is_class, waits) refl
 
-    told : after.actions ≡ delivery_actions x time core.known.me ran
+    told : after.actions ≡ delivery_actions x time core.known.answers.me ran
     told =
         ap (λ m. action.Got d.me x.from time m ∷ ran.actions ++ closing d.me ran.halt) (value_of-val_of x.message.now)
         ∙ ap (λ me. action.Got me x.from time x.message.now ∷ ran.actions ++ closing me ran.halt) itself
@@ -154,8 +153,8 @@ module _ (core : Core) (w : World) (s : StandsFor core w) (waits : w.phase ≡ W
         cc
 
     -- what the process knows behind the delivery and how it stands, where the actions are given back
-    module _ (known : Known) (stands : Standing) (taken : HasTakenIn p x time d w.todo old known stands) where
-      module _ (empty : List Action) (none : empty ≡ []) (new : Core) (is_new : new ≡ record core { known = record known { actions = empty }; place = stands.place; flags = stands.flags; kept = stands.kept; spent = false }) where
+    module _ (known : Known) (spot : Place) (taken : HasTakenIn p x time d w.todo old known spot) where
+      module _ (empty : List Action) (none : empty ≡ []) (new : Core) (is_new : new ≡ record core { known = record known { actions = empty }; place = spot; spent = false }) where
         pub stands_after : StandsFor new after.world
         stands_after = subst (λ z. StandsFor z after.world) (sym is_new) (record {
           unspent = refl;
@@ -166,25 +165,23 @@ module _ (core : Core) (w : World) (s : StandsFor core w) (waits : w.phase ≡ W
           knows = subst (λ c. ShapedData p c ran.data') class_stays shaped.shaped.knows;
           tasks = subst (λ c. ShapedTasks p c ran.data'.me w.todo) class_stays shaped.shaped.todo;
           stands = with_actions known p class ran.data' taken.known empty;
-          rows = taken.rows ∙ rows_are p d.me class code.live.patterns s.compiled.accepted is_class its_code.1.live ran.data';
           no_actions = none;
-          place = taken.place;
-          flags = taken.flags;
+          place = taken.stands;
           at = at_behind p class code core.machine after.world ran.halt waiting;
         })
 
-        pub has_made : (out given : List Action) → own ≡ out → given ≡ known.actions → (answer : Stopped) → answer ≡ stopped_at stands.place
+        pub has_made : (out given : List Action) → own ≡ out → given ≡ known.actions → (answer : Stopped) → answer ≡ stopped_at spot
             → HasMade core w (arrival x.message.now x.from time) new answer out given
         has_made out given from back answer is = record {
           after = after;
           leads = leads;
           stands = stands_after;
           same = shaped.same;
-          stopped = ap phase_of is ∙ stops_so w.todo stands.place ran.halt taken.place;
+          stopped = ap phase_of is ∙ stops_so w.todo spot ran.halt taken.stands;
           added = back ∙ taken.actions ∙ ap (λ xs. own ++ xs) (sym told) ∙ ap (λ xs. xs ++ after.actions) from;
         }
 
-    pub has_begun : (out given left : List Action) → own ≡ out → given ≡ left → IsFront own left (delivery_actions x time core.known.me ran)
+    pub has_begun : (out given left : List Action) → own ≡ out → given ≡ left → IsFront own left (delivery_actions x time core.known.answers.me ran)
         → HasBegun core w (arrival x.message.now x.from time) out given
     has_begun out given left from back (n, is) = record {
       after = after;

@@ -1,9 +1,7 @@
 -- Where the move of a core goes on in the code.
-use Rattle.std.proofs.Common.{◌≡◌, ℕ, zero, suc, ◌≤◌, List, [], ◌∷◌, Option, Some, None, refl, sym, ap, ◌∙◌, subst, arith}
+use Rattle.std.proofs.Common.{◌≡◌, ℕ, zero, suc, ◌+◌, ◌≤◌, List, [], ◌∷◌, length, Option, Some, None, refl, sym, ap, ◌∙◌, subst, arith}
 use Rattle.std.specs.Prelude.{Bool, true, false, MatchOption, slice_get}
-use Rattle.std.specs.List.{AllZip}
 use Rattle.std.specs.Option.{option_map}
-use Rattle.std.proofs.lemmas.Option.{slice_get-map}
 use Rattle.da_values.specs.declared.val.Val.{Val}
 use Rattle.da_lang.specs.declared.code.Instr.TheVariants as op
 use Rattle.da_lang.specs.declared.program.Alt.{Alt}
@@ -40,15 +38,19 @@ use Rattle.da_core.specs.declared.moves.Begin.{Begin}
 use Rattle.da_core.specs.declared.place.Place.{Place}
 use Rattle.da_core.specs.declared.place.Place.TheVariants as place
 use Rattle.da_core.specs.declared.waits.Alternative.{Alternative}
-use Rattle.da_core.specs.Begins.{CanMove, MayRun, alternative_at, alternative_of, begin_at, behind_turn, bound_by, entry_behind, entry_of, if_flag, point_of, waits_behind}
+use Rattle.da_core.specs.Begins.{CanMove, MayRun, alternative_at, alternative_of, begin_at, behind_turn, bound_by, entry_behind, entry_of, flag_told, if_flag, point_of, waits_behind}
 use Rattle.da_core.specs.Compiled.{IsCodeFor, IsCompiled, code_at, code_of, program_of as compiled_program}
+use Rattle.da_core.specs.Known.{Each}
 use Rattle.da_core.specs.StandsFor.{Awaits, BeginsWith, IsAt, IsPlace, IsWaiting, StandsFor, program_of}
 use Rattle.da_core.specs.Waits.{waits_of}
 use Rattle.da_core.proofs.KnownLaws.{me_is}
 use Rattle.da_core.proofs.Laws.{is_whole}
+use Rattle.da_core.proofs.PlanLaws.{Together, zipped_at}
 use Rattle.da_core.proofs.Tasks.{alt_shaped, first_shaped, has_at, item_shaped, rest_shaped}
 use Rattle.da_core.proofs.WaitLaws.{IsAlternative, await_waits}
+use Rattle.query_plan.specs.Nodes.{node_rows}
 use Rattle.query_plan.specs.Questions.{norm_class}
+use Rattle.query_plan.specs.Told.{has_row}
 
 -- THE CODE OF A PROCESS
 
@@ -114,26 +116,38 @@ module _ (p : Program) (class : Class) where
   alternative-me None d = refl
   alternative-me (Some x) d = found-me x.found x.binds d
 
--- of alternatives side by side
-one_at : (class : Class) (own : List Alternative) (alts : List Alt) → AllZip (IsAlternative class) own alts → (n : ℕ) (a : Alt) → slice_get alts n ≡ Some a
-    → (x : Alternative) × (slice_get own n ≡ Some x) × IsAlternative class x a
-one_at class [] [] all n a there = absurd (let none : ◌≡◌ {A = Option Alt} None (Some a) = there in cc)
-one_at class [] (b ∷ alts) all n a there = absurd all
-one_at class (x ∷ own) [] all n a there = absurd all
-one_at class (x ∷ own) (b ∷ alts) all zero a there = let same : b ≡ a = cc in (x, refl, subst (IsAlternative class x) same all.0)
-one_at class (x ∷ own) (b ∷ alts) all (suc n) a there = one_at class own alts all.1 n a there
+-- THE ALTERNATIVES OF AN `await`
 
--- what the alternative at a place in the code binds is what the alternative of the text binds
-pub alternative_binds : (class : Class) (code : ClassCode) (at number : ℕ) (alts : List Alt) → code.waits ≡ waits_of class (norm_class class).flags → HasInstr code.code at (op.Yield number)
+-- the alternative at a place in the code is that of the text, if it is there
+alternative_there : (class : Class) (code : ClassCode) (at number : ℕ) (alts : List Alt) → code.waits ≡ waits_of class (norm_class class).flags → HasInstr code.code at (op.Yield number)
+    → IsNumbered class number (AtAwait (ways_of alts)) → (n : ℕ) → Together (IsAlternative class) (alternative_at code at (suc n)) (slice_get alts n)
+alternative_there class code at number alts waits here numbered n =
+    let (own, stands, all) = await_waits class number alts numbered in
+    let taken : alternative_at code at (suc n) ≡ slice_get own n =
+    ap (λ i. alternative_of (waits_behind code i) n) here ∙ ap (λ ws. alternative_of (slice_get ws number) n) waits ∙ ap (λ o. alternative_of o n) stands in
+    subst (λ o. Together (IsAlternative class) o (slice_get alts n)) (sym taken) (zipped_at (IsAlternative class) own alts all n)
+
+-- its flag tells whether its condition holds
+flag_holds : (class : Class) (d : Data) (own : Option Alternative) (a : Option Alt) → Together (IsAlternative class) own a
+    → flag_told class d own ≡ option_map (λ x. holds d (out-Alt x).cond []) a
+flag_holds class d None None both = refl
+flag_holds class d None (Some a) both = absurd both
+flag_holds class d (Some x) None both = absurd both
+flag_holds class d (Some x) (Some a) both = ap Some (both.row d)
+
+-- it binds what the alternative of the text binds
+bound_as : (class : Class) (d : Data) (own : Option Alternative) (a : Alt) → Together (IsAlternative class) own (Some a)
+    → bind_found class.queries (out-Alt a).found (out-Alt a).binds d ≡ bound_by class own d
+bound_as class d None a both = absurd both
+bound_as class d (Some x) a both =
+    sym (ap (λ found. bind_found class.queries found (out-Alt a).binds d) both.found) ∙ sym (ap (λ binds. bind_found class.queries x.found binds d) both.binds)
+
+alternative_binds : (class : Class) (code : ClassCode) (at number : ℕ) (alts : List Alt) → code.waits ≡ waits_of class (norm_class class).flags → HasInstr code.code at (op.Yield number)
     → IsNumbered class number (AtAwait (ways_of alts)) → (n : ℕ) (a : Alt) → slice_get alts n ≡ Some a → (d : Data)
     → bind_found class.queries (out-Alt a).found (out-Alt a).binds d ≡ bound_by class (alternative_at code at (suc n)) d
 alternative_binds class code at number alts waits here numbered n a there d =
-    let (own, stands, all) = await_waits class number alts numbered in
-    let (x, place, is) = one_at class own alts all n a there in
-    let taken : alternative_at code at (suc n) ≡ Some x =
-    ap (λ i. alternative_of (waits_behind code i) n) here ∙ ap (λ ws. alternative_of (slice_get ws number) n) waits ∙ ap (λ o. alternative_of o n) stands ∙ place in
-    sym (ap (λ found. bind_found class.queries found (out-Alt a).binds d) is.found) ∙ sym (ap (λ binds. bind_found class.queries x.found binds d) is.binds)
-    ∙ sym (ap (λ o. bound_by class o d) taken)
+    bound_as class d (alternative_at code at (suc n)) a
+    (subst (Together (IsAlternative class) (alternative_at code at (suc n))) there (alternative_there class code at number alts waits here numbered n))
 
 -- A MOVE OF A CORE
 
@@ -210,8 +224,14 @@ module _ (core : Core) (w : World) (s : StandsFor core w) where
     abbrev holds_now : Alt → Bool
     holds_now a = holds d (out-Alt a).cond []
 
-    flag_is : (n : ℕ) → slice_get core.flags n ≡ option_map holds_now (slice_get awaits.alts n)
-    flag_is n = ap (λ flags. slice_get flags n) (s.flags waits awaits.alts b) ∙ slice_get-map holds_now awaits.alts n
+    stands_here : AwaitPoint s.code.code s.class at.number m.loops b.rest awaits.alts
+    stands_here = await_point s.code.code s.class at.number m.loops w.todo (at_point s.code.code s.class m.place m.loops w.todo at.code_for at.number at.there) b.item b.rest awaits.alts b.first b.is
+
+    abbrev told_at : ℕ → Option Bool
+    told_at n = flag_told s.class d (alternative_at s.code m.place (suc n))
+
+    pub flag_is : (n : ℕ) → told_at n ≡ option_map holds_now (slice_get awaits.alts n)
+    flag_is n = flag_holds s.class d (alternative_at s.code m.place (suc n)) (slice_get awaits.alts n) (alternative_there s.class s.code m.place at.number awaits.alts code_for_class.1.waits at.there stands_here.numbered n)
 
     no_alternative : (n : ℕ) → slice_get awaits.alts n ≡ None → proc_step p w (move_step (suc n)) ≡ None
     no_alternative n none = rw (s.knows.is_class, waits, b.first, b.is, none) refl
@@ -231,7 +251,7 @@ module _ (core : Core) (w : World) (s : StandsFor core w) where
 
     takes : (n : ℕ) (a : Alt) → slice_get awaits.alts n ≡ Some a → holds_now a ≡ true → IsBegin (suc n) (behind_turn (entry_behind s.code.code m.place n))
     takes n a there true' =
-        let point = await_point s.code.code s.class at.number m.loops w.todo (at_point s.code.code s.class m.place m.loops w.todo at.code_for at.number at.there) b.item b.rest awaits.alts b.first b.is in
+        let point = stands_here in
         let (entry, stands, code_for) = point.each n a there in
         let goes : entry_behind s.code.code m.place n ≡ Some entry = entry_is s.code.code m.place at.number n entry (record { label = false; entries = point.entries }) at.there point.there stands in
         let start : Begin = record { entry = entry; turns = 1 } in
@@ -260,7 +280,7 @@ module _ (core : Core) (w : World) (s : StandsFor core w) where
     by_alternative n None there = no_alternative n there
     by_alternative n (Some a) there = by_flag n a (holds_now a) there refl
 
-    begins_at_await : (n : ℕ) → IsBegin (suc n) (if_flag (slice_get core.flags n) (behind_turn (entry_behind s.code.code m.place n)))
+    begins_at_await : (n : ℕ) → IsBegin (suc n) (if_flag (told_at n) (behind_turn (entry_behind s.code.code m.place n)))
     begins_at_await n =
         subst (λ flag. IsBegin (suc n) (if_flag flag (behind_turn (entry_behind s.code.code m.place n)))) (sym (flag_is n)) (by_alternative n (slice_get awaits.alts n) refl)
 
@@ -268,7 +288,7 @@ module _ (core : Core) (w : World) (s : StandsFor core w) where
     none_at_await = rw (s.knows.is_class, waits, b.first, b.is) refl
 
   begins_by : (place : Place) (phase : Phase) (k : ℕ) → w.phase ≡ phase → IsPlace w.todo place phase → IsAt p s.class s.code.code m w phase
-      → IsBegin k (begin_at s.code.code m.place core.flags place k)
+      → IsBegin k (begin_at s.class d s.code m.place place k)
   begins_by place.New New zero is stands at = begins_new is at
   begins_by place.New New (suc k) is stands at = rw (s.knows.is_class, is) refl
   begins_by place.Label Waiting zero is stands at = begins_at_label is stands at
@@ -282,20 +302,45 @@ module _ (core : Core) (w : World) (s : StandsFor core w) where
   begins_by _ _ k is stands at = absurd stands
 
   -- where the move of a number goes on, and that it is not allowed where it goes on nowhere
-  pub begins : (k : ℕ) → IsBegin k (begin_at s.code.code m.place core.flags core.place k)
+  pub begins : (k : ℕ) → IsBegin k (begin_at s.class d s.code m.place core.place k)
   begins k = begins_by core.place w.phase k refl s.place s.at
 
-  same_code : (code : ClassCode) → code_of core.compiled.now core.known.me ≡ Some code → s.code ≡ code
-  same_code code is =
-      let both : ◌≡◌ {A = Option ClassCode} (Some s.code) (Some code) = sym s.code_is ∙ ap (code_of core.compiled.now) (me_is core.known p s.class d s.stands) ∙ is in
-      cc
+  pub coded : code_of core.compiled.now core.known.answers.me ≡ Some s.code
+  coded = ap (code_of core.compiled.now) (sym (me_is core.known p s.class d s.stands)) ∙ s.code_is
 
-  pub begin_found : (code : ClassCode) → code_of core.compiled.now core.known.me ≡ Some code → (k : ℕ) (found : Option Begin)
-      → found ≡ begin_at code.code m.place core.flags core.place k → IsBeginIn code k found
+  same_code : (code : ClassCode) → code_of core.compiled.now core.known.answers.me ≡ Some code → s.code ≡ code
+  same_code code is = let both : ◌≡◌ {A = Option ClassCode} (Some s.code) (Some code) = sym coded ∙ is in cc
+
+  pub begin_found : (code : ClassCode) → code_of core.compiled.now core.known.answers.me ≡ Some code → (k : ℕ) (found : Option Begin)
+      → Each core.known (λ q class e. found ≡ begin_at class e code m.place core.place k) → IsBeginIn code k found
   begin_found code is k found same =
-      let by_code : (other : ClassCode) → s.code ≡ other → found ≡ begin_at other.code m.place core.flags core.place k → IsBeginIn other k found =
-      λ other is_that that. subst (λ (x : ClassCode). found ≡ begin_at x.code m.place core.flags core.place k → IsBeginIn x k found) is_that (λ e. subst (IsBegin k) (sym e) (begins k)) that in
-      by_code code (same_code code is) same
+      let by_code : (other : ClassCode) → s.code ≡ other → found ≡ begin_at s.class d other m.place core.place k → IsBeginIn other k found =
+      λ other is_that that. subst (λ (x : ClassCode). found ≡ begin_at s.class d x m.place core.place k → IsBeginIn x k found) is_that (λ e. subst (IsBegin k) (sym e) (begins k)) that in
+      by_code code (same_code code is) (same p s.class d s.stands)
 
-  pub no_code : None ≡ code_of core.compiled.now core.known.me → ⊥
-  no_code none = let both : ◌≡◌ {A = Option ClassCode} None (Some s.code) = none ∙ ap (code_of core.compiled.now) (sym (me_is core.known p s.class d s.stands)) ∙ s.code_is in cc
+  pub no_code : None ≡ code_of core.compiled.now core.known.answers.me → ⊥
+  no_code none = let both : ◌≡◌ {A = Option ClassCode} None (Some s.code) = none ∙ coded in cc
+
+  -- THE CONDITION OF AN ALTERNATIVE
+  module _ (waits : w.phase ≡ Waiting) (alts : List Alt) (begun : BeginsWith w.todo (kind.Await alts)) (n : ℕ) (a : Alt) (there : slice_get alts n ≡ Some a) where
+    told_there : flag_told s.class d (alternative_at s.code m.place (suc n)) ≡ Some (holds d (out-Alt a).cond [])
+    told_there =
+        flag_is waits (length alts) (record { alts = alts; begins = begun; size = refl }) (subst (IsAt p s.class s.code.code m w) waits s.at) n
+        ∙ ap (option_map (λ x. holds d (out-Alt x).cond [])) there
+
+    -- whether its flag has a row
+    pub flag_tells : (x : Alternative) (k : ℕ) (b : Bool) → k ≡ n + 1 → Some x ≡ alternative_at s.code m.place k
+        → Each core.known (λ q class e. b ≡ has_row (node_rows e (norm_class class).nodes x.flag)) → b ≡ holds d (out-Alt a).cond []
+    flag_tells x k b is found told =
+        let next : k ≡ suc n = omega (arith, is) in
+        let both : ◌≡◌ {A = Option Bool} (Some (has_row (node_rows d (norm_class s.class).nodes x.flag))) (Some (holds d (out-Alt a).cond [])) =
+        ap (flag_told s.class d) (found ∙ ap (alternative_at s.code m.place) next) ∙ told_there in
+        let same : has_row (node_rows d (norm_class s.class).nodes x.flag) ≡ holds d (out-Alt a).cond [] = cc in
+        told p s.class d s.stands ∙ same
+
+    -- it has one
+    pub has_flag : (k : ℕ) → k ≡ n + 1 → None ≡ alternative_at s.code m.place k → ⊥
+    has_flag k is none =
+        let next : k ≡ suc n = omega (arith, is) in
+        let both : ◌≡◌ {A = Option Bool} None (Some (holds d (out-Alt a).cond [])) = ap (flag_told s.class d) (none ∙ ap (alternative_at s.code m.place) next) ∙ told_there in
+        cc

@@ -12,6 +12,7 @@ pub mod KnownLaws
 pub mod Laws
 pub mod MessageForms
 pub mod Moving
+pub mod PlanLaws
 pub mod Sending
 pub mod SlotLaws
 pub mod Starting

@@ -1,9 +1,10 @@
 -- What a core stands for behind a move.
-use Rattle.std.proofs.Common.{◌≡◌, ℕ, List, [], ◌++◌, take, refl, sym, ap, ◌∙◌, subst}
-use Rattle.std.specs.Prelude.{false}
+use Rattle.std.proofs.Common.{◌≡◌, ℕ, List, [], ◌++◌, length, map, take, refl, sym, ap, ◌∙◌, subst}
+use Rattle.std.specs.Prelude.{false, sum}
 use Rattle.da_lang.specs.declared.event.Action.{Action}
 use Rattle.da_lang.specs.declared.program.Class.{Class}
 use Rattle.da_lang.specs.declared.program.Program.{Program}
+use Rattle.da_lang.specs.declared.query.Node.{Node}
 use Rattle.da_lang.specs.Runs.{Halt, AtYield, UsedUp, Faults, Ran, run_to_yield}
 use Rattle.da_lang.specs.Shaped.{ShapedTasks}
 use Rattle.da_lang.specs.Steps.{move_step, moved, phase_after}
@@ -11,11 +12,11 @@ use Rattle.da_lang.specs.World.{Data, Task, World, Phase, New, Waiting, Ended, F
 use Rattle.da_types.specs.KeepsShaped.{LeavesShaped}
 use Rattle.da_machine.specs.declared.machine.Machine.{Machine}
 use Rattle.da_machine.specs.RunsTo.{IsFront}
+use Rattle.delta_rules.specs.Keeping.{Keeps, all_live}
 use Rattle.da_core.specs.declared.compiled.ClassCode.{ClassCode}
 use Rattle.da_core.specs.declared.process.Core.{Core}
 use Rattle.da_core.specs.declared.known.Known.{Known}
 use Rattle.da_core.specs.declared.moves.Begin.{Begin}
-use Rattle.da_core.specs.declared.moves.Standing.{Standing}
 use Rattle.da_core.specs.declared.place.Place.{Place}
 use Rattle.da_core.specs.declared.place.Place.TheVariants as place
 use Rattle.da_core.specs.declared.place.Stopped.{Stopped}
@@ -87,9 +88,11 @@ stops_so todo place.Ended (Faults kind line) is = absurd is
 stops_so todo place.Faulted AtYield is = absurd is
 stops_so todo place.Faulted UsedUp is = absurd is
 
--- the core keeps as many rows as the process
-pub keeps_rows : (core : Core) (w : World) → StandsFor core w → core.kept ≡ kept_of (class_of (program_of core) w.data'.me) w.data'
-keeps_rows core w s = s.rows ∙ sym (ap (λ class. kept_of class w.data') s.knows.is_class)
+-- the answers of a core keep as many rows as its process
+pub keeps_rows : (core : Core) (w : World) → StandsFor core w → (n : ℕ) → ((nodes : List Node) (d : Data) → Keeps core.known.answers nodes d → n ≡ sum (map length (all_live d nodes)))
+    → n ≡ kept_of (class_of (program_of core) w.data'.me) w.data'
+keeps_rows core w s n told =
+    rows_are core.known (program_of core) w.data'.me s.class w.data' s.compiled.accepted s.knows.is_class s.stands n told ∙ sym (ap (λ class. kept_of class w.data') s.knows.is_class)
 
 -- what it tells of its queries is told of the process
 pub tells_answers : (core : Core) (w : World) (s : StandsFor core w)
@@ -112,11 +115,11 @@ module _ (core : Core) (w : World) (s : StandsFor core w) (k : ℕ) (code : Clas
   left : LeavesShaped p can.class can.d.me ran.data' ran.todo ran.actions
   left = leaves p can.class code core.known core.machine k begin can.d can.todo can.may
 
-  -- the process before the move with the actions of the caller; the process, the machine and its standing behind the move,
-  -- where the actions are given back
-  module _ (own : List Action) (known : Known) (m : Machine) (stands : Standing) (run : HasRun p can.class code can.d.me k ran (record core.known { actions = own }) known m stands) where
+  -- the process before the move with the actions of the caller; the process, the machine and its place behind the move, where
+  -- the actions are given back
+  module _ (own : List Action) (known : Known) (m : Machine) (spot : Place) (run : HasRun p can.class code can.d.me k ran (record core.known { actions = own }) known m spot) where
     module _ (empty : List Action) (none : empty ≡ []) (new : Core)
-        (is_new : new ≡ record core { known = record known { actions = empty }; machine = m; place = stands.place; flags = stands.flags; kept = stands.kept; spent = false }) where
+        (is_new : new ≡ record core { known = record known { actions = empty }; machine = m; place = spot; spent = false }) where
       pub stands_after : StandsFor new after
       stands_after =
           subst (λ z. StandsFor z after) (sym is_new) (record {
@@ -128,20 +131,18 @@ module _ (core : Core) (w : World) (s : StandsFor core w) (k : ℕ) (code : Clas
             knows = left.knows;
             tasks = tasks_left p can.class code core.known core.machine k begin can.d can.todo can.may;
             stands = with_actions known p can.class ran.data' run.known empty;
-            rows = run.rows ∙ rows_are p ran.data'.me can.class code.live.patterns can.may.accepted left.knows.is_class can.is.live ran.data';
             no_actions = none;
-            place = run.place;
-            flags = run.flags;
+            place = run.stands;
             at = at_behind p can.class code m after ran.halt run.behind;
           })
 
-      pub has_made : (out given : List Action) → own ≡ out → given ≡ known.actions → (answer : Stopped) → answer ≡ stopped_at stands.place → HasMade core w (move_step k) new answer out given
+      pub has_made : (out given : List Action) → own ≡ out → given ≡ known.actions → (answer : Stopped) → answer ≡ stopped_at spot → HasMade core w (move_step k) new answer out given
       has_made out given from back answer is = record {
         after = moved me k ran;
         leads = can.step;
         stands = stands_after;
         same = left.same ∙ can.mine;
-        stopped = ap phase_of is ∙ stops_so ran.todo stands.place ran.halt run.place;
+        stopped = ap phase_of is ∙ stops_so ran.todo spot ran.halt run.stands;
         added = back ∙ run.actions ∙ ap (λ x. own ++ move_actions x k ran) can.mine ∙ ap (λ xs. xs ++ move_actions me k ran) from;
       }
 

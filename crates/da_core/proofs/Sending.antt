@@ -1,5 +1,5 @@
 -- A message to each of some processes, one after the other.
-use Rattle.std.proofs.Common.{◌≡◌, ℕ, ◌+◌, ◌<◌, ◌≤◌, List, [], ◌∷◌, ◌++◌, drop, get_or, length, map, sym, ap, ◌∙◌, subst, append_assoc, append-nil}
+use Rattle.std.proofs.Common.{◌≡◌, ℕ, ◌+◌, ◌<◌, ◌≤◌, List, [], ◌∷◌, ◌++◌, drop, get_or, length, map, sym, ap, ◌∙◌, subst, append-nil}
 use Rattle.std.proofs.lemmas.List.{at_drop_all, at_drop_more}
 use Rattle.da_values.specs.declared.val.Val.{Val}
 use Rattle.da_values.specs.declared.value.Value.{Value}
@@ -15,7 +15,7 @@ use Rattle.da_lang.specs.World.{Data}
 use Rattle.da_machine.specs.RunsTo.{IsFront}
 use Rattle.da_machine.proofs.Fronts.{IsPart, front_as, front_before, none_told, part_front_of, part_then, part_whole}
 use Rattle.da_core.specs.declared.known.Known.{Known}
-use Rattle.da_core.specs.Known.{Becomes, Each, Knows}
+use Rattle.da_core.specs.Known.{Becomes, Each, Knows, KnowsSome}
 use Rattle.da_core.proofs.KnownLaws.{clock_is, me_is}
 
 -- these processes are left of those to which the message goes: it stands for a process that sent it to the others
@@ -32,8 +32,12 @@ Sends m ps left first now = Each first (λ p class d. SendsOf m ps left p class 
 abbrev pub SendsTo : Val → ℕ → Known → Known → Type 0
 SendsTo m to now next = Becomes now next (λ d. sent_at m to (later d.clock) d)
 
+-- it still stands for some process
+pub sends_some : (m : Val) (ps left : List ℕ) (first now : Known) → KnowsSome first → Sends m ps left first now → KnowsSome now
+sends_some m ps left first now (p, class, d, knows) so_far = let by = so_far p class d knows in (p, class, by.so_far, by.knows)
+
 -- it is told as the process for which it stands tells it
-told_as : (now : Known) (p : Program) (class : Class) (d : Data) → Knows now p class d → (to : ℕ) (m : Value) → Sent now.me to (later now.clock) m ≡ Sent d.me to (later d.clock) m
+told_as : (now : Known) (p : Program) (class : Class) (d : Data) → Knows now p class d → (to : ℕ) (m : Value) → Sent now.answers.me to (later now.clock) m ≡ Sent d.me to (later d.clock) m
 told_as now p class d knows to m =
     ap (λ me. Sent me to (later now.clock) m) (sym (me_is now p class d knows))
     ∙ ap (λ clock. Sent d.me to (later clock) m) (sym (clock_is now p class d knows))
@@ -49,7 +53,7 @@ sends_first m ps left first all p class d knows = record {
 }
 
 pub sends_on : (m : Val) (ps : List ℕ) (to : ℕ) (left : List ℕ) (first now next : Known) → Sends m ps (to ∷ left) first now → SendsTo m to now next
-    → next.actions ≡ now.actions ++ Sent now.me to (later now.clock) (value_of m) ∷ [] → Sends m ps left first next
+    → next.actions ≡ now.actions ++ Sent now.answers.me to (later now.clock) (value_of m) ∷ [] → Sends m ps left first next
 sends_on m ps to left first now next so_far sends told p class d knows =
     let by = so_far p class d knows in
     let due = sending by.so_far.me m left (later by.so_far.clock) in
@@ -59,17 +63,17 @@ sends_on m ps to left first now next so_far sends told p class d knows =
       same = by.same;
       told =
           part_then first.actions now.actions next.actions (sending d.me m ps d.clock) (sending by.so_far.me m (to ∷ left) by.so_far.clock) due by.told
-          (Sent now.me to (later now.clock) (value_of m) ∷ [], told, ap (λ (a : Action). a ∷ due) (sym (told_as now p class by.so_far by.knows to (value_of m))));
+          (Sent now.answers.me to (later now.clock) (value_of m) ∷ [], told, ap (λ (a : Action). a ∷ due) (sym (told_as now p class by.so_far by.knows to (value_of m))));
     }
 
 -- memory was refused while the message went to the next one
 pub sends_front : (m : Val) (ps : List ℕ) (to : ℕ) (left : List ℕ) (first now next : Known) → Sends m ps (to ∷ left) first now
-    → IsFront now.actions next.actions (Sent now.me to (later now.clock) (value_of m) ∷ [])
+    → IsFront now.actions next.actions (Sent now.answers.me to (later now.clock) (value_of m) ∷ [])
     → Each first (λ p class d. IsFront first.actions next.actions (sending d.me m ps d.clock))
 sends_front m ps to left first now next so_far front p class d knows =
     let by = so_far p class d knows in
     let due = sending by.so_far.me m left (later by.so_far.clock) in
-    let told = Sent now.me to (later now.clock) (value_of m) in
+    let told = Sent now.answers.me to (later now.clock) (value_of m) in
     let rest = sending by.so_far.me m (to ∷ left) by.so_far.clock in
     part_front_of first.actions now.actions next.actions (sending d.me m ps d.clock) rest by.told
     (front_as now.actions next.actions (told ∷ due) rest (ap (λ (a : Action). a ∷ due) (told_as now p class by.so_far by.knows to (value_of m)))
@@ -84,14 +88,14 @@ module _ (m : Value) (processes : List Value) (k : ℕ) (v : Value) (to : ℕ) (
       subst (λ left. Sends (val_of m) ps left first now)
       (at_drop_more (λ vs. map proc_of (vals vs)) processes k v within ∙ ap (λ x. proc_of (val_of x) ∷ map proc_of (vals (drop (k + 1) processes))) (sym here) ∙ ap (λ x. x ∷ map proc_of (vals (drop (k + 1) processes))) (sym number)) so_far
 
-  kept : (time : ℕ) → ◌≡◌ {A = List Action} (Sent now.me to time m ∷ []) (Sent now.me to time (value_of (val_of m)) ∷ [])
-  kept time = ap (λ x. Sent now.me to time x ∷ []) (sym (value_of-val_of m))
+  kept : (time : ℕ) → ◌≡◌ {A = List Action} (Sent now.answers.me to time m ∷ []) (Sent now.answers.me to time (value_of (val_of m)) ∷ [])
+  kept time = ap (λ x. Sent now.answers.me to time x ∷ []) (sym (value_of-val_of m))
 
-  pub sends_next : SendsTo (val_of m) to now next → next.actions ≡ now.actions ++ Sent now.me to (later now.clock) m ∷ []
+  pub sends_next : SendsTo (val_of m) to now next → next.actions ≡ now.actions ++ Sent now.answers.me to (later now.clock) m ∷ []
       → Sends (val_of m) ps (map proc_of (vals (drop (k + 1) processes))) first next
   sends_next sends told = sends_on (val_of m) ps to (map proc_of (vals (drop (k + 1) processes))) first now next to_this sends (told ∙ ap (λ xs. now.actions ++ xs) (kept (later now.clock)))
 
-  pub sends_stop : IsFront now.actions next.actions (Sent now.me to (later now.clock) m ∷ []) → Each first (λ p class d. IsFront first.actions next.actions (sending d.me (val_of m) ps d.clock))
+  pub sends_stop : IsFront now.actions next.actions (Sent now.answers.me to (later now.clock) m ∷ []) → Each first (λ p class d. IsFront first.actions next.actions (sending d.me (val_of m) ps d.clock))
   sends_stop front =
       sends_front (val_of m) ps to (map proc_of (vals (drop (k + 1) processes))) first now next to_this (subst (λ due. IsFront now.actions next.actions due) (kept (later now.clock)) front)
 

@@ -8,20 +8,23 @@ use Rattle.da_lang.specs.declared.program.ProcDecl.{ProcDecl}
 use Rattle.da_lang.specs.declared.program.Program.{Program}
 use Rattle.da_lang.specs.Shaped.{IsProcess, IsTask, ShapedData}
 use Rattle.da_lang.specs.Steps.{first_tasks}
-use Rattle.da_lang.specs.World.{Data, Task, at_number, class_of, class_of_decl, first_value, opening, opening_data, New, Waiting}
+use Rattle.da_lang.specs.World.{Data, at_number, class_of, class_of_decl, first_value, opening, opening_data, New}
 use Rattle.da_machine.specs.CodeFor.{CodeFor}
 use Rattle.code_gen.specs.ClassCode.{numbered_from, processes_of}
-use Rattle.query_plan.specs.PlanLive.{plan_live}
+use Rattle.query_plan.specs.declared.plan.Plan.{Plan}
+use Rattle.query_plan.specs.Nodes.{IsPlan}
+use Rattle.query_plan.specs.PlainNodes.{PlainNodes}
 use Rattle.query_plan.specs.Questions.{norm_class}
+use Rattle.delta_rules.specs.Keeping.{Keeps}
+use Rattle.delta_rules.specs.Laid.{IsLaid}
 use Rattle.da_core.specs.declared.compiled.ClassCode.{ClassCode}
 use Rattle.da_core.specs.declared.compiled.Compiled.{Compiled}
 use Rattle.da_core.specs.declared.process.Core.{Core}
 use Rattle.da_core.specs.declared.place.Place.TheVariants as place
 use Rattle.da_core.specs.Compiled.{IsCompiled, code_at, code_of, count_of, program_of, rank_in, start_at, start_in}
-use Rattle.da_core.specs.Known.{Each, Knows, rows_kept}
-use Rattle.da_core.specs.StandsFor.{AreFlags, IsPlace, StandsFor}
-use Rattle.da_core.proofs.KeptLaw.{rows_are}
-use Rattle.da_core.proofs.KnownLaws.{opens}
+use Rattle.da_core.specs.Known.{Knows}
+use Rattle.da_core.specs.StandsFor.{IsPlace, StandsFor}
+use Rattle.da_core.proofs.KnownLaws.{lower, opens, plain}
 use Rattle.da_core.proofs.Laws.{has_class, keeps_shaped}
 
 -- THE START OF A PROCESS
@@ -54,7 +57,6 @@ pub record Begun (c : Compiled) (me : ℕ) : Type 0 where
   pub classed : class_of (program_of c) me ≡ Some class
   pub coded : code_of c me ≡ Some code
   pub plan : code.plan ≡ norm_class class
-  pub live : code.live.patterns ≡ plan_live (norm_class class).nodes
   pub starts : start_in (program_of c) (code_of c me) me ≡ Some entry
   pub code_for : CodeFor code.code class entry [] (first_tasks (program_of c) class me)
 
@@ -90,7 +92,6 @@ module _ (c : Compiled) (me : ℕ) (is : IsCompiled c) where
         classed = ap (class_of_decl p) there ∙ classed;
         coded = coded;
         plan = has.is.plan;
-        live = has.is.live;
         starts = ap (λ found. start_in p found me) coded ∙ ap (λ found. start_at (rank_in p found me) has.code) there ∙ at;
         code_for = starts.stands (count_of decl.class (take (me - 1) p.procs)) me entry stands at;
       }
@@ -98,13 +99,19 @@ module _ (c : Compiled) (me : ℕ) (is : IsCompiled c) where
   pub begun : IsProcess p me → Begun c me
   begun there = let (class, classed) = has_class p me is.accepted there in begun_by (at_number p.procs me) class refl classed
 
-  -- it waits nowhere
-  no_flags_new : (d : Data) (todo : List Task) (flags : List Bool) → AreFlags d todo flags New
-  no_flags_new d todo flags waits = absurd (let both : New ≡ Waiting = waits in cc)
+  -- the code that was found is that of the class
+  one_code : (b : Begun c me) (code : ClassCode) → code_of c me ≡ Some code → b.code ≡ code
+  one_code b code coded = let codes : ◌≡◌ {A = Option ClassCode} (Some b.code) (Some code) = sym b.coded ∙ coded in cc
+
+  -- its plan is a plan, and plain
+  pub has_a_plan : IsProcess p me → (code : ClassCode) → code_of c me ≡ Some code → IsPlan code.plan.nodes × PlainNodes code.plan.nodes
+  has_a_plan there code coded =
+      let b = begun there in
+      let planned : code.plan ≡ norm_class b.class = ap (λ (x : ClassCode). x.plan) (sym (one_code b code coded)) ∙ b.plan in
+      (lower code.plan b.class planned, plain code.plan b.class planned)
 
   -- A NEW CORE stands for the opening.
-  module _ (there : IsProcess p me) (core : Core) (of_c : core.compiled.now ≡ c) (code : ClassCode) (coded : code_of c me ≡ Some code) (planned : core.known.plan.now ≡ code.plan)
-      (counts : Each core.known (λ p class d. core.kept ≡ rows_kept code.live.patterns d)) where
+  module _ (there : IsProcess p me) (core : Core) (of_c : core.compiled.now ≡ c) (code : ClassCode) (coded : code_of c me ≡ Some code) (planned : core.known.plan.now ≡ code.plan) where
     starts_as : core.spent ≡ false → core.place ≡ place.New → core.known.actions ≡ []
         → ((class : Class) → class_of p me ≡ Some class → core.known.plan.now ≡ norm_class class → Knows core.known p class (opening_data p me)) → core.machine.loops ≡ []
         → start_in p (code_of c me) me ≡ Some core.machine.place → StandsFor core (opening p me)
@@ -114,9 +121,7 @@ module _ (c : Compiled) (me : ℕ) (is : IsCompiled c) where
         let classes : ◌≡◌ {A = Option Class} (Some open_world.class) (Some b.class) = sym open_world.knows.is_class ∙ b.classed in
         let same_class : open_world.class ≡ b.class = cc in
         let knows : ShapedData p b.class (opening_data p me) = subst (λ x. ShapedData p x (opening_data p me)) same_class open_world.knows in
-        let codes : ◌≡◌ {A = Option ClassCode} (Some b.code) (Some code) = sym b.coded ∙ coded in
-        let same_code : b.code ≡ code = cc in
-        let keeps : Knows core.known p b.class (opening_data p me) = opened b.class b.classed (planned ∙ ap (λ (x : ClassCode). x.plan) (sym same_code) ∙ b.plan) in
+        let keeps : Knows core.known p b.class (opening_data p me) = opened b.class b.classed (planned ∙ ap (λ (x : ClassCode). x.plan) (sym (one_code b code coded)) ∙ b.plan) in
         let entries : ◌≡◌ {A = Option ℕ} (Some b.entry) (Some core.machine.place) = sym b.starts ∙ entry in
         let same_entry : b.entry ≡ core.machine.place = cc in
         let code_for : CodeFor b.code.code b.class core.machine.place core.machine.loops (first_tasks p b.class me) =
@@ -131,26 +136,28 @@ module _ (c : Compiled) (me : ℕ) (is : IsCompiled c) where
           knows = subst (λ x. ShapedData (program_of x) b.class (opening_data p me)) (sym of_c) knows;
           tasks = All-nil (IsTask (program_of core.compiled.now) b.class me);
           stands = subst (λ x. Knows core.known (program_of x) b.class (opening_data p me)) (sym of_c) keeps;
-          rows = counts p b.class (opening_data p me) keeps ∙ ap (λ (x : ClassCode). rows_kept x.live.patterns (opening_data p me)) (sym same_code)
-              ∙ rows_are p me b.class b.code.live.patterns is.accepted b.classed b.live (opening_data p me);
           no_actions = no_actions;
           place = subst (λ x. IsPlace [] x New) (sym new) refl;
-          flags = no_flags_new (opening_data p me) [] core.flags;
           at = subst (λ x. CodeFor b.code.code b.class core.machine.place core.machine.loops (first_tasks (program_of x) b.class me)) (sym of_c) code_for;
         }
 
     -- where its parts are those of the opening
-    pub starts_with : (class : Class) → class_of p me ≡ Some class → core.spent ≡ false → core.place ≡ place.New → core.known.actions ≡ [] → core.known.me ≡ me → core.known.clock ≡ 0
-        → core.known.slots ≡ map (first_value me) class.slots → core.known.sent ≡ [] → core.known.received ≡ [] → core.machine.loops ≡ [] → start_in p (code_of c me) me ≡ Some core.machine.place
+    pub starts_with : (class : Class) → class_of p me ≡ Some class → core.spent ≡ false → core.place ≡ place.New → core.known.actions ≡ [] → core.known.clock ≡ 0
+        → ((d : Data) → d.me ≡ me → d.slots ≡ map (first_value me) class.slots → d.sent ≡ [] → d.received ≡ [] → Keeps core.known.answers code.plan.nodes d)
+        → IsLaid core.known.answers code.plan.nodes → core.machine.loops ≡ [] → start_in p (code_of c me) me ≡ Some core.machine.place
         → StandsFor core (opening p me)
-    starts_with class classed unspent new no_actions mine early slots sent received loops entry =
+    starts_with class classed unspent new no_actions early keeps laid loops entry =
         starts_as unspent new no_actions opened loops entry
       where
+        keeps_first : (d : Data) → d.me ≡ me → d.slots ≡ map (first_value me) class.slots → d.sent ≡ [] → d.received ≡ [] → Keeps core.known.answers core.known.plan.now.nodes d
+        keeps_first d mine slots sent received = subst (λ (x : Plan). Keeps core.known.answers x.nodes d) (sym planned) (keeps d mine slots sent received)
+
         opened : (other : Class) → class_of p me ≡ Some other → core.known.plan.now ≡ norm_class other → Knows core.known p other (opening_data p me)
         opened other others plan =
             let both : ◌≡◌ {A = Option Class} (Some class) (Some other) = sym classed ∙ others in
             let same : class ≡ other = cc in
-            opens core.known p me other others plan mine early (subst (λ (k : Class). core.known.slots ≡ map (first_value me) k.slots) same slots) sent received
+            opens core.known p me other others plan early (λ d mine slots sent received. keeps_first d mine (slots ∙ ap (λ (k : Class). map (first_value me) k.slots) (sym same)) sent received)
+            (subst (λ (x : Plan). IsLaid core.known.answers x.nodes) (sym planned) laid)
 
   -- the class, its code and the start are there
   pub has_a_class : IsProcess p me → None ≡ class_of p me → ⊥

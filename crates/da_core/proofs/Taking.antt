@@ -16,28 +16,32 @@ use Rattle.da_core.specs.declared.deliveries.Delivery.{Delivery}
 use Rattle.da_core.specs.declared.deliveries.Handled.{Handled}
 use Rattle.da_core.specs.declared.deliveries.Handled.TheVariants as handled
 use Rattle.da_core.specs.declared.known.Known.{Known}
-use Rattle.da_core.specs.declared.moves.Standing.{Standing}
+use Rattle.da_core.specs.declared.place.Place.{Place}
 use Rattle.da_core.specs.Arrivals.{CanHandle, HasHandled, HasTakenIn, MayHandle, MayTakeIn, Whoever, all_handled, delivery_actions, halt_of, received, stop_of}
 use Rattle.da_core.specs.Begins.{HasStopped, MayStop}
-use Rattle.da_core.specs.Known.{Becomes, Each, Knows, KnowsSome, rows_kept}
-use Rattle.da_core.specs.StandsFor.{AreFlags, IsPlace}
+use Rattle.da_core.specs.Known.{Becomes, Knows, KnowsSome}
+use Rattle.da_core.specs.StandsFor.{IsPlace}
 use Rattle.da_core.proofs.KnownLaws.{me_is, with_actions}
-use Rattle.da_core.proofs.Stopping.{flags_there, has_point, no_flags_faulted, place_there, run_front, stop_front}
+use Rattle.da_core.proofs.Stopping.{has_point, place_there, run_front, stop_front}
+
+-- what is kept before the message arrives stands for a process
+pub may_know : (x : Delivery) (time at : ℕ) (old : Known) (p : Program) (d : Data) (todo : List Task) → MayTakeIn p x time at old d todo → KnowsSome old
+may_know x time at old p d todo may = (p, x.class.now, d, may.can.knows)
 
 -- a front of the actions that are due was added, whatever the process is
 abbrev pub TakenPart : Delivery → ℕ → ℕ → Known → List Action → Type 0
 TakenPart x time at old new =
-    (p : Program) (d : Data) (todo : List Task) → MayTakeIn p x time at old d todo → IsFront old.actions new (delivery_actions x time old.me (all_handled x (received x time d)))
+    (p : Program) (d : Data) (todo : List Task) → MayTakeIn p x time at old d todo → IsFront old.actions new (delivery_actions x time old.answers.me (all_handled x (received x time d)))
 
-pub received_front : (x : Delivery) (time : ℕ) (old : Known) (d : Data) (new : List Action) → IsFront old.actions new (action.Got old.me x.from time x.message.now ∷ [])
-    → IsFront old.actions new (delivery_actions x time old.me (all_handled x (received x time d)))
+pub received_front : (x : Delivery) (time : ℕ) (old : Known) (d : Data) (new : List Action) → IsFront old.actions new (action.Got old.answers.me x.from time x.message.now ∷ [])
+    → IsFront old.actions new (delivery_actions x time old.answers.me (all_handled x (received x time d)))
 received_front x time old d new front =
     let ran = all_handled x (received x time d) in
-    front_before old.actions new (action.Got old.me x.from time x.message.now ∷ []) (ran.actions ++ closing old.me ran.halt) front
+    front_before old.actions new (action.Got old.answers.me x.from time x.message.now ∷ []) (ran.actions ++ closing old.answers.me ran.halt) front
 
 -- the process before the message arrives, and when it has joined the history
 module _ (x : Delivery) (time at : ℕ) (old : Known) (p : Program) (d : Data) (todo : List Task) (may : MayTakeIn p x time at old d todo) (got : Known)
-    (joins : Becomes old got (received x time)) (told : got.actions ≡ old.actions ++ action.Got old.me x.from time x.message.now ∷ []) where
+    (joins : Becomes old got (received x time)) (told : got.actions ≡ old.actions ++ action.Got old.answers.me x.from time x.message.now ∷ []) where
   abbrev class : Class
   class = x.class.now
 
@@ -48,7 +52,7 @@ module _ (x : Delivery) (time at : ℕ) (old : Known) (p : Program) (d : Data) (
   ran = all_handled x (received x time d)
 
   abbrev first : Action
-  first = action.Got old.me x.from time x.message.now
+  first = action.Got old.answers.me x.from time x.message.now
 
   may_then : MayHandle p x got (received x time d)
   may_then =
@@ -66,9 +70,9 @@ module _ (x : Delivery) (time at : ℕ) (old : Known) (p : Program) (d : Data) (
   pub can_then : CanHandle x got
   can_then = (p, received x time d, may_then)
 
-  pub handled_front : (new : List Action) → Whoever x got (λ p d. IsFront got.actions new (all_handled x d).actions) → IsFront old.actions new (delivery_actions x time old.me ran)
+  pub handled_front : (new : List Action) → Whoever x got (λ p d. IsFront got.actions new (all_handled x d).actions) → IsFront old.actions new (delivery_actions x time old.answers.me ran)
   handled_front new front =
-      run_front old.actions new ran.actions (closing old.me ran.halt) first
+      run_front old.actions new ran.actions (closing old.answers.me ran.halt) first
       (subst (λ xs. IsFront xs new ran.actions) told (front p (received x time d) may_then))
 
   pub may_stop : (answer : Handled) → MayStop code (stop_of answer may.number)
@@ -80,50 +84,39 @@ module _ (x : Delivery) (time at : ℕ) (old : Known) (p : Program) (d : Data) (
     had : HasHandled p x ran got now answer
     had = handlers p (received x time d) may_then
 
-    pub knows_some : KnowsSome now
-    knows_some = (p, class, ran.data', had.known)
-
-    same_me : now.me ≡ old.me
+    same_me : now.answers.me ≡ old.answers.me
     same_me = had.mine ∙ sym (me_is got p class (received x time d) may_then.knows) ∙ me_is old p class d may.can.knows
 
     so_far : now.actions ≡ (old.actions ++ first ∷ []) ++ ran.actions
     so_far = had.actions ∙ ap (λ xs. xs ++ ran.actions) told
 
-    pub stop_front_of : (new : List Action) → new ≡ now.actions → IsFront old.actions new (delivery_actions x time old.me ran)
-    stop_front_of new stays = stop_front old.actions now.actions new ran.actions (closing old.me ran.halt) first so_far stays
+    pub stop_front_of : (new : List Action) → new ≡ now.actions → IsFront old.actions new (delivery_actions x time old.answers.me ran)
+    stop_front_of new stays = stop_front old.actions now.actions new ran.actions (closing old.answers.me ran.halt) first so_far stays
 
-    closed : (new : Known) (halt : Halt) → ran.halt ≡ halt → new.actions ≡ now.actions ++ closing old.me halt → new.actions ≡ old.actions ++ delivery_actions x time old.me ran
+    closed : (new : Known) (halt : Halt) → ran.halt ≡ halt → new.actions ≡ now.actions ++ closing old.answers.me halt → new.actions ≡ old.actions ++ delivery_actions x time old.answers.me ran
     closed new halt is closes =
-        closes ∙ ap (λ xs. xs ++ closing old.me halt) so_far ∙ append_assoc (old.actions ++ first ∷ []) ran.actions (closing old.me halt)
-        ∙ append_assoc old.actions (first ∷ []) (ran.actions ++ closing old.me halt) ∙ ap (λ h. old.actions ++ ((first ∷ ran.actions) ++ closing old.me h)) (sym is)
+        closes ∙ ap (λ xs. xs ++ closing old.answers.me halt) so_far ∙ append_assoc (old.actions ++ first ∷ []) ran.actions (closing old.answers.me halt)
+        ∙ append_assoc old.actions (first ∷ []) (ran.actions ++ closing old.answers.me halt) ∙ ap (λ h. old.actions ++ ((first ∷ ran.actions) ++ closing old.answers.me h)) (sym is)
 
-    by_answer : (a : Handled) → ran.halt ≡ halt_of a → (new : Known) (s : Standing) → HasStopped code now new (stop_of a may.number) s → s.kept ≡ rows_kept code.live.patterns ran.data'
-        → HasTakenIn p x time d todo old new s
-    by_answer (handled.Through turns) halts new s stopped rows =
+    by_answer : (a : Handled) → ran.halt ≡ halt_of a → (new : Known) (spot : Place) → HasStopped code now new (stop_of a may.number) spot → HasTakenIn p x time d todo old new spot
+    by_answer (handled.Through turns) halts new spot stopped =
         let (stays, stands) = stopped in
         record {
           known = subst (λ k. Knows k p class ran.data') (sym stays) had.known;
           actions = closed new AtYield halts (ap (λ (k : Known). k.actions) stays ∙ sym (append-nil now.actions));
-          place =
-              subst (λ h. IsPlace todo s.place (phase_after h)) (sym halts)
-              (place_there code class may.number may.point.0 may.waits now s stands todo may.point.1);
-          flags =
-              subst (λ h. AreFlags ran.data' todo s.flags (phase_after h)) (sym halts)
-              (flags_there code class may.number may.point.0 may.waits now s stands p ran.data' had.known todo may.point.1);
-          rows = rows;
+          stands =
+              subst (λ h. IsPlace todo spot (phase_after h)) (sym halts)
+              (place_there code class may.number may.point.0 may.waits spot stands todo may.point.1);
         }
-    by_answer (handled.Fault kind line) halts new s stopped rows =
+    by_answer (handled.Fault kind line) halts new spot stopped =
         let (becomes, place_is) = stopped in
         record {
-          known = subst (λ k. Knows k p class ran.data') (sym becomes) (with_actions now p class ran.data' had.known (now.actions ++ action.Fault now.me kind line ∷ []));
+          known = subst (λ k. Knows k p class ran.data') (sym becomes) (with_actions now p class ran.data' had.known (now.actions ++ action.Fault now.answers.me kind line ∷ []));
           actions = closed new (Faults kind line) halts (ap (λ (k : Known). k.actions) becomes ∙ ap (λ me. now.actions ++ action.Fault me kind line ∷ []) same_me);
-          place =
-              subst (λ h. IsPlace todo s.place (phase_after h)) (sym halts)
+          stands =
+              subst (λ h. IsPlace todo spot (phase_after h)) (sym halts)
               (subst (λ at'. IsPlace todo at' (phase_after (Faults kind line))) (sym place_is) tt);
-          flags = subst (λ h. AreFlags ran.data' todo s.flags (phase_after h)) (sym halts) (no_flags_faulted ran.data' todo s.flags);
-          rows = rows;
         }
 
-    pub taken : (new : Known) (s : Standing) → HasStopped code now new (stop_of answer may.number) s → Each now (λ p class d. s.kept ≡ rows_kept code.live.patterns d)
-        → HasTakenIn p x time d todo old new s
-    taken new s stopped rows = by_answer answer had.halt new s stopped (rows p class ran.data' had.known)
+    pub taken : (new : Known) (spot : Place) → HasStopped code now new (stop_of answer may.number) spot → HasTakenIn p x time d todo old new spot
+    taken new spot stopped = by_answer answer had.halt new spot stopped

@@ -27,7 +27,7 @@ use Rattle.quant_norm.proofs.ClassLaw.{class_law}
 use Rattle.query_plan.specs.Nodes.{node_rows}
 use Rattle.query_plan.specs.Questions.{Asked, Met, alt_met_step, asks, awaited, branch_met_step, class_met, item_met, item_met_step, joined, kind_met_step, norm_class}
 use Rattle.query_plan.specs.Told.{TellsFlag, has_row}
-use Rattle.node_rows.proofs.PlanLaws.{Together, zipped_at}
+use Rattle.da_core.proofs.PlanLaws.{Together, zipped_at}
 use Rattle.da_core.specs.declared.waits.Alternative.{Alternative}
 use Rattle.da_core.specs.Waits.{AltTake, AltsTaken, Take, Taken, all_taken, alt_take, alts_taken, await_taken, branch_take, class_take, handler_take, item_take, items_take, kind_take, next_flag, none_taken, waits_of}
 use Rattle.da_core.proofs.WaitForms.{alt_layer, both_taken, branch_layer, item_layer, take-Add, take-Assign, take-Await, take-Call, take-Del, take-For, take-If, take-Label, take-Output, take-Pass, take-Send, take-While}

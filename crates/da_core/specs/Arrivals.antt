@@ -25,9 +25,9 @@ use Rattle.da_core.specs.declared.deliveries.Delivery.{Delivery}
 use Rattle.da_core.specs.declared.deliveries.Handled.{Handled}
 use Rattle.da_core.specs.declared.deliveries.Handled.TheVariants as handled
 use Rattle.da_core.specs.declared.known.Known.{Known}
-use Rattle.da_core.specs.declared.moves.Standing.{Standing}
-use Rattle.da_core.specs.Known.{Knows, rows_kept}
-use Rattle.da_core.specs.StandsFor.{AreFlags, IsPlace}
+use Rattle.da_core.specs.declared.place.Place.{Place}
+use Rattle.da_core.specs.Known.{Knows}
+use Rattle.da_core.specs.StandsFor.{IsPlace}
 use Rattle.da_core.specs.Waits.{waits_of}
 use Rattle.query_plan.specs.Questions.{norm_class}
 
@@ -93,7 +93,7 @@ handled_as (stop.Fault kind line) turns = handled.Fault kind line
 
 -- the handlers were run: the process knows what they leave, and their actions were added
 pub record HasHandled (p : Program) (x : Delivery) (ran : Ran) (old new : Known) (answer : Handled) : Type 0 where
-  pub mine : new.me ≡ old.me
+  pub mine : new.answers.me ≡ old.answers.me
   pub known : Knows new p x.class.now ran.data'
   pub actions : new.actions ≡ old.actions ++ ran.actions
   pub halt : ran.halt ≡ halt_of answer
@@ -111,7 +111,7 @@ goes_on (handled.Fault kind line) actions d go = record { data' = d; todo = []; 
 
 -- a handler was tried in turn n of a process that knew d: whatever comes behind it, the run is this one
 pub record HasTried (p : Program) (x : Delivery) (h : Handler) (n : ℕ) (d : Data) (old new : Known) (answer : Handled) : Type 0 where
-  pub mine : new.me ≡ old.me
+  pub mine : new.answers.me ≡ old.answers.me
   pub after : Data
   pub may : MayHandle p x new after
   pub actions : List Action
@@ -142,9 +142,7 @@ pub record MayTakeIn (p : Program) (x : Delivery) (time at : ℕ) (known : Known
   pub point : (loops : List (List Val)) × IsPoint x.code.now.code x.class.now number loops todo
 
 -- the message was taken in, and the process knows and stands as the handlers leave it
-pub record HasTakenIn (p : Program) (x : Delivery) (time : ℕ) (d : Data) (todo : List Task) (old new : Known) (s : Standing) : Type 0 where
+pub record HasTakenIn (p : Program) (x : Delivery) (time : ℕ) (d : Data) (todo : List Task) (old new : Known) (place : Place) : Type 0 where
   pub known : Knows new p x.class.now (all_handled x (received x time d)).data'
-  pub actions : let ran = all_handled x (received x time d) in new.actions ≡ old.actions ++ delivery_actions x time old.me ran
-  pub place : let ran = all_handled x (received x time d) in IsPlace todo s.place (phase_after ran.halt)
-  pub flags : let ran = all_handled x (received x time d) in AreFlags ran.data' todo s.flags (phase_after ran.halt)
-  pub rows : s.kept ≡ rows_kept x.code.now.live.patterns (all_handled x (received x time d)).data'
+  pub actions : let ran = all_handled x (received x time d) in new.actions ≡ old.actions ++ delivery_actions x time old.answers.me ran
+  pub stands : let ran = all_handled x (received x time d) in IsPlace todo place (phase_after ran.halt)

@@ -1,5 +1,6 @@
 -- How a move goes on in the code, and how the process stands behind it.
-use Rattle.std.specs.Prelude.{◌≡◌, ℕ, zero, suc, ◌≤◌, Bool, true, false, List, [], ◌∷◌, ◌++◌, map, length, Option, Some, None, slice_get}
+use Rattle.std.specs.Prelude.{◌≡◌, ℕ, zero, suc, ◌≤◌, Bool, true, false, List, [], ◌∷◌, ◌++◌, length, Option, Some, None, slice_get}
+use Rattle.std.specs.Option.{option_map}
 use Rattle.da_lang.specs.declared.code.Instr.{Instr}
 use Rattle.da_lang.specs.declared.code.Instr.TheVariants as op
 use Rattle.da_lang.specs.declared.event.Action.{Action}
@@ -23,19 +24,18 @@ use Rattle.da_core.specs.declared.compiled.ClassCode.{ClassCode}
 use Rattle.da_core.specs.declared.process.Core.{Core}
 use Rattle.da_core.specs.declared.known.Known.{Known}
 use Rattle.da_core.specs.declared.moves.Begin.{Begin}
-use Rattle.da_core.specs.declared.moves.Standing.{Standing}
 use Rattle.da_core.specs.declared.place.Place.{Place}
 use Rattle.da_core.specs.declared.place.Place.TheVariants as place
 use Rattle.da_core.specs.declared.waits.Alternative.{Alternative}
 use Rattle.da_core.specs.Compiled.{IsCodeFor, code_of}
-use Rattle.da_core.specs.Known.{Each, Knows, rows_kept}
-use Rattle.da_core.specs.StandsFor.{AreFlags, IsPlace, IsWaiting, program_of}
+use Rattle.da_core.specs.Known.{Knows}
+use Rattle.da_core.specs.StandsFor.{IsPlace, IsWaiting, program_of}
 use Rattle.da_core.specs.Waits.{waits_of}
 use Rattle.query_plan.specs.Nodes.{node_rows}
 use Rattle.query_plan.specs.Questions.{norm_class}
 use Rattle.query_plan.specs.Told.{has_row}
 
--- WHERE A MOVE GOES ON
+-- ENTRIES OF THE CODE
 
 -- the yield point of this instruction
 abbrev pub point_of : Code → Option Instr → Option YieldPoint
@@ -59,14 +59,7 @@ abbrev pub if_flag : Option Bool → Option Begin → Option Begin
 if_flag (Some true) begin = begin
 if_flag _ begin = None
 
--- where the move of this number goes on, if it is allowed
-abbrev pub begin_at : Code → ℕ → List Bool → Place → ℕ → Option Begin
-begin_at code at flags place.New zero = Some (record { entry = at; turns = 0 })
-begin_at code at flags place.Label zero = behind_turn (entry_behind code at 0)
-begin_at code at flags (place.Await count) (suc n) = if_flag (slice_get flags n) (behind_turn (entry_behind code at n))
-begin_at code at flags _ k = None
-
--- THE LEAST ROW
+-- THE ALTERNATIVE OF A MOVE
 
 -- alternative n, counted from 0, of those of a yield point, if they are there
 abbrev pub alternative_of : Option (List Alternative) → ℕ → Option Alternative
@@ -82,6 +75,26 @@ waits_behind code _ = None
 abbrev pub alternative_at : ClassCode → ℕ → ℕ → Option Alternative
 alternative_at code at zero = None
 alternative_at code at (suc n) = alternative_of (waits_behind code (slice_get code.code.instrs at)) n
+
+-- WHERE IT GOES ON
+
+-- whether the flag of an alternative has a row, if there is one
+abbrev pub flag_told : Class → Data → Option Alternative → Option Bool
+flag_told class d alternative = option_map (λ a. has_row (node_rows d (norm_class class).nodes a.flag)) alternative
+
+-- where the move of this number goes on at an `await`, if it is allowed
+abbrev pub begin_at_await : Class → Data → ClassCode → ℕ → ℕ → Option Begin
+begin_at_await class d code at zero = None
+begin_at_await class d code at (suc n) = if_flag (flag_told class d (alternative_at code at (suc n))) (behind_turn (entry_behind code.code at n))
+
+-- where it goes on, if it is allowed, for a process of the class that knows d and stands so
+abbrev pub begin_at : Class → Data → ClassCode → ℕ → Place → ℕ → Option Begin
+begin_at class d code at place.New zero = Some (record { entry = at; turns = 0 })
+begin_at class d code at place.Label zero = behind_turn (entry_behind code.code at 0)
+begin_at class d code at (place.Await count) k = begin_at_await class d code at k
+begin_at class d code at _ k = None
+
+-- THE LEAST ROW
 
 -- what a process knows when it has bound the least row that the alternative finds, if it finds one
 abbrev pub bound_by : Class → Option Alternative → Data → Data
@@ -135,25 +148,20 @@ abbrev pub place_at : Bool → ℕ → Place
 place_at true count = place.Label
 place_at false count = place.Await count
 
--- whether the flag of each alternative has a row
-abbrev pub flags_told : Class → Data → List Alternative → List Bool
-flags_told class d alternatives = map (λ a. has_row (node_rows d (norm_class class).nodes a.flag)) alternatives
-
--- it waits at the yield point, with the flags of its alternatives
-pub record StandsAt (code : ClassCode) (known : Known) (number : ℕ) (s : Standing) : Type 0 where
+-- it waits there, at the yield point of this number
+pub record StandsAt (code : ClassCode) (number : ℕ) (place : Place) : Type 0 where
   pub has : HasPoint code number
-  pub place : s.place ≡ place_at has.point.label (length has.alternatives)
-  pub flags : Each known (λ p class d. s.flags ≡ flags_told class d has.alternatives)
+  pub is : place ≡ place_at has.point.label (length has.alternatives)
 
--- how the process stands where its code stopped so; the end and a fault are told
-abbrev pub HasStopped : ClassCode → Known → Known → Stop → Standing → Type 0
-HasStopped code old new (stop.Yield number) s = (new ≡ old) × StandsAt code old number s
-HasStopped code old new stop.Ended s = (new ≡ with_action old (action.End old.me)) × (s.place ≡ place.Ended)
-HasStopped code old new (stop.Fault kind line) s = (new ≡ with_action old (action.Fault old.me kind line)) × (s.place ≡ place.Faulted)
+-- where the process stands whose code stopped so; the end and a fault are told
+abbrev pub HasStopped : ClassCode → Known → Known → Stop → Place → Type 0
+HasStopped code old new (stop.Yield number) stands = (new ≡ old) × StandsAt code number stands
+HasStopped code old new stop.Ended stands = (new ≡ with_action old (action.End old.answers.me)) × (stands ≡ place.Ended)
+HasStopped code old new (stop.Fault kind line) stands = (new ≡ with_action old (action.Fault old.answers.me kind line)) × (stands ≡ place.Faulted)
 
--- the process stands so behind an event
-abbrev pub settled : Core → Standing → Core
-settled core s = record core { place = s.place; flags = s.flags; kept = s.kept; spent = false }
+-- the process stands there behind an event
+abbrev pub settled : Core → Place → Core
+settled core stands = record core { place = stands; spent = false }
 
 -- the actions of a move
 abbrev pub move_actions : ℕ → ℕ → Ran → List Action
@@ -165,10 +173,8 @@ IsBehind class code m todo Waiting = IsWaiting class code.code m todo
 IsBehind class code m todo _ = Unit {0}
 
 -- the run was made, and the process knows and stands as it leaves it
-pub record HasRun (p : Program) (class : Class) (code : ClassCode) (me k : ℕ) (ran : Ran) (old new : Known) (m : Machine) (s : Standing) : Type 0 where
+pub record HasRun (p : Program) (class : Class) (code : ClassCode) (me k : ℕ) (ran : Ran) (old new : Known) (m : Machine) (place : Place) : Type 0 where
   pub known : Knows new p class ran.data'
   pub actions : new.actions ≡ old.actions ++ move_actions me k ran
-  pub place : IsPlace ran.todo s.place (phase_after ran.halt)
-  pub flags : AreFlags ran.data' ran.todo s.flags (phase_after ran.halt)
-  pub rows : s.kept ≡ rows_kept code.live.patterns ran.data'
+  pub stands : IsPlace ran.todo place (phase_after ran.halt)
   pub behind : IsBehind class code m ran.todo (phase_after ran.halt)

@@ -1,5 +1,5 @@
 -- The worlds that a process in code stands for.
-use Rattle.std.specs.Prelude.{◌≡◌, ℕ, Bool, false, List, [], ◌∷◌, map, length, Some}
+use Rattle.std.specs.Prelude.{◌≡◌, ℕ, Bool, false, List, [], ◌∷◌, length, Some}
 use Rattle.da_lang.specs.declared.code.Instr.TheVariants as op
 use Rattle.da_lang.specs.declared.program.Alt.{Alt}
 use Rattle.da_lang.specs.declared.program.Class.{Class}
@@ -7,15 +7,12 @@ use Rattle.da_lang.specs.declared.program.Item.{Item}
 use Rattle.da_lang.specs.declared.program.ItemKind.{ItemKind}
 use Rattle.da_lang.specs.declared.program.ItemKind.TheOpen as kind
 use Rattle.da_lang.specs.declared.program.ItemKind.TheOpen.{ItemKind-F}
-use Rattle.da_lang.specs.declared.program.ItemKind.TheViews.{out-Alt}
 use Rattle.da_lang.specs.declared.program.Program.{Program}
 use Rattle.da_lang.specs.declared.program.RBranch.{RBranch}
-use Rattle.da_lang.specs.Live.{kept}
-use Rattle.da_lang.specs.Queries.{holds}
 use Rattle.da_lang.specs.Shaped.{ShapedData, ShapedTasks}
 use Rattle.da_lang.specs.Steps.{first_tasks}
 use Rattle.da_lang.specs.Turns.{kind_of}
-use Rattle.da_lang.specs.World.{Data, Task, Do, World, Phase, New, Waiting, Ended, Faulted}
+use Rattle.da_lang.specs.World.{Task, Do, World, Phase, New, Waiting, Ended, Faulted}
 use Rattle.da_machine.specs.declared.code.Code.{Code}
 use Rattle.da_machine.specs.declared.machine.Machine.{Machine}
 use Rattle.da_machine.specs.CodeFor.{Has, CodeFor}
@@ -56,10 +53,6 @@ IsPlace todo place.Ended Ended = Unit {0}
 IsPlace todo place.Faulted Faulted = Unit {0}
 IsPlace todo place phase = ⊥
 
--- where the process waits at an `await`, each alternative holds as its flag says
-abbrev pub AreFlags : Data → List Task → List Bool → Phase → Type 0
-AreFlags d todo flags phase = phase ≡ Waiting → (alts : List Alt) → BeginsWith todo (kind.Await alts) → flags ≡ map (λ a. holds d (out-Alt a).cond []) alts
-
 -- the machine stands in front of a yield point, and the code there stands for what is to do
 pub record IsWaiting (class : Class) (code : Code) (m : Machine) (todo : List Task) : Type 0 where
   pub number : ℕ
@@ -74,8 +67,7 @@ IsAt p class code m w Ended = Unit {0}
 IsAt p class code m w Faulted = Unit {0}
 
 -- A core stands for a world that is as types say, of a process of a compiled program: what it keeps stands for what the process
--- knows, it keeps as many rows, stands at the same place with the same alternatives, and the code where its machine stands
--- stands for what is to do. It is not spent.
+-- knows, it stands at the same place, and the code where its machine stands stands for what is to do. It is not spent.
 pub record StandsFor (core : Core) (w : World) : Type 0 where
   pub unspent : core.spent ≡ false
   pub compiled : IsCompiled core.compiled.now
@@ -85,10 +77,8 @@ pub record StandsFor (core : Core) (w : World) : Type 0 where
   pub knows : ShapedData (program_of core) class w.data'
   pub tasks : ShapedTasks (program_of core) class w.data'.me w.todo
   pub stands : Knows core.known (program_of core) class w.data'
-  pub rows : core.kept ≡ kept class w.data'
   pub no_actions : core.known.actions ≡ []
   pub place : IsPlace w.todo core.place w.phase
-  pub flags : AreFlags w.data' w.todo core.flags w.phase
   pub at : IsAt (program_of core) class code.code core.machine w w.phase
 
 -- it holds of each world that the core stands for

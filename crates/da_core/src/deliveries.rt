@@ -14,7 +14,8 @@ ghost use Rattle.std.specs.Prelude.{◌≡◌, ◌≤◌, [], ℕ, IfOk, List, O
 
 use crate::compiled::ClassCode;
 use crate::known::{Known, bind};
-use crate::moves::{Standing, stand};
+use crate::moves::stand;
+use crate::place::Place;
 use da_lang::{Class, FaultKind, Handler, Instr};
 use da_machine::{Code, Machine, Stop, run_code};
 use da_pattern::match_pattern;
@@ -39,28 +40,28 @@ pub enum Handled {
     Fault { kind: FaultKind, line: u32 },
 }
 
-/// Takes in a message that was sent at this time, for a process that waits at the yield point at this place, and tells how
+/// Takes in a message that was sent at this time, for a process that waits at the yield point at this place, and tells where
 /// the process stands then.
 pub fn take_in(
     delivery: &Delivery<'_>,
     time: u64,
     at: u64,
     known: &mut Known<'_>,
-) -> Result<Standing, NoMemory>
+) -> Result<Place, NoMemory>
     requires { (p : Program) × (d : Data) × (todo : List Task) × MayTakeIn p delivery.now time at known.old d todo }
-    ensures taken { IfOk result (λ s. (p : Program) (d : Data) (todo : List Task)
+    ensures taken { IfOk result (λ place. (p : Program) (d : Data) (todo : List Task)
         → MayTakeIn p delivery.now time at known.old d todo
-        → HasTakenIn p delivery.now time d todo known.old known.new s) }
+        → HasTakenIn p delivery.now time d todo known.old known.new place) }
     ensures part { OnErr result ((p : Program) (d : Data) (todo : List Task)
         → MayTakeIn p delivery.now time at known.old d todo
         → let ran = all_handled delivery.now (received delivery.now time d) in
-        IsFront known.old.actions known.new.actions (delivery_actions delivery.now time known.old.me ran)) }
+        IsFront known.old.actions known.new.actions (delivery_actions delivery.now time known.old.answers.me ran)) }
 {
     known.receive(delivery.message, delivery.from, time)?;
     let answer = handle_all(delivery, known)?;
     let stop = stop_behind(answer, &delivery.code.code, at);
     match stand(delivery.code, stop, known) {
-        Ok(standing) => Ok(standing),
+        Ok(place) => Ok(place),
         Err(e) => Err(e),
     }
 }
@@ -185,10 +186,12 @@ fn row_for(
 {
     let alloc = known.alloc;
     let none = Row::new(alloc);
-    let first = match_pattern(alloc, &handler.message, m, &none, &known.slots, known.me)?;
+    let slots = &known.answers.slots;
+    let me = known.answers.me;
+    let first = match_pattern(alloc, &handler.message, m, &none, slots, me)?;
     let Some(row) = first else {
         return Ok(None);
     };
     let sender = Value::Proc(from);
-    match_pattern(alloc, &handler.from, &sender, &row, &known.slots, known.me)
+    match_pattern(alloc, &handler.from, &sender, &row, slots, me)
 }

@@ -4,6 +4,7 @@
 
 mod answers;
 mod compiled;
+mod counted;
 mod deliveries;
 mod known;
 mod messages;

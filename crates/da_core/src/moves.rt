@@ -1,6 +1,6 @@
 //! The run of a move.
-ghost use Rattle.da_core.specs.Begins.{HasPoint, HasRun, HasStopped, MayRun, MayStop, StandsAt, alternative_at as alternative_lem, begin_at, behind_turn, bound_by, entry_behind, move_actions, place_at as place_lem};
-ghost use Rattle.da_core.specs.Known.{Each, Knows, KnowsSome, rows_kept};
+ghost use Rattle.da_core.specs.Begins.{HasPoint, HasRun, HasStopped, MayRun, MayStop, StandsAt, alternative_at as alternative_lem, begin_at, begin_at_await as begin_at_await_lem, behind_turn, bound_by, entry_behind, move_actions, place_at as place_lem};
+ghost use Rattle.da_core.specs.Known.{Each, Knows, KnowsSome};
 ghost use Rattle.da_lang.specs.Runs.{run_to_yield};
 ghost use Rattle.da_lang.specs.World.{Data, Task};
 ghost use Rattle.da_lang.specs.declared.program.Class.{Class};
@@ -9,14 +9,14 @@ ghost use Rattle.da_machine.specs.RunsTo.{IsFront};
 ghost use Rattle.std.specs.Option.{option_copied};
 ghost use Rattle.std.specs.Prelude.{◌≡◌, ℕ, IfOk, List, OnErr, OnOk};
 
-use crate::answers::{flags_of, found, kept};
+use crate::answers::found;
 use crate::compiled::ClassCode;
 use crate::known::{Known, bind};
 use crate::place::Place;
 use crate::waits::Alternative;
 use da_lang::{Action, Instr};
 use da_machine::{Code, Machine, Stop, run_code};
-use da_values::{List, NoMemory};
+use da_values::NoMemory;
 use std::alloc::Global;
 
 /// Where a move goes on in the code, and how many turns of the event were taken by then.
@@ -26,18 +26,9 @@ pub struct Begin {
     pub turns: u32,
 }
 
-/// Where a process stands; at an `await` for each alternative whether its condition holds; and how many rows its live patterns
-/// match.
-#[derive(Debug, Drop)]
-pub struct Standing {
-    pub place: Place,
-    pub flags: List<bool>,
-    pub kept: u128,
-}
-
 /// Where the move of this number goes on, or `None` where it is not allowed, for a process that stands so.
-pub fn begin_in(code: &Code, at: u64, flags: &[bool], place: Place, k: u32) -> Option<Begin>
-    ensures { result ≡ begin_at code.now at flags.now place k }
+pub fn begin_in(code: &ClassCode, at: u64, place: Place, k: u32, known: &Known<'_>) -> Option<Begin>
+    ensures { Each known.now (λ p class d. result ≡ begin_at class d code.now at place k) }
 {
     match place {
         Place::New => {
@@ -52,22 +43,27 @@ pub fn begin_in(code: &Code, at: u64, flags: &[bool], place: Place, k: u32) -> O
         }
         Place::Label => {
             if k == 0 {
-                begin_behind(code, at, 0)
+                begin_behind(&code.code, at, 0)
             } else {
                 None
             }
         }
-        Place::Await(_) => {
-            let n = k.checked_sub(1)? as usize;
-            let flag = flags.get(n)?;
-            if *flag {
-                begin_behind(code, at, n)
-            } else {
-                None
-            }
-        }
+        Place::Await(_) => begin_at_await(code, at, k, known),
         Place::Ended => None,
         Place::Faulted => None,
+    }
+}
+
+// The same at an `await`.
+fn begin_at_await(code: &ClassCode, at: u64, k: u32, known: &Known<'_>) -> Option<Begin>
+    ensures { Each known.now (λ p class d. result ≡ begin_at_await_lem class d code.now at k) }
+{
+    let n = k.checked_sub(1)? as usize;
+    let alternative = alternative_at(code, at, k)?;
+    if known.answers.flag(alternative.flag) {
+        begin_behind(&code.code, at, n)
+    } else {
+        None
     }
 }
 
@@ -92,8 +88,8 @@ fn entry_in(code: &Code, at: u64, n: usize) -> Option<u64>
     }
 }
 
-// The alternative that the move of this number takes at a place in the code, or `None` where it takes none.
-fn alternative_at(code: &ClassCode, at: u64, k: u32) -> Option<&Alternative>
+/// The alternative that the move of this number takes at a place in the code, or `None` where it takes none.
+pub fn alternative_at(code: &ClassCode, at: u64, k: u32) -> Option<&Alternative>
     ensures { option_copied result ≡ alternative_lem code.now at k }
 {
     let n = k.checked_sub(1)? as usize;
@@ -132,74 +128,61 @@ pub fn run_from(
     k: u32,
     known: &mut Known<'_>,
     machine: &mut Machine,
-) -> Result<Standing, NoMemory>
+) -> Result<Place, NoMemory>
     requires { (p : Program) × (class : Class) × (d : Data) × (todo : List Task)
         × MayRun p class code.now known.old machine.old k begin d todo }
-    ensures runs { IfOk result (λ s. (p : Program) (class : Class) (d : Data) (todo : List Task)
+    ensures runs { IfOk result (λ place. (p : Program) (class : Class) (d : Data) (todo : List Task)
         → MayRun p class code.now known.old machine.old k begin d todo
         → let ran = run_to_yield class begin.turns d todo in
-        HasRun p class code.now d.me k ran known.old known.new machine.new s) }
+        HasRun p class code.now d.me k ran known.old known.new machine.new place) }
     ensures part { OnErr result ((p : Program) (class : Class) (d : Data) (todo : List Task)
         → MayRun p class code.now known.old machine.old k begin d todo
         → let ran = run_to_yield class begin.turns d todo in
         IsFront known.old.actions known.new.actions (move_actions d.me k ran)) }
 {
-    known.actions.push(Action::Took { p: known.me, k })?;
+    known.actions.push(Action::Took {
+        p: known.answers.me,
+        k,
+    })?;
     bind_found(alternative_at(code, machine.place, k), known)?;
     machine.place = begin.entry;
     machine.turns = begin.turns;
     let stop = run_code(alloc, &code.code, machine, known)?;
     match stand(code, stop, known) {
-        Ok(standing) => Ok(standing),
+        Ok(place) => Ok(place),
         Err(e) => Err(e),
     }
 }
 
-/// How a process stands whose code stopped so. The end and a fault are told.
-pub fn stand(code: &ClassCode, stop: Stop, known: &mut Known<'_>) -> Result<Standing, NoMemory>
-    requires stops { MayStop code.now stop }
-    requires knows { KnowsSome known.old }
-    ensures stops { IfOk result (λ s. HasStopped code.now known.old known.new stop s) }
-    ensures rows { IfOk result (λ s. Each known.old (λ p class d. s.kept ≡ rows_kept code.now.live.patterns d)) }
+/// Where a process stands whose code stopped so. The end and a fault are told.
+pub fn stand(code: &ClassCode, stop: Stop, known: &mut Known<'_>) -> Result<Place, NoMemory>
+    requires { MayStop code.now stop }
+    ensures stops { IfOk result (λ place. HasStopped code.now known.old known.new stop place) }
     ensures same { OnErr result (known.new.actions ≡ known.old.actions) }
 {
-    let kept = kept(known, &code.live)?;
     match stop {
-        Stop::Yield(number) => wait_at(code, number, kept, known),
+        Stop::Yield(number) => wait_at(code, number),
         Stop::Ended => {
-            known.actions.push(Action::End { p: known.me })?;
-            Ok(Standing {
-                place: Place::Ended,
-                flags: List::new(known.alloc),
-                kept,
-            })
+            known.actions.push(Action::End {
+                p: known.answers.me,
+            })?;
+            Ok(Place::Ended)
         }
         Stop::Fault { kind, line } => {
             known.actions.push(Action::Fault {
-                p: known.me,
+                p: known.answers.me,
                 kind,
                 line,
             })?;
-            Ok(Standing {
-                place: Place::Faulted,
-                flags: List::new(known.alloc),
-                kept,
-            })
+            Ok(Place::Faulted)
         }
     }
 }
 
-// How a process waits at the yield point of this number, which keeps so many rows.
-fn wait_at(
-    code: &ClassCode,
-    number: u32,
-    kept: u128,
-    known: &Known<'_>,
-) -> Result<Standing, NoMemory>
-    requires there { HasPoint code.now number }
-    requires knows { KnowsSome known.now }
-    ensures stands { IfOk result (λ s. StandsAt code.now known.now number s) }
-    ensures rows { IfOk result (λ s. s.kept ≡ kept) }
+// Where a process stands that waits at the yield point of this number.
+fn wait_at(code: &ClassCode, number: u32) -> Result<Place, NoMemory>
+    requires { HasPoint code.now number }
+    ensures { IfOk result (λ place. StandsAt code.now number place) }
 {
     let Some(point) = code.code.yields.get(number as usize) else {
         unreachable!()
@@ -207,9 +190,7 @@ fn wait_at(
     let Some(alternatives) = code.waits.get(number as usize) else {
         unreachable!()
     };
-    let place = place_at(point.label, alternatives.len())?;
-    let flags = flags_of(known, alternatives.as_slice())?;
-    Ok(Standing { place, flags, kept })
+    place_at(point.label, alternatives.len())
 }
 
 // Where a process waits, at a label or at an `await` of so many alternatives. No memory has room for more than 32 bits

@@ -1,39 +1,46 @@
 //! A process in code, its moves and deliveries.
 ghost use Rattle.da_core.specs.Arrivals.{MayArrive, arrival};
-ghost use Rattle.da_core.specs.Begins.{CanMove, settled};
-ghost use Rattle.da_core.specs.Compiled.{IsCompiled, program_of as compiled_program};
+ghost use Rattle.da_core.specs.Begins.{CanMove, alternative_at as alternative_lem, settled};
+ghost use Rattle.da_core.specs.Compiled.{IsCompiled, code_of, program_of as compiled_program};
 ghost use Rattle.da_core.specs.Made.{HasBegun, HasMade, phase_at, stopped_at as stopped_lem};
-ghost use Rattle.da_core.specs.StandsFor.{IsPlace, IsReady, StandsFor, Whichever, is_spent, program_of};
+ghost use Rattle.da_core.specs.declared.compiled.ClassCode.{ClassCode as ClassCodeOf};
+ghost use Rattle.da_core.specs.StandsFor.{BeginsWith, IsPlace, IsReady, StandsFor, Whichever, is_spent, program_of};
 ghost use Rattle.da_core.specs.Told.{answers_of, kept_of};
+ghost use Rattle.da_lang.specs.declared.program.Alt.{Alt as AltOf};
+ghost use Rattle.da_lang.specs.declared.program.ItemKind.TheOpen as kind;
+ghost use Rattle.da_lang.specs.declared.program.ItemKind.TheViews.{out-Alt};
+ghost use Rattle.da_lang.specs.Queries.{holds};
 ghost use Rattle.da_lang.specs.Shaped.{IsProcess};
 ghost use Rattle.da_lang.specs.Steps.{move_step, proc_step};
 ghost use Rattle.da_lang.specs.World.{Waiting, class_of, opening};
 ghost use Rattle.da_machine.specs.RunsTo.{IsFront};
-ghost use Rattle.std.specs.Prelude.{◌≡◌, ◌↔◌, ◌++◌, IfOk, IsErrOf, IsSome, IsTrue, MatchOption, None, OnErr, OnOk, true, false};
+ghost use Rattle.std.specs.Option.{option_copied};
+ghost use Rattle.std.specs.Prelude.{◌≡◌, ◌↔◌, ◌++◌, ◌+◌, [], ℕ, IfOk, IsErrOf, IsSome, IsTrue, List as Seq, MatchOption, None, OnErr, OnOk, Some, slice_get, true, false};
 
-use crate::answers::{kept, tell_answers};
+use crate::answers::tell_answers;
 use crate::compiled::{ClassCode, Compiled};
 use crate::deliveries::{Delivery, take_in};
 use crate::known::Known;
-use crate::moves::{Begin, Standing, begin_in, run_from};
+use crate::moves::{Begin, alternative_at, begin_in, run_from};
 use crate::opening::first_values;
 use crate::place::{Place, StepFault, Stopped};
+use crate::waits::Alternative;
 use da_lang::Action;
 use da_machine::Machine;
-use da_values::{List, NoMemory, Value};
+use da_values::{List, NoMemory, Steps, Value};
+use delta_rules::Answers;
 use std::alloc::Global;
 use std::mem;
+use std::sync::ledger::Ledger;
 
 /// A process of a compiled program. Contracts see the worlds that it stands for, by `StandsFor`.
-#[derive(Debug, Drop)]
+#[derive(Drop)]
 pub struct Core<'c> {
     alloc: Global,
     compiled: &'c Compiled,
     known: Known<'c>,
     machine: Machine,
     place: Place,
-    flags: List<bool>,
-    kept: u128,
     spent: bool,
 }
 
@@ -59,22 +66,16 @@ impl<'c> Core<'c> {
         let known = Known {
             alloc,
             plan: &code.plan,
-            me,
             clock: 0,
-            slots,
-            sent: List::new(alloc),
-            received: List::new(alloc),
+            answers: Answers::new(alloc, &code.plan, me, &slots)?,
             actions: List::new(alloc),
         };
-        let kept = kept(&known, &code.live)?;
         Ok(Core {
             alloc,
             compiled,
             known,
             machine: Machine::new(alloc, entry),
             place: Place::New,
-            flags: List::new(alloc),
-            kept,
             spent: false,
         })
     }
@@ -96,12 +97,11 @@ impl<'c> Core<'c> {
     }
 
     /// How many rows the process keeps of its histories. It takes no memory.
-    #[tactic(auto, using(crate::proofs::Moving::keeps_rows))]
     pub fn kept(&self) -> u128
         ensures { Whichever self.now (λ w.
             result ≡ kept_of (class_of (program_of self.now) w.data'.me) w.data') }
     {
-        self.kept
+        self.known.answers.kept()
     }
 
     /// Tells the answers of all queries of the process, ascending by number, in `out`. Where memory is refused, `out` has a
@@ -125,6 +125,21 @@ impl<'c> Core<'c> {
             IsTrue result ↔ IsSome (proc_step (program_of self.now) w (move_step k))) }
     {
         !self.spent && self.begin(k).is_some()
+    }
+
+    /// Whether the condition of the alternative of this number holds, where the process waits at an `await`. It takes one step
+    /// and no memory, and reads no row.
+    pub fn flag_of<L: Ledger>(&self, k: u32, steps: &mut Steps<L>) -> bool
+        ensures holds { Whichever self.now (λ w. (alts : Seq AltOf) (place : ℕ) (alt : AltOf)
+            → w.phase ≡ Waiting → BeginsWith w.todo (kind.Await alts) → k ≡ place + 1 → slice_get alts place ≡ Some alt
+            → result ≡ holds w.data' (out-Alt alt).cond []) }
+        ensures steps { steps.new ≡ steps.old + 1 }
+    {
+        steps.tick();
+        match self.alternative(k) {
+            Some(alternative) => self.known.answers.flag(alternative.flag),
+            None => false,
+        }
     }
 
     /// Makes the move of this number, and adds its actions to `out`. `Spent` comes exactly where an earlier event found no
@@ -167,8 +182,8 @@ impl<'c> Core<'c> {
             &mut self.machine,
         );
         *out = mem::replace(&mut self.known.actions, List::new(self.alloc));
-        let standing = run?;
-        Ok(self.settle(standing))
+        let place = run?;
+        Ok(self.settle(place))
     }
 
     /// Takes in a message that process `from` sent at this time, and adds the actions of the delivery to `out`: the message
@@ -210,8 +225,8 @@ impl<'c> Core<'c> {
         }
         let compiled = self.compiled;
         let (Some(class), Some(code)) = (
-            compiled.class_of(self.known.me),
-            compiled.code_of(self.known.me),
+            compiled.class_of(self.known.answers.me),
+            compiled.code_of(self.known.answers.me),
         ) else {
             unreachable!()
         };
@@ -225,21 +240,18 @@ impl<'c> Core<'c> {
         self.known.actions = mem::replace(out, List::new(self.alloc));
         let run = take_in(&delivery, time, self.machine.place, &mut self.known);
         *out = mem::replace(&mut self.known.actions, List::new(self.alloc));
-        let standing = run?;
-        Ok(self.settle(standing))
+        let place = run?;
+        Ok(self.settle(place))
     }
 
-    // Stands so behind an event, and tells how the process has stopped.
-    fn settle(&mut self, standing: Standing) -> Stopped
-        ensures stopped { result ≡ stopped_lem standing.place }
-        ensures settled { self.new ≡ settled self.old standing }
+    // Stands at this place behind an event, and tells how the process has stopped.
+    fn settle(&mut self, place: Place) -> Stopped
+        ensures stopped { result ≡ stopped_lem place }
+        ensures settled { self.new ≡ settled self.old place }
     {
-        let stopped = stopped_at(standing.place);
-        self.place = standing.place;
-        self.flags = standing.flags;
-        self.kept = standing.kept;
+        self.place = place;
         self.spent = false;
-        stopped
+        stopped_at(place)
     }
 
     // Whether the process waits at a label or an `await`.
@@ -257,15 +269,18 @@ impl<'c> Core<'c> {
             (λ found. CanMove self.now w k found.0.now found.1)) }
     {
         let compiled = self.compiled;
-        let code = compiled.code_of(self.known.me)?;
-        let begin = begin_in(
-            &code.code,
-            self.machine.place,
-            self.flags.as_slice(),
-            self.place,
-            k,
-        )?;
+        let code = compiled.code_of(self.known.answers.me)?;
+        let begin = begin_in(code, self.machine.place, self.place, k, &self.known)?;
         Some((code, begin))
+    }
+
+    // The alternative that the move of this number takes where the process stands in the code, if it takes one.
+    fn alternative(&self, k: u32) -> Option<&Alternative>
+        ensures { (code : ClassCodeOf) → code_of self.now.compiled.now self.now.known.answers.me ≡ Some code
+            → option_copied result ≡ alternative_lem code self.now.machine.place k }
+    {
+        let code = self.compiled.code_of(self.known.answers.me)?;
+        alternative_at(code, self.machine.place, k)
     }
 }
 

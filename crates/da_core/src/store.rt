@@ -8,10 +8,10 @@ ghost use Rattle.std.specs.Prelude.{◌≡◌};
 
 use crate::answers;
 use crate::known::Known;
-use crate::slots::{in_slot, put, take_set};
+use crate::slots::in_slot;
 use da_lang::Action;
 use da_machine::Store;
-use da_values::{NoMemory, Row, SetVal, Value, copy_value, set_insert, set_remove};
+use da_values::{NoMemory, Row, SetVal, Value, copy_value};
 
 impl Store for Known<'_> {
     ghost stands = { Knows };
@@ -19,7 +19,7 @@ impl Store for Known<'_> {
     ghost actions = { λ known. known.actions };
 
     fn slot(&self, s: u16) -> Result<Value, NoMemory> {
-        match in_slot(&self.slots, s) {
+        match in_slot(&self.answers.slots, s) {
             Some(Value::Int(number)) => Ok(Value::Int(*number)),
             Some(v) => copy_value(self.alloc, v),
             None => Ok(Value::Proc(0)),
@@ -31,7 +31,7 @@ impl Store for Known<'_> {
     }
 
     fn me(&self) -> u16 {
-        self.me
+        self.answers.me
     }
 
     fn ask(&self, q: u32) -> Result<Value, NoMemory> {
@@ -43,21 +43,17 @@ impl Store for Known<'_> {
     }
 
     fn set_slot(&mut self, s: u16, v: Value) -> Result<(), NoMemory> {
-        self.give(s, v);
+        self.give(s, &v)?;
         Ok(())
     }
 
     fn add(&mut self, s: u16, v: Value) -> Result<(), NoMemory> {
-        let mut set = take_set(self.alloc, &mut self.slots, s);
-        let _ = set_insert(&mut set, v)?;
-        put(&mut self.slots, s, Value::Set(set));
+        self.add_to(s, &v)?;
         Ok(())
     }
 
     fn del(&mut self, s: u16, v: &Value) -> Result<(), NoMemory> {
-        let mut set = take_set(self.alloc, &mut self.slots, s);
-        let _ = set_remove(&mut set, v);
-        put(&mut self.slots, s, Value::Set(set));
+        self.take_from(s, v)?;
         Ok(())
     }
 
@@ -71,7 +67,10 @@ impl Store for Known<'_> {
 
     fn output(&mut self, v: &Value) -> Result<(), NoMemory> {
         let v = copy_value(self.alloc, v)?;
-        self.actions.push(Action::Out { p: self.me, v })
+        self.actions.push(Action::Out {
+            p: self.answers.me,
+            v,
+        })
     }
 }
 

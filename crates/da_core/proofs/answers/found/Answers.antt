@@ -1,16 +1,15 @@
-use Rattle.std.proofs.Common.{◌≡◌, ◌∙◌}
+use Rattle.std.proofs.Common.{◌≡◌}
 use Rattle.std.proofs.lemmas.Result.{IfOk-weaker}
 use Rattle.da_lang.specs.Queries.{least_row}
-use Rattle.node_rows.specs.Told.{least_found}
-use Rattle.da_core.specs.Known.{Each, lent}
-use Rattle.da_core.proofs.Asking.{plain_nodes, row_told}
+use Rattle.da_lang.specs.World.{Data}
+use Rattle.delta_rules.specs.Keeping.{Keeps}
+use Rattle.delta_rules.specs.Told.{least_found}
+use Rattle.da_core.specs.Known.{Each}
+use Rattle.da_core.proofs.Asking.{row_told}
 use Rattle.da_core.proofs.answers.found.Goals as goal
-
-pub found-requires : goal.found-requires
-found-requires c = plain_nodes c.args.known.now c.requires
 
 pub returns : goal.returns
 returns c =
-    IfOk-weaker c.found.result (λ row. row ≡ least_found (lent c.facts.result) c.args.known.now.plan.now c.args.q)
+    IfOk-weaker c.found.result (λ row. (e : Data) → Keeps c.args.known.now.answers c.args.known.now.plan.now.nodes e → row ≡ least_found e c.args.known.now.plan.now c.args.q)
     (λ row. Each c.args.known.now (λ p class d. row ≡ least_row class.queries c.args.q d))
-    (λ _ is p class d knows. is ∙ row_told c.args.known.now p class d knows (lent c.facts.result) (c.facts.ensures p class d knows) c.args.q) c.found.ensures
+    (λ row told p class d knows. row_told c.args.known.now p class d knows c.args.q row told) c.found.ensures

@@ -1,6 +1,6 @@
 use Rattle.std.proofs.Common.{subst, sym}
 use Rattle.da_core.specs.Begins.{HasStopped, MayStop}
-use Rattle.da_core.proofs.Taking.{TakenPart, can_then, handled_front, knows_some, may_stop, received_front, stop_front_of, taken}
+use Rattle.da_core.proofs.Taking.{TakenPart, can_then, handled_front, may_know, may_stop, received_front, stop_front_of, taken}
 use Rattle.da_machine.proofs.Fronts.{on_err}
 use Rattle.da_core.proofs.deliveries.take_in.Goals as goal
 
@@ -20,24 +20,22 @@ returns-in_err-answer-clause-part c =
     handled_front c.args.delivery.now c.args.time c.args.at c.args.known.now p d todo may c.receive.new.self c.in_ok-receive.ensures.known c.in_ok-receive.ensures.actions
     c.handle_all.new.known.actions c.in_err-answer.ensures.part)
 
-pub stand-requires-clause-stops : goal.stand-requires-clause-stops
-stand-requires-clause-stops c =
+pub receive-requires : goal.receive-requires
+receive-requires c =
+    let (p, d, todo, may) = c.requires in
+    may_know c.args.delivery.now c.args.time c.args.at c.args.known.now p d todo may
+
+pub stand-requires : goal.stand-requires
+stand-requires c =
     let (p, d, todo, may) = c.requires in
     subst (MayStop c.args.delivery.now.code.now) (sym (c.stop_behind-stop.ensures may.number may.there))
     (may_stop c.args.delivery.now c.args.time c.args.at c.args.known.now p d todo may c.receive.new.self c.in_ok-receive.ensures.known c.in_ok-receive.ensures.actions c.in_ok-answer.answer)
 
-pub stand-requires-clause-knows : goal.stand-requires-clause-knows
-stand-requires-clause-knows c =
-    let (p, d, todo, may) = c.requires in
-    knows_some c.args.delivery.now c.args.time c.args.at c.args.known.now p d todo may c.receive.new.self c.in_ok-receive.ensures.known c.in_ok-receive.ensures.actions
-    c.handle_all.new.known c.in_ok-answer.answer c.in_ok-answer.ensures.runs
-
 pub returns-in-Ok-clause-taken : goal.returns-in-Ok-clause-taken
 returns-in-Ok-clause-taken c = λ p d todo may.
     taken c.args.delivery.now c.args.time c.args.at c.args.known.now p d todo may c.receive.new.self c.in_ok-receive.ensures.known c.in_ok-receive.ensures.actions
-    c.handle_all.new.known c.in_ok-answer.answer c.in_ok-answer.ensures.runs c.stand.new.known c.in-Ok.standing
-    (subst (λ stop. HasStopped c.args.delivery.now.code.now c.handle_all.new.known c.stand.new.known stop c.in-Ok.standing) (c.stop_behind-stop.ensures may.number may.there) c.in-Ok.ensures.stops)
-    c.in-Ok.ensures.rows
+    c.handle_all.new.known c.in_ok-answer.answer c.in_ok-answer.ensures.runs c.stand.new.known c.in-Ok.place
+    (subst (λ stop. HasStopped c.args.delivery.now.code.now c.handle_all.new.known c.stand.new.known stop c.in-Ok.place) (c.stop_behind-stop.ensures may.number may.there) c.in-Ok.ensures.stops)
 
 pub returns-in-Err-clause-part : goal.returns-in-Err-clause-part
 returns-in-Err-clause-part c = λ p d todo may.

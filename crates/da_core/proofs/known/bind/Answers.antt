@@ -1,7 +1,7 @@
 use Rattle.std.proofs.Common.{rules, ◌≡◌, ◌∙◌, refl}
 use Rattle.std.proofs.lemmas.Slice.Zip.{either_empty_from_Zip}
 use Rattle.da_values.specs.Value.{vals}
-use Rattle.da_core.proofs.Binding.{binds_end, binds_first, binds_on}
+use Rattle.da_core.proofs.Binding.{binds_end, binds_first, binds_on, binds_some}
 use Rattle.da_core.proofs.known.bind.Goals as goal
 
 pub loop-slot-init : goal.loop-slot-init
@@ -10,9 +10,12 @@ loop-slot-init c =
     let those : vals c.into_iter-slot-iterator.result.b.rest.now ≡ c.args.row.now = search rules in
     (binds_first c.args.slots.now _ c.args.row.now _ c.args.known.now all those, refl)
 
+pub give-requires : goal.give-requires
+give-requires c = binds_some c.args.slots.now _ c.args.row.now _ c.args.known.now c.loop-slot.known c.requires c.loop-slot.invariant.0
+
 pub loop-slot-preserved : goal.loop-slot-preserved
 loop-slot-preserved c = (
-  binds_on c.args.slots.now _ _ c.args.row.now _ _ _ _ _ c.args.known.now c.loop-slot.known c.give.new.self c.in-Some.ensures.steps.0 c.in-Some.ensures.steps.1 c.in_ok-value.ensures c.give.ensures.known c.loop-slot.invariant.0,
+  binds_on c.args.slots.now _ _ c.args.row.now _ _ _ _ c.args.known.now c.loop-slot.known c.give.new.self c.in-Some.ensures.steps.0 c.in-Some.ensures.steps.1 c.in_ok-give.ensures.known c.loop-slot.invariant.0,
   c.give.ensures.actions ∙ c.loop-slot.invariant.1,
 )
 

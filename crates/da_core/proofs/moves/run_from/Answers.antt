@@ -1,6 +1,6 @@
 use Rattle.std.proofs.Common.{◌∙◌}
 use Rattle.da_machine.proofs.Fronts.{on_err}
-use Rattle.da_core.proofs.Carrying.{Partly, early_enough, front_of_row, front_of_run, front_of_stop, has_bound, knows_it, ready, run_whole, stands, stops_there, told_it}
+use Rattle.da_core.proofs.Carrying.{Partly, early_enough, front_of_row, front_of_run, front_of_stop, has_bound, knows_it, ready, run_whole, stops_there, told_it}
 use Rattle.da_machine.proofs.Fronts.{same_front}
 use Rattle.da_core.proofs.moves.run_from.Goals as goal
 
@@ -54,10 +54,7 @@ stand-requires c =
     let begin = c.args.begin in
     let so = has_bound code known m k c.bind_found.new.known _ c.push.new.self c.alternative_at.ensures c.in_ok-push.ensures.ok c.in_ok-bind_found.ensures.bound c.bind_found.ensures.actions in
     let run = c.in_ok-stop.ensures.runs p class d todo (knows_it p class code known m k begin d todo may c.bind_found.new.known so) (ready p class code known m k begin d todo may) in
-    record {
-      stops = stops_there p class code known m k begin d todo may c.bind_found.new.known so c.run_code.new.s c.run_code.new.m c.in_ok-stop.stop run;
-      knows = stands p class code known m k begin d todo may c.bind_found.new.known so c.run_code.new.s c.run_code.new.m c.in_ok-stop.stop run;
-    }
+    stops_there p class code known m k begin d todo may c.bind_found.new.known so c.run_code.new.s c.run_code.new.m c.in_ok-stop.stop run
 
 pub returns-in-Ok-clause-runs : goal.returns-in-Ok-clause-runs
 returns-in-Ok-clause-runs c = λ p class d todo may.
@@ -68,7 +65,7 @@ returns-in-Ok-clause-runs c = λ p class d todo may.
     let begin = c.args.begin in
     let so = has_bound code known m k c.bind_found.new.known _ c.push.new.self c.alternative_at.ensures c.in_ok-push.ensures.ok c.in_ok-bind_found.ensures.bound c.bind_found.ensures.actions in
     let run = c.in_ok-stop.ensures.runs p class d todo (knows_it p class code known m k begin d todo may c.bind_found.new.known so) (ready p class code known m k begin d todo may) in
-    run_whole p class code known m k begin d todo may c.bind_found.new.known so c.run_code.new.s c.run_code.new.m c.in_ok-stop.stop run c.stand.new.known c.in-Ok.standing c.in-Ok.ensures.stops c.in-Ok.ensures.rows
+    run_whole p class code known m k begin d todo may c.bind_found.new.known so c.run_code.new.s c.run_code.new.m c.in_ok-stop.stop run c.stand.new.known c.in-Ok.place c.in-Ok.ensures.stops
 
 pub returns-in-Err-clause-part : goal.returns-in-Err-clause-part
 returns-in-Err-clause-part c = λ p class d todo may.

@@ -18,19 +18,19 @@ take_in-run-requires c =
     let waits : w.phase ≡ Waiting = (c.is_waiting.ensures w s).0 (search rules) in
     (_, _, _, may_take_in c.args.self.now w s waits x c.args.time c.in-Some-Some.ensures c.in-Some-Some.ensures' c.requires.arrives c.replace.result)
 
-pub returns-in_err-standing-clause-allowed : goal.returns-in_err-standing-clause-allowed
-returns-in_err-standing-clause-allowed c = λ w s none.
+pub returns-in_err-place-clause-allowed : goal.returns-in_err-place-clause-allowed
+returns-in_err-place-clause-allowed c = λ w s none.
     let x : Delivery = record { class = c.in-Some-Some.class; code = c.in-Some-Some.code; message = c.args.m; from = c.args.from } in
     let waits : w.phase ≡ Waiting = (c.is_waiting.ensures w s).0 (search rules) in
     absurd (may_arrive c.args.self.now w s waits x c.args.time c.in-Some-Some.ensures c.in-Some-Some.ensures' c.requires.arrives none)
 
-pub returns-in_err-standing-clause-front : goal.returns-in_err-standing-clause-front
-returns-in_err-standing-clause-front c = λ fault w s.
+pub returns-in_err-place-clause-front : goal.returns-in_err-place-clause-front
+returns-in_err-place-clause-front c = λ fault w s.
     let x : Delivery = record { class = c.in-Some-Some.class; code = c.in-Some-Some.code; message = c.args.m; from = c.args.from } in
     let waits : w.phase ≡ Waiting = (c.is_waiting.ensures w s).0 (search rules) in
     let may = may_take_in c.args.self.now w s waits x c.args.time c.in-Some-Some.ensures c.in-Some-Some.ensures' c.requires.arrives c.replace.result in
     has_begun c.args.self.now w s waits x c.args.time c.in-Some-Some.ensures c.in-Some-Some.ensures' c.requires.arrives c.replace.result
-    c.args.out.now c.replace-2.result c.take_in-run.new.known.actions c.replace.ensures.value c.replace-2.ensures.value (c.in_err-standing.ensures.part (program_of c.args.self.now) w.data' w.todo may)
+    c.args.out.now c.replace-2.result c.take_in-run.new.known.actions c.replace.ensures.value c.replace-2.ensures.value (c.in_err-place.ensures.part (program_of c.args.self.now) w.data' w.todo may)
 
 pub returns-clause-ready : goal.returns-clause-ready
 returns-clause-ready c = λ unspent.
@@ -39,8 +39,8 @@ returns-clause-ready c = λ unspent.
     let waits : w.phase ≡ Waiting = (c.is_waiting.ensures w s).0 (search rules) in
     let may = may_take_in c.args.self.now w s waits x c.args.time c.in-Some-Some.ensures c.in-Some-Some.ensures' c.requires.arrives c.replace.result in (
       _,
-      stands_after c.args.self.now w s waits x c.args.time c.in-Some-Some.ensures c.in-Some-Some.ensures' c.requires.arrives c.replace.result c.take_in-run.new.known c.in_ok-standing.standing
-          (c.in_ok-standing.ensures.taken (program_of c.args.self.now) w.data' w.todo may) c.replace-2.new.dest (c.replace-2.ensures.after ∙ c.new-2.ensures) c.settle.new.self c.settle.ensures.settled,
+      stands_after c.args.self.now w s waits x c.args.time c.in-Some-Some.ensures c.in-Some-Some.ensures' c.requires.arrives c.replace.result c.take_in-run.new.known c.in_ok-place.place
+          (c.in_ok-place.ensures.taken (program_of c.args.self.now) w.data' w.todo may) c.replace-2.new.dest (c.replace-2.ensures.after ∙ c.new-2.ensures) c.settle.new.self c.settle.ensures.settled,
     )
 
 pub returns-clause-delivers : goal.returns-clause-delivers
@@ -48,8 +48,8 @@ returns-clause-delivers c = λ w s.
     let x : Delivery = record { class = c.in-Some-Some.class; code = c.in-Some-Some.code; message = c.args.m; from = c.args.from } in
     let waits : w.phase ≡ Waiting = (c.is_waiting.ensures w s).0 (search rules) in
     let may = may_take_in c.args.self.now w s waits x c.args.time c.in-Some-Some.ensures c.in-Some-Some.ensures' c.requires.arrives c.replace.result in
-    has_made c.args.self.now w s waits x c.args.time c.in-Some-Some.ensures c.in-Some-Some.ensures' c.requires.arrives c.replace.result c.take_in-run.new.known c.in_ok-standing.standing
-    (c.in_ok-standing.ensures.taken (program_of c.args.self.now) w.data' w.todo may) c.replace-2.new.dest (c.replace-2.ensures.after ∙ c.new-2.ensures) c.settle.new.self c.settle.ensures.settled
+    has_made c.args.self.now w s waits x c.args.time c.in-Some-Some.ensures c.in-Some-Some.ensures' c.requires.arrives c.replace.result c.take_in-run.new.known c.in_ok-place.place
+    (c.in_ok-place.ensures.taken (program_of c.args.self.now) w.data' w.todo may) c.replace-2.new.dest (c.replace-2.ensures.after ∙ c.new-2.ensures) c.settle.new.self c.settle.ensures.settled
     c.args.out.now c.replace-2.result c.replace.ensures.value c.replace-2.ensures.value c.settle.result c.settle.ensures.stopped
 
 pub returns-clause-allowed : goal.returns-clause-allowed

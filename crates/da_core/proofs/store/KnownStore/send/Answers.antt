@@ -2,8 +2,13 @@ use Rattle.std.proofs.Common.{ap, map}
 use Rattle.da_values.specs.Value.{val_of}
 use Rattle.da_values.specs.Views.{proc_of}
 use Rattle.da_machine.proofs.Fronts.{on_err}
-use Rattle.da_core.proofs.Sending.{sends_end, sends_first, sends_next, sends_stop, sends_told}
+use Rattle.da_core.proofs.Sending.{sends_end, sends_first, sends_next, sends_some, sends_stop, sends_told}
 use Rattle.da_core.proofs.store.KnownStore.send.Goals as goal
+
+pub send_one-requires : goal.send_one-requires
+send_one-requires c =
+    let (p, class, d, knows, known, may) = c.requires in
+    sends_some (val_of c.args.m.now) (map proc_of c.args.to.now) _ c.args.self.now c.processes.self (p, class, d, knows) c.processes.invariant
 
 pub returns-in_err-send_one-clause-front : goal.returns-in_err-send_one-clause-front
 returns-in_err-send_one-clause-front c =

@@ -1,0 +1,149 @@
+//! Updates of kept answers, each with a counter of steps that nobody looks at.
+ghost use Rattle.da_lang.specs.World.{Data};
+ghost use Rattle.da_values.specs.Value.{val_of};
+ghost use Rattle.delta_rules.specs.Entering.{coming};
+ghost use Rattle.delta_rules.specs.Keeping.{Keeps};
+ghost use Rattle.delta_rules.specs.Laid.{IsLaid};
+ghost use Rattle.query_plan.specs.Nodes.{IsPlan};
+ghost use Rattle.query_plan.specs.PlainNodes.{PlainNodes};
+ghost use Rattle.query_plan.specs.Updates.{Assigns, Leaves, after};
+ghost use Rattle.std.specs.Prelude.{◌≡◌, ◌<◌, ℕ, OnOk};
+
+use da_lang::Source;
+use da_values::{NoMemory, Steps, Value};
+use delta_rules::Answers;
+use query_plan::Plan;
+use std::alloc::Global;
+use std::marker::Brand;
+use std::sync::ledger::{Blank, Ledger};
+
+/// An element comes into a source. For a history the peer is the other process.
+pub fn insert(
+    alloc: Global,
+    plan: &Plan,
+    source: Source,
+    v: &Value,
+    peer: u16,
+    answers: &mut Answers,
+) -> Result<(), NoMemory>
+    requires plan { IsPlan plan.now.nodes }
+    requires plain { PlainNodes plan.now.nodes }
+    requires laid { IsLaid answers.old plan.now.nodes }
+    ensures kept { OnOk result ((d : Data) (time : ℕ) → Keeps answers.old plan.now.nodes d
+        → Keeps answers.new plan.now.nodes (after (coming source (val_of v.now) peer time) d)) }
+    ensures laid { OnOk result (IsLaid answers.new plan.now.nodes) }
+{
+    insert_by::<Brand>(alloc, plan, source, v, peer, answers, Blank::new(1))?;
+    Ok(())
+}
+
+// The same with the ledger of the counter.
+fn insert_by<L: Ledger>(
+    alloc: Global,
+    plan: &Plan,
+    source: Source,
+    v: &Value,
+    peer: u16,
+    answers: &mut Answers,
+    blank: Blank,
+) -> Result<(), NoMemory>
+    requires plan { IsPlan plan.now.nodes }
+    requires plain { PlainNodes plan.now.nodes }
+    requires laid { IsLaid answers.old plan.now.nodes }
+    requires name { blank.name ≡ L.name }
+    requires parts { blank.parts ≡ L.parts }
+    requires some { 0 < blank.parts }
+    ensures kept { OnOk result ((d : Data) (time : ℕ) → Keeps answers.old plan.now.nodes d
+        → Keeps answers.new plan.now.nodes (after (coming source (val_of v.now) peer time) d)) }
+    ensures laid { OnOk result (IsLaid answers.new plan.now.nodes) }
+{
+    let mut steps = Steps::<L>::new(blank);
+    answers.insert_element(alloc, plan, source, v, peer, &mut steps)?;
+    Ok(())
+}
+
+/// An element leaves the set of a slot.
+pub fn remove(
+    alloc: Global,
+    plan: &Plan,
+    slot: u16,
+    v: &Value,
+    answers: &mut Answers,
+) -> Result<(), NoMemory>
+    requires plan { IsPlan plan.now.nodes }
+    requires plain { PlainNodes plan.now.nodes }
+    requires laid { IsLaid answers.old plan.now.nodes }
+    ensures kept { OnOk result ((d : Data) → Keeps answers.old plan.now.nodes d
+        → Keeps answers.new plan.now.nodes (after (Leaves slot (val_of v.now)) d)) }
+    ensures laid { OnOk result (IsLaid answers.new plan.now.nodes) }
+{
+    remove_by::<Brand>(alloc, plan, slot, v, answers, Blank::new(1))?;
+    Ok(())
+}
+
+// The same with the ledger of the counter.
+fn remove_by<L: Ledger>(
+    alloc: Global,
+    plan: &Plan,
+    slot: u16,
+    v: &Value,
+    answers: &mut Answers,
+    blank: Blank,
+) -> Result<(), NoMemory>
+    requires plan { IsPlan plan.now.nodes }
+    requires plain { PlainNodes plan.now.nodes }
+    requires laid { IsLaid answers.old plan.now.nodes }
+    requires name { blank.name ≡ L.name }
+    requires parts { blank.parts ≡ L.parts }
+    requires some { 0 < blank.parts }
+    ensures kept { OnOk result ((d : Data) → Keeps answers.old plan.now.nodes d
+        → Keeps answers.new plan.now.nodes (after (Leaves slot (val_of v.now)) d)) }
+    ensures laid { OnOk result (IsLaid answers.new plan.now.nodes) }
+{
+    let mut steps = Steps::<L>::new(blank);
+    answers.remove_element(alloc, plan, slot, v, &mut steps)?;
+    Ok(())
+}
+
+/// A slot is assigned.
+pub fn assign(
+    alloc: Global,
+    plan: &Plan,
+    slot: u16,
+    v: &Value,
+    answers: &mut Answers,
+) -> Result<(), NoMemory>
+    requires plan { IsPlan plan.now.nodes }
+    requires plain { PlainNodes plan.now.nodes }
+    requires laid { IsLaid answers.old plan.now.nodes }
+    ensures kept { OnOk result ((d : Data) → Keeps answers.old plan.now.nodes d
+        → Keeps answers.new plan.now.nodes (after (Assigns slot (val_of v.now)) d)) }
+    ensures laid { OnOk result (IsLaid answers.new plan.now.nodes) }
+{
+    assign_by::<Brand>(alloc, plan, slot, v, answers, Blank::new(1))?;
+    Ok(())
+}
+
+// The same with the ledger of the counter.
+fn assign_by<L: Ledger>(
+    alloc: Global,
+    plan: &Plan,
+    slot: u16,
+    v: &Value,
+    answers: &mut Answers,
+    blank: Blank,
+) -> Result<(), NoMemory>
+    requires plan { IsPlan plan.now.nodes }
+    requires plain { PlainNodes plan.now.nodes }
+    requires laid { IsLaid answers.old plan.now.nodes }
+    requires name { blank.name ≡ L.name }
+    requires parts { blank.parts ≡ L.parts }
+    requires some { 0 < blank.parts }
+    ensures kept { OnOk result ((d : Data) → Keeps answers.old plan.now.nodes d
+        → Keeps answers.new plan.now.nodes (after (Assigns slot (val_of v.now)) d)) }
+    ensures laid { OnOk result (IsLaid answers.new plan.now.nodes) }
+{
+    let mut steps = Steps::<L>::new(blank);
+    answers.set_slot(alloc, plan, slot, v, &mut steps)?;
+    Ok(())
+}
