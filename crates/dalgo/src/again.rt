@@ -7,7 +7,10 @@ use std::alloc::{AllocError, Global};
 use std::{fs, rt};
 
 /// The characters of a line that are shown at most.
-const SHOWN: usize = 160;
+pub const SHOWN: usize = 160;
+
+/// The characters of a sentence that are shown at most.
+pub const TOLD: usize = 600;
 
 /// The text of this name once more. What is no regular file cannot be read twice: a pipe is empty then, or never ends.
 pub fn text_again<R: rt::Files + AllocGlobal>(rt: &R, name: &str, limit: usize) -> Option<Buf>
@@ -21,11 +24,11 @@ pub fn text_again<R: rt::Files + AllocGlobal>(rt: &R, name: &str, limit: usize) 
     }
 }
 
-/// A line for a terminal: a control character is shown as a space, and the end of a long line is left out.
-pub fn shown(alloc: Global, line: &[u8]) -> Result<String, AllocError> {
+/// Bytes for a terminal, so many characters at most: a control character is shown as a space.
+pub fn shown(alloc: Global, line: &[u8], most: usize) -> Result<String, AllocError> {
     let whole = String::from_utf8_lossy(alloc, line)?;
     let mut shown = String::new(alloc);
-    for c in whole.chars().take(SHOWN) {
+    for c in whole.chars().take(most) {
         shown.push(if c.is_control() { ' ' } else { c })?;
     }
     Ok(shown)

@@ -4,24 +4,34 @@
 mod again;
 mod exit;
 mod needs;
+mod refused;
 mod report;
+mod stopped;
+mod watch;
+mod words;
 
 use da_commands::{Status, dalgo};
 use da_outside::{RealFiles, RealSink};
 use exit::{NoWords, exit_code};
-use report::report;
+use report::{Outcome, report};
 use std::env;
 use std::process::ExitCode;
 use udp_link::UdpLink;
+use watch::Watched;
 
 fn main(rt: HostRuntime) -> ExitCode {
     let words = words_of_call(&rt);
     if matches!(words, Err(NoWords::Memory)) {
-        report(&rt, &[], Status::Memory);
+        let outcome = Outcome {
+            status: Status::Memory,
+            fault: &[],
+            count: 0,
+        };
+        report(&rt, &[], outcome);
     }
     exit_code(words, |words| {
         let mut files = RealFiles::new(&rt);
-        let mut out = RealSink::new(&rt);
+        let mut out = Watched::new(rt.alloc(), RealSink::new(&rt));
         let mut link = UdpLink::new(&rt);
         let status = dalgo(
             rt.alloc(),
@@ -30,7 +40,12 @@ fn main(rt: HostRuntime) -> ExitCode {
             &mut out,
             &mut link,
         );
-        report(&rt, words.as_slice(), status);
+        let outcome = Outcome {
+            status,
+            fault: out.fault(),
+            count: out.count(),
+        };
+        report(&rt, words.as_slice(), outcome);
         status
     })
 }

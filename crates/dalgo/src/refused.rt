@@ -1,0 +1,228 @@
+//! What a person is told of a program that is refused.
+use crate::again::{SHOWN, TOLD, shown, text_again};
+use da_commands::{PROGRAM_LIMIT, RefusedKind};
+use da_hints::{Why, explain};
+use da_lang::{LimitKind, ScopeKind};
+use da_values::{Buf, LexKind};
+use std::io::Eprint;
+use std::{io, rt};
+use text_hints::{Hint, Line, between, line_number, line_of};
+
+/// The lines that help, at most: with the sentence and what is shown of the text no message has more than eight lines.
+const NOTES: usize = 4;
+
+/// Tells why the program of this name is refused, shows the line that is to blame, and says what helps.
+pub fn tell_refused<R: rt::Files + AllocGlobal + Eprint>(
+    rt: &R,
+    program: &str,
+    kind: RefusedKind,
+    number: u32,
+) -> io::Result<()> {
+    if number == 0 {
+        return eprintln!(rt; "{program}: {kind}");
+    }
+    let Some(text) = text_again(rt, program, PROGRAM_LIMIT) else {
+        return eprintln!(rt; "{program}:{number}: {kind}");
+    };
+    let hint = hint_on(rt, &text, kind, number);
+    match line_of(text.as_slice(), number) {
+        Some(line) => tell_line(rt, program, kind, number, line, &hint)?,
+        None => return eprintln!(rt; "{program}:{number}: {kind}"),
+    }
+    show_elsewhere(rt, text.as_slice(), number, &hint)?;
+    tell_notes(rt, hint.notes.as_slice())
+}
+
+// What is known besides of a refusal.
+fn hint_on<R: AllocGlobal>(rt: &R, text: &Buf, kind: RefusedKind, number: u32) -> Hint {
+    match why_of(kind) {
+        Some(why) => explain(rt.alloc(), text.as_slice(), why, number),
+        None => Hint::new(rt.alloc()),
+    }
+}
+
+// The message, where the line can be shown.
+fn tell_line<R: AllocGlobal + Eprint>(
+    rt: &R,
+    program: &str,
+    kind: RefusedKind,
+    number: u32,
+    line: Line<'_>,
+    hint: &Hint,
+) -> io::Result<()> {
+    let column = column_in(line, hint);
+    if hint.sentence.is_empty() {
+        eprintln!(rt; "{program}:{number}: {kind}")?;
+    } else {
+        let sentence = shown(rt.alloc(), hint.sentence.as_slice(), TOLD)?;
+        match column {
+            Some(column) => eprintln!(rt; "{program}:{number}:{column}: {sentence}")?,
+            None => eprintln!(rt; "{program}:{number}: {sentence}")?,
+        }
+    }
+    show(rt, u64::from(number), line.bytes)?;
+    match column {
+        Some(column) => show_part(rt, line, column, hint),
+        None => Ok(()),
+    }
+}
+
+// Points at the part to blame, which begins in this column of a line.
+fn show_part<R: AllocGlobal + Eprint>(
+    rt: &R,
+    line: Line<'_>,
+    column: usize,
+    hint: &Hint,
+) -> io::Result<()> {
+    let first = hint.first.saturating_sub(line.first);
+    let part = between(line.bytes, first, first.saturating_add(hint.length));
+    show_caret(rt, line, column, characters(part))
+}
+
+// Shows the part to blame where it is on another line than the refusal, as in a statement of several lines.
+fn show_elsewhere<R: AllocGlobal + Eprint>(
+    rt: &R,
+    text: &[u8],
+    number: u32,
+    hint: &Hint,
+) -> io::Result<()> {
+    if hint.length == 0 {
+        return Ok(());
+    }
+    let own = u32::try_from(line_number(text, hint.first)).unwrap_or(u32::MAX);
+    if own == number {
+        return Ok(());
+    }
+    let Some(line) = line_of(text, own) else {
+        return Ok(());
+    };
+    match column_in(line, hint) {
+        Some(column) => {
+            show(rt, u64::from(own), line.bytes)?;
+            show_part(rt, line, column, hint)
+        }
+        None => Ok(()),
+    }
+}
+
+/// Shows a line and its number.
+pub fn show<R: AllocGlobal + Eprint>(rt: &R, number: u64, line: &[u8]) -> io::Result<()> {
+    let line = shown(rt.alloc(), line, SHOWN)?;
+    eprintln!(rt; "{number:>5} | {line}")
+}
+
+// The column, counted from 1, of the part to blame, where it is on the line. Characters are counted.
+fn column_in(line: Line<'_>, hint: &Hint) -> Option<usize> {
+    if hint.length == 0 {
+        return None;
+    }
+    let place = hint.first.checked_sub(line.first)?;
+    if place > line.bytes.len() {
+        return None;
+    }
+    let (before, _) = line.bytes.split_at(place);
+    let column = characters(before).saturating_add(1);
+    if column > SHOWN { None } else { Some(column) }
+}
+
+// How many characters begin in these bytes.
+fn characters(bytes: &[u8]) -> usize {
+    bytes.iter().filter(|byte| **byte & 0xC0 != 0x80).count()
+}
+
+// Points at the part to blame, as far as it is on the line.
+fn show_caret<R: AllocGlobal + Eprint>(
+    rt: &R,
+    line: Line<'_>,
+    column: usize,
+    length: usize,
+) -> io::Result<()> {
+    let room = characters(line.bytes)
+        .min(SHOWN)
+        .saturating_sub(column)
+        .saturating_add(1);
+    let mut marks = String::new(rt.alloc());
+    for _space in 1..column {
+        marks.push(' ')?;
+    }
+    for _mark in 0..length.min(room).max(1) {
+        marks.push('^')?;
+    }
+    eprintln!(rt; "      | {marks}")
+}
+
+/// Tells the lines that help, of which there may be few.
+pub fn tell_notes<R: AllocGlobal + Eprint>(rt: &R, notes: &[u8]) -> io::Result<()> {
+    let mut rest = notes;
+    for _note in 0..NOTES {
+        if rest.is_empty() {
+            return Ok(());
+        }
+        let length = rest.iter().take_while(|byte| **byte != b'\n').count();
+        let (note, behind) = rest.split_at(length.min(rest.len()));
+        let note = shown(rt.alloc(), note, TOLD)?;
+        eprintln!(rt; "{note}")?;
+        rest = match behind {
+            [_, others @ ..] => others,
+            [] => &[],
+        };
+    }
+    Ok(())
+}
+
+// Why a program is refused, where more can be said of it.
+fn why_of(kind: RefusedKind) -> Option<Why> {
+    if let Some(why) = why_of_tokens(kind) {
+        return Some(why);
+    }
+    if let Some(which) = limit_of(kind) {
+        return Some(Why::Limit(which));
+    }
+    if let Some(name) = name_of(kind) {
+        return Some(Why::Name(name));
+    }
+    match kind {
+        RefusedKind::Types => Some(Why::Types),
+        RefusedKind::Nodes => Some(Why::Nodes),
+        _ => None,
+    }
+}
+
+fn why_of_tokens(kind: RefusedKind) -> Option<Why> {
+    match kind {
+        RefusedKind::Byte => Some(Why::Token(LexKind::BadByte)),
+        RefusedKind::Indent => Some(Why::Token(LexKind::BadIndent)),
+        RefusedKind::Token => Some(Why::Token(LexKind::BadToken)),
+        RefusedKind::Unclosed => Some(Why::Token(LexKind::Unclosed)),
+        RefusedKind::Syntax | RefusedKind::Deep => Some(Why::Grammar),
+        _ => None,
+    }
+}
+
+fn name_of(kind: RefusedKind) -> Option<ScopeKind> {
+    match kind {
+        RefusedKind::NotYet => Some(ScopeKind::NotYet),
+        RefusedKind::Unknown => Some(ScopeKind::Unknown),
+        RefusedKind::Twice => Some(ScopeKind::Twice),
+        RefusedKind::Shadow => Some(ScopeKind::Shadow),
+        RefusedKind::Recursive => Some(ScopeKind::Recursive),
+        RefusedKind::Yield => Some(ScopeKind::Yield),
+        RefusedKind::Setup => Some(ScopeKind::Setup),
+        RefusedKind::NoRun => Some(ScopeKind::NoRun),
+        RefusedKind::Arity => Some(ScopeKind::Arity),
+        _ => None,
+    }
+}
+
+fn limit_of(kind: RefusedKind) -> Option<LimitKind> {
+    match kind {
+        RefusedKind::Classes => Some(LimitKind::Classes),
+        RefusedKind::Processes => Some(LimitKind::Processes),
+        RefusedKind::Items => Some(LimitKind::Items),
+        RefusedKind::Blocks => Some(LimitKind::Blocks),
+        RefusedKind::Variables => Some(LimitKind::Variables),
+        RefusedKind::Parts => Some(LimitKind::Parts),
+        RefusedKind::Generators => Some(LimitKind::Generators),
+        _ => None,
+    }
+}

@@ -1,0 +1,145 @@
+//! Which word of a call is wrong.
+use std::alloc::Global;
+use text_hints::{Nearest, Phrase};
+
+/// The commands, and how many words stand behind each.
+const COMMANDS: [(&[u8], usize); 5] = [
+    (b"check", 1),
+    (b"replay", 2),
+    (b"plan", 1),
+    (b"stress", 3),
+    (b"node", 5),
+];
+
+/// A word that is a number, and the least and the greatest that it may be.
+#[derive(Clone, Copy)]
+struct Range {
+    name: &'static [u8],
+    place: usize,
+    least: u64,
+    most: u64,
+}
+
+const STRESS: [Range; 2] = [
+    Range {
+        name: b"START",
+        place: 2,
+        least: 0,
+        most: 281_474_976_710_655,
+    },
+    Range {
+        name: b"N",
+        place: 3,
+        least: 1,
+        most: 1_000_000,
+    },
+];
+
+const NODE: [Range; 4] = [
+    Range {
+        name: b"PORT",
+        place: 2,
+        least: 1_024,
+        most: 65_000,
+    },
+    Range {
+        name: b"ME",
+        place: 3,
+        least: 1,
+        most: 64,
+    },
+    Range {
+        name: b"IDLE",
+        place: 4,
+        least: 1,
+        most: 1_000_000_000,
+    },
+    Range {
+        name: b"TURNS",
+        place: 5,
+        least: 1,
+        most: 1_000_000_000,
+    },
+];
+
+/// Why these words are none of a call, in one sentence.
+pub fn why_not(alloc: Global, words: &[String]) -> Phrase {
+    let mut told = Phrase::new(alloc);
+    let [command, rest @ ..] = words else {
+        told.put(b"a call begins with a command");
+        return told;
+    };
+    let command = command.as_bytes();
+    match count_of(command) {
+        None => tell_command(alloc, command, &mut told),
+        Some(count) if count != rest.len() => {
+            told.quote(command);
+            told.put(b" takes ");
+            told.count(count, b"word", b"words");
+            told.put(b" behind it, and ");
+            told.count(rest.len(), b"is", b"are");
+            told.put(b" given");
+        }
+        Some(_) => tell_ranges(command, words, &mut told),
+    }
+    told
+}
+
+// How many words stand behind a command.
+fn count_of(command: &[u8]) -> Option<usize> {
+    for known in &COMMANDS {
+        if known.0 == command {
+            return Some(known.1);
+        }
+    }
+    None
+}
+
+fn tell_command(alloc: Global, command: &[u8], out: &mut Phrase) {
+    out.quote(command);
+    out.put(b" is no command");
+    let mut nearest = Nearest::new(alloc, command);
+    for known in &COMMANDS {
+        nearest.offer(known.0);
+    }
+    if let Some(found) = nearest.found() {
+        out.put(b": is ");
+        out.quote(found);
+        out.put(b" meant?");
+    }
+}
+
+// The first number that is not within its range.
+fn tell_ranges(command: &[u8], words: &[String], out: &mut Phrase) {
+    let ranges: &[Range] = if command == b"stress".as_slice() {
+        &STRESS
+    } else {
+        &NODE
+    };
+    for range in ranges {
+        if let Some(word) = words.get(range.place) {
+            if !is_within(word.as_str(), range.least, range.most) {
+                out.put(range.name);
+                out.put(b" is a number from ");
+                out.number(range.least);
+                out.put(b" to ");
+                out.number(range.most);
+                out.put(b" without a 0 in front, and not ");
+                out.quote(word.as_bytes());
+                return;
+            }
+        }
+    }
+}
+
+fn is_within(word: &str, least: u64, most: u64) -> bool {
+    let bytes = word.as_bytes();
+    let plain = match bytes {
+        [b'0', _, ..] | [b'+', ..] => false,
+        _ => true,
+    };
+    match word.parse::<u64>() {
+        Ok(number) => plain && number >= least && number <= most,
+        Err(_) => false,
+    }
+}

@@ -1,0 +1,195 @@
+//! What a run has come to: where its processes stand, and what is under way.
+use crate::marked::told_line;
+use da_lang::{Action, Event, FaultKind};
+use da_values::{Buf, List, write_value};
+use std::alloc::Global;
+use std::collections::VecDeque;
+
+/// Where a process stands.
+#[derive(Clone, Copy, Debug, PartialEq, Eq)]
+pub enum Standing {
+    /// It has not started.
+    New,
+    /// It waits.
+    Waits,
+    /// It has ended.
+    Ended,
+    /// A fault has ended it, at this line.
+    Faulted(FaultKind, u32),
+}
+
+/// A process, and the last line that it told.
+#[derive(Clone, Copy, Debug)]
+pub struct Process {
+    pub standing: Standing,
+    pub line: u32,
+}
+
+/// The messages under way in a channel, the eldest first, by their texts.
+type Queue = VecDeque<Buf>;
+
+/// What a run has come to.
+#[derive(Debug, Drop)]
+pub struct State {
+    alloc: Global,
+    processes: List<Process>,
+    channels: Vec<Queue>,
+}
+
+impl State {
+    /// Before any event, with so many processes.
+    pub fn new(alloc: Global, count: usize) -> State {
+        let mut processes = List::new(alloc);
+        let mut channels = Vec::new(alloc);
+        for _process in 0..count {
+            let _ = processes.push(Process {
+                standing: Standing::New,
+                line: 0,
+            });
+            for _other in 0..count {
+                let _ = channels.push(VecDeque::new(alloc));
+            }
+        }
+        State {
+            alloc,
+            processes,
+            channels,
+        }
+    }
+
+    /// How many processes there are.
+    pub fn count(&self) -> usize {
+        self.processes.len()
+    }
+
+    /// A process by its number.
+    pub fn process(&self, p: u32) -> Option<Process> {
+        let place = (p as usize).checked_sub(1)?;
+        self.processes.get(place).copied()
+    }
+
+    // The place of a channel among all.
+    fn place_of(&self, p: u32, q: u32) -> Option<usize> {
+        let first = (p as usize).checked_sub(1)?;
+        let second = (q as usize).checked_sub(1)?;
+        if second >= self.count() {
+            return None;
+        }
+        first.checked_mul(self.count())?.checked_add(second)
+    }
+
+    // A channel.
+    fn queue(&self, p: u32, q: u32) -> Option<&Queue> {
+        let place = self.place_of(p, q)?;
+        self.channels.get(place)
+    }
+
+    /// How many messages a channel holds.
+    pub fn held(&self, p: u32, q: u32) -> usize {
+        match self.queue(p, q) {
+            Some(queue) => queue.len(),
+            None => 0,
+        }
+    }
+
+    /// How many messages all channels hold.
+    pub fn held_in_all(&self) -> usize {
+        let mut count = 0usize;
+        for queue in self.channels.as_slice() {
+            count = count.saturating_add(queue.len());
+        }
+        count
+    }
+
+    /// The text of message `i` of a channel, counted from 1.
+    pub fn text(&self, p: u32, q: u32, i: u32) -> &[u8] {
+        let Some(queue) = self.queue(p, q) else {
+            return &[];
+        };
+        let Some(place) = (i as usize).checked_sub(1) else {
+            return &[];
+        };
+        match queue.get(place) {
+            Some(text) => text.as_slice(),
+            None => &[],
+        }
+    }
+
+    /// An event is carried out, with these actions.
+    pub fn take(&mut self, event: &Event, actions: &[Action]) {
+        match event {
+            Event::Deliver { p, q, i } => self.remove(*p, *q, *i),
+            Event::Lose { p, q, i } => self.remove(*p, *q, *i),
+            Event::Repeat { p, q, i } => self.repeat(*p, *q, *i),
+            Event::Move { .. } | Event::Take { .. } | Event::Show { .. } | Event::Stat { .. } => {}
+        }
+        for action in actions {
+            self.act(action);
+        }
+    }
+
+    fn remove(&mut self, p: u32, q: u32, i: u32) {
+        let Some(at) = (i as usize).checked_sub(1) else {
+            return;
+        };
+        if let Some(place) = self.place_of(p, q) {
+            if let Some(queue) = self.channels.get_mut(place) {
+                let _text = queue.remove(at);
+            }
+        }
+    }
+
+    fn repeat(&mut self, p: u32, q: u32, i: u32) {
+        let mut text = List::new(self.alloc);
+        let _ = text.append(self.text(p, q, i));
+        self.add(p, q, text);
+    }
+
+    // A message goes to the end of a channel.
+    fn add(&mut self, p: u32, q: u32, text: Buf) {
+        if let Some(place) = self.place_of(p, q) {
+            if let Some(queue) = self.channels.get_mut(place) {
+                let _ = queue.push_back(text);
+            }
+        }
+    }
+
+    fn act(&mut self, action: &Action) {
+        match action {
+            Action::Took { p, .. } => self.stand(*p, Standing::Waits),
+            Action::End { p } => self.stand(*p, Standing::Ended),
+            Action::Fault { p, kind, line } => self.stand(*p, Standing::Faulted(*kind, *line)),
+            Action::Sent { p, q, v, .. } => {
+                let mut text = List::new(self.alloc);
+                let _ = write_value(v, &mut text);
+                self.add(u32::from(*p), u32::from(*q), text);
+            }
+            Action::Out { p, .. } => {
+                if let Some(line) = told_line(action) {
+                    self.tell(*p, line);
+                }
+            }
+            _ => {}
+        }
+    }
+
+    fn stand(&mut self, p: u16, standing: Standing) {
+        if let Some(Process { line, .. }) = self.process(u32::from(p)) {
+            self.put(p, Process { standing, line });
+        }
+    }
+
+    fn tell(&mut self, p: u16, line: u32) {
+        if let Some(Process { standing, .. }) = self.process(u32::from(p)) {
+            self.put(p, Process { standing, line });
+        }
+    }
+
+    fn put(&mut self, p: u16, process: Process) {
+        if let Some(place) = usize::from(p).checked_sub(1) {
+            if place < self.processes.len() {
+                self.processes.set(place, process);
+            }
+        }
+    }
+}

@@ -1,0 +1,148 @@
+//! Why the tokens of a text begin no program.
+use crate::brackets::open_brackets;
+use crate::expected::{has, put_expected};
+use crate::hint::Hint;
+use crate::lines::{between, column_of, line_number};
+use crate::phrase::Phrase;
+use crate::python::tell_python;
+use crate::reading::{next_marks, stop_in};
+use crate::spot::Spot;
+use da_lex::lex;
+use da_values::Mark;
+use std::alloc::Global;
+
+/// Tells at which token a text stops to be the beginning of a program, and what could stand there.
+pub fn tell_grammar(alloc: Global, text: &[u8], hint: &mut Hint) {
+    if text.len() > 1_048_576 {
+        return;
+    }
+    let Ok(tokens) = lex(alloc, text) else {
+        return;
+    };
+    let list = tokens.list.as_slice();
+    let Some(stop) = stop_in(alloc, text, list) else {
+        return;
+    };
+    let spot = Spot {
+        text,
+        tokens: list,
+        place: stop.place,
+    };
+    blame_spot(spot, hint);
+    if stop.deep {
+        tell_deep(alloc, spot, hint);
+        return;
+    }
+    let (front, _) = list.split_at(stop.place.min(list.len()));
+    let Some(marks) = next_marks(alloc, text, front) else {
+        return;
+    };
+    tell_stop(spot, marks.as_slice(), hint);
+    if !tell_python(spot, marks.as_slice(), hint) {
+        tell_open(alloc, spot, marks.as_slice(), hint);
+    }
+}
+
+// Blames the token at the spot, or the place where it should stand.
+fn blame_spot(spot: Spot<'_>, hint: &mut Hint) {
+    if spot.is_end() {
+        hint.blame(spot.end_before(), 1);
+        return;
+    }
+    let Some(token) = spot.tokens.get(spot.place) else {
+        return;
+    };
+    let first = token.first as usize;
+    hint.blame(first, (token.length as usize).max(1));
+}
+
+// The sentence: what is expected, and what stands there.
+fn tell_stop(spot: Spot<'_>, marks: &[Mark], hint: &mut Hint) {
+    if spot.tokens.is_empty() {
+        hint.say(b"the text is empty: a program has classes and ends with 'def main():'");
+        return;
+    }
+    if spot.is_end() {
+        tell_end(spot, marks, hint);
+        return;
+    }
+    if spot.here(Mark::Indent) {
+        hint.say(
+            b"the indentation of this line is deeper than that of the line before, and no block begins here",
+        );
+        return;
+    }
+    hint.say(b"expected ");
+    put_expected(marks, &mut hint.sentence);
+    if spot.here(Mark::Newline) {
+        hint.say(b", and the line ends here");
+    } else if spot.here(Mark::Dedent) {
+        hint.say(b", and the block ends before this line");
+    } else {
+        hint.say(b", and here stands ");
+        if spot.here(Mark::Quoted) {
+            hint.say(b"the text ");
+        }
+        hint.quote(spot.bytes(spot.place));
+    }
+}
+
+// The text ends too early.
+fn tell_end(spot: Spot<'_>, marks: &[Mark], hint: &mut Hint) {
+    hint.say(b"the end of the text comes too early: ");
+    if has(marks, Mark::Def) && has(marks, Mark::Class) {
+        hint.say(b"there is no 'def main():' with the processes");
+        return;
+    }
+    hint.say(b"expected ");
+    put_expected(marks, &mut hint.sentence);
+    if has(marks, Mark::Indent) {
+        hint.say(b" below this line");
+    }
+}
+
+// The innermost bracket that is open, where it could be closed here.
+fn tell_open(alloc: Global, spot: Spot<'_>, marks: &[Mark], hint: &mut Hint) {
+    if !(has(marks, Mark::CloseParen)
+        || has(marks, Mark::CloseBrace)
+        || has(marks, Mark::CloseBracket))
+    {
+        return;
+    }
+    let before = spot.before();
+    let open = open_brackets(alloc, before);
+    let Some(last) = open.len().checked_sub(1) else {
+        return;
+    };
+    let Some(place) = open.get(last) else {
+        return;
+    };
+    put_bracket(before, *place, &mut hint.notes);
+    hint.note(b" is open here");
+}
+
+// A bracket that is open behind a text, and where it stands.
+fn put_bracket(before: &[u8], place: usize, out: &mut Phrase) {
+    out.put(b"the ");
+    out.quote(between(before, place, place.saturating_add(1)));
+    out.put(b" in column ");
+    out.number(column_of(before, place) as u64);
+    let line = line_number(before, place);
+    if line != line_number(before, before.len()) {
+        out.put(b" of line ");
+        out.number(line as u64);
+    }
+}
+
+// One thing more than may be open.
+fn tell_deep(alloc: Global, spot: Spot<'_>, hint: &mut Hint) {
+    hint.quote(spot.bytes(spot.place));
+    hint.say(
+        b" opens one thing more here than the 32 that may be open: blocks, brackets, queries, 'not' and '-'",
+    );
+    let open = open_brackets(alloc, spot.before());
+    hint.notes.put(b"of these, ");
+    hint.notes.count(open.len(), b"bracket is", b"brackets are");
+    hint.note(b" open here");
+    hint.note(b"work a part of it out into a variable first, or into a method");
+}

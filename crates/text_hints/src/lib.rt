@@ -1,0 +1,27 @@
+//! What a person is told of a text that has no tokens, or whose tokens begin no program: where that shows, what could stand
+//! there, and what helps. It has the parts of messages besides: texts that grow, lines of a text, and similar names. No
+//! contract speaks of the words.
+#![tactic(auto)]
+
+mod brackets;
+mod characters;
+mod expected;
+mod grammar;
+mod hint;
+mod lines;
+mod nearest;
+mod phrase;
+mod pieces;
+mod python;
+mod reading;
+mod spellings;
+mod spot;
+mod tokens;
+
+pub use grammar::tell_grammar;
+pub use hint::Hint;
+pub use lines::{Line, between, line_number, line_of};
+pub use nearest::Nearest;
+pub use phrase::Phrase;
+pub use reading::slice_at;
+pub use tokens::tell_tokens;

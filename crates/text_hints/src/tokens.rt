@@ -1,0 +1,146 @@
+//! Why a text has no tokens.
+use crate::brackets::open_brackets;
+use crate::characters::tell_byte;
+use crate::hint::Hint;
+use crate::lines::{Line, between, line_of};
+use crate::phrase::Phrase;
+use crate::pieces::{Bad, bad_piece};
+use da_lex::{Token, TokenKind, lex};
+use da_values::{LexKind, List};
+use std::alloc::Global;
+
+/// Tells why a text has no tokens: the fault of this kind on this line is the first.
+pub fn tell_tokens(alloc: Global, text: &[u8], kind: LexKind, number: u32, hint: &mut Hint) {
+    let Some(line) = line_of(text, number) else {
+        return;
+    };
+    match kind {
+        LexKind::BadIndent => tell_indent(alloc, text, line, hint),
+        LexKind::Unclosed => tell_unclosed(alloc, text, line, hint),
+        LexKind::BadByte | LexKind::BadToken => tell_piece(text, line, hint),
+    }
+}
+
+// A byte or a token of a line.
+fn tell_piece(text: &[u8], line: Line<'_>, hint: &mut Hint) {
+    let Some(bad) = bad_piece(line.bytes) else {
+        return;
+    };
+    let place = line.first.saturating_add(bad.place);
+    match bad.kind {
+        LexKind::BadByte => tell_byte(text, place, hint),
+        _ => tell_spelling(text, place, bad, hint),
+    }
+}
+
+// Bytes that spell no token.
+fn tell_spelling(text: &[u8], place: usize, bad: Bad, hint: &mut Hint) {
+    hint.blame(place, bad.length);
+    let bytes = between(text, place, place.saturating_add(bad.length));
+    match bytes {
+        [b'0', ..] => {
+            hint.say(b"an integer has no 0 in front: ");
+            hint.quote(bytes);
+        }
+        [b'1'..=b'9', ..] => {
+            hint.quote(bytes);
+            hint.say(b" is more than the greatest integer, 9223372036854775807");
+        }
+        _ => {
+            hint.say(b"no token begins with ");
+            hint.say(bytes);
+            hint.say(b": ");
+            hint.say(cure_of(bytes));
+        }
+    }
+}
+
+// What is written in the place of a character.
+fn cure_of(bytes: &[u8]) -> &'static [u8] {
+    match bytes {
+        [b'"'] => b"a text stands in single quotes ('), as in 'ping'",
+        [b'/'] => b"the quotient of integers is written //",
+        [b'!'] => b"write not, or != for unequal",
+        [b'&'] => b"write and",
+        [b';'] => b"each statement stands on a line of its own",
+        [b'^'] => b"there are no powers",
+        [b'\\'] => b"a line goes on by itself while a bracket is open",
+        [b'@'] => b"there are no decorators",
+        _ => b"only a text and a comment may hold it",
+    }
+}
+
+// A line that is indented as no open block is.
+fn tell_indent(alloc: Global, text: &[u8], line: Line<'_>, hint: &mut Hint) {
+    let spaces = line.bytes.iter().take_while(|byte| **byte == b' ').count();
+    hint.blame(line.first, spaces);
+    hint.say(b"the indentation of this line is that of no open block: it has ");
+    hint.sentence.count(spaces, b"space", b"spaces");
+    let levels = levels_before(alloc, between(text, 0, line.first));
+    hint.notes.put(b"the lines of the open blocks have ");
+    put_levels(levels.as_slice(), &mut hint.notes);
+    hint.note(b" spaces");
+}
+
+fn put_levels(levels: &[usize], out: &mut Phrase) {
+    out.put(b"0");
+    let last = levels.len().saturating_sub(1);
+    for (place, level) in levels.iter().enumerate() {
+        out.put(if place == last { b" or " } else { b", " });
+        out.number(*level as u64);
+    }
+}
+
+// The levels of the blocks that are open behind a text, but for 0.
+fn levels_before(alloc: Global, text: &[u8]) -> List<usize> {
+    let mut levels = List::new(alloc);
+    if text.len() > 1_048_576 {
+        return levels;
+    }
+    let Ok(tokens) = lex(alloc, text) else {
+        return levels;
+    };
+    for token in tokens.list.as_slice() {
+        follow_level(text, token, &mut levels);
+    }
+    levels
+}
+
+// A token opens or closes a level. Those that close at the end of the text stand for no line.
+fn follow_level(text: &[u8], token: &Token, levels: &mut List<usize>) {
+    let first = token.first as usize;
+    match token.kind {
+        TokenKind::Indent => {
+            let _ = levels.push(spaces_before(text, first));
+        }
+        TokenKind::Dedent if first < text.len() => {
+            let _ = levels.pop();
+        }
+        _ => {}
+    }
+}
+
+// How many spaces stand directly before a place.
+fn spaces_before(text: &[u8], place: usize) -> usize {
+    let front = between(text, 0, place);
+    front.iter().rev().take_while(|byte| **byte == b' ').count()
+}
+
+// A quote on this line without a partner, or a bracket that is open to the end of the text.
+fn tell_unclosed(alloc: Global, text: &[u8], line: Line<'_>, hint: &mut Hint) {
+    if let Some(bad) = bad_piece(line.bytes) {
+        hint.blame(line.first.saturating_add(bad.place), 1);
+        hint.say(b"the text that begins with this quote (') does not end on its line");
+        hint.note(b"a text has no escapes, and no ' inside");
+        return;
+    }
+    let open = open_brackets(alloc, text);
+    let Some(place) = open.get(0) else {
+        return;
+    };
+    hint.blame(*place, 1);
+    hint.say(b"this ");
+    hint.quote(between(text, *place, place.saturating_add(1)));
+    hint.say(b" is not closed: it is open to the end of the text");
+    hint.note(b"while a bracket is open, the line ends and the indentation below it do not count");
+}
