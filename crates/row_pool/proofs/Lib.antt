@@ -1,0 +1,12 @@
+pub mod CellLaws
+pub mod ChildLaws
+pub mod CountLaws
+pub mod HolderLaws
+pub mod IndexLaws
+pub mod KeepLaws
+pub mod LiveLaws
+pub mod NewLaws
+pub mod PartLaws
+pub mod ReleaseLaws
+pub mod TradeLaws
+pub mod UseLaws

@@ -1,0 +1,4 @@
+pub mod Cells
+pub mod InUse
+pub mod Pool
+pub mod Release
