@@ -29,11 +29,11 @@ use std::sync::ledger::{Blank, Ledger};
 
 /// Kept answers, the process for which they stand, and what was worked out of it.
 #[derive(Drop)]
-struct Trial {
-    answers: Answers,
-    world: World,
-    known: Known,
-    firsts: List<u32>,
+pub struct Trial {
+    pub answers: Answers,
+    pub world: World,
+    pub known: Known,
+    pub firsts: List<u32>,
 }
 
 /// Where a list of updates differs: the number of the update, from 1, its kind, and what differs after it. Update 0 stands for
@@ -53,8 +53,8 @@ fn know(alloc: Global, world: &World, nodes: &[Node]) -> Result<Known, NoMemory>
     })
 }
 
-// The answers of a process before any message.
-fn begin(subject: &Subject<'_>, world: World) -> Result<Trial, NoMemory>
+/// The answers of a process before any message.
+pub fn begin(subject: &Subject<'_>, world: World) -> Result<Trial, NoMemory>
     requires plan { IsPlan subject.now.plan.now.nodes }
     requires plain { PlainNodes subject.now.plan.now.nodes }
     ensures { IfOk result (λ trial. IsLaid trial.answers subject.now.plan.now.nodes) }
@@ -185,8 +185,8 @@ fn go_on(
     })
 }
 
-// Tells an update, works all out anew, and compares.
-fn update_once<L: Ledger>(
+/// Tells an update, works all out anew, and compares.
+pub fn update_once<L: Ledger>(
     subject: &Subject<'_>,
     update: &Update,
     trial: &mut Trial,

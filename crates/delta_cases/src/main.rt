@@ -1,6 +1,7 @@
 //! Tells kept answers lists of updates by chance, works out after each update the rows of each node and of each live pattern
 //! anew, over whole histories, and compares. Prints what differs, and how often each kind of node was touched. What may be
-//! read for the updates is worked out by its definition, and printed as the work.
+//! read for the updates is worked out by its definition, and printed as the work. Then it tells single updates from a file,
+//! and compares the work of each with a number that stands beside it.
 #![tactic(auto)]
 
 mod agreeing;
@@ -11,6 +12,7 @@ mod choosing;
 mod comparing;
 mod compiling;
 mod conditions;
+mod events;
 mod kinds;
 mod lists;
 mod live;
@@ -34,6 +36,7 @@ use anyhow::{Context, anyhow};
 use compiling::{plan_of, typed_of};
 use da_lang::{Class, Program};
 use da_types::Typed;
+use events::run_events;
 use kinds::Tally;
 use lists::run_list;
 use printing::{tell_failed, tell_plan, tell_tally};
@@ -52,6 +55,8 @@ fn main(rt: HostRuntime) -> anyhow::Result<()> {
         try_program(&rt, name, text.as_bytes(), &mut tally).context(name)?;
     }
     tell_tally(&rt, &tally)?;
+    let events = fs::read_to_string(&rt, "events.txt").context("reading events.txt")?;
+    run_events(&rt, file.as_str(), events.as_str())?;
     if tally.differ > 0 {
         return Err(anyhow!("{} lists differ", tally.differ));
     }

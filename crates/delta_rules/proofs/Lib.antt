@@ -1,3 +1,4 @@
+pub mod CountLaws
 pub mod EmptyLaws
 pub mod EntryLaws
 pub mod FirstLaws
@@ -12,5 +13,8 @@ pub mod Steadiness
 pub mod TakingLaws
 pub mod TurnLaws
 pub mod TurnLoop
+pub mod UnusedLaws
+pub mod UpdateCounts
 pub mod UpdateLaws
 pub mod UpdateSteps
+pub mod UseLaws

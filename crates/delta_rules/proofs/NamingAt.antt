@@ -2,7 +2,6 @@
 use Rattle.std.specs.Prelude.{◌≡◌, ℕ, Bool, true, false, ◌||◌, List, [], ◌∷◌, refl}
 use Rattle.std.specs.List.{list_any, flat_map}
 use Rattle.std.proofs.Common.{◌∙◌, ap, sym}
-use Rattle.std.proofs.lemmas.Bool.{or_left}
 use Rattle.std.proofs.lemmas.List.Folds.{list_any-append}
 use Rattle.da_lang.specs.declared.query.Cond.{Cond}
 use Rattle.da_lang.specs.declared.query.Cond.TheVariants as cond
@@ -72,27 +71,5 @@ module _ (s : ℕ) where
 
   pub pattern_parts : (p : Pattern) (parts found : List Pattern) → p ≡ pattern.Tuple parts → found ≡ parts → list_any (pattern_names s) found ≡ pattern_names s p
   pattern_parts p parts found is same = ap (list_any (pattern_names s)) same ∙ sym (pattern_names-Tuple s parts) ∙ sym (ap (pattern_names s) is)
-
-  first_or : (whole a b r : Bool) → whole ≡ (a || b) → r ≡ a → r ≡ true → r ≡ whole
-  first_or whole a b r is same holds = holds ∙ sym (is ∙ or_left a b (sym same ∙ holds))
-
-  other_or : (whole a b r next : Bool) → whole ≡ (a || b) → r ≡ a → r ≡ false → next ≡ b → next ≡ whole
-  other_or whole a b r next is same off found = found ∙ sym (is ∙ ap (λ z. z || b) (sym same ∙ off))
-
-  module _ (b : Cond) (op : CmpOp) (x y first : Operand) (is : b ≡ cond.Cmp op x y) (one : first ≡ x) where
-    whole_cmp : cond_names s b ≡ (operand_names s first || operand_names s y)
-    whole_cmp = ap (cond_names s) is ∙ in-Cmp s op x y ∙ ap (λ a. operand_names s a || operand_names s y) (sym one)
-
-    pub cmp_first : (r : Bool) → r ≡ operand_names s first → r ≡ true → r ≡ cond_names s b
-    cmp_first r = first_or (cond_names s b) (operand_names s first) (operand_names s y) r whole_cmp
-
-    pub cmp_second : (r next : Bool) (second : Operand) → second ≡ y → r ≡ operand_names s first → r ≡ false → next ≡ operand_names s second → next ≡ cond_names s b
-    cmp_second r next second two same off found =
-        other_or (cond_names s b) (operand_names s first) (operand_names s y) r next whole_cmp same off (found ∙ ap (operand_names s) two)
-
-  pub chain_first : (whole x first : Operand) (more : List SignedOperand) (r : Bool) → whole ≡ operand.Chain x more → first ≡ x → r ≡ operand_names s first → r ≡ true → r ≡ operand_names s whole
-  chain_first whole x first more r is one =
-      first_or (operand_names s whole) (operand_names s first) (list_any (part_names s) more) r
-      (ap (operand_names s) is ∙ in-Chain s x more ∙ ap (λ a. operand_names s a || list_any (part_names s) more) (sym one))
 
 pub ruleset naming_rules = (names-Const, names-Me, names-Slot, names-Part, names-Tuple, names-Foreign, pattern_names-Any, pattern_names-Bind, pattern_names-Const, pattern_names-Me, pattern_names-Equal, pattern_names-Tuple, in-Truth, in-Cmp, in-Not, in-And, in-Or, in-Term, in-Chain, plain-Cmp, plain-Not, plain-And, plain-Or, plain-Quant, plain-Chain, plain-Agg)

@@ -1,3 +1,4 @@
+pub mod Counting
 pub mod Empty
 pub mod Entering
 pub mod Keeping
@@ -6,5 +7,6 @@ pub mod Laid
 pub mod Laying
 pub mod Naming
 pub mod Passing
+pub mod SlotUse
 pub mod Told
 pub mod Turning

@@ -2,6 +2,7 @@
 use crate::empty::laid_for;
 use crate::first::first_rows;
 use crate::fixed::Fixed;
+use crate::uses::{all_named, used_slots};
 use answer_index::AnswerSet;
 use da_values::{NoMemory, Row, Value, copy_value};
 use history_live::live_patterns;
@@ -44,6 +45,8 @@ impl Answers {
         let live = live_patterns(alloc, plan)?;
         let nodes = plan.nodes.as_slice();
         let mut laid = laid_for(alloc, nodes, live.patterns.as_slice())?;
+        let named = all_named(alloc, nodes)?;
+        let used = used_slots(alloc, nodes)?;
         let slots = copy_row(alloc, slots)?;
         let locals = Locals {
             alloc,
@@ -54,6 +57,7 @@ impl Answers {
             &locals,
             nodes,
             laid.rules.as_slice(),
+            named.as_slice(),
             laid.live.as_slice(),
             &mut laid.nodes,
             Blank::new(1),
@@ -66,6 +70,8 @@ impl Answers {
             fixed: Fixed {
                 live,
                 rules: laid.rules,
+                named,
+                used,
             },
         })
     }

@@ -9,7 +9,6 @@ mod first;
 mod fixed;
 mod keys;
 mod laying;
-mod naming;
 mod reading;
 mod slots;
 mod turn;
@@ -17,5 +16,7 @@ mod turn_gen;
 mod turn_node;
 mod turn_sides;
 mod updates;
+mod uses;
+mod whole;
 
 pub use answers::Answers;

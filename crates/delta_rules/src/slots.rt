@@ -3,7 +3,7 @@ ghost use Rattle.da_lang.specs.World.{at_number, or_nothing, value_in, with_slot
 ghost use Rattle.da_values.specs.declared.val.Val.{Val};
 ghost use Rattle.da_values.specs.declared.val.Val.TheVariants as val;
 ghost use Rattle.da_values.specs.Order.{val_cmp};
-ghost use Rattle.da_values.specs.Sets.{set_insert as insert_lem, set_remove as remove_lem};
+ghost use Rattle.da_values.specs.Sets.{Distinct, set_insert as insert_lem, set_remove as remove_lem};
 ghost use Rattle.da_values.specs.Value.{val_of, vals};
 ghost use Rattle.da_values.specs.Views.{elements_of as elements_lem};
 ghost use Rattle.delta_rules.specs.Passing.{IsSwap, lacking};
@@ -31,6 +31,14 @@ fn exchange(slots: &mut Row, s: u16, v: Value) -> Option<Value>
     } else {
         None
     }
+}
+
+/// Gives a slot a value, if there is such a slot.
+pub fn put(alloc: Global, slots: &mut Row, s: u16, v: &Value) -> Result<(), NoMemory>
+    ensures { OnOk result (slots.new ≡ with_slot slots.old s (val_of v.now)) }
+{
+    let _ = exchange(slots, s, copy_value(alloc, v)?);
+    Ok(())
 }
 
 // The set that was found, or the empty one where there is none.
@@ -111,6 +119,7 @@ fn missing(alloc: Global, elements: &[Value], set: &SetVal) -> Result<List<Value
 fn between(alloc: Global, old: &SetVal, new: &SetVal) -> Result<Swap, NoMemory>
     ensures came { IfOk result (λ swap. vals swap.came ≡ lacking new.now old.now) }
     ensures left { IfOk result (λ swap. vals swap.left ≡ lacking old.now new.now) }
+    ensures once { IfOk result (λ swap. Distinct (vals swap.came) × Distinct (vals swap.left)) }
 {
     let came = missing(alloc, new.as_slice(), old)?;
     let left = missing(alloc, old.as_slice(), new)?;
@@ -121,6 +130,7 @@ fn between(alloc: Global, old: &SetVal, new: &SetVal) -> Result<Swap, NoMemory>
 pub fn assign(alloc: Global, slots: &mut Row, s: u16, v: &Value) -> Result<Swap, NoMemory>
     ensures slots { OnOk result (slots.new ≡ with_slot slots.old s (val_of v.now)) }
     ensures swap { IfOk result (λ swap. IsSwap (elements_lem (value_in slots.old s)) (elements_lem (value_in slots.new s)) (vals swap.came) (vals swap.left)) }
+    ensures once { IfOk result (λ swap. Distinct (vals swap.came) × Distinct (vals swap.left)) }
 {
     if !is_slot(slots, s) {
         return Ok(Swap {
