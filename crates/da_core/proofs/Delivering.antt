@@ -1,6 +1,6 @@
 -- What a core stands for behind a delivery.
 use Rattle.std.proofs.Common.{◌≡◌, ℕ, List, [], ◌∷◌, ◌++◌, take, Option, Some, None, refl, sym, ap, ◌∙◌, subst}
-use Rattle.std.specs.Prelude.{Bool, false, IsTrue}
+use Rattle.std.specs.Prelude.{Bool, false, true, IsTrue, is_some}
 use Rattle.std.proofs.lemmas.Bool.{false≢true}
 use Rattle.da_values.specs.declared.val.Val.{Val}
 use Rattle.da_values.specs.Sets.{Has}
@@ -18,6 +18,7 @@ use Rattle.da_types.specs.KeepsShaped.{StepsShaped}
 use Rattle.da_machine.specs.declared.machine.Machine.{Machine}
 use Rattle.da_machine.specs.RunsTo.{IsFront}
 use Rattle.da_machine.proofs.EntryLaws.{at_point}
+use Rattle.da_machine.proofs.Fronts.{same_front}
 use Rattle.da_core.specs.declared.compiled.ClassCode.{ClassCode}
 use Rattle.da_core.specs.declared.process.Core.{Core}
 use Rattle.da_core.specs.declared.deliveries.Delivery.{Delivery}
@@ -53,6 +54,21 @@ module _ (core : Core) (w : World) (s : StandsFor core w) (m : Val) (from time :
 
   pub arrives_nowhere : (w.phase ≡ Waiting → ⊥) → proc_step (program_of core) w (Deliver m from time) ≡ None
   arrives_nowhere other = by_phase w.phase refl other
+
+  -- and where it waits each message arrives
+  by_waiting : w.phase ≡ Waiting → is_some (proc_step (program_of core) w (Deliver m from time)) ≡ true
+  by_waiting is = rw (s.knows.is_class, is) refl
+
+  pub arrives_there : w.phase ≡ Waiting → proc_step (program_of core) w (Deliver m from time) ≡ None → ⊥
+  arrives_there is none = false≢true (sym (ap is_some none) ∙ by_waiting is)
+
+  -- before anything of it was told
+  pub begins_there : w.phase ≡ Waiting → (out : List Action) → HasBegun core w (Deliver m from time) out out
+  begins_there is out = of (proc_step (program_of core) w (Deliver m from time)) refl
+    where
+      of : (r : Option Stepped) → proc_step (program_of core) w (Deliver m from time) ≡ r → HasBegun core w (Deliver m from time) out out
+      of None none = absurd (arrives_there is none)
+      of (Some after) leads = record { after = after; leads = leads; front = same_front out out after.actions refl }
 
 -- the message, with the class of the process and its code, as they were found
 module _ (core : Core) (w : World) (s : StandsFor core w) (waits : w.phase ≡ Waiting) (x : Delivery) (time : ℕ)
@@ -139,7 +155,7 @@ module _ (core : Core) (w : World) (s : StandsFor core w) (waits : w.phase ≡ W
     leads : proc_step p w (arrival x.message.now x.from time) ≡ Some after
     leads = rw (is_class, waits) refl
 
-    told : after.actions ≡ delivery_actions x time core.known.answers.me ran
+    told : after.actions ≡ delivery_actions x.message.now x time core.known.answers.me ran
     told =
         ap (λ m. action.Got d.me x.from time m ∷ ran.actions ++ closing d.me ran.halt) (value_of-val_of x.message.now)
         ∙ ap (λ me. action.Got me x.from time x.message.now ∷ ran.actions ++ closing me ran.halt) itself
@@ -153,7 +169,7 @@ module _ (core : Core) (w : World) (s : StandsFor core w) (waits : w.phase ≡ W
         cc
 
     -- what the process knows behind the delivery and how it stands, where the actions are given back
-    module _ (known : Known) (spot : Place) (taken : HasTakenIn p x time d w.todo old known spot) where
+    module _ (known : Known) (spot : Place) (taken : HasTakenIn x.message.now p x time d w.todo old known spot) where
       module _ (empty : List Action) (none : empty ≡ []) (new : Core) (is_new : new ≡ record core { known = record known { actions = empty }; place = spot; spent = false }) where
         pub stands_after : StandsFor new after.world
         stands_after = subst (λ z. StandsFor z after.world) (sym is_new) (record {
@@ -181,7 +197,7 @@ module _ (core : Core) (w : World) (s : StandsFor core w) (waits : w.phase ≡ W
           added = back ∙ taken.actions ∙ ap (λ xs. own ++ xs) (sym told) ∙ ap (λ xs. xs ++ after.actions) from;
         }
 
-    pub has_begun : (out given left : List Action) → own ≡ out → given ≡ left → IsFront own left (delivery_actions x time core.known.answers.me ran)
+    pub has_begun : (out given left : List Action) → own ≡ out → given ≡ left → IsFront own left (delivery_actions x.message.now x time core.known.answers.me ran)
         → HasBegun core w (arrival x.message.now x.from time) out given
     has_begun out given left from back (n, is) = record {
       after = after;

@@ -19,5 +19,6 @@ pub mod Starting
 pub mod Stopping
 pub mod Taking
 pub mod Tasks
+pub mod Telling
 pub mod WaitForms
 pub mod WaitLaws

@@ -1,5 +1,5 @@
 -- A message to each of some processes, one after the other.
-use Rattle.std.proofs.Common.{◌≡◌, ℕ, ◌+◌, ◌<◌, ◌≤◌, List, [], ◌∷◌, ◌++◌, drop, get_or, length, map, sym, ap, ◌∙◌, subst, append-nil}
+use Rattle.std.proofs.Common.{◌≡◌, ℕ, ◌+◌, ◌<◌, ◌≤◌, List, [], ◌∷◌, ◌++◌, drop, get_or, length, map, refl, sym, ap, ◌∙◌, subst, append-nil}
 use Rattle.std.proofs.lemmas.List.{at_drop_all, at_drop_more}
 use Rattle.da_values.specs.declared.val.Val.{Val}
 use Rattle.da_values.specs.declared.value.Value.{Value}
@@ -111,3 +111,24 @@ module _ (m : Val) (processes : List Value) (k : ℕ) (ps : List ℕ) (first now
   pub sends_told : Each first (λ p class d. now.actions ≡ first.actions ++ sending d.me m ps d.clock)
   sends_told p class d knows =
       part_whole first.actions now.actions now.actions (sending d.me m ps d.clock) [] (none_left p class d knows).told (sym (append-nil now.actions))
+
+-- TO ONE PROCESS ALONE
+
+module _ (m : Value) (to : ℕ) (first next : Known) where
+  to_one : Sends (val_of m) (to ∷ []) (to ∷ []) first first
+  to_one = sends_first (val_of m) (to ∷ []) (to ∷ []) first refl
+
+  as_kept : (time : ℕ) → ◌≡◌ {A = List Action} (Sent first.answers.me to time m ∷ []) (Sent first.answers.me to time (value_of (val_of m)) ∷ [])
+  as_kept time = ap (λ x. Sent first.answers.me to time x ∷ []) (sym (value_of-val_of m))
+
+  pub one_sent : SendsTo (val_of m) to first next → Becomes first next (sent_to (val_of m) (to ∷ []))
+  one_sent sends p class d knows = sends p class d knows
+
+  pub one_told : next.actions ≡ first.actions ++ Sent first.answers.me to (later first.clock) m ∷ []
+      → Each first (λ p class d. next.actions ≡ first.actions ++ sending d.me (val_of m) (to ∷ []) d.clock)
+  one_told told p class d knows =
+      told ∙ ap (λ xs. first.actions ++ xs) (as_kept (later first.clock) ∙ ap (λ (a : Action). a ∷ []) (told_as first p class d knows to (value_of (val_of m))))
+
+  pub one_stopped : IsFront first.actions next.actions (Sent first.answers.me to (later first.clock) m ∷ []) → Each first (λ p class d. IsFront first.actions next.actions (sending d.me (val_of m) (to ∷ []) d.clock))
+  one_stopped front =
+      sends_front (val_of m) (to ∷ []) to [] first first next to_one (subst (λ due. IsFront first.actions next.actions due) (as_kept (later first.clock)) front)

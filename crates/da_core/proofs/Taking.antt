@@ -17,7 +17,7 @@ use Rattle.da_core.specs.declared.deliveries.Handled.{Handled}
 use Rattle.da_core.specs.declared.deliveries.Handled.TheVariants as handled
 use Rattle.da_core.specs.declared.known.Known.{Known}
 use Rattle.da_core.specs.declared.place.Place.{Place}
-use Rattle.da_core.specs.Arrivals.{CanHandle, HasHandled, HasTakenIn, MayHandle, MayTakeIn, Whoever, all_handled, delivery_actions, halt_of, received, stop_of}
+use Rattle.da_core.specs.Arrivals.{CanHandle, HasHandled, HasTakenIn, MayHandle, MayTakeIn, Whoever, all_handled, delivery_actions, halt_of, received, stop_of, untold}
 use Rattle.da_core.specs.Begins.{HasStopped, MayStop}
 use Rattle.da_core.specs.Known.{Becomes, Knows, KnowsSome}
 use Rattle.da_core.specs.StandsFor.{IsPlace}
@@ -31,17 +31,17 @@ may_know x time at old p d todo may = (p, x.class.now, d, may.can.knows)
 -- a front of the actions that are due was added, whatever the process is
 abbrev pub TakenPart : Delivery → ℕ → ℕ → Known → List Action → Type 0
 TakenPart x time at old new =
-    (p : Program) (d : Data) (todo : List Task) → MayTakeIn p x time at old d todo → IsFront old.actions new (delivery_actions x time old.answers.me (all_handled x (received x time d)))
+    (p : Program) (d : Data) (todo : List Task) → MayTakeIn p x time at old d todo → IsFront old.actions new (delivery_actions untold x time old.answers.me (all_handled x (received x time d)))
 
-pub received_front : (x : Delivery) (time : ℕ) (old : Known) (d : Data) (new : List Action) → IsFront old.actions new (action.Got old.answers.me x.from time x.message.now ∷ [])
-    → IsFront old.actions new (delivery_actions x time old.answers.me (all_handled x (received x time d)))
+pub received_front : (x : Delivery) (time : ℕ) (old : Known) (d : Data) (new : List Action) → IsFront old.actions new (action.Got old.answers.me x.from time untold ∷ [])
+    → IsFront old.actions new (delivery_actions untold x time old.answers.me (all_handled x (received x time d)))
 received_front x time old d new front =
     let ran = all_handled x (received x time d) in
-    front_before old.actions new (action.Got old.answers.me x.from time x.message.now ∷ []) (ran.actions ++ closing old.answers.me ran.halt) front
+    front_before old.actions new (action.Got old.answers.me x.from time untold ∷ []) (ran.actions ++ closing old.answers.me ran.halt) front
 
 -- the process before the message arrives, and when it has joined the history
 module _ (x : Delivery) (time at : ℕ) (old : Known) (p : Program) (d : Data) (todo : List Task) (may : MayTakeIn p x time at old d todo) (got : Known)
-    (joins : Becomes old got (received x time)) (told : got.actions ≡ old.actions ++ action.Got old.answers.me x.from time x.message.now ∷ []) where
+    (joins : Becomes old got (received x time)) (told : got.actions ≡ old.actions ++ action.Got old.answers.me x.from time untold ∷ []) where
   abbrev class : Class
   class = x.class.now
 
@@ -52,7 +52,7 @@ module _ (x : Delivery) (time at : ℕ) (old : Known) (p : Program) (d : Data) (
   ran = all_handled x (received x time d)
 
   abbrev first : Action
-  first = action.Got old.answers.me x.from time x.message.now
+  first = action.Got old.answers.me x.from time untold
 
   may_then : MayHandle p x got (received x time d)
   may_then =
@@ -70,7 +70,7 @@ module _ (x : Delivery) (time at : ℕ) (old : Known) (p : Program) (d : Data) (
   pub can_then : CanHandle x got
   can_then = (p, received x time d, may_then)
 
-  pub handled_front : (new : List Action) → Whoever x got (λ p d. IsFront got.actions new (all_handled x d).actions) → IsFront old.actions new (delivery_actions x time old.answers.me ran)
+  pub handled_front : (new : List Action) → Whoever x got (λ p d. IsFront got.actions new (all_handled x d).actions) → IsFront old.actions new (delivery_actions untold x time old.answers.me ran)
   handled_front new front =
       run_front old.actions new ran.actions (closing old.answers.me ran.halt) first
       (subst (λ xs. IsFront xs new ran.actions) told (front p (received x time d) may_then))
@@ -90,15 +90,15 @@ module _ (x : Delivery) (time at : ℕ) (old : Known) (p : Program) (d : Data) (
     so_far : now.actions ≡ (old.actions ++ first ∷ []) ++ ran.actions
     so_far = had.actions ∙ ap (λ xs. xs ++ ran.actions) told
 
-    pub stop_front_of : (new : List Action) → new ≡ now.actions → IsFront old.actions new (delivery_actions x time old.answers.me ran)
+    pub stop_front_of : (new : List Action) → new ≡ now.actions → IsFront old.actions new (delivery_actions untold x time old.answers.me ran)
     stop_front_of new stays = stop_front old.actions now.actions new ran.actions (closing old.answers.me ran.halt) first so_far stays
 
-    closed : (new : Known) (halt : Halt) → ran.halt ≡ halt → new.actions ≡ now.actions ++ closing old.answers.me halt → new.actions ≡ old.actions ++ delivery_actions x time old.answers.me ran
+    closed : (new : Known) (halt : Halt) → ran.halt ≡ halt → new.actions ≡ now.actions ++ closing old.answers.me halt → new.actions ≡ old.actions ++ delivery_actions untold x time old.answers.me ran
     closed new halt is closes =
         closes ∙ ap (λ xs. xs ++ closing old.answers.me halt) so_far ∙ append_assoc (old.actions ++ first ∷ []) ran.actions (closing old.answers.me halt)
         ∙ append_assoc old.actions (first ∷ []) (ran.actions ++ closing old.answers.me halt) ∙ ap (λ h. old.actions ++ ((first ∷ ran.actions) ++ closing old.answers.me h)) (sym is)
 
-    by_answer : (a : Handled) → ran.halt ≡ halt_of a → (new : Known) (spot : Place) → HasStopped code now new (stop_of a may.number) spot → HasTakenIn p x time d todo old new spot
+    by_answer : (a : Handled) → ran.halt ≡ halt_of a → (new : Known) (spot : Place) → HasStopped code now new (stop_of a may.number) spot → HasTakenIn untold p x time d todo old new spot
     by_answer (handled.Through turns) halts new spot stopped =
         let (stays, stands) = stopped in
         record {
@@ -118,5 +118,5 @@ module _ (x : Delivery) (time at : ℕ) (old : Known) (p : Program) (d : Data) (
               (subst (λ at'. IsPlace todo at' (phase_after (Faults kind line))) (sym place_is) tt);
         }
 
-    pub taken : (new : Known) (spot : Place) → HasStopped code now new (stop_of answer may.number) spot → HasTakenIn p x time d todo old new spot
+    pub taken : (new : Known) (spot : Place) → HasStopped code now new (stop_of answer may.number) spot → HasTakenIn untold p x time d todo old new spot
     taken new spot stopped = by_answer answer had.halt new spot stopped

@@ -2,6 +2,7 @@
 use Rattle.std.specs.Prelude.{◌≡◌, ℕ, List, [], ◌∷◌, ◌++◌, Option}
 use Rattle.da_values.specs.declared.val.Val.{Val}
 use Rattle.da_values.specs.declared.value.Value.{Value}
+use Rattle.da_values.specs.declared.value.Value.TheVariants as kept
 use Rattle.da_values.specs.Sets.{Has}
 use Rattle.da_values.specs.Value.{val_of}
 use Rattle.da_lang.specs.declared.event.Action.{Action}
@@ -120,9 +121,13 @@ pub record HasTried (p : Program) (x : Delivery) (h : Handler) (n : ℕ) (d : Da
 
 -- THE ARRIVAL
 
--- the actions of a delivery
-abbrev pub delivery_actions : Delivery → ℕ → ℕ → Ran → List Action
-delivery_actions x time me ran = action.Got me x.from time x.message.now ∷ ran.actions ++ closing me ran.halt
+-- the actions of a delivery whose message is told as this value
+abbrev pub delivery_actions : Value → Delivery → ℕ → ℕ → Ran → List Action
+delivery_actions v x time me ran = action.Got me x.from time v ∷ ran.actions ++ closing me ran.halt
+
+-- what stands in the place of the message while handlers still read it
+abbrev pub untold : Value
+untold = kept.Proc 0
 
 -- what the process knows when the message has joined the history
 abbrev pub received : Delivery → ℕ → Data → Data
@@ -141,8 +146,8 @@ pub record MayTakeIn (p : Program) (x : Delivery) (time at : ℕ) (known : Known
   pub there : HasInstr x.code.now.code at (op.Yield number)
   pub point : (loops : List (List Val)) × IsPoint x.code.now.code x.class.now number loops todo
 
--- the message was taken in, and the process knows and stands as the handlers leave it
-pub record HasTakenIn (p : Program) (x : Delivery) (time : ℕ) (d : Data) (todo : List Task) (old new : Known) (place : Place) : Type 0 where
+-- the message was taken in and told as this value, and the process knows and stands as the handlers leave it
+pub record HasTakenIn (v : Value) (p : Program) (x : Delivery) (time : ℕ) (d : Data) (todo : List Task) (old new : Known) (place : Place) : Type 0 where
   pub known : Knows new p x.class.now (all_handled x (received x time d)).data'
-  pub actions : let ran = all_handled x (received x time d) in new.actions ≡ old.actions ++ delivery_actions x time old.answers.me ran
+  pub actions : let ran = all_handled x (received x time d) in new.actions ≡ old.actions ++ delivery_actions v x time old.answers.me ran
   pub stands : let ran = all_handled x (received x time d) in IsPlace todo place (phase_after ran.halt)

@@ -1,5 +1,5 @@
 //! The arrival of a message: the history first, then the handlers in text order.
-ghost use Rattle.da_core.specs.Arrivals.{CanHandle, HasEntry, HasHandled, HasTakenIn, HasTried, MayTakeIn, Whoever, all_handled, delivery_actions, handled_as, received, row_for as row_lem, stop_of, tried};
+ghost use Rattle.da_core.specs.Arrivals.{CanHandle, HasEntry, HasHandled, HasTakenIn, HasTried, MayTakeIn, Whoever, all_handled, delivery_actions, handled_as, received, row_for as row_lem, stop_of, tried, untold};
 ghost use Rattle.da_core.specs.Known.{Each};
 ghost use Rattle.da_lang.specs.Matching.{matched_entry};
 ghost use Rattle.da_lang.specs.Runs.{Ran, max_turns};
@@ -41,7 +41,7 @@ pub enum Handled {
 }
 
 /// Takes in a message that was sent at this time, for a process that waits at the yield point at this place, and tells where
-/// the process stands then.
+/// the process stands then. Its arrival is told with process 0, which is no process, in the place of the message.
 pub fn take_in(
     delivery: &Delivery<'_>,
     time: u64,
@@ -51,11 +51,11 @@ pub fn take_in(
     requires { (p : Program) × (d : Data) × (todo : List Task) × MayTakeIn p delivery.now time at known.old d todo }
     ensures taken { IfOk result (λ place. (p : Program) (d : Data) (todo : List Task)
         → MayTakeIn p delivery.now time at known.old d todo
-        → HasTakenIn p delivery.now time d todo known.old known.new place) }
+        → HasTakenIn untold p delivery.now time d todo known.old known.new place) }
     ensures part { OnErr result ((p : Program) (d : Data) (todo : List Task)
         → MayTakeIn p delivery.now time at known.old d todo
         → let ran = all_handled delivery.now (received delivery.now time d) in
-        IsFront known.old.actions known.new.actions (delivery_actions delivery.now time known.old.answers.me ran)) }
+        IsFront known.old.actions known.new.actions (delivery_actions untold delivery.now time known.old.answers.me ran)) }
 {
     known.receive(delivery.message, delivery.from, time)?;
     let answer = handle_all(delivery, known)?;

@@ -1,5 +1,6 @@
 //! What a process knows, as code keeps it: its clock, and the answers to its queries and conditions, which hold its slots. Of
 //! the messages that it sent and received nothing else is kept.
+ghost use Rattle.da_core.specs.Arrivals.{untold};
 ghost use Rattle.da_core.specs.Known.{Becomes, KnowsSome};
 ghost use Rattle.da_lang.specs.Steps.{received_at};
 ghost use Rattle.da_lang.specs.Turns.{bind_all, later, sent_at, with_element, without_element};
@@ -32,14 +33,14 @@ pub struct Known<'c> {
 }
 
 impl Known<'_> {
-    /// Takes in a message: the clock rises above its own time and the carried one, the message joins the history, and it is
-    /// told.
+    /// Takes in a message: the clock rises above its own time and the carried one, the message joins the history, and its arrival
+    /// is told, with process 0, which is no process, in the place of the message.
     #[tactic(auto, using(crate::proofs::Fronts::no_front))]
     pub fn receive(&mut self, m: &Value, from: u16, time: u64) -> Result<(), NoMemory>
         requires { KnowsSome self.old }
         ensures known { OnOk result (Becomes self.old self.new (received_at (val_of m.now) from time)) }
-        ensures actions { OnOk result (self.new.actions ≡ self.old.actions ++ action.Got self.old.answers.me from time m.now ∷ []) }
-        ensures front { OnErr result (IsFront self.old.actions self.new.actions (action.Got self.old.answers.me from time m.now ∷ [])) }
+        ensures actions { OnOk result (self.new.actions ≡ self.old.actions ++ action.Got self.old.answers.me from time untold ∷ []) }
+        ensures front { OnErr result (IsFront self.old.actions self.new.actions (action.Got self.old.answers.me from time untold ∷ [])) }
     {
         let me = self.answers.me;
         insert(
@@ -54,13 +55,13 @@ impl Known<'_> {
             q: me,
             p: from,
             t: time,
-            v: copy_value(self.alloc, m)?,
+            v: Value::Proc(0),
         })?;
         self.clock = later_time(self.clock.max(time));
         Ok(())
     }
 
-    /// Sends a message to one process.
+    /// Sends a copy of a message to one process.
     #[tactic(auto, using(crate::proofs::Fronts::no_front))]
     pub fn send_one(&mut self, m: &Value, to: u16) -> Result<(), NoMemory>
         requires { KnowsSome self.old }
@@ -70,13 +71,28 @@ impl Known<'_> {
         ensures front { OnErr result (IsFront self.old.actions self.new.actions
             (action.Sent self.old.answers.me to (later self.old.clock) m.now ∷ [])) }
     {
+        let message = copy_value(self.alloc, m)?;
+        self.send_value(message, to)?;
+        Ok(())
+    }
+
+    /// Sends a message to one process.
+    #[tactic(auto, using(crate::proofs::Fronts::no_front))]
+    pub fn send_value(&mut self, m: Value, to: u16) -> Result<(), NoMemory>
+        requires { KnowsSome self.old }
+        ensures known { OnOk result (Becomes self.old self.new (λ d. sent_at (val_of m) to (later d.clock) d)) }
+        ensures actions { OnOk result (self.new.actions
+            ≡ self.old.actions ++ action.Sent self.old.answers.me to (later self.old.clock) m ∷ []) }
+        ensures front { OnErr result (IsFront self.old.actions self.new.actions
+            (action.Sent self.old.answers.me to (later self.old.clock) m ∷ [])) }
+    {
         let me = self.answers.me;
         let time = later_time(self.clock);
         insert(
             self.alloc,
             self.plan,
             Source::Sent,
-            m,
+            &m,
             to,
             &mut self.answers,
         )?;
@@ -84,7 +100,7 @@ impl Known<'_> {
             p: me,
             q: to,
             t: time,
-            v: copy_value(self.alloc, m)?,
+            v: m,
         })?;
         self.clock = time;
         Ok(())

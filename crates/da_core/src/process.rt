@@ -15,7 +15,7 @@ ghost use Rattle.da_lang.specs.Steps.{move_step, proc_step};
 ghost use Rattle.da_lang.specs.World.{Waiting, class_of, opening};
 ghost use Rattle.da_machine.specs.RunsTo.{IsFront};
 ghost use Rattle.std.specs.Option.{option_copied};
-ghost use Rattle.std.specs.Prelude.{◌≡◌, ◌↔◌, ◌++◌, ◌+◌, [], ℕ, IfOk, IsErrOf, IsSome, IsTrue, List as Seq, MatchOption, None, OnErr, OnOk, Some, slice_get, true, false};
+ghost use Rattle.std.specs.Prelude.{◌≡◌, ◌↔◌, ◌++◌, ◌+◌, [], ℕ, IfOk, IsErrOf, IsSome, IsTrue, List as Seq, MatchOption, None, OnErr, OnOk, Some, slice_get, slice_set, true, false};
 
 use crate::answers::tell_answers;
 use crate::compiled::{ClassCode, Compiled};
@@ -25,9 +25,9 @@ use crate::moves::{Begin, alternative_at, begin_in, run_from};
 use crate::opening::first_values;
 use crate::place::{Place, StepFault, Stopped};
 use crate::waits::Alternative;
-use da_lang::Action;
+use da_lang::{Action, Class};
 use da_machine::Machine;
-use da_values::{List, NoMemory, Steps, Value};
+use da_values::{List, NoMemory, Steps, Value, copy_value};
 use delta_rules::Answers;
 use std::alloc::Global;
 use std::mem;
@@ -223,23 +223,65 @@ impl<'c> Core<'c> {
         if !self.is_waiting() {
             return Err(StepFault::Forbidden);
         }
+        let Ok(message) = copy_value(self.alloc, m) else {
+            self.spent = true;
+            return Err(StepFault::Memory);
+        };
+        self.take(from, time, message, out)
+    }
+
+    /// The same of a message that it takes over, so that none is copied to be told.
+    pub fn take(
+        &mut self,
+        from: u16,
+        time: u64,
+        m: Value,
+        out: &mut List<Action>,
+    ) -> Result<Stopped, StepFault>
+        requires ready { IsReady self.old }
+        requires arrives { MayArrive (program_of self.old) m from time }
+        ensures ready { IsReady self.new }
+        ensures program { program_of self.new ≡ program_of self.old }
+        ensures delivers { IfOk result (λ stopped. Whichever self.old (λ w.
+            HasMade self.old w (arrival m from time) self.new stopped out.old out.new)) }
+        ensures spent { is_spent self.old ≡ true → IsErrOf result StepFault.Spent }
+        ensures only_spent { IsErrOf result StepFault.Spent
+            → (is_spent self.old ≡ true) × (self.new ≡ self.old) × (out.new ≡ out.old) }
+        ensures forbidden { IsErrOf result StepFault.Forbidden → Whichever self.old (λ w.
+            proc_step (program_of self.old) w (arrival m from time) ≡ None) }
+        ensures allowed { Whichever self.old (λ w.
+            proc_step (program_of self.old) w (arrival m from time) ≡ None
+            → IsErrOf result StepFault.Forbidden) }
+        ensures same { IsErrOf result StepFault.Forbidden
+            → (self.new ≡ self.old) × (out.new ≡ out.old) }
+        ensures memory { IsErrOf result StepFault.Memory → is_spent self.new ≡ true }
+        ensures front { IsErrOf result StepFault.Memory → Whichever self.old (λ w.
+            HasBegun self.old w (arrival m from time) out.old out.new) }
+    {
+        if self.spent {
+            return Err(StepFault::Spent);
+        }
+        if !self.is_waiting() {
+            return Err(StepFault::Forbidden);
+        }
+        let me = self.known.answers.me;
         let compiled = self.compiled;
-        let (Some(class), Some(code)) = (
-            compiled.class_of(self.known.answers.me),
-            compiled.code_of(self.known.answers.me),
-        ) else {
+        let (Some(class), Some(code)) = (compiled.class_of(me), compiled.code_of(me)) else {
             unreachable!()
         };
-        let delivery = Delivery {
-            class,
-            code,
-            message: m,
-            from,
-        };
+        let delivery = delivery_of(class, code, &m, from);
+        let told = out.len();
         self.spent = true;
         self.known.actions = mem::replace(out, List::new(self.alloc));
         let run = take_in(&delivery, time, self.machine.place, &mut self.known);
         *out = mem::replace(&mut self.known.actions, List::new(self.alloc));
+        let got = Action::Got {
+            q: me,
+            p: from,
+            t: time,
+            v: m,
+        };
+        put_in(out, told, got);
         let place = run?;
         Ok(self.settle(place))
     }
@@ -282,6 +324,55 @@ impl<'c> Core<'c> {
         let code = self.compiled.code_of(self.known.answers.me)?;
         alternative_at(code, self.machine.place, k)
     }
+}
+
+// A message that arrives at a process of this class.
+fn delivery_of<'x>(
+    class: &'x Class,
+    code: &'x ClassCode,
+    message: &'x Value,
+    from: u16,
+) -> Delivery<'x>
+    ensures class { result.class.now ≡ class.now }
+    ensures code { result.code.now ≡ code.now }
+    ensures message { result.message.now ≡ message.now }
+    ensures from { result.from ≡ from }
+{
+    Delivery {
+        class,
+        code,
+        message,
+        from,
+    }
+}
+
+// Puts an action in the place of the one that is there, if there is one.
+#[tactic(auto, using(crate::proofs::Telling::put_past))]
+fn put_in(out: &mut List<Action>, at: usize, action: Action)
+    ensures { out.new ≡ slice_set out.old at action }
+{
+    if at < out.len() {
+        out.set(at, action);
+    }
+}
+
+// Each field by its name: a further one is refused here until it is named. None of them is a list of past messages.
+fn fields_are_whole(core: &Core<'_>) {
+    let Core {
+        alloc: _,
+        compiled: _,
+        known,
+        machine: _,
+        place: _,
+        spent: _,
+    } = core;
+    let Known {
+        alloc: _,
+        plan: _,
+        clock: _,
+        answers: _,
+        actions: _,
+    } = known;
 }
 
 // How a process has stopped that stands at this place.

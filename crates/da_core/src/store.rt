@@ -65,6 +65,11 @@ impl Store for Known<'_> {
         Ok(())
     }
 
+    fn send_to(&mut self, m: Value, to: u16) -> Result<(), NoMemory> {
+        self.send_value(m, to)?;
+        Ok(())
+    }
+
     fn output(&mut self, v: &Value) -> Result<(), NoMemory> {
         let v = copy_value(self.alloc, v)?;
         self.actions.push(Action::Out {

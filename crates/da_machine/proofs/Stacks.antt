@@ -113,6 +113,11 @@ vals_last : (xs : List Value) (x : Value) → vals (xs ++ x ∷ []) ≡ vals xs 
 vals_last [] x = refl
 vals_last (y ∷ xs) x = ap (λ l. val_of y ∷ l) (vals_last xs x)
 
+pub vals_turned : (xs : List Value) → vals (reverse xs) ≡ reverse (vals xs)
+vals_turned [] = refl
+vals_turned (x ∷ xs) =
+    ap vals (reverse-append (x ∷ []) xs) ∙ vals_last (reverse xs) x ∙ ap (λ l. l ++ val_of x ∷ []) (vals_turned xs) ∙ sym (reverse-append (val_of x ∷ []) (vals xs))
+
 vals_long : (xs : List Value) → length (vals xs) ≡ length xs
 vals_long [] = refl
 vals_long (x ∷ xs) = ap suc (vals_long xs)

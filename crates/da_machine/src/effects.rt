@@ -1,9 +1,9 @@
 //! Instructions that change what the process knows, send or print, and those of loops.
-ghost use Rattle.da_lang.specs.Turns.{bind_all};
+ghost use Rattle.da_lang.specs.Turns.{bind_all, recipients, sending, sent_to};
 ghost use Rattle.da_lang.specs.declared.code.Instr.TheVariants as op;
 ghost use Rattle.da_lang.specs.declared.event.Action.TheVariants as action;
-ghost use Rattle.da_machine.specs.Conditions.{EachProcess, IsPrintable, SomeProcess, TakesAll};
-ghost use Rattle.da_machine.specs.RunsTo.{Acted, Began, MayAct};
+ghost use Rattle.da_machine.specs.Conditions.{EachProcess, IsPrintable, IsSendable, SomeProcess, TakesAll};
+ghost use Rattle.da_machine.specs.RunsTo.{Acted, Began, IsFront, MayAct};
 ghost use Rattle.da_values.specs.Value.{val_of, value_of};
 ghost use Rattle.std.specs.Prelude.{◌≡◌, [], ◌∷◌, ◌++◌, ◌+◌, ◌<◌, ◌^◌, IfOk, OnErr, OnOk, Some};
 
@@ -77,10 +77,45 @@ pub fn send<S: Store>(alloc: Global, m: &mut Machine, s: &mut S) -> Result<Optio
             line: m.line,
         }));
     }
-    let to = recipients_of(alloc, to)?;
-    s.send(&message, &to)?;
+    send_message(alloc, s, message, to)?;
     m.place += 1;
     Ok(None)
+}
+
+// Sends a message to a process, or a copy of it to each of a set of processes.
+#[inline(always)]
+#[tactic(auto, using(crate::proofs::ValueKinds::viewing))]
+fn send_message<S: Store>(
+    alloc: Global,
+    s: &mut S,
+    message: Value,
+    to: Value,
+) -> Result<(), NoMemory>
+    requires { SomeProcess (S.stands s.old) (λ p class d. IsSendable p (val_of message) (recipients (val_of to))) }
+    ensures stands { OnOk result (EachProcess (S.stands s.old) (λ p class d. S.stands s.new p class (sent_to (val_of message) (recipients (val_of to)) d))) }
+    ensures actions { OnOk result (EachProcess (S.stands s.old) (λ p class d. S.actions s.new ≡ S.actions s.old ++ sending d.me (val_of message) (recipients (val_of to)) d.clock)) }
+    ensures front { OnErr result (EachProcess (S.stands s.old) (λ p class d. IsFront (S.actions s.old) (S.actions s.new) (sending d.me (val_of message) (recipients (val_of to)) d.clock))) }
+{
+    match to {
+        Value::Proc(process) => s.send_to(message, process),
+        to => send_to_each(alloc, s, &message, to),
+    }
+}
+
+// Sends a message to each of a set of processes.
+fn send_to_each<S: Store>(
+    alloc: Global,
+    s: &mut S,
+    message: &Value,
+    to: Value,
+) -> Result<(), NoMemory>
+    requires { SomeProcess (S.stands s.old) (λ p class d. IsSendable p (val_of message.now) (recipients (val_of to))) }
+    ensures stands { OnOk result (EachProcess (S.stands s.old) (λ p class d. S.stands s.new p class (sent_to (val_of message.now) (recipients (val_of to)) d))) }
+    ensures actions { OnOk result (EachProcess (S.stands s.old) (λ p class d. S.actions s.new ≡ S.actions s.old ++ sending d.me (val_of message.now) (recipients (val_of to)) d.clock)) }
+    ensures front { OnErr result (EachProcess (S.stands s.old) (λ p class d. IsFront (S.actions s.old) (S.actions s.new) (sending d.me (val_of message.now) (recipients (val_of to)) d.clock))) }
+{
+    let processes = recipients_of(alloc, to)?;
+    s.send(message, &processes)
 }
 
 /// Prints the top value.

@@ -144,7 +144,7 @@ impl Stack {
         ensures { IfOk result (λ row. (row ≡ upper n self.old) × (self.new ≡ lower n self.old)) }
     {
         let turned = self.take_turned(alloc, n)?;
-        turned.unturned(alloc)
+        Ok(turned.unturned())
     }
 
     /// Takes the last `n` values as a set.
@@ -169,16 +169,14 @@ impl Stack {
         Ok(turned)
     }
 
-    // The values from the top down as a row.
-    fn unturned(self, alloc: Global) -> Result<Row, NoMemory>
-        ensures { IfOk result (λ row. row ≡ reverse self) }
+    // The values from the top down as a row. It takes no memory.
+    #[tactic(auto, using(crate::proofs::Stacks::vals_turned))]
+    fn unturned(self) -> Row
+        ensures { result ≡ reverse self }
     {
-        let mut left = self;
-        let mut row = Row::new(alloc);
-        'values: while let Some(value) = left.pop() {
-            row.push(value)?;
-        }
-        Ok(row)
+        let mut values = self.values;
+        values.reverse();
+        Row::from_list(values)
     }
 
     // The set of the values.

@@ -72,6 +72,13 @@ pub trait Store {
         ensures actions { OnOk result (EachProcess (stands self.old) (λ p class d. actions self.new ≡ actions self.old ++ sending d.me (val_of m.now) (map proc_of to.now) d.clock)) }
         ensures front { OnErr result (EachProcess (stands self.old) (λ p class d. IsFront (actions self.old) (actions self.new) (sending d.me (val_of m.now) (map proc_of to.now) d.clock))) };
 
+    /// Sends a message to this process alone. Where memory is refused, a front of the one message was sent.
+    fn send_to(&mut self, m: Value, to: u16) -> Result<(), NoMemory>
+        requires { SomeProcess (stands self.old) (λ p class d. IsSendable p (val_of m) (to ∷ [])) }
+        ensures stands { OnOk result (EachProcess (stands self.old) (λ p class d. stands self.new p class (sent_to (val_of m) (to ∷ []) d))) }
+        ensures actions { OnOk result (EachProcess (stands self.old) (λ p class d. actions self.new ≡ actions self.old ++ sending d.me (val_of m) (to ∷ []) d.clock)) }
+        ensures front { OnErr result (EachProcess (stands self.old) (λ p class d. IsFront (actions self.old) (actions self.new) (sending d.me (val_of m) (to ∷ []) d.clock))) };
+
     /// Prints a value.
     fn output(&mut self, v: &Value) -> Result<(), NoMemory>
         requires { SomeProcess (stands self.old) (λ p class d. IsPrintable p (val_of v.now)) }

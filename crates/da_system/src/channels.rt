@@ -181,6 +181,15 @@ impl Channels {
     }
 }
 
+// Each field by its name: a further one is refused here until it is named. The queues have the messages that are under way.
+fn fields_are_whole(channels: &Channels) {
+    let Channels {
+        alloc: _,
+        count: _,
+        queues: _,
+    } = channels;
+}
+
 /// Whether message `i` of a channel of this kind may arrive, as far as the kind decides: in a fifo kind only the first.
 pub fn may_arrive(kind: ChannelKind, i: u32) -> bool
     ensures { result ≡ arrive_lem kind i }

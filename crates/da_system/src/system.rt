@@ -398,6 +398,17 @@ impl System<'_> {
     }
 }
 
+// Each field by its name: a further one is refused here until it is named. None of them is a list of past messages.
+fn fields_are_whole(system: &System<'_>) {
+    let System {
+        alloc: _,
+        compiled: _,
+        cores: _,
+        channels: _,
+        spent: _,
+    } = system;
+}
+
 // Whether a process that stands there waits at a label or an `await`.
 fn is_waiting(place: Place) -> bool
     ensures { result ≡ waits_lem (phase_at place) }

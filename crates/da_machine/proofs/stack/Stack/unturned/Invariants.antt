@@ -1,9 +1,0 @@
-use Rattle.std.proofs.Common.{length}
-use Rattle.da_machine.proofs.Stacks.{Unturning}
-use Rattle.da_machine.proofs.stack.Stack.unturned.Given as goal
-
-abbrev pub invariant-values : goal.invariant-values
-invariant-values l = Unturning l.fn.self l.left l.row
-
-abbrev pub decreases-values : goal.decreases-values
-decreases-values l = length l.left
