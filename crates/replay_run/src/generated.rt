@@ -1,13 +1,14 @@
 //! The run of a generated schedule, whose events are picked by numbers.
 ghost use Rattle.da_outside.specs.Outside.{Appends, AppendsFront, HasCause};
 ghost use Rattle.da_system.specs.State.{IsReady, Whichever, is_spent, program_of};
-ghost use Rattle.da_system.specs.StressRun.{next_number as next_lem, number_line, place_in as place_lem, stress_text_from};
+ghost use Rattle.da_system.specs.StressRun.{number_line, stress_text_from};
 ghost use Rattle.replay_run.specs.Replay.{HasEnded, StandsBehind, run_on};
 ghost use Rattle.replay_run.specs.Stress.{HasCome, HasPicked, HasRoom, IsNext, UsesRoom, lines_of, picked_on};
 ghost use Rattle.std.specs.Prelude.{◌≡◌, ◌++◌, ◌<◌, ◌≤◌, ◌^◌, None, false, true, IfOk, IsErrOf, OnErr, OnOk, length};
 
 use crate::counts::Counts;
 use crate::outcome::Outcome;
+use crate::picking::{next_number, place_in};
 use da_outside::{Sink, Trouble, write_all};
 use da_system::{StepFault, System};
 use da_values::{Buf, List, NoMemory, write_number};
@@ -134,28 +135,6 @@ fn run_next(
     }
     counts.add(actions.as_slice());
     Ok(Some(number))
-}
-
-const FACTOR: u128 = 25_214_903_917;
-
-const SUMMAND: u128 = 11;
-
-const MODULUS: u128 = 281_474_976_710_656;
-
-// The number that comes next.
-fn next_number(x: u64) -> u64
-    ensures { result ≡ next_lem x }
-{
-    ((FACTOR * u128::from(x) + SUMMAND) % MODULUS) as u64
-}
-
-// The place, counted from 0, that a number picks in a list of this length.
-fn place_in(count: usize, x: u64) -> usize
-    requires { 0 < count }
-    ensures place { result ≡ place_lem count x }
-    ensures within { result < count }
-{
-    (x / 65_536) as usize % count
 }
 
 // Appends the eight lines of a summary.

@@ -4,8 +4,10 @@
 mod counts;
 mod generated;
 mod outcome;
+mod picking;
 mod run;
 
 pub use generated::stress;
 pub use outcome::Outcome;
+pub use picking::{next_number, place_in};
 pub use run::replay;

@@ -4,6 +4,7 @@
 #![tactic(auto)]
 
 mod faults;
+mod following;
 mod lines;
 mod marked;
 mod program;
@@ -13,5 +14,6 @@ mod stop;
 mod waits;
 
 pub use faults::{Fault, explain_fault};
+pub use following::explain_events;
 pub use lines::explain_line;
 pub use stop::explain_stop;

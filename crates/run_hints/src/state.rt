@@ -25,8 +25,15 @@ pub struct Process {
     pub line: u32,
 }
 
-/// The messages under way in a channel, the eldest first, by their texts.
-type Queue = VecDeque<Buf>;
+/// A message that is under way: its text, and the time of its sending.
+#[derive(Debug, Drop)]
+struct Letter {
+    text: Buf,
+    time: u64,
+}
+
+/// The messages under way in a channel, the eldest first.
+type Queue = VecDeque<Letter>;
 
 /// What a run has come to.
 #[derive(Debug, Drop)]
@@ -101,17 +108,25 @@ impl State {
         count
     }
 
+    // Message `i` of a channel, counted from 1.
+    fn letter(&self, p: u32, q: u32, i: u32) -> Option<&Letter> {
+        let place = (i as usize).checked_sub(1)?;
+        self.queue(p, q)?.get(place)
+    }
+
     /// The text of message `i` of a channel, counted from 1.
     pub fn text(&self, p: u32, q: u32, i: u32) -> &[u8] {
-        let Some(queue) = self.queue(p, q) else {
-            return &[];
-        };
-        let Some(place) = (i as usize).checked_sub(1) else {
-            return &[];
-        };
-        match queue.get(place) {
-            Some(text) => text.as_slice(),
+        match self.letter(p, q, i) {
+            Some(letter) => letter.text.as_slice(),
             None => &[],
+        }
+    }
+
+    /// When message `i` of a channel was sent, or 0 where there is none.
+    pub fn time(&self, p: u32, q: u32, i: u32) -> u64 {
+        match self.letter(p, q, i) {
+            Some(letter) => letter.time,
+            None => 0,
         }
     }
 
@@ -134,7 +149,7 @@ impl State {
         };
         if let Some(place) = self.place_of(p, q) {
             if let Some(queue) = self.channels.get_mut(place) {
-                let _text = queue.remove(at);
+                let _letter = queue.remove(at);
             }
         }
     }
@@ -142,14 +157,15 @@ impl State {
     fn repeat(&mut self, p: u32, q: u32, i: u32) {
         let mut text = List::new(self.alloc);
         let _ = text.append(self.text(p, q, i));
-        self.add(p, q, text);
+        let time = self.time(p, q, i);
+        self.add(p, q, Letter { text, time });
     }
 
     // A message goes to the end of a channel.
-    fn add(&mut self, p: u32, q: u32, text: Buf) {
+    fn add(&mut self, p: u32, q: u32, letter: Letter) {
         if let Some(place) = self.place_of(p, q) {
             if let Some(queue) = self.channels.get_mut(place) {
-                let _ = queue.push_back(text);
+                let _ = queue.push_back(letter);
             }
         }
     }
@@ -159,10 +175,11 @@ impl State {
             Action::Took { p, .. } => self.stand(*p, Standing::Waits),
             Action::End { p } => self.stand(*p, Standing::Ended),
             Action::Fault { p, kind, line } => self.stand(*p, Standing::Faulted(*kind, *line)),
-            Action::Sent { p, q, v, .. } => {
+            Action::Sent { p, q, t, v } => {
                 let mut text = List::new(self.alloc);
                 let _ = write_value(v, &mut text);
-                self.add(u32::from(*p), u32::from(*q), text);
+                let letter = Letter { text, time: *t };
+                self.add(u32::from(*p), u32::from(*q), letter);
             }
             Action::Out { p, .. } => {
                 if let Some(line) = told_line(action) {

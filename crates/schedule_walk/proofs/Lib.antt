@@ -1,0 +1,4 @@
+pub mod AllowedLemmas
+pub mod NameLemmas
+pub mod NextLemmas
+pub mod WalkLemmas

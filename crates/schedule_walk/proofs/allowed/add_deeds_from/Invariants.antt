@@ -1,0 +1,8 @@
+use Rattle.da_system.specs.Choices.{is_allowed}
+use Rattle.da_system.specs.State.{Whichever, program_of}
+use Rattle.schedule_walk.specs.Allowed.{deeds_to}
+use Rattle.schedule_walk.proofs.AllowedLemmas.{AddsUpTo}
+use Rattle.schedule_walk.proofs.allowed.add_deeds_from.Given as goal
+
+abbrev pub invariant-loop-place : goal.invariant-loop-place
+invariant-loop-place l = Whichever l.system (λ s. AddsUpTo (is_allowed (program_of l.system) s) (deeds_to l.deed s l.p) l.place l.fn.out l.out)

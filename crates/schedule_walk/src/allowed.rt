@@ -1,0 +1,130 @@
+//! The events that are allowed in the state of a system.
+ghost use Rattle.da_system.specs.Choices.{is_allowed};
+ghost use Rattle.da_system.specs.State.{IsReady, Whichever, program_of};
+ghost use Rattle.schedule_walk.specs.Allowed.{allowed, deed_event, deeds, deeds_from, deeds_to, is_move as is_move_lem, moves};
+ghost use Rattle.std.specs.List.{filter};
+ghost use Rattle.std.specs.Prelude.{◌≡◌, ◌++◌, ◌<◌, ◌^◌, IfOk, OnOk, length};
+
+use da_lang::Event;
+use da_system::System;
+use da_values::{List, NoMemory};
+use std::alloc::Global;
+
+/// One more than the greatest number of a message that is looked at.
+const MESSAGES: u32 = 999_999_999;
+
+/// What may be done with a message that is under way.
+#[derive(Clone, Copy, Debug)]
+enum Deed {
+    Deliver,
+    Lose,
+    Repeat,
+}
+
+impl Deed {
+    // What is done with message `i` from process `p` to process `q`.
+    fn event(self, p: u32, q: u32, i: u32) -> Event
+        ensures { result ≡ deed_event self p q i }
+    {
+        match self {
+            Deed::Deliver => Event::Deliver { p, q, i },
+            Deed::Lose => Event::Lose { p, q, i },
+            Deed::Repeat => Event::Repeat { p, q, i },
+        }
+    }
+}
+
+/// All events that are allowed in the state of a system of so many processes but for `show` and `stat`: the moves by the
+/// numbers of their processes and alternatives, and then the deliveries, the losses and the repetitions, each by the numbers of
+/// their senders, recipients and messages.
+pub fn allowed_events(
+    alloc: Global,
+    system: &System,
+    processes: u32,
+) -> Result<List<Event>, NoMemory>
+    requires ready { IsReady system.now }
+    requires count { processes ≡ length (program_of system.now).procs }
+    ensures { IfOk result (λ events. Whichever system.now (λ s. events ≡ allowed (program_of system.now) s)) }
+{
+    let mut events = List::new(alloc);
+    add_moves(system, &mut events)?;
+    add_deeds(system, Deed::Deliver, processes, &mut events)?;
+    add_deeds(system, Deed::Lose, processes, &mut events)?;
+    add_deeds(system, Deed::Repeat, processes, &mut events)?;
+    Ok(events)
+}
+
+// Adds the moves that are allowed. They are the first of the events that may be picked.
+fn add_moves(system: &System, out: &mut List<Event>) -> Result<(), NoMemory>
+    requires { IsReady system.now }
+    ensures { OnOk result (Whichever system.now (λ s. out.new ≡ out.old ++ filter (is_allowed (program_of system.now) s) (moves s))) }
+{
+    for place in 0..system.choices() {
+        let event = system.choice(place);
+        if !is_move(&event) {
+            return Ok(());
+        }
+        out.push(event)?;
+    }
+    Ok(())
+}
+
+// Whether an event is a move.
+fn is_move(event: &Event) -> bool
+    ensures { result ≡ is_move_lem event.now }
+{
+    matches!(event, Event::Move { .. } | Event::Take { .. })
+}
+
+// Adds what may be done in this way with the messages of all channels.
+fn add_deeds(
+    system: &System,
+    deed: Deed,
+    processes: u32,
+    out: &mut List<Event>,
+) -> Result<(), NoMemory>
+    requires { processes ≡ length (program_of system.now).procs }
+    ensures { OnOk result (Whichever system.now (λ s. out.new ≡ out.old ++ filter (is_allowed (program_of system.now) s) (deeds deed s))) }
+{
+    for place in 0..processes {
+        add_deeds_from(system, deed, place + 1, processes, out)?;
+    }
+    Ok(())
+}
+
+// The same with the messages from process `p`.
+fn add_deeds_from(
+    system: &System,
+    deed: Deed,
+    p: u32,
+    processes: u32,
+    out: &mut List<Event>,
+) -> Result<(), NoMemory>
+    requires { processes ≡ length (program_of system.now).procs }
+    ensures { OnOk result (Whichever system.now (λ s. out.new ≡ out.old ++ filter (is_allowed (program_of system.now) s) (deeds_from deed s p))) }
+{
+    for place in 0..processes {
+        add_deeds_to(system, deed, p, place + 1, out)?;
+    }
+    Ok(())
+}
+
+// The same with the messages from process `p` to process `q`.
+fn add_deeds_to(
+    system: &System,
+    deed: Deed,
+    p: u32,
+    q: u32,
+    out: &mut List<Event>,
+) -> Result<(), NoMemory>
+    ensures { OnOk result (Whichever system.now (λ s. out.new ≡ out.old ++ filter (is_allowed (program_of system.now) s) (deeds_to deed s p q))) }
+{
+    for place in 0..MESSAGES {
+        let event = deed.event(p, q, place + 1);
+        if !system.enabled(&event) {
+            return Ok(());
+        }
+        out.push(event)?;
+    }
+    Err(NoMemory)
+}

@@ -1,0 +1,13 @@
+//! Schedules that are found: the one that numbers generate, and the events that are allowed behind a schedule.
+#![tactic(auto)]
+
+mod allowed;
+mod following;
+mod generated;
+mod naming;
+mod remarked;
+
+pub use allowed::allowed_events;
+pub use following::next;
+pub use generated::{picked, walk};
+pub use naming::schedule_of;
