@@ -1,0 +1,4 @@
+pub mod RunLemmas
+pub mod SeekLemmas
+pub mod ShortLemmas
+pub mod ShownLaws

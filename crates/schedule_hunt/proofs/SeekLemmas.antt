@@ -1,0 +1,55 @@
+-- The search among numbers.
+use Rattle.std.proofs.Common.{◌≡◌, refl, sym, subst, ap, ℕ, ◌+◌, ◌<◌, ◌≤◌, Bool, true, false, List, take, arith, inl, inr}
+use Rattle.std.specs.Prelude.{◌⊎◌, Option, Some, None}
+use Rattle.std.proofs.lemmas.Bool.{cases_lt}
+use Rattle.da_lang.specs.declared.event.Event.{Event}
+use Rattle.da_lang.specs.declared.program.Program.{Program}
+use Rattle.da_outside.specs.Outside.{Appends, AppendsFront}
+use Rattle.schedule_hunt.specs.declared.what.What.{What}
+use Rattle.schedule_hunt.specs.Hunt.{HasBegun, IsLeast, IsPart, IsReply, IsShort, IsShownBy, IsTextOf, ShowsNone, generated, found_text}
+use Rattle.schedule_hunt.specs.Seeking.{IsReplyOf, IsSought}
+
+module _ (program : Program) (what : What) (most start count : ℕ) where
+  pub none_first : ShowsNone program what most start 0
+  none_first number from to = absurd (omega (arith, from, to))
+
+  -- the next number was tried in vain
+  pub none_on : (place : ℕ) → ShowsNone program what most start place → (IsShownBy program what (generated program most (start + place)) → ⊥) → ShowsNone program what most start (place + 1)
+  none_on place none next number from to shown = of (cases_lt number (start + place))
+    where
+      of : (number < start + place) ⊎ (start + place ≤ number) → ⊥
+      of (inl early) = none number from early shown
+      of (inr late) = let same : number ≡ start + place = omega (arith, late, to) in next (subst (λ n. IsShownBy program what (generated program most n)) same shown)
+
+  -- it shows it
+  pub sought_here : (place : ℕ) (events : List Event) → place < count → ShowsNone program what most start place → events ≡ generated program most (start + place) → IsShownBy program what events
+      → IsSought program what most start count (Some events)
+  sought_here place events inside none is shown = (
+    start + place,
+    record {
+      from = omega arith;
+      to = omega (arith, inside);
+      shown = subst (IsShownBy program what) is shown;
+      least = none;
+    },
+    is,
+  )
+
+  pub sought_shown : (events : List Event) → IsSought program what most start count (Some events) → IsShownBy program what events
+  sought_shown events (number, least, is) = subst (IsShownBy program what) (sym is) least.shown
+
+  pub found_reply : (events : List Event) (text : List ℕ) → IsSought program what most start count (Some events) → IsTextOf program what events text → IsReplyOf program what most start count true text
+  found_reply events text (number, least, is) told = record { number = number; least = least; told = subst (λ whole. IsTextOf program what whole text) is told }
+
+  -- WHAT IS WRITTEN OF A TEXT THAT ANSWERS
+
+  is_reply : (found : Bool) (text : List ℕ) → IsReplyOf program what most start count found text → IsReply program what most start count text
+  is_reply true text found = inl found
+  is_reply false text none = inr none
+
+  pub begun : (found : Bool) (text bytes : List ℕ) (before after : Option (List ℕ)) → bytes ≡ text → IsReplyOf program what most start count found text → AppendsFront before after bytes
+      → HasBegun program what most start count before after
+  begun found text bytes before after same reply front = inr (text, is_reply found text reply, subst (AppendsFront before after) same front)
+
+  pub unbegun : (taken : Option (List ℕ)) → HasBegun program what most start count taken taken
+  unbegun taken = inl refl

@@ -1,0 +1,83 @@
+-- Which schedule is found, how short it is made, and what is written of it.
+use Rattle.std.specs.Prelude.{◌≡◌, ℕ, ◌+◌, ◌<◌, ◌≤◌, ◌==◌, ◌⊎◌, not, List, [], ◌∷◌, ◌++◌, codes, decimal, length, Option, None}
+use Rattle.std.specs.List.{filter, flat_map, remove}
+use Rattle.da_lang.specs.declared.event.Event.{Event}
+use Rattle.da_lang.specs.declared.program.Program.{Program}
+use Rattle.da_outside.specs.Outside.{Appends, AppendsFront}
+use Rattle.da_system.specs.SourceRun.{src_run}
+use Rattle.da_system.specs.StressRun.{stress_run}
+use Rattle.sched_text.specs.EventText.{event_line}
+use Rattle.schedule_hunt.specs.declared.what.What.{What}
+use Rattle.schedule_hunt.specs.Shown.{Shows}
+
+-- the events run with no stop, and their whole run shows it
+pub record IsShownBy (program : Program) (what : What) (events : List Event) : Type 0 where
+  pub allowed : (src_run program events).stop ≡ None
+  pub shows : Shows program what (src_run program events)
+
+-- WHICH SCHEDULE
+
+-- the schedule of at most so many events that is generated from a number
+abbrev pub generated : Program → ℕ → ℕ → List Event
+generated program most number = (stress_run program number most).events
+
+-- none of so many numbers from the start on gives a schedule that shows it
+abbrev pub ShowsNone : Program → What → ℕ → ℕ → ℕ → Type 0
+ShowsNone program what most start count = (number : ℕ) → start ≤ number → number < start + count → IsShownBy program what (generated program most number) → ⊥
+
+-- this number gives one that shows it, and none of those before it does
+pub record IsLeast (program : Program) (what : What) (most start count number : ℕ) : Type 0 where
+  pub from : start ≤ number
+  pub to : number < start + count
+  pub shown : IsShownBy program what (generated program most number)
+  pub least : (earlier : ℕ) → start ≤ earlier → earlier < number → IsShownBy program what (generated program most earlier) → ⊥
+
+-- HOW SHORT
+
+-- some events of a schedule, in its order
+pub data IsPart : List Event → List Event → Type 0 where
+  none : IsPart [] []
+  kept : (e : Event) (part whole : List Event) → IsPart part whole → IsPart (e ∷ part) (e ∷ whole)
+  left : (e : Event) (part whole : List Event) → IsPart part whole → IsPart part (e ∷ whole)
+
+-- the events show it, and without any one of them they stop or do not
+pub record IsShort (program : Program) (what : What) (events : List Event) : Type 0 where
+  pub shown : IsShownBy program what events
+  pub needed : (place : ℕ) → place < length events → IsShownBy program what (remove events place) → ⊥
+
+-- WHAT IS WRITTEN
+
+-- a remark in one line: what it says, without ends of lines
+abbrev pub remark_line : List ℕ → List ℕ
+remark_line words = codes "# " ++ filter (λ byte. not (byte == 10)) words ++ codes "\n"
+
+-- the lines of the events, and a remark
+abbrev pub found_text : List Event → List ℕ → List ℕ
+found_text events words = flat_map event_line events ++ remark_line words
+
+-- a text of a schedule that is made short
+pub record IsTextOf (program : Program) (what : What) (whole : List Event) (text : List ℕ) : Type 0 where
+  pub events : List Event
+  pub part : IsPart events whole
+  pub short : IsShort program what events
+  pub words : List ℕ
+  pub text_is : text ≡ found_text events words
+
+-- the text of the schedule of the least number that shows it
+pub record IsFound (program : Program) (what : What) (most start count : ℕ) (text : List ℕ) : Type 0 where
+  pub number : ℕ
+  pub least : IsLeast program what most start count number
+  pub told : IsTextOf program what (generated program most number) text
+
+-- the line that says that none of so many shows it
+abbrev pub none_line : ℕ → List ℕ
+none_line count = codes "none " ++ decimal count ++ codes "\n"
+
+-- the text that answers
+abbrev pub IsReply : Program → What → ℕ → ℕ → ℕ → List ℕ → Type 0
+IsReply program what most start count text = IsFound program what most start count text ⊎ (ShowsNone program what most start count × (text ≡ none_line count))
+
+-- nothing was written, or the front of a text that answers
+abbrev pub HasBegun : Program → What → ℕ → ℕ → ℕ → Option (List ℕ) → Option (List ℕ) → Type 0
+HasBegun program what most start count before after =
+    (after ≡ before) ⊎ ((text : List ℕ) × IsReply program what most start count text × AppendsFront before after text)

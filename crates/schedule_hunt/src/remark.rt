@@ -1,0 +1,225 @@
+//! What a remark says: what is shown by which actions. No contract speaks of the words.
+ghost use Rattle.da_core.specs.Compiled.{IsCompiled};
+
+use crate::runs::{begin, carry_out};
+use crate::shown::{has_ended, sayer};
+use crate::what::What;
+use da_core::Compiled;
+use da_lang::{Action, Event};
+use da_values::{Buf, List, NoMemory, Value, write_number};
+use sched_text::write_action;
+use std::alloc::Global;
+
+/// The actions of a run, and how many there were behind each event.
+#[derive(Drop)]
+struct Told {
+    actions: List<Action>,
+    behind: List<usize>,
+}
+
+/// The places of two actions.
+#[derive(Clone, Copy, Debug)]
+struct Pair {
+    first: usize,
+    second: usize,
+}
+
+/// What the remark behind these events says, which show this.
+pub(crate) fn words_of(
+    alloc: Global,
+    compiled: &Compiled,
+    events: &[Event],
+    what: &What,
+) -> Result<Buf, NoMemory>
+    requires { IsCompiled compiled.now }
+{
+    let told = tell(alloc, compiled, events)?;
+    let mut out = List::new(alloc);
+    match what {
+        What::Fault => put_fault(alloc, &told, &mut out)?,
+        What::Stuck => put_stuck(compiled.program().procs.len(), &told, &mut out)?,
+        What::Overlap { enter, leave } => put_overlap(alloc, enter, leave, &told, &mut out)?,
+        What::Differ => put_differ(alloc, &told, &mut out)?,
+        What::More(_) => put_more(alloc, &told, &mut out)?,
+    }
+    Ok(out)
+}
+
+// Runs the events, and keeps how many actions there were behind each.
+fn tell(alloc: Global, compiled: &Compiled, events: &[Event]) -> Result<Told, NoMemory>
+    requires { IsCompiled compiled.now }
+{
+    let mut behind = List::new(alloc);
+    let mut run = begin(alloc, compiled)?;
+    for event in events {
+        let _allowed = carry_out(&mut run, event)?;
+        behind.push(run.actions.len())?;
+    }
+    Ok(Told {
+        actions: run.actions,
+        behind,
+    })
+}
+
+fn put_fault(alloc: Global, told: &Told, out: &mut Buf) -> Result<(), NoMemory> {
+    out.append(b"fault: ")?;
+    let found = told
+        .actions
+        .as_slice()
+        .iter()
+        .position(|action| matches!(action, Action::Fault { .. }));
+    match found {
+        Some(place) => put_action(alloc, told, place, out),
+        None => Ok(()),
+    }
+}
+
+fn put_stuck(count: usize, told: &Told, out: &mut Buf) -> Result<(), NoMemory> {
+    out.append(b"stuck: no event may be picked, and these processes have not ended:")?;
+    for place in 0..count {
+        if !has_ended(place + 1, told.actions.as_slice()) {
+            put_process(place + 1, out)?;
+        }
+    }
+    Ok(())
+}
+
+// Appends the number of a process behind a space.
+fn put_process(process: usize, out: &mut Buf) -> Result<(), NoMemory> {
+    out.append(b" ")?;
+    write_number(process, out)
+}
+
+fn put_overlap(
+    alloc: Global,
+    enter: &Value,
+    leave: &Value,
+    told: &Told,
+    out: &mut Buf,
+) -> Result<(), NoMemory> {
+    out.append(b"overlap: ")?;
+    match meeting(enter, leave, told.actions.as_slice()) {
+        Some(pair) => put_pair(alloc, told, &pair, b", and before it has left: ", out),
+        None => Ok(()),
+    }
+}
+
+// The entry of a process, and that of another one before it leaves.
+fn meeting(enter: &Value, leave: &Value, actions: &[Action]) -> Option<Pair> {
+    for (first, action) in actions.iter().enumerate() {
+        if let Some(process) = sayer(enter, action) {
+            if let Some(second) = next_entry(enter, leave, process, actions, first) {
+                return Some(Pair { first, second });
+            }
+        }
+    }
+    None
+}
+
+// The place behind this one where another process enters before process `q` leaves.
+fn next_entry(
+    enter: &Value,
+    leave: &Value,
+    q: u16,
+    actions: &[Action],
+    behind: usize,
+) -> Option<usize> {
+    for (place, action) in actions.iter().enumerate() {
+        if place > behind {
+            if let Some(process) = sayer(enter, action) {
+                if process != q {
+                    return Some(place);
+                }
+            }
+            if sayer(leave, action) == Some(q) {
+                return None;
+            }
+        }
+    }
+    None
+}
+
+fn put_differ(alloc: Global, told: &Told, out: &mut Buf) -> Result<(), NoMemory> {
+    out.append(b"differ: ")?;
+    match difference(told.actions.as_slice()) {
+        Some(pair) => put_pair(alloc, told, &pair, b" and ", out),
+        None => Ok(()),
+    }
+}
+
+// The first output, and the first that is not equal to it.
+fn difference(actions: &[Action]) -> Option<Pair> {
+    let first = actions
+        .iter()
+        .position(|action| matches!(action, Action::Out { .. }))?;
+    let value = output(actions.get(first)?)?;
+    for (second, action) in actions.iter().enumerate() {
+        if let Some(other) = output(action) {
+            if other != value {
+                return Some(Pair { first, second });
+            }
+        }
+    }
+    None
+}
+
+// The value that an action puts out.
+fn output(action: &Action) -> Option<&Value> {
+    match action {
+        Action::Out { v, .. } => Some(v),
+        _ => None,
+    }
+}
+
+fn put_more(alloc: Global, told: &Told, out: &mut Buf) -> Result<(), NoMemory> {
+    let mut count = 0usize;
+    let mut last = 0;
+    for (place, action) in told.actions.as_slice().iter().enumerate() {
+        if output(action).is_some() {
+            count = count.saturating_add(1);
+            last = place;
+        }
+    }
+    out.append(b"more: output ")?;
+    write_number(count, out)?;
+    out.append(b" is ")?;
+    put_action(alloc, told, last, out)
+}
+
+// Appends two actions with some words between.
+fn put_pair(
+    alloc: Global,
+    told: &Told,
+    pair: &Pair,
+    between: &[u8],
+    out: &mut Buf,
+) -> Result<(), NoMemory> {
+    put_action(alloc, told, pair.first, out)?;
+    out.append(between)?;
+    put_action(alloc, told, pair.second, out)
+}
+
+// Appends the words of the action at a place, and the number of its event.
+fn put_action(alloc: Global, told: &Told, place: usize, out: &mut Buf) -> Result<(), NoMemory> {
+    let Some(action) = told.actions.get(place) else {
+        return Ok(());
+    };
+    let mut line = List::new(alloc);
+    write_action(action, &mut line)?;
+    let _end = line.pop();
+    out.append(line.as_slice())?;
+    out.append(b" (event ")?;
+    write_number(event_of(told.behind.as_slice(), place), out)?;
+    out.append(b")")
+}
+
+// The number of the event, counted from 1, that made the action at a place.
+fn event_of(behind: &[usize], place: usize) -> usize {
+    let mut before = 0usize;
+    for count in behind {
+        if *count <= place {
+            before = before.saturating_add(1);
+        }
+    }
+    before.saturating_add(1)
+}

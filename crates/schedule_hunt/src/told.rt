@@ -1,0 +1,73 @@
+//! The texts that answer.
+ghost use Rattle.da_core.specs.Compiled.{IsCompiled};
+ghost use Rattle.sched_text.specs.EventText.{event_line};
+ghost use Rattle.schedule_hunt.specs.Hunt.{found_text as found_lem, none_line, remark_line};
+ghost use Rattle.std.specs.List.{filter, flat_map};
+ghost use Rattle.std.specs.Prelude.{ℕ, ◌≡◌, ◌++◌, ◌==◌, List as Seq, IfOk, OnOk, not};
+
+use crate::remark::words_of;
+use crate::what::What;
+use da_core::Compiled;
+use da_lang::Event;
+use da_values::{Buf, List, NoMemory, write_number};
+use sched_text::write_event;
+use std::alloc::Global;
+
+/// The lines of events that show this, and the remark that says how.
+pub(crate) fn found_text(
+    alloc: Global,
+    compiled: &Compiled,
+    events: &[Event],
+    what: &What,
+) -> Result<Buf, NoMemory>
+    requires { IsCompiled compiled.now }
+    ensures { IfOk result (λ text. (words : Seq ℕ) × (text ≡ found_lem events.now words)) }
+{
+    let words = words_of(alloc, compiled, events, what)?;
+    let mut text = List::new(alloc);
+    put_events(events, &mut text)?;
+    put_remark(words.as_slice(), &mut text)?;
+    Ok(text)
+}
+
+// Appends the lines of some events.
+fn put_events(events: &[Event], out: &mut Buf) -> Result<(), NoMemory>
+    ensures { OnOk result (out.new ≡ out.old ++ flat_map event_line events.now) }
+{
+    for event in events {
+        write_event(event, out)?;
+    }
+    Ok(())
+}
+
+// Appends a remark in one line; ends of lines in it are left out.
+fn put_remark(words: &[u8], out: &mut Buf) -> Result<(), NoMemory>
+    ensures { OnOk result (out.new ≡ out.old ++ remark_line words.now) }
+{
+    out.append(b"# ")?;
+    put_in_line(words, out)?;
+    out.append(b"\n")
+}
+
+// Appends bytes without the ends of lines among them.
+fn put_in_line(words: &[u8], out: &mut Buf) -> Result<(), NoMemory>
+    ensures { OnOk result (out.new ≡ out.old ++ filter (λ byte. not (byte == 10)) words.now) }
+{
+    for byte in words {
+        if *byte != b'\n' {
+            out.push(*byte)?;
+        }
+    }
+    Ok(())
+}
+
+/// The line that says that none of so many shows it.
+pub(crate) fn none_text(alloc: Global, count: u64) -> Result<Buf, NoMemory>
+    ensures { IfOk result (λ text. text ≡ none_line count) }
+{
+    let mut text = List::new(alloc);
+    text.append(b"none ")?;
+    write_number(count, &mut text)?;
+    text.append(b"\n")?;
+    Ok(text)
+}

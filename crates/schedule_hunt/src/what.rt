@@ -1,0 +1,19 @@
+//! What a schedule may be looked for.
+use da_values::Value;
+
+/// What the run of a schedule may show.
+#[derive(Debug, Drop)]
+pub enum What {
+    /// A fault ends a process.
+    Fault,
+    /// Behind the run no event may be picked, and some process has not used up its statements. A process that a fault
+    /// has ended has not.
+    Stuck,
+    /// A process puts out `enter` while another one has put out `enter` and not `leave` since. An output counts as one of
+    /// them where it is that value, or a tuple whose first part is.
+    Overlap { enter: Value, leave: Value },
+    /// Two outputs are not equal.
+    Differ,
+    /// There are more outputs than so many.
+    More(u64),
+}
