@@ -7,6 +7,7 @@ mod graphs;
 mod marks;
 mod outside;
 mod packets;
+mod pages;
 mod parsing;
 mod patterns;
 mod schedules;
@@ -21,6 +22,7 @@ use graphs::graph_reply;
 use marks::mark_reply;
 use outside::outside_reply;
 use packets::packet_reply;
+use pages::page_reply;
 use parsing::tree_reply;
 use patterns::pattern_reply;
 use schedules::schedule_reply;
@@ -30,7 +32,7 @@ use tokens::token_reply;
 use values::value_reply;
 
 /// The files of rows, in the order of the answers.
-const FILES: [&str; 9] = [
+const FILES: [&str; 10] = [
     "values",
     "marks",
     "tokens",
@@ -40,6 +42,7 @@ const FILES: [&str; 9] = [
     "patterns",
     "schedules",
     "packets",
+    "pages",
 ];
 
 /// How many rows there were, and how many of them differ.
@@ -140,6 +143,7 @@ fn answer<R: rt::Files + AllocGlobal>(
         "patterns" => pattern_reply(alloc, kind, words, out),
         "schedules" => schedule_reply(alloc, kind, words, out),
         "packets" => packet_reply(alloc, kind, words, out),
+        "pages" => page_reply(alloc, kind, words, out),
         _ => Err(RowFault::Unread),
     }
 }

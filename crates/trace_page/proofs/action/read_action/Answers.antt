@@ -1,0 +1,12 @@
+use Rattle.trace_page.proofs.ActionLaws.{no_action_behind, no_action_named}
+use Rattle.trace_page.proofs.action.read_action.Goals as goal
+
+pub returns-in-Some-clause-unread : goal.returns-in-Some-clause-unread
+returns-in-Some-clause-unread c wanted =
+    no_action_behind c.in-Some.kind c.split_word.result.0.now c.split_word.result.1.now c.args.line.now c.kind_of.result
+    c.split_word.ensures.split c.split_word.ensures.word c.split_word.ensures.rest c.kind_of.ensures.value c.in-Some.is (c.read_behind.ensures.unread wanted)
+
+pub returns-in-None-clause-unread : goal.returns-in-None-clause-unread
+returns-in-None-clause-unread c wanted =
+    no_action_named c.split_word.result.0.now c.split_word.result.1.now c.args.line.now c.kind_of.result
+    c.split_word.ensures.split c.split_word.ensures.word c.split_word.ensures.rest c.kind_of.ensures.value c.in-None.is
