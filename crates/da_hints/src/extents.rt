@@ -1,5 +1,8 @@
 //! How large a class is with its calls inlined.
+ghost use Rattle.da_calls.specs.CallGraph.{IsCallGraph};
+
 use da_bodies::{Place, body_of};
+use da_calls::CallGraph;
 use da_lang::{Branch, ClassTree, Expr, GenTree, Member, Param, PatternTree, PeerTree, Stmt};
 use da_values::{Boxed, List};
 use std::alloc::Global;
@@ -10,13 +13,6 @@ pub struct Extent {
     pub items: usize,
     pub blocks: usize,
     pub slots: usize,
-}
-
-/// The extent of a method, by its name.
-#[derive(Clone, Copy, Debug)]
-struct Known<'t> {
-    name: &'t [u8],
-    extent: Extent,
 }
 
 const NOTHING: Extent = Extent {
@@ -63,17 +59,26 @@ impl Extent {
     }
 }
 
-/// The extent of a class: of its `setup`, its `run` and its handlers, and its variables.
+/// The extent of a class: of its `setup`, its `run` and its handlers, and its variables. It is nothing where memory is refused.
 pub fn extent_of(alloc: Global, class: &ClassTree) -> Extent {
-    let known = known_methods(alloc, class);
+    match CallGraph::new(alloc, class) {
+        Ok(graph) => of_class(alloc, &graph),
+        Err(_) => NOTHING,
+    }
+}
+
+fn of_class(alloc: Global, graph: &CallGraph<'_>) -> Extent
+    requires { IsCallGraph graph.now }
+{
+    let copies = copies_of(alloc, graph);
     let mut whole = NOTHING;
-    for member in class.members.as_slice() {
+    for member in graph.class().members.as_slice() {
         if let Member::Var { .. } = member {
             whole = whole.wider(1);
         }
         if let Some(body) = body_of(member) {
             if !matches!(body.place, Place::Method(_)) {
-                let own = of_block(body.stmts, known.as_slice());
+                let own = of_block(body.stmts, graph, copies.as_slice());
                 let names = body.params.len().saturating_add(names_of(body.place));
                 whole = whole.with(own.wider(names));
             }
@@ -96,81 +101,64 @@ fn names_of(place: Place<'_>) -> usize {
     }
 }
 
-// The extents of the methods. A method counts as nothing until those that it calls are known, so it takes as many rounds as
-// calls lead on.
-fn known_methods<'t>(alloc: Global, class: &'t ClassTree) -> List<Known<'t>> {
-    let mut known = List::new(alloc);
-    for _round in 0..class.members.len() {
-        let next = next_round(alloc, class, known.as_slice());
-        if is_same(next.as_slice(), known.as_slice()) {
-            return known;
-        }
-        known = next;
+// The extents of the copies of the methods, by the numbers of the methods. Each comes behind those that it calls.
+fn copies_of(alloc: Global, graph: &CallGraph<'_>) -> List<Extent>
+    requires { IsCallGraph graph.now }
+{
+    let methods = graph.methods();
+    let mut copies = List::new(alloc);
+    for _method in methods {
+        let _ = copies.push(NOTHING);
     }
-    known
+    for number in graph.order() {
+        let Some(method) = methods.get(*number) else {
+            continue;
+        };
+        let own = of_block(method.body.as_slice(), graph, copies.as_slice());
+        if *number < copies.len() {
+            copies.set(*number, own.wider(method.params.len()));
+        }
+    }
+    copies
 }
 
-fn next_round<'t>(alloc: Global, class: &'t ClassTree, known: &[Known<'t>]) -> List<Known<'t>> {
-    let mut next = List::new(alloc);
-    for member in class.members.as_slice() {
-        if let Member::Method {
-            name,
-            params,
-            body,
-            ..
-        } = member
-        {
-            let extent = of_block(body.as_slice(), known).wider(params.len());
-            let _ = next.push(Known {
-                name: name.as_slice(),
-                extent,
-            });
-        }
+// The extent of the copy of a method.
+fn of_copy(name: &[u8], graph: &CallGraph<'_>, copies: &[Extent]) -> Extent
+    requires { IsCallGraph graph.now }
+{
+    match graph.number(name) {
+        Some(number) => match copies.get(number) {
+            Some(extent) => *extent,
+            None => NOTHING,
+        },
+        None => NOTHING,
     }
-    next
-}
-
-fn is_same(first: &[Known<'_>], second: &[Known<'_>]) -> bool {
-    if first.len() != second.len() {
-        return false;
-    }
-    for (one, other) in first.iter().zip(second) {
-        if one.extent != other.extent {
-            return false;
-        }
-    }
-    true
-}
-
-fn find(name: &[u8], known: &[Known<'_>]) -> Extent {
-    for one in known {
-        if one.name == name {
-            return one.extent;
-        }
-    }
-    NOTHING
 }
 
 #[cycle(extents)]
-fn of_block(stmts: &[Stmt], known: &[Known<'_>]) -> Extent {
+fn of_block(stmts: &[Stmt], graph: &CallGraph<'_>, copies: &[Extent]) -> Extent
+    requires { IsCallGraph graph.now }
+{
     let mut whole = NOTHING;
     for stmt in stmts {
-        whole = whole.with(of_stmt(stmt, known));
+        whole = whole.with(of_stmt(stmt, graph, copies));
     }
     whole.deeper()
 }
 
 #[cycle(extents)]
-fn of_stmt(stmt: &Stmt, known: &[Known<'_>]) -> Extent {
+fn of_stmt(stmt: &Stmt, graph: &CallGraph<'_>, copies: &[Extent]) -> Extent
+    requires { IsCallGraph graph.now }
+{
     match stmt {
         Stmt::If {
             branches,
             otherwise,
             line: _,
         } => {
-            let mut whole = of_branches(branches.as_slice(), known);
+            let mut whole = of_branches(branches.as_slice(), graph, copies);
             if let Some(body) = otherwise {
-                whole = whole.with(of_block(body.as_slice(), known));
+                whole = whole.with(of_block(body.as_slice(), graph, copies));
             }
             whole.held()
         }
@@ -178,20 +166,22 @@ fn of_stmt(stmt: &Stmt, known: &[Known<'_>]) -> Extent {
             alts,
             timeout: _,
             line: _,
-        } => of_branches(alts.as_slice(), known).held(),
-        Stmt::While { body, .. } => of_block(body.as_slice(), known).held(),
-        Stmt::For { body, .. } => of_block(body.as_slice(), known).wider(1).held(),
+        } => of_branches(alts.as_slice(), graph, copies).held(),
+        Stmt::While { body, .. } => of_block(body.as_slice(), graph, copies).held(),
+        Stmt::For { body, .. } => of_block(body.as_slice(), graph, copies).wider(1).held(),
         Stmt::AwaitOne { cond, .. } => NOTHING.wider(found_by(cond.get())).held(),
-        Stmt::Call { name, .. } => find(name.as_slice(), known).held(),
+        Stmt::Call { name, .. } => of_copy(name.as_slice(), graph, copies).held(),
         _ => NOTHING.held(),
     }
 }
 
 #[cycle(extents)]
-fn of_branches(branches: &[Branch], known: &[Known<'_>]) -> Extent {
+fn of_branches(branches: &[Branch], graph: &CallGraph<'_>, copies: &[Extent]) -> Extent
+    requires { IsCallGraph graph.now }
+{
     let mut whole = NOTHING;
     for branch in branches {
-        let own = of_block(branch.body.as_slice(), known);
+        let own = of_block(branch.body.as_slice(), graph, copies);
         whole = whole.with(own.wider(found_by(branch.cond.get())));
     }
     whole
