@@ -1,39 +1,50 @@
-//! Calls of the program over files, a sink and a link.
+//! Calls of the program over files, a sink, a link and a spawner.
+use crate::entries::{tell_calls, tell_entries};
 use crate::fault::CallFault;
+use crate::texts::bytes_of;
 use da_commands::{Status, dalgo};
-use da_outside::{Files, LinkAnswer, LinkEntry, MemFiles, MemSink, ScriptLink};
+use da_outside::{
+    DATAGRAM_MAX, Ended, Files, LinkAnswer, MemFiles, MemSink, ScriptLink, ScriptSpawner,
+};
 use da_values::{Buf, List, NoMemory, copy_bytes, write_number};
 use std::alloc::Global;
 use std::net::Net;
 use udp_link::UdpLink;
 
-/// The files `p` and `s`.
+/// The files `p` and `s`, and the datagrams that a link gives, one on a line.
 #[derive(Clone, Copy)]
 pub struct Texts<'a> {
     pub program: &'a [u8],
     pub schedule: &'a [u8],
+    pub datagrams: &'a str,
 }
 
-// How many bytes the sink takes a call, and which read, which write and which call of the link fails; 0 where none does.
+// How many bytes the sink takes a call, and which read, which write, which call of the link and which call of the spawner fails;
+// 0 where none does.
 #[derive(Clone, Copy)]
 struct Setting {
     width: usize,
     read: u64,
     write: u64,
     link: u64,
+    child: u64,
 }
 
-// The files and the sink of a call.
+// The objects of a call.
 #[derive(Drop)]
 struct Outside {
     files: MemFiles,
     sink: MemSink,
+    link: ScriptLink,
+    children: ScriptSpawner,
 }
 
-/// How a call `KIND OPTIONS | WORDS` ends, and what it writes. The options are `width=16`, `read=0`, `write=0` and `link=0`,
-/// where no others are there. Behind `length` only the number of bytes is told. Behind `link` the link answers by one
-/// datagram that is none of a message, and its entries are told. Behind `next` it is told
-/// whether the next read of the schedule fails, and behind `udp` the call is over UDP.
+/// How a call `KIND OPTIONS | WORDS` ends, and what it writes. The options are `width=16`, `read=0`, `write=0`, `link=0` and
+/// `child=0`, where no others are there. Behind `length` only the number of bytes is told. Behind `link` the link answers by
+/// the datagrams, or, where there are none, by one that is none of a message, and its entries are told. Behind `launch` the
+/// first child writes the line `end 1` and ends with status 0, the second writes nothing and ends with 9, and the calls of the
+/// spawner are told. Behind `next` it is told whether the next read of the schedule fails, and behind `udp` the call is over
+/// UDP.
 pub fn call_reply<R: Net + AllocGlobal>(
     rt: &R,
     texts: Texts<'_>,
@@ -44,20 +55,12 @@ pub fn call_reply<R: Net + AllocGlobal>(
     let (head, words) = call.split_once('|').unwrap_or((call, ""));
     let (kind, options) = head.split_once(' ').unwrap_or((head, ""));
     let words = words_of(alloc, words)?;
-    let setting = setting_of(options)?;
-    let mut outside = outside_of(alloc, texts, setting)?;
+    let mut outside = outside_of(alloc, texts, setting_of(options)?)?;
     if kind == "udp" {
         let status = over_udp(rt, words.as_slice(), &mut outside);
         return tell(alloc, status, outside.sink.bytes(), out);
     }
-    in_memory(
-        alloc,
-        kind,
-        words.as_slice(),
-        setting.link,
-        &mut outside,
-        out,
-    )
+    in_memory(alloc, kind, words.as_slice(), &mut outside, out)
 }
 
 // The words between spaces.
@@ -77,6 +80,7 @@ fn setting_of(options: &str) -> Result<Setting, CallFault> {
         read: 0,
         write: 0,
         link: 0,
+        child: 0,
     };
     for option in options.split(' ') {
         let (name, number) = option.split_once('=').unwrap_or((option, "0"));
@@ -88,6 +92,7 @@ fn setting_of(options: &str) -> Result<Setting, CallFault> {
             "read" => setting.read = u64::from(number),
             "write" => setting.write = u64::from(number),
             "link" => setting.link = u64::from(number),
+            "child" => setting.child = u64::from(number),
             "" => {}
             _ => return Err(CallFault::Unread),
         }
@@ -103,9 +108,39 @@ fn script_of(alloc: Global, call: u64) -> Result<List<u64>, NoMemory> {
 }
 
 fn outside_of(alloc: Global, texts: Texts<'_>, setting: Setting) -> Result<Outside, NoMemory> {
-    let files = files_of(alloc, texts, setting.read)?;
-    let sink = MemSink::new(alloc, setting.width, script_of(alloc, setting.write)?);
-    Ok(Outside { files, sink })
+    Ok(Outside {
+        files: files_of(alloc, texts, setting.read)?,
+        sink: MemSink::new(alloc, setting.width, script_of(alloc, setting.write)?),
+        link: link_of(alloc, texts.datagrams, setting.link)?,
+        children: children_of(alloc, setting.child)?,
+    })
+}
+
+fn link_of(alloc: Global, datagrams: &str, fails: u64) -> Result<ScriptLink, NoMemory> {
+    let mut link = ScriptLink::new(alloc, script_of(alloc, fails)?);
+    if datagrams.is_empty() {
+        link.add(LinkAnswer::Datagram(copy_bytes(alloc, b"DA")?))?;
+    }
+    for line in datagrams.lines() {
+        let bytes = bytes_of(alloc, line)?;
+        if bytes.len() <= DATAGRAM_MAX {
+            link.add(LinkAnswer::Datagram(bytes))?;
+        }
+    }
+    Ok(link)
+}
+
+fn children_of(alloc: Global, fails: u64) -> Result<ScriptSpawner, NoMemory> {
+    let mut children = ScriptSpawner::new(alloc, script_of(alloc, fails)?);
+    children.add(Ended {
+        status: 0,
+        output: copy_bytes(alloc, b"end 1\n")?,
+    })?;
+    children.add(Ended {
+        status: 9,
+        output: List::new(alloc),
+    })?;
+    Ok(children)
 }
 
 fn files_of(alloc: Global, texts: Texts<'_>, fails: u64) -> Result<MemFiles, NoMemory> {
@@ -133,50 +168,48 @@ fn over_udp<R: Net + AllocGlobal>(rt: &R, words: &[String], outside: &mut Outsid
         &mut outside.files,
         &mut outside.sink,
         &mut link,
+        &mut outside.children,
     )
 }
 
-// A call over a link in memory, and what is told of it.
+// A call over objects in memory, and what is told of it.
 fn in_memory(
     alloc: Global,
     kind: &str,
     words: &[String],
-    fails: u64,
     outside: &mut Outside,
     out: &mut Buf,
 ) -> Result<(), CallFault> {
-    let mut link = ScriptLink::new(alloc, script_of(alloc, fails)?);
-    if kind == "link" {
-        add_datagram(alloc, &mut link)?;
-    }
-    let status = over_script(alloc, words, outside, &mut link);
+    let status = over_script(alloc, words, outside);
+    let written = outside.sink.bytes();
     match kind {
-        "text" => tell(alloc, status, outside.sink.bytes(), out),
-        "length" => tell_length(alloc, status, outside.sink.bytes().len(), out),
+        "text" => tell(alloc, status, written, out),
+        "length" => tell_length(alloc, status, written.len(), out),
         "link" => {
-            tell(alloc, status, outside.sink.bytes(), out)?;
-            tell_entries(alloc, link.entries(), out)
+            tell(alloc, status, written, out)?;
+            tell_entries(alloc, outside.link.entries(), out)
+        }
+        "launch" => {
+            tell(alloc, status, written, out)?;
+            tell_calls(alloc, outside.children.entries(), out)
         }
         "next" => {
-            tell(alloc, status, outside.sink.bytes(), out)?;
+            tell(alloc, status, written, out)?;
             tell_next(&mut outside.files, out)
         }
         _ => Err(CallFault::Unread),
     }
 }
 
-// Adds a datagram that is no packet.
-fn add_datagram(alloc: Global, link: &mut ScriptLink) -> Result<(), NoMemory> {
-    link.add(LinkAnswer::Datagram(copy_bytes(alloc, b"DA")?))
-}
-
-fn over_script(
-    alloc: Global,
-    words: &[String],
-    outside: &mut Outside,
-    link: &mut ScriptLink,
-) -> Status {
-    dalgo(alloc, words, &mut outside.files, &mut outside.sink, link)
+fn over_script(alloc: Global, words: &[String], outside: &mut Outside) -> Status {
+    dalgo(
+        alloc,
+        words,
+        &mut outside.files,
+        &mut outside.sink,
+        &mut outside.link,
+        &mut outside.children,
+    )
 }
 
 // The status, and what was written.
@@ -201,34 +234,6 @@ fn tell_length(
     out.append(b" ")?;
     write_number(length as u64, out)?;
     Ok(out.append(b" bytes")?)
-}
-
-// The entries of a link: how it was bound, and of datagrams how many bytes they have.
-fn tell_entries(alloc: Global, entries: &[LinkEntry], out: &mut Buf) -> Result<(), CallFault> {
-    out.append(b" [")?;
-    for (place, entry) in entries.iter().enumerate() {
-        if place > 0 {
-            out.append(b", ")?;
-        }
-        tell_entry(alloc, entry, out)?;
-    }
-    Ok(out.append(b"]")?)
-}
-
-fn tell_entry(alloc: Global, entry: &LinkEntry, out: &mut Buf) -> Result<(), CallFault> {
-    let text = match entry {
-        LinkEntry::Bound { port, me, count } => format!(in alloc; "bound {port} {me} {count}")?,
-        LinkEntry::Answered(LinkAnswer::Datagram(bytes)) => {
-            let size = bytes.len();
-            format!(in alloc; "datagram {size}")?
-        }
-        LinkEntry::Answered(LinkAnswer::Nothing) => format!(in alloc; "nothing")?,
-        LinkEntry::Gave { to, bytes } => {
-            let size = bytes.len();
-            format!(in alloc; "gave {to} {size}")?
-        }
-    };
-    Ok(out.append(text.as_str().as_bytes())?)
 }
 
 // Whether the next read fails.

@@ -3,6 +3,7 @@
 #![tactic(auto)]
 
 mod calls;
+mod entries;
 mod fault;
 mod texts;
 
@@ -14,7 +15,9 @@ use std::{fs, rt};
 use texts::bytes_of;
 
 /// The files of calls, in the order of the answers.
-const FILES: [&str; 6] = ["replays", "words", "faults", "links", "long", "many"];
+const FILES: [&str; 8] = [
+    "replays", "words", "faults", "links", "launches", "objects", "long", "many",
+];
 
 /// How many calls there were, and how many of them differ.
 #[derive(Drop)]
@@ -30,9 +33,9 @@ fn main(rt: HostRuntime) -> anyhow::Result<()> {
     Ok(())
 }
 
-// Tries the calls of a file. Behind `=== program` stands the text of the file `p`, behind `=== schedule` that of `s`, and
-// behind `=== calls` each line `CALL ==> WANTED` is one over these; other lines are remarks. The end of the last line of a
-// text does not belong to it.
+// Tries the calls of a file. Behind `=== program` stands the text of the file `p`, behind `=== schedule` that of `s`, behind
+// `=== datagrams` what a link gives, one datagram on a line, and behind `=== calls` each line `CALL ==> WANTED` is one over
+// these; other lines are remarks. The end of the last line of a text does not belong to it.
 fn answer_file<R: rt::Files + Net + Print + AllocGlobal>(rt: &R, name: &str) -> anyhow::Result<()> {
     let path = format!(in rt.alloc(); "{name}.txt")?;
     let text = fs::read_to_string(rt, path.as_str()).context(format_args!("reading {path}"))?;
@@ -56,12 +59,14 @@ fn try_section<R: Net + Print + AllocGlobal>(
     tally: &mut Tally,
 ) -> anyhow::Result<()> {
     let (texts, calls) = section.split_once("=== calls\n").unwrap_or((section, ""));
+    let (texts, datagrams) = texts.split_once("=== datagrams\n").unwrap_or((texts, ""));
     let (program, schedule) = texts.split_once("=== schedule\n").unwrap_or((texts, ""));
     let program = bytes_of(rt.alloc(), program.strip_suffix('\n').unwrap_or(program))?;
     let schedule = bytes_of(rt.alloc(), schedule.strip_suffix('\n').unwrap_or(schedule))?;
     let texts = Texts {
         program: program.as_slice(),
         schedule: schedule.as_slice(),
+        datagrams,
     };
     for line in calls.lines() {
         try_line(rt, name, texts, line, tally)?;

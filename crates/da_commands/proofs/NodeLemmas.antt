@@ -18,7 +18,7 @@ use Rattle.node_run.specs.NodeRun.{NodeEnd}
 use Rattle.node_run.proofs.RunLaws.{gains_nothing, gains_then}
 use Rattle.da_commands.specs.declared.status.RefusedKind.{RefusedKind}
 use Rattle.da_commands.specs.declared.status.Status.{Status}
-use Rattle.da_commands.specs.declared.status.Status.TheVariants.{Done, Faulted, Idle, LinkFault, Memory, ReadFault, Refused, Spent, Words, WriteFault}
+use Rattle.da_commands.specs.declared.status.Status.TheVariants.{ChildFault, Done, Faulted, Idle, LinkFault, Memory, ReadFault, Refused, Spent, Words, WriteFault}
 use Rattle.da_commands.specs.declared.words.NodeSetting.{NodeSetting}
 use Rattle.da_commands.specs.Lines.{refused_text}
 use Rattle.da_commands.specs.NodeReplies.{HasStopped, LinkFailed, MayRun, NodeRefuses, binding}
@@ -85,6 +85,7 @@ module _ (program : Program) (text : List ℕ) (setting : NodeSetting) (may : Ma
       by_status WriteFault come = HasStopped.writing program come.0 told_now may refl bound come.1
       by_status Memory cut = HasStopped.running refl (record { program = program; may = may; told_between = told_now; bound = bound; cut = cut })
       by_status ReadFault never = absurd never
+      by_status ChildFault never = absurd never
       by_status _ run = reply.ran program run.0 told_now may run.1 bound run.2
 
 -- the binding is no gift
@@ -119,6 +120,7 @@ node_runs program setting outcome.Memory told_before told_after before after ran
 abbrev IsBoundEnd : Status → Type 0
 IsBoundEnd Words = ⊥
 IsBoundEnd ReadFault = ⊥
+IsBoundEnd ChildFault = ⊥
 IsBoundEnd _ = Unit {0}
 
 bound_ends : (how : NodeOutcome) → IsBoundEnd (status_of_node how)
@@ -152,6 +154,9 @@ told_by_status outcome.Memory = refl
 module _ (how : NodeOutcome) where
   pub node_no_words : status_of_node how ≡ Words → ⊥
   node_no_words is = subst IsBoundEnd is (bound_ends how)
+
+  pub node_childless : status_of_node how ≡ ChildFault → ⊥
+  node_childless is = subst IsBoundEnd is (bound_ends how)
 
   pub node_unread : status_of_node how ≡ ReadFault → ⊥
   node_unread is = subst IsBoundEnd is (bound_ends how)

@@ -6,7 +6,7 @@ use Rattle.da_outside.specs.declared.outside.Trouble.TheVariants.{Failed}
 use Rattle.da_outside.specs.Outside.{HasCause, IsWhole}
 use Rattle.da_outside.proofs.OutsideLemmas.{appends_none, cause_as, front_none, no_cause}
 use Rattle.da_commands.specs.declared.status.Status.{Status}
-use Rattle.da_commands.specs.declared.status.Status.TheVariants.{BadSchedule, Done, Faulted, Forbidden, Idle, LinkFault, Memory, ReadFault, Refused, Spent, Words, WriteFault}
+use Rattle.da_commands.specs.declared.status.Status.TheVariants.{BadSchedule, ChildFault, ChildStatus, Done, Faulted, Forbidden, Idle, LinkFault, Memory, ReadFault, Refused, Spent, Words, WriteFault}
 use Rattle.da_commands.specs.declared.words.Task.{Task}
 use Rattle.da_commands.specs.Replies.{IsAnswer, IsEnd, TaskReply, ReplayReply}
 use Rattle.da_commands.specs.Told.{Begins, Gains, HasReplied, HasSaid, IsUnwritten, OfTold, said, unsaid}
@@ -118,6 +118,8 @@ module _ (Reply : Status → List ℕ → Type 0) (before after : Option (List �
   gained Idle answer gains = gains
   gained Spent answer gains = gains
   gained Faulted answer gains = gains
+  gained ChildFault answer gains = absurd answer
+  gained (ChildStatus child status) answer gains = gains
 
   pub whole_replied : (status : Status) → IsAnswer status → HasReplied Reply status before after → Gains Reply status before after
   whole_replied Done answer replied = replied
@@ -132,6 +134,8 @@ module _ (Reply : Status → List ℕ → Type 0) (before after : Option (List �
   whole_replied Idle answer replied = replied
   whole_replied Spent answer replied = replied
   whole_replied Faulted answer replied = replied
+  whole_replied ChildFault answer replied = absurd answer
+  whole_replied (ChildStatus child status) answer replied = replied
 
   -- what is no answer has at most a front
   pub begun_replied : (status : Status) → (IsAnswer status → ⊥) → HasReplied Reply status before after → Begins Reply before after
@@ -139,6 +143,7 @@ module _ (Reply : Status → List ℕ → Type 0) (before after : Option (List �
   begun_replied WriteFault never replied = replied
   begun_replied Memory never replied = replied
   begun_replied LinkFault never replied = replied
+  begun_replied ChildFault never replied = replied
   begun_replied _ never replied = absurd (never tt)
 
   -- where neither a read nor a write failed, it is an answer, or memory was refused
@@ -147,6 +152,7 @@ module _ (Reply : Status → List ℕ → Type 0) (before after : Option (List �
   quiet_replied WriteFault ends read write replied = absurd (write refl)
   quiet_replied Memory ends read write replied = inl refl
   quiet_replied LinkFault ends read write replied = absurd ends
+  quiet_replied ChildFault ends read write replied = absurd ends
   quiet_replied _ ends read write replied = inr replied
 
   unwritten_replied : (status : Status) → IsUnwritten status → Begins Reply before after → HasReplied Reply status before after
@@ -174,4 +180,5 @@ module _ (One Other : Status → List ℕ → Type 0) (before after : Option (Li
   replied_as WriteFault begins = begins_as begins
   replied_as Memory begins = begins_as begins
   replied_as LinkFault begins = begins_as begins
+  replied_as ChildFault begins = begins_as begins
   replied_as status gains = gains_as status gains

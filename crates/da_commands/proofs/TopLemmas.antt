@@ -6,7 +6,7 @@ use Rattle.da_outside.specs.declared.link.LinkEntry.{LinkEntry}
 use Rattle.da_outside.specs.Outside.{Appends, AppendsFront}
 use Rattle.da_outside.proofs.OutsideLemmas.{front_whole}
 use Rattle.da_commands.specs.declared.status.Status.{Status}
-use Rattle.da_commands.specs.declared.status.Status.TheVariants.{LinkFault, Memory, ReadFault, WriteFault}
+use Rattle.da_commands.specs.declared.status.Status.TheVariants.{ChildFault, LinkFault, Memory, ReadFault, WriteFault}
 use Rattle.da_commands.specs.declared.words.NodeSetting.{NodeSetting}
 use Rattle.da_commands.specs.declared.words.Task.{Task}
 use Rattle.da_commands.specs.declared.words.Task.TheVariants.{Check, Plan, Stress}
@@ -75,6 +75,7 @@ module _ (setting : NodeSetting) (told_before told_after : Option (List LinkEntr
   answered text WriteFault answer has = absurd answer
   answered text Memory answer has = absurd answer
   answered text LinkFault answer has = absurd answer
+  answered text ChildFault answer has = absurd answer
   answered text status answer has = has
 
   stopped : (text : List ℕ) (status : Status) → (IsAnswer status → ⊥) → (status ≡ LinkFault → ⊥) → Served status text → HasStopped text setting status told_before told_after before after
@@ -82,6 +83,7 @@ module _ (setting : NodeSetting) (told_before told_after : Option (List LinkEntr
   stopped text WriteFault never unlinked has = has
   stopped text Memory never unlinked has = has
   stopped text LinkFault never unlinked has = absurd (unlinked refl)
+  stopped text ChildFault never unlinked has = absurd has
   stopped text _ never unlinked has = absurd (never tt)
 
   quiet : (text : List ℕ) (status : Status) → (status ≡ ReadFault → ⊥) → (status ≡ WriteFault → ⊥) → (status ≡ LinkFault → ⊥) → Served status text → IsServed text setting status told_before told_after before after
@@ -89,6 +91,7 @@ module _ (setting : NodeSetting) (told_before told_after : Option (List LinkEntr
   quiet text WriteFault read write link has = absurd (write refl)
   quiet text Memory read write link has = inl refl
   quiet text LinkFault read write link has = absurd (link refl)
+  quiet text ChildFault read write link has = absurd has
   quiet text status read write link has = inr has
 
   module _ (told : Option (List ℕ)) (status : Status) (served : OfTold told (Served status)) where

@@ -1,7 +1,7 @@
 -- The exit status of the process.
 use Rattle.std.specs.Prelude.{ℕ}
 use Rattle.da_commands.specs.declared.status.Status.{Status}
-use Rattle.da_commands.specs.declared.status.Status.TheVariants.{Done, Refused, Words, Forbidden, BadSchedule, ReadFault, WriteFault, Memory, LinkFault, Idle, Spent, Faulted}
+use Rattle.da_commands.specs.declared.status.Status.TheVariants.{Done, Refused, Words, Forbidden, BadSchedule, ReadFault, WriteFault, Memory, LinkFault, Idle, Spent, Faulted, ChildFault, ChildStatus}
 
 abbrev pub code_of : Status → ℕ
 code_of Done = 0
@@ -16,3 +16,5 @@ code_of LinkFault = 8
 code_of Idle = 9
 code_of Spent = 10
 code_of Faulted = 11
+code_of ChildFault = 12
+code_of (ChildStatus child status) = 13

@@ -1,6 +1,9 @@
 pub mod Endings
 pub mod ExitCode
 pub mod Faults
+pub mod Launching
+pub mod LaunchReplies
+pub mod LaunchSteps
 pub mod Lines
 pub mod NodeReplies
 pub mod NodeSteps

@@ -5,7 +5,7 @@ use Rattle.da_outside.specs.declared.link.LinkEntry.{LinkEntry}
 use Rattle.node_run.specs.NodeCall.{HasCome, HasRun, WasCut, WroteAll, WroteToLast}
 use Rattle.node_run.specs.NodeRun.{NodeEnd}
 use Rattle.da_commands.specs.declared.status.Status.{Status}
-use Rattle.da_commands.specs.declared.status.Status.TheVariants.{LinkFault, Memory, ReadFault, WriteFault}
+use Rattle.da_commands.specs.declared.status.Status.TheVariants.{ChildFault, LinkFault, Memory, ReadFault, WriteFault}
 use Rattle.da_commands.specs.declared.words.NodeSetting.{NodeSetting}
 use Rattle.da_commands.specs.NodeReplies.{HasAnswered, HasStopped, LinkFailed, status_for}
 use Rattle.da_commands.specs.Verdict.{Accepts}
@@ -16,6 +16,7 @@ HasServed text setting LinkFault told_before told_after before after = LinkFaile
 HasServed text setting ReadFault told_before told_after before after = HasStopped text setting ReadFault told_before told_after before after
 HasServed text setting WriteFault told_before told_after before after = HasStopped text setting WriteFault told_before told_after before after
 HasServed text setting Memory told_before told_after before after = HasStopped text setting Memory told_before told_after before after
+HasServed text setting ChildFault told_before told_after before after = ⊥
 HasServed text setting status told_before told_after before after = HasAnswered text setting status told_before told_after before after
 
 -- the same for each text of an accepted program
@@ -32,5 +33,6 @@ RunsBound program setting WriteFault told_before told_after before after =
 RunsBound program setting Memory told_before told_after before after =
     WasCut program setting.me setting.idle setting.turns told_before told_after before after WroteToLast
 RunsBound program setting ReadFault told_before told_after before after = ⊥
+RunsBound program setting ChildFault told_before told_after before after = ⊥
 RunsBound program setting status told_before told_after before after =
     (end : NodeEnd) × (status_for end ≡ Some status) × HasRun program setting.me setting.idle setting.turns end told_before told_after before after

@@ -6,10 +6,12 @@ use Rattle.da_system.specs.SourceRun.{src_run}
 use Rattle.da_system.specs.StressRun.{stress_text}
 use Rattle.da_commands.specs.declared.status.RefusedKind.{RefusedKind}
 use Rattle.da_commands.specs.declared.status.Status.{Status}
-use Rattle.da_commands.specs.declared.status.Status.TheVariants.{Done, Refused, Forbidden, BadSchedule, ReadFault, WriteFault, Memory, LinkFault, Words}
+use Rattle.da_commands.specs.declared.status.Status.TheVariants.{Done, Refused, Forbidden, BadSchedule, ReadFault, WriteFault, Memory, LinkFault, ChildFault, Words}
 use Rattle.da_commands.specs.declared.words.Task.{Task}
 use Rattle.da_commands.specs.declared.words.Task.TheVariants.{Check, Plan, Stress}
+use Rattle.da_commands.specs.declared.words.LaunchSetting.{LaunchSetting}
 use Rattle.da_commands.specs.declared.words.NodeSetting.{NodeSetting}
+use Rattle.da_commands.specs.LaunchReplies.{IsLaunch}
 use Rattle.da_commands.specs.NodeReplies.{IsNode}
 use Rattle.da_commands.specs.Lines.{accepted_text, badline_text, refused_text}
 use Rattle.da_outside.specs.Outside.{Appends, Rose}
@@ -72,12 +74,14 @@ IsAnswer ReadFault = ⊥
 IsAnswer WriteFault = ⊥
 IsAnswer Memory = ⊥
 IsAnswer LinkFault = ⊥
+IsAnswer ChildFault = ⊥
 IsAnswer _ = Unit {0}
 
--- a status with which a call may end that asks for no node
+-- a status with which a call may end that asks neither for a node nor for a launch
 abbrev pub IsEnd : Status → Type 0
 IsEnd Words = ⊥
 IsEnd LinkFault = ⊥
+IsEnd ChildFault = ⊥
 IsEnd _ = Unit {0}
 
 -- the words ask to replay these names
@@ -104,6 +108,7 @@ abbrev pub IsOther : List (List ℕ) → Type 0
 IsOther words =
     ((p q : List ℕ) → IsReplay words p q → ⊥) × ((task : Task) (p : List ℕ) → IsAsking words task p → ⊥)
     × ((p : List ℕ) (setting : NodeSetting) → IsNode words p setting → ⊥)
+    × ((p : List ℕ) (setting : LaunchSetting) → IsLaunch words p setting → ⊥)
 
 -- a schedule is read unless the told program is refused
 abbrev pub MayRead : Option (List ℕ) → Type 0
@@ -121,3 +126,4 @@ HasReadCause words told before now =
     ((p : List ℕ) × (q : List ℕ) × IsReplay words p q × ReadCause (told p) before now p q)
     ⊎ ((task : Task) × (p : List ℕ) × IsAsking words task p × Rose (before p) (now p))
     ⊎ ((p : List ℕ) × (setting : NodeSetting) × IsNode words p setting × Rose (before p) (now p))
+    ⊎ ((p : List ℕ) × (setting : LaunchSetting) × IsLaunch words p setting × Rose (before p) (now p))

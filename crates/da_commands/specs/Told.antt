@@ -2,7 +2,7 @@
 use Rattle.std.specs.Prelude.{◌≡◌, ℕ, ◌⊎◌, List, [], Option, Some, None}
 use Rattle.da_outside.specs.Outside.{Appends, AppendsFront}
 use Rattle.da_commands.specs.declared.status.Status.{Status}
-use Rattle.da_commands.specs.declared.status.Status.TheVariants.{ReadFault, WriteFault, Memory, LinkFault}
+use Rattle.da_commands.specs.declared.status.Status.TheVariants.{ReadFault, WriteFault, Memory, LinkFault, ChildFault}
 
 -- it holds of the text that is told, or, where none is told, of some text in its place
 abbrev pub OfTold : Option (List ℕ) → (List ℕ → Type 0) → Type 0
@@ -25,6 +25,7 @@ HasReplied Reply ReadFault before after = Begins Reply before after
 HasReplied Reply WriteFault before after = Begins Reply before after
 HasReplied Reply Memory before after = Begins Reply before after
 HasReplied Reply LinkFault before after = Begins Reply before after
+HasReplied Reply ChildFault before after = Begins Reply before after
 HasReplied Reply status before after = Gains Reply status before after
 
 -- a write failed, or memory was refused

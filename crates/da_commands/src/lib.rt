@@ -2,16 +2,20 @@
 #![tactic(auto)]
 
 mod endings;
+mod finishing;
+mod launching;
 mod lines;
 mod noding;
 mod program;
 mod replaying;
+mod starting;
 mod status;
 mod tasks;
 mod top;
 mod words;
 
-pub use program::PROGRAM_LIMIT;
+pub use lines::{bad_line, refused_line};
+pub use program::{PROGRAM_LIMIT, ProgramFault, read_program};
 pub use status::{RefusedKind, Status};
 pub use top::dalgo;
-pub use words::{Command, Names, NodeSetting, Task, command_of};
+pub use words::{Command, LaunchSetting, Names, NodeSetting, Task, command_of, number_between};

@@ -30,6 +30,7 @@ pub fn run_node<F: Files, K: Sink, L: Link>(
     ensures served { OfTold (F.told files.old program.now) (λ t. HasServed t setting result (L.told link.old) (L.told link.new) (K.taken out.old) (K.taken out.new)) }
     ensures packets { GivesPackets setting.me (L.told link.old) (L.told link.new) }
     ensures words { result ≡ Status.Words → ⊥ }
+    ensures childless { result ≡ Status.ChildFault → ⊥ }
     ensures read { result ≡ Status.ReadFault → Rose (F.faults files.old program.now) (F.faults files.new program.now) }
     ensures unread { result ≡ Status.ReadFault → K.taken out.new ≡ K.taken out.old }
     ensures unbound { result ≡ Status.ReadFault → link.new ≡ link.old }
@@ -59,6 +60,7 @@ fn answer_text<K: Sink, L: Link>(
         → HasServed t setting result (L.told link.old) (L.told link.new) (K.taken out.old) (K.taken out.new) }
     ensures packets { GivesPackets setting.me (L.told link.old) (L.told link.new) }
     ensures words { result ≡ Status.Words → ⊥ }
+    ensures childless { result ≡ Status.ChildFault → ⊥ }
     ensures read { result ≡ Status.ReadFault → ⊥ }
     ensures write { HasCause (K.faults out.old) (K.faults out.new) (result ≡ Status.WriteFault) }
     ensures link { HasCause (L.faults link.old) (L.faults link.new) (result ≡ Status.LinkFault) }
@@ -87,6 +89,7 @@ fn answer_program<K: Sink, L: Link>(
     ensures runs { RunsProgram (program_of compiled.now) setting result (L.told link.old) (L.told link.new) (K.taken out.old) (K.taken out.new) }
     ensures packets { GivesPackets setting.me (L.told link.old) (L.told link.new) }
     ensures words { result ≡ Status.Words → ⊥ }
+    ensures childless { result ≡ Status.ChildFault → ⊥ }
     ensures read { result ≡ Status.ReadFault → ⊥ }
     ensures write { HasCause (K.faults out.old) (K.faults out.new) (result ≡ Status.WriteFault) }
     ensures link { HasCause (L.faults link.old) (L.faults link.new) (result ≡ Status.LinkFault) }
@@ -121,6 +124,7 @@ fn run_bound<K: Sink, L: Link>(
     ensures runs { RunsBound (program_of compiled.now) setting result (L.told link.old) (L.told link.new) (K.taken out.old) (K.taken out.new) }
     ensures packets { GivesPackets setting.me (L.told link.old) (L.told link.new) }
     ensures words { result ≡ Status.Words → ⊥ }
+    ensures childless { result ≡ Status.ChildFault → ⊥ }
     ensures read { result ≡ Status.ReadFault → ⊥ }
     ensures write { HasCause (K.faults out.old) (K.faults out.new) (result ≡ Status.WriteFault) }
     ensures link { HasCause (L.faults link.old) (L.faults link.new) (result ≡ Status.LinkFault) }

@@ -80,7 +80,7 @@ pub enum RefusedKind {
     /// The plan of a class has more than 4,096 nodes.
     #[error("the query plan of the class has more than 4,096 nodes")]
     Nodes,
-    /// A node runs over channels that are unordered and unreliable, and these are not.
+    /// Nodes run over channels that are unordered and unreliable, and these are not.
     #[error("a node needs channels that are unordered and unreliable")]
     Channel,
     /// The program has no process of the number that a node is to run.
@@ -115,6 +115,10 @@ pub enum Status {
     Spent,
     /// A fault ended the process of a node.
     Faulted,
+    /// A child could not be started, or its end could not be waited for.
+    ChildFault,
+    /// All children have ended, and this is the first process whose child ended with another status than 0.
+    ChildStatus { child: u16, status: u8 },
 }
 
 impl Status {
@@ -138,6 +142,8 @@ impl Status {
             Status::Idle => 9,
             Status::Spent => 10,
             Status::Faulted => 11,
+            Status::ChildFault => 12,
+            Status::ChildStatus { .. } => 13,
         }
     }
 }

@@ -2,8 +2,11 @@
 ghost use Rattle.da_lang.specs.declared.event.Event.{Event};
 ghost use Rattle.da_lang.specs.declared.program.Program.{Program};
 ghost use Rattle.da_outside.specs.Outside.{Appends, AppendsFront, HasCause, Rose};
+ghost use Rattle.da_commands.specs.LaunchReplies.{HasLaunched, IsLaunch, IsLaunchAnswer, IsLaunched, LaunchStopped};
+ghost use Rattle.da_commands.specs.Launching.{HasChildCause};
 ghost use Rattle.da_commands.specs.NodeReplies.{HasAnswered, HasStopped, IsNode, IsServed, LinkFailed};
 ghost use Rattle.da_commands.specs.Replies.{HasReadCause, IsAnswer, IsAsking, IsCarriedOut, IsOther, IsReplay, ReplayReply, RunsWhole, TaskReply};
+ghost use Rattle.da_commands.specs.declared.words.LaunchSetting.{LaunchSetting};
 ghost use Rattle.da_commands.specs.declared.words.NodeSetting.{NodeSetting};
 ghost use Rattle.da_commands.specs.declared.words.Task.{Task};
 ghost use Rattle.da_commands.specs.Told.{Begins, Gains, OfTold};
@@ -14,21 +17,23 @@ ghost use Rattle.std.specs.Prelude.{ℕ, ◌≡◌, ◌<◌, ◌≤◌, List, So
 ghost use Rattle.std.specs.String.{string_bytes};
 
 use crate::endings::say;
+use crate::launching::launch;
 use crate::noding::run_node;
 use crate::replaying::replay;
 use crate::status::Status;
 use crate::tasks::carry_out;
 use crate::words::{Command, command_of};
-use da_outside::{Files, Link, Sink};
+use da_outside::{Files, Link, Sink, Spawner};
 use std::alloc::Global;
 
 /// Does what the words ask for, and says how that ended. The words are those after the program's name.
-pub fn dalgo<F: Files, K: Sink, L: Link>(
+pub fn dalgo<F: Files, K: Sink, L: Link, S: Spawner>(
     alloc: Global,
     words: &[String],
     files: &mut F,
     out: &mut K,
     link: &mut L,
+    children: &mut S,
 ) -> Status
     // The bytes that the sink took are the reply to the two texts, and the status is that of the reply. Where a text is not
     // told, it is the reply to some text in its place.
@@ -69,6 +74,23 @@ pub fn dalgo<F: Files, K: Sink, L: Link>(
     // Words that ask for no node leave the link as it was.
     ensures unlinked { ((p : List ℕ) (setting : NodeSetting) → IsNode (map string_bytes words.now) p setting → ⊥) → link.new ≡ link.old }
 
+    // A launch answers by the program's text and by what its spawner answers. Unless the program is refused, a child is started for
+    // each process, with the words of its node, and each child is finished, in the order of their numbers; the bytes and the
+    // status are those of the reply to these calls. Where a write failed or memory was refused, a telling spawner tells the
+    // first calls of a reply, and the sink gained a front of its bytes.
+    ensures launch { (p : List ℕ) (setting : LaunchSetting) → IsLaunch (map string_bytes words.now) p setting → IsLaunchAnswer result
+        → OfTold (F.told files.old p) (λ t. HasLaunched t p setting result (S.told children.old) (S.told children.new) (K.taken out.old) (K.taken out.new)) }
+    ensures launch_stopped { (p : List ℕ) (setting : LaunchSetting) → IsLaunch (map string_bytes words.now) p setting → (IsLaunchAnswer result → ⊥)
+        → OfTold (F.told files.old p) (λ t. LaunchStopped t p setting (S.told children.old) (S.told children.new) (K.taken out.old) (K.taken out.new)) }
+
+    // Each accepted program is launched, unless a read, a write or the spawner failed or memory was refused.
+    ensures launched { (p t : List ℕ) (program : Program) (setting : LaunchSetting) → IsLaunch (map string_bytes words.now) p setting → F.told files.old p ≡ Some t → Accepts t program
+        → (Rose (F.faults files.old p) (F.faults files.new p) → ⊥) → (Rose (K.faults out.old) (K.faults out.new) → ⊥) → (Rose (S.faults children.old) (S.faults children.new) → ⊥)
+        → IsLaunched t p setting result (S.told children.old) (S.told children.new) (K.taken out.old) (K.taken out.new) }
+
+    // Words that ask for no launch leave the spawner as it was.
+    ensures unlaunched { ((p : List ℕ) (setting : LaunchSetting) → IsLaunch (map string_bytes words.now) p setting → ⊥) → children.new ≡ children.old }
+
     // Other words are answered so.
     ensures words { IsOther (map string_bytes words.now) → IsAnswer result → (result ≡ Status.Words) × Appends (K.taken out.old) (K.taken out.new) (codes "words\n") }
     ensures only_words { result ≡ Status.Words → IsOther (map string_bytes words.now) }
@@ -86,16 +108,22 @@ pub fn dalgo<F: Files, K: Sink, L: Link>(
     ensures read_failed { (x : List ℕ) → F.faults files.old x < F.faults files.new x → result ≡ Status.ReadFault }
     ensures unread { result ≡ Status.ReadFault → K.taken out.new ≡ K.taken out.old }
     ensures unbound { result ≡ Status.ReadFault → link.new ≡ link.old }
+    ensures unstarted { result ≡ Status.ReadFault → children.new ≡ children.old }
     ensures told { (x : List ℕ) → F.told files.new x ≡ F.told files.old x }
     ensures counts { (x : List ℕ) → F.faults files.old x ≤ F.faults files.new x }
     ensures write { HasCause (K.faults out.old) (K.faults out.new) (result ≡ Status.WriteFault) }
     ensures link { HasCause (L.faults link.old) (L.faults link.new) (result ≡ Status.LinkFault) }
     ensures only_node { result ≡ Status.LinkFault → (p : List ℕ) × (setting : NodeSetting) × IsNode (map string_bytes words.now) p setting }
+    ensures children { HasChildCause (S.faults children.old) (S.faults children.new) result }
+    ensures only_launch { result ≡ Status.ChildFault → (p : List ℕ) × (setting : LaunchSetting) × IsLaunch (map string_bytes words.now) p setting }
 {
     match command_of(words) {
         Command::Replay(names) => replay(alloc, names.program, names.schedule, files, out),
         Command::Carry { task, program } => carry_out(alloc, task, program, files, out),
         Command::Node { setting, program } => run_node(alloc, setting, program, files, out, link),
+        Command::Launch { setting, program } => launch(
+            alloc, setting, program, files, out, children,
+        ),
         Command::Other => say(out, b"words\n", Status::Words),
     }
 }

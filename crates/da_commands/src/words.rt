@@ -1,4 +1,5 @@
 //! What the words of a call ask for.
+ghost use Rattle.da_commands.specs.LaunchReplies.{IsLaunchSetting};
 ghost use Rattle.da_commands.specs.NodeReplies.{IsSetting};
 ghost use Rattle.da_commands.specs.Words.{IsAsked, IsBetween};
 ghost use Rattle.std.specs.Prelude.{◌≡◌, ℕ, [], ◌∷◌, IfNone, IfSome, decimal, map};
@@ -31,6 +32,17 @@ pub struct NodeSetting {
     pub turns: u64,
 }
 
+/// How the nodes of a launch are to run.
+#[derive(Clone, Copy)]
+pub struct LaunchSetting {
+    /// Process k has the port of this number and k, from 1,024 to 65,000.
+    pub port: u16,
+    /// How many idle turns in a row end a node, from 1 to 1,000,000,000.
+    pub idle: u64,
+    /// How many answers of its link end a node, from 1 to 1,000,000,000.
+    pub turns: u64,
+}
+
 /// What the program is asked to do.
 #[derive(Clone, Copy)]
 pub enum Command<'a> {
@@ -44,6 +56,11 @@ pub enum Command<'a> {
     /// To run a process of the program of this name as a node.
     Node {
         setting: NodeSetting,
+        program: &'a str,
+    },
+    /// To run each process of the program of this name as a node, in a child of its own.
+    Launch {
+        setting: LaunchSetting,
         program: &'a str,
     },
     /// Nothing that it knows.
@@ -88,6 +105,13 @@ pub fn command_of(words: &[String]) -> Command<'_>
             program.as_str(),
             start.as_str(),
             most.as_str(),
+        ),
+        [command, program, port, idle, turns] => launch_of(
+            command.as_str(),
+            program.as_str(),
+            port.as_str(),
+            idle.as_str(),
+            turns.as_str(),
         ),
         [command, program, port, me, idle, turns] => node_of(
             command.as_str(),
@@ -150,6 +174,25 @@ fn stress_of<'a>(command: &str, program: &'a str, start: &str, most: &str) -> Co
     }
 }
 
+// What five words ask for.
+fn launch_of<'a>(
+    command: &str,
+    program: &'a str,
+    port: &str,
+    idle: &str,
+    turns: &str,
+) -> Command<'a>
+    ensures { IsAsked (command.now ∷ program.now ∷ port.now ∷ idle.now ∷ turns.now ∷ []) result }
+{
+    if command != "launch" {
+        return Command::Other;
+    }
+    match launch_setting_of(port, idle, turns) {
+        Some(setting) => Command::Launch { setting, program },
+        None => Command::Other,
+    }
+}
+
 // What six words ask for.
 fn node_of<'a>(
     command: &str,
@@ -187,8 +230,23 @@ fn setting_of(port: &str, me: &str, idle: &str, turns: &str) -> Option<NodeSetti
     })
 }
 
-// The number between these two whose digits these are, without leading zeros, or `None` where there is none.
-fn number_between(digits: &[u8], least: u64, most: u64) -> Option<u64>
+// The setting of a launch whose numbers these words spell, or `None` where there is none.
+fn launch_setting_of(port: &str, idle: &str, turns: &str) -> Option<LaunchSetting>
+    ensures some { IfSome result (λ setting. IsLaunchSetting setting port.now idle.now turns.now) }
+    ensures none { IfNone result ((setting : LaunchSetting) → IsLaunchSetting setting port.now idle.now turns.now → ⊥) }
+{
+    let port = number_between(port.as_bytes(), FIRST_PORT, LAST_PORT)?;
+    let idle = number_between(idle.as_bytes(), 1, MOST_ANSWERS)?;
+    let turns = number_between(turns.as_bytes(), 1, MOST_ANSWERS)?;
+    Some(LaunchSetting {
+        port: port as u16,
+        idle,
+        turns,
+    })
+}
+
+/// The number between these two whose digits these are, without leading zeros, or `None` where there is none.
+pub fn number_between(digits: &[u8], least: u64, most: u64) -> Option<u64>
     ensures some { IfSome result (λ n. IsBetween least most n × (digits.now ≡ decimal n)) }
     ensures none { IfNone result ((n : ℕ) → IsBetween least most n → digits.now ≡ decimal n → ⊥) }
 {

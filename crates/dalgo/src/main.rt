@@ -1,4 +1,5 @@
-//! Checks DistAlgo programs, replays their schedules, and runs their processes as nodes: writes what they do.
+//! Checks DistAlgo programs, replays their schedules, and runs their processes as nodes, alone or all together: writes what they
+//! do.
 #![tactic(auto)]
 
 mod again;
@@ -11,10 +12,11 @@ mod watch;
 mod words;
 
 use da_commands::{Status, dalgo};
-use da_outside::{RealFiles, RealSink};
+use da_outside::{RealFiles, RealSink, RealSpawner};
 use exit::{NoWords, exit_code};
 use report::{Outcome, report};
 use std::env;
+use std::io::ErrorKind;
 use std::process::ExitCode;
 use udp_link::UdpLink;
 use watch::Watched;
@@ -26,6 +28,7 @@ fn main(rt: HostRuntime) -> ExitCode {
             status: Status::Memory,
             fault: &[],
             count: 0,
+            child: None,
         };
         report(&rt, &[], outcome);
     }
@@ -33,17 +36,21 @@ fn main(rt: HostRuntime) -> ExitCode {
         let mut files = RealFiles::new(&rt);
         let mut out = Watched::new(rt.alloc(), RealSink::new(&rt));
         let mut link = UdpLink::new(&rt);
+        let mut children = RealSpawner::new(&rt, None);
         let status = dalgo(
             rt.alloc(),
             words.as_slice(),
             &mut files,
             &mut out,
             &mut link,
+            &mut children,
         );
+        children.end();
         let outcome = Outcome {
             status,
             fault: out.fault(),
             count: out.count(),
+            child: children.trouble(),
         };
         report(&rt, words.as_slice(), outcome);
         status
@@ -52,7 +59,10 @@ fn main(rt: HostRuntime) -> ExitCode {
 
 // The words behind the name of the program.
 fn words_of_call(rt: &HostRuntime) -> Result<Vec<String>, NoWords> {
-    let args = env::args(rt).map_err(|_| NoWords::Refused)?;
+    let args = env::args(rt).map_err(|error| match error.kind() {
+        ErrorKind::OutOfMemory => NoWords::Memory,
+        _ => NoWords::Refused,
+    })?;
     let mut words = Vec::new(rt.alloc());
     for word in args.skip(1) {
         words.push(word).map_err(|_| NoWords::Memory)?;

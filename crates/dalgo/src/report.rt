@@ -5,6 +5,7 @@ use crate::refused::tell_refused;
 use crate::stopped::{tell_bad_line, tell_fault, tell_forbidden};
 use crate::words::why_not;
 use da_commands::{Command, Names, NodeSetting, Status, command_of};
+use da_outside::ChildTrouble;
 use std::io::Eprint;
 use std::{fs, io, rt};
 
@@ -15,14 +16,16 @@ usage:
   dalgo plan PROG
   dalgo stress PROG START N               START from 0 to 281474976710655, N from 1 to 1000000
   dalgo node PROG PORT ME IDLE TURNS      PORT from 1024 to 65000, ME from 1 to 64,
-                                          IDLE and TURNS from 1 to 1000000000";
+  dalgo launch PROG PORT IDLE TURNS       IDLE and TURNS from 1 to 1000000000";
 
-/// How a call ended: its status, the first line that told a fault, and how many such lines there were.
+/// How a call ended: its status, the first line that told a fault, how many such lines there were, and the first child at which
+/// a call failed, with the reason.
 #[derive(Clone, Copy)]
 pub struct Outcome<'f> {
     pub status: Status,
     pub fault: &'f [u8],
     pub count: usize,
+    pub child: Option<&'f (u32, ChildTrouble)>,
 }
 
 /// Tells how a call with these words ended. Nothing is told where the work was done and no process had a fault.
@@ -32,6 +35,7 @@ pub fn report<R: rt::Files + AllocGlobal + Eprint>(rt: &R, words: &[String], out
         Command::Replay(names) => tell_replay(rt, names, outcome),
         Command::Carry { program, .. } => tell_program(rt, program, status),
         Command::Node { setting, program } => tell_node(rt, setting, program, outcome),
+        Command::Launch { program, .. } => tell_launch(rt, program, outcome),
         Command::Other => tell_common(rt, words, status),
     };
     drop(told);
@@ -99,6 +103,40 @@ fn tell_node<R: rt::Files + AllocGlobal + Eprint>(
         Status::Spent => eprintln!(rt; "dalgo: node {me}: all {turns} turns are spent"),
         Status::Faulted => tell_fault(rt, program, outcome.fault, outcome.count),
         status => tell_program(rt, program, status),
+    }
+}
+
+// How a launch ended. Its nodes have told how they ended before.
+fn tell_launch<R: rt::Files + AllocGlobal + Eprint>(
+    rt: &R,
+    program: &str,
+    outcome: Outcome<'_>,
+) -> io::Result<()> {
+    match (outcome.status, outcome.child) {
+        (Status::ChildFault, Some((child, why))) => eprintln!(rt;
+            "dalgo: launch: node {child}: {why}"
+        ),
+        (Status::ChildFault, None) => eprintln!(rt; "dalgo: launch: a node could not be started"),
+        (Status::ChildStatus { child, status }, _) => {
+            let meaning = meaning_of(status);
+            eprintln!(rt; "dalgo: launch: node {child} ended with status {status}: {meaning}")
+        }
+        (status, _) => tell_program(rt, program, status),
+    }
+}
+
+// What the exit status of a node means.
+fn meaning_of(status: u8) -> &'static str {
+    match status {
+        1 => "the program is refused",
+        5 => "the program could not be read",
+        6 => "its output could not be written",
+        7 => "out of memory",
+        8 => "its port is not free, or its socket failed",
+        9 => "idle",
+        10 => "all its turns are spent",
+        11 => "a fault ended its process",
+        _ => "this is none of a node",
     }
 }
 

@@ -3,12 +3,13 @@ use std::alloc::Global;
 use text_hints::{Nearest, Phrase};
 
 /// The commands, and how many words stand behind each.
-const COMMANDS: [(&[u8], usize); 5] = [
+const COMMANDS: [(&[u8], usize); 6] = [
     (b"check", 1),
     (b"replay", 2),
     (b"plan", 1),
     (b"stress", 3),
     (b"node", 5),
+    (b"launch", 4),
 ];
 
 /// A word that is a number, and the least and the greatest that it may be.
@@ -57,6 +58,27 @@ const NODE: [Range; 4] = [
     Range {
         name: b"TURNS",
         place: 5,
+        least: 1,
+        most: 1_000_000_000,
+    },
+];
+
+const LAUNCH: [Range; 3] = [
+    Range {
+        name: b"PORT",
+        place: 2,
+        least: 1_024,
+        most: 65_000,
+    },
+    Range {
+        name: b"IDLE",
+        place: 3,
+        least: 1,
+        most: 1_000_000_000,
+    },
+    Range {
+        name: b"TURNS",
+        place: 4,
         least: 1,
         most: 1_000_000_000,
     },
@@ -111,10 +133,10 @@ fn tell_command(alloc: Global, command: &[u8], out: &mut Phrase) {
 
 // The first number that is not within its range.
 fn tell_ranges(command: &[u8], words: &[String], out: &mut Phrase) {
-    let ranges: &[Range] = if command == b"stress".as_slice() {
-        &STRESS
-    } else {
-        &NODE
+    let ranges: &[Range] = match command {
+        b"stress" => &STRESS,
+        b"launch" => &LAUNCH,
+        _ => &NODE,
     };
     for range in ranges {
         if let Some(word) = words.get(range.place) {

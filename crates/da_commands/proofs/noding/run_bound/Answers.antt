@@ -3,7 +3,7 @@ use Rattle.da_core.specs.Compiled.{program_of}
 use Rattle.da_outside.specs.Outside.{HasCause}
 use Rattle.da_commands.specs.declared.status.Status.TheVariants.{LinkFault, WriteFault}
 use Rattle.da_commands.specs.NodeSteps.{RunsBound}
-use Rattle.da_commands.proofs.NodeLemmas.{node_link_cause, node_no_words, node_runs, node_unread, node_write_cause}
+use Rattle.da_commands.proofs.NodeLemmas.{node_childless, node_link_cause, node_no_words, node_runs, node_unread, node_write_cause}
 use Rattle.da_commands.proofs.noding.run_bound.Goals as goal
 
 pub returns-clause-runs : goal.returns-clause-runs
@@ -13,6 +13,9 @@ returns-clause-runs g c =
 
 pub returns-clause-words : goal.returns-clause-words
 returns-clause-words g c = λ is. node_no_words c.node.result (sym c.status_of_node.ensures ∙ is)
+
+pub returns-clause-childless : goal.returns-clause-childless
+returns-clause-childless g c = λ is. node_childless c.node.result (sym c.status_of_node.ensures ∙ is)
 
 pub returns-clause-read : goal.returns-clause-read
 returns-clause-read g c = λ is. node_unread c.node.result (sym c.status_of_node.ensures ∙ is)

@@ -3,11 +3,15 @@ use Rattle.std.specs.Prelude.{Some}
 use Rattle.da_outside.specs.Outside.{Rose}
 use Rattle.da_outside.proofs.OutsideLemmas.{no_cause}
 use Rattle.node_run.specs.NodeCall.{GivesPackets}
+use Rattle.da_commands.specs.declared.words.LaunchSetting.{LaunchSetting}
 use Rattle.da_commands.specs.declared.words.NodeSetting.{NodeSetting}
 use Rattle.da_commands.specs.declared.words.Task.{Task}
+use Rattle.da_commands.specs.LaunchReplies.{HasLaunched, IsLaunched, LaunchStopped}
 use Rattle.da_commands.specs.NodeReplies.{HasAnswered, HasStopped, IsServed, LinkFailed}
 use Rattle.da_commands.specs.Replies.{IsCarriedOut, ReplayReply, TaskReply}
 use Rattle.da_commands.specs.Told.{Begins, Gains, OfTold}
+use Rattle.da_commands.proofs.LaunchCallLemmas.{at_launch, end_no_child, launch_answered, launch_has_stopped, launch_no_node, launch_quiet, said_childless, same_launch}
+use Rattle.da_commands.proofs.LaunchLemmas.{no_child_cause}
 use Rattle.da_commands.proofs.ReplyLemmas.{at_names, is_carried_out, not_read, runs_whole, same_names, same_task}
 use Rattle.da_commands.proofs.TopLemmas.{at_node, both_begun, both_whole, node_answered, node_has_stopped, node_link_failed, node_served, said_front, said_whole, same_node, told_begun, told_whole}
 use Rattle.da_commands.proofs.ToldLemmas.{end_no_link, end_no_words, ends_unlinked, said_unlinked, said_unread}
@@ -46,6 +50,12 @@ returns-in-Replay-clause-only_words g c = λ is. absurd (end_no_words c.replay.r
 pub returns-in-Replay-clause-only_node : goal.returns-in-Replay-clause-only_node
 returns-in-Replay-clause-only_node g c = λ is. absurd (end_no_link c.replay.result c.replay.ensures.ends is)
 
+pub returns-in-Replay-clause-children : goal.returns-in-Replay-clause-children
+returns-in-Replay-clause-children g c = no_child_cause _ c.replay.result (end_no_child c.replay.result c.replay.ensures.ends)
+
+pub returns-in-Replay-clause-only_launch : goal.returns-in-Replay-clause-only_launch
+returns-in-Replay-clause-only_launch g c = λ is. absurd (end_no_child c.replay.result c.replay.ensures.ends is)
+
 -- A TASK
 
 pub returns-in-Carry-clause-answers : goal.returns-in-Carry-clause-answers
@@ -80,6 +90,12 @@ returns-in-Carry-clause-only_words g c = λ is. absurd (end_no_words c.carry_out
 
 pub returns-in-Carry-clause-only_node : goal.returns-in-Carry-clause-only_node
 returns-in-Carry-clause-only_node g c = λ is. absurd (end_no_link c.carry_out.result c.carry_out.ensures.ends is)
+
+pub returns-in-Carry-clause-children : goal.returns-in-Carry-clause-children
+returns-in-Carry-clause-children g c = no_child_cause _ c.carry_out.result (end_no_child c.carry_out.result c.carry_out.ensures.ends)
+
+pub returns-in-Carry-clause-only_launch : goal.returns-in-Carry-clause-only_launch
+returns-in-Carry-clause-only_launch g c = λ is. absurd (end_no_child c.carry_out.result c.carry_out.ensures.ends is)
 
 -- A NODE
 
@@ -124,6 +140,51 @@ returns-in-Node-clause-begun_words g c = λ other. absurd (other.2 _ _ c.in-Node
 pub returns-in-Node-clause-only_words : goal.returns-in-Node-clause-only_words
 returns-in-Node-clause-only_words g c = λ is. absurd (c.run_node.ensures.words is)
 
+pub returns-in-Node-clause-children : goal.returns-in-Node-clause-children
+returns-in-Node-clause-children g c = no_child_cause _ c.run_node.result c.run_node.ensures.childless
+
+pub returns-in-Node-clause-only_launch : goal.returns-in-Node-clause-only_launch
+returns-in-Node-clause-only_launch g c = λ is. absurd (c.run_node.ensures.childless is)
+
+-- A LAUNCH
+
+pub returns-in-Launch-clause-launch : goal.returns-in-Launch-clause-launch
+returns-in-Launch-clause-launch g c = λ p setting words answer.
+    let P : List ℕ → LaunchSetting → Type 0 = λ x s. OfTold (g.F.Files.told c.args.files.now x) (λ t. HasLaunched t x s c.launch.result (g.S.Spawner.told c.args.children.now) (g.S.Spawner.told c.launch.new.children) (g.K.Sink.taken c.args.out.now) (g.K.Sink.taken c.launch.new.out)) in
+    at_launch P p _ setting _ (same_launch _ _ _ _ _ c.in-Launch.ensures words) (launch_answered _ _ _ _ _ _ _ c.launch.result c.launch.ensures.launched answer)
+
+pub returns-in-Launch-clause-launch_stopped : goal.returns-in-Launch-clause-launch_stopped
+returns-in-Launch-clause-launch_stopped g c = λ p setting words never.
+    let P : List ℕ → LaunchSetting → Type 0 = λ x s. OfTold (g.F.Files.told c.args.files.now x) (λ t. LaunchStopped t x s (g.S.Spawner.told c.args.children.now) (g.S.Spawner.told c.launch.new.children) (g.K.Sink.taken c.args.out.now) (g.K.Sink.taken c.launch.new.out)) in
+    at_launch P p _ setting _ (same_launch _ _ _ _ _ c.in-Launch.ensures words) (launch_has_stopped _ _ _ _ _ _ _ c.launch.result c.launch.ensures.launched never)
+
+pub returns-in-Launch-clause-launched : goal.returns-in-Launch-clause-launched
+returns-in-Launch-clause-launched g c = λ p t program setting words told accepts quiet quiet_out quiet_children.
+    let same = same_launch _ _ _ _ _ c.in-Launch.ensures words in
+    let here : g.F.Files.told c.args.files.now c.in-Launch.program.now ≡ Some t = subst (λ n. g.F.Files.told c.args.files.now n ≡ Some t) same.0 told in
+    let quiet_here : Rose (g.F.Files.faults c.args.files.now c.in-Launch.program.now) (g.F.Files.faults c.launch.new.files c.in-Launch.program.now) → ⊥ =
+    subst (λ n. Rose (g.F.Files.faults c.args.files.now n) (g.F.Files.faults c.launch.new.files n) → ⊥) same.0 quiet in
+    let P : List ℕ → LaunchSetting → Type 0 = λ x s. IsLaunched t x s c.launch.result (g.S.Spawner.told c.args.children.now) (g.S.Spawner.told c.launch.new.children) (g.K.Sink.taken c.args.out.now) (g.K.Sink.taken c.launch.new.out) in
+    at_launch P p _ setting _ same (launch_quiet _ _ _ _ _ _ _ c.launch.result c.launch.ensures.launched t here (λ failed. quiet_here (c.launch.ensures.read failed)) (λ failed. quiet_out (c.launch.ensures.write.failed failed)))
+
+pub returns-in-Launch-clause-unlaunched : goal.returns-in-Launch-clause-unlaunched
+returns-in-Launch-clause-unlaunched g c = λ never. absurd (never _ _ c.in-Launch.ensures)
+
+pub returns-in-Launch-clause-words : goal.returns-in-Launch-clause-words
+returns-in-Launch-clause-words g c = λ other. absurd (other.3 _ _ c.in-Launch.ensures)
+
+pub returns-in-Launch-clause-begun_words : goal.returns-in-Launch-clause-begun_words
+returns-in-Launch-clause-begun_words g c = λ other. absurd (other.3 _ _ c.in-Launch.ensures)
+
+pub returns-in-Launch-clause-only_words : goal.returns-in-Launch-clause-only_words
+returns-in-Launch-clause-only_words g c = λ is. absurd (c.launch.ensures.words is)
+
+pub returns-in-Launch-clause-link : goal.returns-in-Launch-clause-link
+returns-in-Launch-clause-link g c = no_cause _ c.launch.ensures.link
+
+pub returns-in-Launch-clause-only_node : goal.returns-in-Launch-clause-only_node
+returns-in-Launch-clause-only_node g c = λ is. absurd (c.launch.ensures.link is)
+
 -- OTHER WORDS
 
 pub returns-in-Other-clause-words : goal.returns-in-Other-clause-words
@@ -152,3 +213,18 @@ returns-in-Other-clause-link g c = no_cause _ (said_unlinked _ _ c.say.result _ 
 
 pub returns-in-Other-clause-only_node : goal.returns-in-Other-clause-only_node
 returns-in-Other-clause-only_node g c = λ is. absurd (said_unlinked _ _ c.say.result _ _ tt c.say.ensures.said is)
+
+pub returns-in-Other-clause-launch : goal.returns-in-Other-clause-launch
+returns-in-Other-clause-launch g c = λ p setting words. absurd (c.in-Other.ensures.3 p setting words)
+
+pub returns-in-Other-clause-launch_stopped : goal.returns-in-Other-clause-launch_stopped
+returns-in-Other-clause-launch_stopped g c = λ p setting words. absurd (c.in-Other.ensures.3 p setting words)
+
+pub returns-in-Other-clause-launched : goal.returns-in-Other-clause-launched
+returns-in-Other-clause-launched g c = λ p t program setting words. absurd (c.in-Other.ensures.3 p setting words)
+
+pub returns-in-Other-clause-children : goal.returns-in-Other-clause-children
+returns-in-Other-clause-children g c = no_child_cause _ c.say.result (said_childless _ _ c.say.result _ _ tt c.say.ensures.said)
+
+pub returns-in-Other-clause-only_launch : goal.returns-in-Other-clause-only_launch
+returns-in-Other-clause-only_launch g c = λ is. absurd (said_childless _ _ c.say.result _ _ tt c.say.ensures.said is)
