@@ -1,0 +1,140 @@
+-- The replies of the commands, from what their parts leave.
+use Rattle.std.proofs.Common.{◌≡◌, refl, sym, ◌∙◌, ap, subst, ℕ, ◌+◌, ◌<◌, ◌≤◌, inl, inr, ◌⊎◌, List, [], ◌++◌, take, length, append-nil}
+use Rattle.std.specs.Prelude.{Option, Some, None}
+use Rattle.std.specs.Str.Lines.{lines}
+use Rattle.da_commands.specs.Lines.{badline_text}
+use Rattle.da_commands.specs.Verdict.{Accepts}
+use Rattle.da_lang.specs.declared.event.Event.{Event}
+use Rattle.da_lang.specs.declared.program.Program.{Program}
+use Rattle.da_outside.specs.Outside.{Appends, AppendsFront}
+use Rattle.da_system.specs.declared.system.System.{System}
+use Rattle.da_system.specs.State.{Stands, Whichever}
+use Rattle.da_system.specs.SystemStep.{start}
+use Rattle.replay_run.specs.declared.outcome.Outcome.{Outcome}
+use Rattle.replay_run.specs.declared.outcome.Outcome.TheVariants as run
+use Rattle.replay_run.specs.Replay.{HasEnded}
+use Rattle.sched_text.specs.ScheduleText.{SpellsSchedule}
+use Rattle.schedule_hunt.specs.declared.hunting.HuntOutcome.{HuntOutcome}
+use Rattle.schedule_hunt.specs.declared.hunting.HuntOutcome.TheVariants as hunt
+use Rattle.schedule_hunt.specs.declared.what.What.{What}
+use Rattle.schedule_hunt.specs.Hunt.{HasBegun, IsFound, IsReply, ShowsNone, none_line}
+use Rattle.schedule_walk.specs.Next as after
+use Rattle.schedule_walk.specs.Walk.{HasWalked, walk_text}
+use Rattle.scout_commands.specs.declared.status.Status.{Status}
+use Rattle.scout_commands.specs.declared.status.Status.TheVariants.{BadLine, Done, Found, Memory, WriteFault}
+use Rattle.scout_commands.specs.declared.words.Search.TheVariants.{Walk, Hunt}
+use Rattle.scout_commands.specs.Endings.{status_of_hunt, status_of_run}
+use Rattle.scout_commands.specs.Replies.{DrawDue, DrawReply, NextReply, SearchReply, answered, bad_trace, drawn, found, none, walked}
+use Rattle.scout_commands.specs.Told.{Answers, HasReplied, HasSaid, IsAnswer, IsCut, begun, nothing, unread, whole}
+use Rattle.trace_page.specs.declared.outcome.DrawOutcome.{DrawOutcome}
+use Rattle.trace_page.specs.declared.outcome.DrawOutcome.TheVariants as draw
+use Rattle.trace_page.specs.Outcome.{HasDrawn, SaysOf}
+use Rattle.trace_page.specs.PageText.{IsPage}
+use Rattle.trace_page.specs.TraceText.{IsBadTrace, IsTrace}
+
+-- WHAT WAS SAID is the reply
+pub said_as : (Reply : Status → List ℕ → Type 0) (Due : List ℕ → Type 0) (status : Status) (bytes : List ℕ) (result : Status) (before after : Option (List ℕ))
+    → Reply status bytes → Due bytes → HasSaid status bytes result before after → HasReplied Reply Due result before after
+said_as Reply Due status bytes result before after reply due (whole answer written is gained) =
+    whole answer bytes (subst (λ s. Reply s bytes) (sym is.status_is) reply) (subst (Appends before after) is.bytes_are gained)
+said_as Reply Due status bytes result before after reply due (begun cut written (said, is) front) = begun cut bytes due (subst (AppendsFront before after) is.bytes_are front)
+said_as Reply Due status bytes result before after reply due (nothing cut same) = nothing cut same
+said_as Reply Due status bytes result before after reply due (unread is same) = unread is same
+
+pub said_answers : (Reply : Status → List ℕ → Type 0) (status : Status) (bytes : List ℕ) (result : Status) (before after : Option (List ℕ)) → Reply status bytes → HasSaid status bytes result before after → Answers Reply result before after
+said_answers Reply status bytes result before after reply said = said_as Reply _ status bytes result before after reply (status, reply) said
+
+pub memory_replied : (Reply : Status → List ℕ → Type 0) (Due : List ℕ → Type 0) (x : Option (List ℕ)) → HasReplied Reply Due Memory x x
+memory_replied Reply Due x = nothing tt refl
+
+-- A RUN
+ended_answer : (how : Outcome) → HasEnded how → IsAnswer (status_of_run how)
+ended_answer run.Done ended = tt
+ended_answer (run.Forbidden i) ended = tt
+ended_answer run.WriteFault ended = ended
+ended_answer run.Memory ended = ended
+
+cut_short : (how : Outcome) → (HasEnded how → ⊥) → IsCut (status_of_run how)
+cut_short run.Done never = never tt
+cut_short (run.Forbidden i) never = never tt
+cut_short run.WriteFault never = tt
+cut_short run.Memory never = tt
+
+none_more : (before after : Option (List ℕ)) → Appends before after [] → after ≡ before
+none_more None after gained = gained
+none_more (Some told) after gained = gained ∙ ap Some (append-nil told)
+
+-- A WALK
+module _ (t : List ℕ) (program p : Program) (opened : System) (same : p ≡ program) (stands : Stands opened (start program)) (accepts : Accepts t program) (first most : ℕ) (left : System) (before after : Option (List ℕ)) where
+  pub walk_replied : (how : Outcome) → (HasEnded how → Whichever opened (λ s. HasWalked p s first most left before after)) → (HasEnded how → how ≡ run.Done)
+      → Whichever opened (λ s. AppendsFront before after (walk_text p s first most)) → Answers (SearchReply t (Walk first most)) (status_of_run how) before after
+  walk_replied how ran done front = of how ran done
+    where
+      reply : SearchReply t (Walk first most) Done (walk_text program (start program) first most)
+      reply = walked first most program accepts
+
+      begins : AppendsFront before after (walk_text program (start program) first most)
+      begins = subst (λ q. AppendsFront before after (walk_text q (start program) first most)) same (front (start program) stands)
+
+      of : (how : Outcome) → (HasEnded how → Whichever opened (λ s. HasWalked p s first most left before after)) → (HasEnded how → how ≡ run.Done) → Answers (SearchReply t (Walk first most)) (status_of_run how) before after
+      of run.Done ran done =
+          let has : HasWalked program (start program) first most left before after = subst (λ q. HasWalked q (start program) first most left before after) same (ran tt (start program) stands) in
+          whole tt _ reply has.written
+      of (run.Forbidden i) ran done = absurd (let clash : run.Forbidden i ≡ run.Done = done tt in cc)
+      of run.WriteFault ran done = begun tt _ (Done, reply) begins
+      of run.Memory ran done = begun tt _ (Done, reply) begins
+
+-- THE EVENTS BEHIND A SCHEDULE
+pub next_replied : (t s : List ℕ) (program : Program) (events : List Event) (how : Outcome) (before now : Option (List ℕ)) → Accepts t program → SpellsSchedule s events
+    → after.HasAnswered (after.NextReply program events) how before now → Answers (NextReply t s) (status_of_run how) before now
+next_replied t s program events how before now accepts spells (after.whole ended bytes reply gained) = whole (ended_answer how ended) bytes (answered program events how bytes accepts spells reply) gained
+next_replied t s program events how before now accepts spells (after.begun cut said bytes reply front) =
+    begun (cut_short how cut) bytes (status_of_run said, answered program events said bytes accepts spells reply) front
+next_replied t s program events how before now accepts spells (after.nothing cut gained) = nothing (cut_short how cut) (none_more before now gained)
+
+-- A HUNT
+module _ (t : List ℕ) (program : Program) (what : What) (first count most : ℕ) (before after : Option (List ℕ)) (accepts : Accepts t program) where
+  abbrev Hunted : HuntOutcome → Type 0
+  Hunted how = Answers (SearchReply t (Hunt first count most what)) (status_of_hunt how) before after
+
+  due : (bytes : List ℕ) → IsReply program what most first count bytes → (status : Status) × SearchReply t (Hunt first count most what) status bytes
+  due bytes (inl is) = (Found, found first count most what program bytes accepts is)
+  due bytes (inr (shows, is)) = (Done, subst (SearchReply t (Hunt first count most what) Done) (sym is) (none first count most what program accepts shows))
+
+  cut_hunt : (status : Status) → IsCut status → HasBegun program what most first count before after → Answers (SearchReply t (Hunt first count most what)) status before after
+  cut_hunt status cut (inl same) = nothing cut same
+  cut_hunt status cut (inr (bytes, reply, front)) = begun cut bytes (due bytes reply) front
+
+  pub hunt_replied : (how : HuntOutcome) → (how ≡ hunt.Found → (bytes : List ℕ) × IsFound program what most first count bytes × Appends before after bytes)
+      → (how ≡ hunt.None → ShowsNone program what most first count × Appends before after (none_line count)) → HasBegun program what most first count before after → Hunted how
+  hunt_replied hunt.Found finds lacks begins = let (bytes, is, gained) = finds refl in whole tt bytes (found first count most what program bytes accepts is) gained
+  hunt_replied hunt.None finds lacks begins = let (shows, gained) = lacks refl in whole tt (none_line count) (none first count most what program accepts shows) gained
+  hunt_replied hunt.WriteFault finds lacks begins = cut_hunt WriteFault tt begins
+  hunt_replied hunt.Memory finds lacks begins = cut_hunt Memory tt begins
+
+-- A DRAWING
+module _ (text t : List ℕ) (same : text ≡ t) (how : DrawOutcome) (before after : Option (List ℕ)) (says : SaysOf text how) (has : HasDrawn (lines text) how before after) where
+  abbrev Drew : Status → Type 0
+  Drew status = HasReplied (DrawReply t) (DrawDue t) status before after
+
+  pub draw_done : how ≡ draw.Done → Drew Done
+  draw_done is =
+      let trace : IsTrace text = subst (SaysOf text) is says in
+      let (page, paged, gained) : (page : List ℕ) × IsPage (lines text) page × Appends before after page = subst (λ o. HasDrawn (lines text) o before after) is has in
+      whole tt page (drawn page (subst IsTrace same trace) (subst (λ x. IsPage (lines x) page) same paged)) gained
+
+  begun_page : (status : Status) → IsCut status → (page : List ℕ) × IsPage (lines text) page × AppendsFront before after page → Drew status
+  begun_page status cut (page, paged, front) = begun cut page (inr (subst (λ x. IsPage (lines x) page) same paged)) front
+
+  pub draw_unwritten : how ≡ draw.WriteFault → Drew WriteFault
+  draw_unwritten is = begun_page WriteFault tt (subst (λ o. HasDrawn (lines text) o before after) is has)
+
+  pub draw_without : how ≡ draw.Memory → Drew Memory
+  draw_without is = begun_page Memory tt (subst (λ o. HasDrawn (lines text) o before after) is has)
+
+  -- a bad trace; nothing was written before it is refused
+  pub draw_bad : (line : ℕ) → how ≡ draw.BadLine line → (after ≡ before) × IsBadTrace t line
+  draw_bad line is =
+      let bad : IsBadTrace text line = subst (SaysOf text) is says in
+      let none : after ≡ before = subst (λ o. HasDrawn (lines text) o before after) is has in
+      (none, subst (λ x. IsBadTrace x line) same bad)

@@ -1,0 +1,68 @@
+-- Which words are answered so.
+use Rattle.std.proofs.Common.{◌≡◌, refl, sym, ◌∙◌, ap, subst, ℕ, ◌+◌, ◌^◌, ◌<◌, ◌≤◌, inl, inr, List, arith, codes}
+use Rattle.std.specs.Prelude.{Option, Some, None}
+use Rattle.da_commands.specs.Told.{OfTold}
+use Rattle.replay_run.specs.declared.outcome.Outcome.{Outcome}
+use Rattle.replay_run.specs.declared.outcome.Outcome.TheVariants as run
+use Rattle.schedule_walk.specs.Next as after
+use Rattle.scout_commands.specs.declared.status.Status.{Status}
+use Rattle.scout_commands.specs.declared.status.Status.TheVariants.{BadLine, Done, Forbidden, Found, Memory, ReadFault, Refused, Words, WriteFault}
+use Rattle.scout_commands.specs.declared.words.Search.{Search}
+use Rattle.scout_commands.specs.declared.words.Search.TheVariants.{Walk, Hunt}
+use Rattle.scout_commands.specs.Endings.{status_of_run}
+use Rattle.scout_commands.specs.Replies.{DrawReply, HasAnswered, NextReply, SearchReply}
+use Rattle.scout_commands.specs.Replies as reply
+use Rattle.scout_commands.specs.Told.{Answers, HasReplied, IsCut, begun, nothing, unread, whole}
+use Rattle.scout_commands.specs.Words.{HasNumbers, IsOther, IsSearch}
+
+pub has_numbers : (words : List (List ℕ)) (search : Search) (p : List ℕ) → IsSearch words search p → HasNumbers search
+has_numbers words (Walk start most) p asked = tt
+has_numbers words (Hunt start count most what) p asked =
+    let small : start < 2 ^ 48 = asked.2.0 in
+    let few : count ≤ 1000000 = asked.3.1 in
+    omega (arith, small, few)
+
+-- no reply but that to other words has this status
+search_words : (t : List ℕ) (search : Search) (status : Status) (bytes : List ℕ) → SearchReply t search status bytes → status ≡ Words → ⊥
+search_words t _ _ _ (reply.declined search kind line refuses) is = let clash : Refused kind line ≡ Words = is in cc
+search_words t _ _ _ (reply.walked first most program accepts) is = let clash : Done ≡ Words = is in cc
+search_words t _ _ _ (reply.found first count most what program bytes accepts found) is = let clash : Found ≡ Words = is in cc
+search_words t _ _ _ (reply.none first count most what program accepts shows) is = let clash : Done ≡ Words = is in cc
+
+run_words : (how : Outcome) → status_of_run how ≡ Words → ⊥
+run_words run.Done is = let clash : Done ≡ Words = is in cc
+run_words (run.Forbidden i) is = let clash : Forbidden i ≡ Words = is in cc
+run_words run.WriteFault is = let clash : WriteFault ≡ Words = is in cc
+run_words run.Memory is = let clash : Memory ≡ Words = is in cc
+
+next_words : (t s : List ℕ) (status : Status) (bytes : List ℕ) → NextReply t s status bytes → status ≡ Words → ⊥
+next_words t s _ _ (NextReply.declined kind line refuses) is = let clash : Refused kind line ≡ Words = is in cc
+next_words t s _ _ (NextReply.bad_schedule program line accepts bad) is = let clash : BadLine line ≡ Words = is in cc
+next_words t s _ _ (NextReply.answered program events how bytes accepts spells said) is = run_words how is
+
+draw_words : (t : List ℕ) (status : Status) (bytes : List ℕ) → DrawReply t status bytes → status ≡ Words → ⊥
+draw_words t _ _ (DrawReply.bad_trace line bad) is = let clash : BadLine line ≡ Words = is in cc
+draw_words t _ _ (DrawReply.drawn page trace paged) is = let clash : Done ≡ Words = is in cc
+
+module _ (Reply : Status → List ℕ → Type 0) (Due : List ℕ → Type 0) (before after : Option (List ℕ)) where
+  pub replied_words : ((status : Status) (bytes : List ℕ) → Reply status bytes → status ≡ Words → ⊥) → (result : Status) → HasReplied Reply Due result before after → result ≡ Words → ⊥
+  replied_words never result (whole answer bytes reply gained) is = never result bytes reply is
+  replied_words never result (begun cut bytes due front) is = let none : IsCut Words = subst IsCut is cut in none
+  replied_words never result (nothing cut same) is = let none : IsCut Words = subst IsCut is cut in none
+  replied_words never result (unread failed same) is = let clash : ReadFault ≡ Words = sym failed ∙ is in cc
+
+of_none : (told : Option (List ℕ)) (P : List ℕ → Type 0) → ((t : List ℕ) → P t → ⊥) → OfTold told P → ⊥
+of_none None P never (t, holds) = never t holds
+of_none (Some t) P never holds = never t holds
+
+module _ (words : List (List ℕ)) (told : List ℕ → Option (List ℕ)) (status : Status) (before after : Option (List ℕ)) where
+  pub only_others : HasAnswered words told status before after → status ≡ Words → IsOther words
+  only_others (reply.searched search p asked replies) is =
+      absurd (of_none (told p) (λ t. Answers (SearchReply t search) status before after) (λ t held. replied_words (SearchReply t search) _ before after (search_words t search) status held is) replies)
+  only_others (reply.followed p q asked replies) is =
+      absurd (of_none (told p) (λ t. OfTold (told q) (λ s. Answers (NextReply t s) status before after))
+      (λ t each. of_none (told q) (λ s. Answers (NextReply t s) status before after) (λ s held. replied_words (NextReply t s) _ before after (next_words t s) status held is) each) replies)
+  only_others (reply.drew p asked replies) is =
+      absurd (of_none (told p) _ (λ t held. replied_words (DrawReply t) _ before after (draw_words t) status held is) replies)
+  only_others (reply.other asked said) is = asked
+  only_others (reply.stopped memory same) is = absurd (let clash : Memory ≡ Words = sym memory ∙ is in cc)

@@ -1,0 +1,23 @@
+use Rattle.std.proofs.Common.{map, subst}
+use Rattle.std.specs.String.{string_bytes}
+use Rattle.scout_commands.specs.Replies.{drew, followed, other, searched}
+use Rattle.scout_commands.specs.Words.{IsAsked}
+use Rattle.scout_commands.proofs.TopLemmas.{only_others}
+use Rattle.scout_commands.proofs.top.scout.Goals as goal
+
+pub returns-in-Search-clause-replies : goal.returns-in-Search-clause-replies
+returns-in-Search-clause-replies g c = searched c.in-Search.search c.in-Search.program.now (subst (IsAsked _) c.in-Search.is c.in-Ok.ensures) c.search.ensures.replies
+
+pub returns-in-Search-clause-only_words : goal.returns-in-Search-clause-only_words
+returns-in-Search-clause-only_words g c =
+    only_others (map string_bytes c.args.words.now) (g.F.Files.told c.args.files.now) c.search.result (g.K.Sink.taken c.args.out.now) (g.K.Sink.taken c.search.new.out)
+    (searched c.in-Search.search c.in-Search.program.now (subst (IsAsked (map string_bytes c.args.words.now)) c.in-Search.is c.in-Ok.ensures) c.search.ensures.replies)
+
+pub returns-in-Next-clause-replies : goal.returns-in-Next-clause-replies
+returns-in-Next-clause-replies g c = followed c.in-Next.names.program.now c.in-Next.names.schedule.now (subst (IsAsked _) c.in-Next.is c.in-Ok.ensures) c.follow.ensures.replies
+
+pub returns-in-Draw-clause-replies : goal.returns-in-Draw-clause-replies
+returns-in-Draw-clause-replies g c = drew c.in-Draw.trace.now (subst (IsAsked _) c.in-Draw.is c.in-Ok.ensures) c.draw_trace.ensures.replies
+
+pub returns-in-Other-clause-replies : goal.returns-in-Other-clause-replies
+returns-in-Other-clause-replies g c = other (subst (IsAsked _) c.in-Other.is c.in-Ok.ensures) c.say.ensures.said

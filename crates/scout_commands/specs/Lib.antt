@@ -1,0 +1,5 @@
+pub mod Endings
+pub mod ExitCode
+pub mod Replies
+pub mod Told
+pub mod Words

@@ -1,0 +1,48 @@
+//! How a call ends.
+
+use da_commands::RefusedKind;
+
+/// How a call of the program ends.
+#[derive(Clone, Copy, Debug, PartialEq, Eq)]
+pub enum Status {
+    /// The work was carried out to its end. A hunt found nothing.
+    Done,
+    /// The program is refused, at this line, or at 0 where no line is to blame.
+    Refused { kind: RefusedKind, line: u32 },
+    /// The words have no form that the program knows.
+    Words,
+    /// The event of this number, counted from 1, is not allowed.
+    Forbidden { event: u64 },
+    /// The line of this number is no line of a schedule or of a trace, or the text is too long, with 0.
+    BadLine { line: u64 },
+    /// A read failed. Nothing was written.
+    ReadFault,
+    /// A write failed.
+    WriteFault,
+    /// Memory was refused.
+    Memory,
+    /// A hunt found a schedule.
+    Found,
+}
+
+impl Status {
+    ghost use Rattle.scout_commands.specs.ExitCode.{code_of};
+    ghost use Rattle.std.specs.Prelude.{◌≡◌};
+
+    /// The exit status of the process.
+    pub fn code(&self) -> u8
+        ensures { result ≡ code_of self.now }
+    {
+        match self {
+            Status::Done => 0,
+            Status::Refused { .. } => 1,
+            Status::Words => 2,
+            Status::Forbidden { .. } => 3,
+            Status::BadLine { .. } => 4,
+            Status::ReadFault => 5,
+            Status::WriteFault => 6,
+            Status::Memory => 7,
+            Status::Found => 10,
+        }
+    }
+}
