@@ -1,6 +1,6 @@
 -- A class of an accepted program has fewer yield points than a u32 counts.
-use Rattle.std.proofs.Common.{◌≡◌, ℕ, suc, ◌+◌, ◌^◌, ◌<◌, ◌≤◌, Bool, true, false, List, [], ◌∷◌, ◌++◌, length, map, refl, sym, ap, ◌∙◌, subst, arith, length-append, inl, inr}
-use Rattle.std.specs.Prelude.{flat_map, nat_lt, sum}
+use Rattle.std.proofs.Common.{◌≡◌, ℕ, suc, ◌+◌, ◌^◌, ◌<◌, ◌≤◌, Bool, true, false, List, [], ◌∷◌, ◌++◌, length, map, Option, Some, None, refl, sym, ap, ◌∙◌, subst, arith, length-append, inl, inr}
+use Rattle.std.specs.Prelude.{flat_map, nat_lt, sum, unwrap_or}
 use Rattle.std.specs.List.{AllByRecursion}
 use Rattle.std.proofs.lemmas.Bool.{ltb-false}
 use Rattle.std.proofs.lemmas.List.Sums.{sum_by-cons}
@@ -65,6 +65,19 @@ of_kind i k n is few = subst (λ ps. length ps ≤ suc n) (sym (points_at i ∙ 
 none_few : (i : Item) (k : ItemKind-F ItemKind Alt Item RBranch) (n : ℕ) → kind_of i ≡ k → points_in_kind k ≡ [] → length (points_in i) ≤ suc n
 none_few i k n is none = of_kind i k n is (let e = ap length none in omega (arith, e))
 
+-- an `await`: itself, and those in its blocks
+await_counted : (alts : List Alt) (timeout : Option (List Item)) (label : Option ℕ) → kind_counted (it.Await alts timeout label) ≡ sum (map alt_counted alts) + block_count (unwrap_or timeout [])
+await_counted alts None label = kind_counted-Await alts None label
+await_counted alts (Some body) label = kind_counted-Await alts (Some body) label
+
+await_few : (i : Item) (alts : List Alt) (timeout : Option (List Item)) (label : Option ℕ) → AllByRecursion OfAlt alts → AllByRecursion OfItem (unwrap_or timeout []) → kind_of i ≡ out-ItemKind (it.Await alts timeout label)
+    → length (points_in i) ≤ suc (kind_counted (it.Await alts timeout label))
+await_few i alts timeout label each rest is =
+    let last = unwrap_or timeout [] in
+    let few : suc (length (flat_map alt_points alts ++ block_points last)) ≤ suc (kind_counted (it.Await alts timeout label)) =
+    omega (arith, alts_few alts each, block_few last rest, length-append (flat_map alt_points alts) (block_points last), await_counted alts timeout label) in
+    of_kind i (kind.Await alts timeout label) _ (is ∙ it.outs-Await alts timeout label) few
+
 cases : ItemCases
 cases = record {
   Of_kind = OfKind;
@@ -93,11 +106,8 @@ cases = record {
       let counted : kind_counted (it.Call args body) ≡ block_count body = kind_counted-Call args body in
       let few : length (block_points body) ≤ suc (kind_counted (it.Call args body)) = omega (arith, block_few body each, counted) in
       of_kind i (kind.Call args body) _ (is ∙ it.outs-Call args body) few;
-  await = λ alts each i is.
-      let counted : kind_counted (it.Await alts) ≡ sum (map alt_counted alts) = kind_counted-Await alts in
-      let few : suc (length (flat_map alt_points alts)) ≤ suc (kind_counted (it.Await alts)) = omega (arith, alts_few alts each, counted) in
-      of_kind i (kind.Await alts) _ (is ∙ it.outs-Await alts) few;
-  label = λ i is. of_kind i kind.Label _ (is ∙ it.outs-Label) (omega arith);
+  await = λ alts timeout label each rest i is. await_few i alts timeout label each rest is;
+  label = λ l i is. of_kind i (kind.Label l) _ (is ∙ it.outs-Label l) (omega arith);
   pass = λ i is. none_few i kind.Pass _ (is ∙ it.outs-Pass) refl;
   alt = λ b found binds body line each.
       let same : alt_points (roll-Alt (record { cond = b; found = found; binds = binds; body = body; line = line })) ≡ block_points body = ap (λ z. block_points z.body) (out-roll-Alt (record { cond = b; found = found; binds = binds; body = body; line = line })) in

@@ -1,8 +1,8 @@
--- The code that is added for lists of statements, branches and alternatives.
-use Rattle.std.proofs.Common.{◌≡◌, ℕ, ◌+◌, ◌<◌, ◌≤◌, List, [], ◌∷◌, ◌++◌, length, take, get_or, refl, sym, ap, ◌∙◌, subst, arith, inr}
+-- The code that is added for lists of statements, branches and blocks.
+use Rattle.std.proofs.Common.{◌≡◌, ℕ, ◌+◌, ◌<◌, ◌≤◌, List, [], ◌∷◌, ◌++◌, length, map, take, get_or, refl, sym, ap, ◌∙◌, subst, arith, inr}
 use Rattle.std.specs.Prelude.{flat_map}
 use Rattle.std.specs.List.{AllByRecursion}
-use Rattle.std.proofs.lemmas.List.{append-nil, take_all, take_more}
+use Rattle.std.proofs.lemmas.List.{append-nil, map-append, take_all, take_more}
 use Rattle.std.proofs.lemmas.Grind.{flat_map-append}
 use Rattle.da_lang.specs.declared.code.Instr.TheVariants as op
 use Rattle.da_lang.specs.declared.program.Alt.{Alt}
@@ -11,10 +11,10 @@ use Rattle.da_lang.specs.declared.program.Item.{Item}
 use Rattle.da_lang.specs.declared.program.ItemKind.TheViews.{out-Alt, out-RBranch}
 use Rattle.da_lang.specs.declared.program.RBranch.{RBranch}
 use Rattle.da_machine.specs.declared.code.Code.{Code}
-use Rattle.da_machine.specs.CodeFor.{Has, AltsAt, BlockAt, BranchesAt, FoundAt, ItemAt}
+use Rattle.da_machine.specs.CodeFor.{Has, BlockAt, BlocksAt, BranchesAt, FoundAt, ItemAt}
 use Rattle.da_machine.specs.Points.{Points, points_in}
-use Rattle.code_gen.specs.Made.{AreBehind, AreNumbered, Grown, MadeAlts, MadeBlock, MadeBranches, MadeExpr, MadeFound, MadeItem, added, alt_points, block_points, branch_points, end_of, patched}
-use Rattle.code_gen.specs.Open.{OpenAlts, OpenBranches}
+use Rattle.code_gen.specs.Made.{AreBehind, AreNumbered, Grown, MadeBlock, MadeBlocks, MadeBranches, MadeExpr, MadeFound, MadeItem, added, block_points, branch_points, end_of, patched}
+use Rattle.code_gen.specs.Open.{OpenBlocks, OpenBranches}
 use Rattle.code_gen.proofs.ExprCode.{behind_too}
 use Rattle.code_gen.proofs.Growing.{AreHoles, grown_none, grown_on, none_then, patch_end, patch_grown, patch_has, patch_keeps, patch_other, put_end, put_grown, put_has, stays_has, then_none}
 use Rattle.code_gen.proofs.Kept.{Keeps, grown_keeps, keeps_on, kept_block, kept_expr, kept_found}
@@ -143,52 +143,59 @@ made_branch a b c d e f g x test leave next cond is_test is_c row block is_leave
           (OpenBranches.branch (kept_expr b g bg cond.stands) jump found body out OpenBranches.none));
     }
 
--- alternatives
-alts_after : (c : Code) (class : Class) (at : ℕ) (as' : List Alt) (end : ℕ) (es ls : List ℕ) → OpenAlts c class at as' end es ls → (x : Alt) (to : ℕ) → BlockAt c class end (out-Alt x).body to → Has c to op.End → OpenAlts c class at (as' ++ x ∷ []) (to + 1) (es ++ end ∷ []) (ls ++ to ∷ [])
-alts_after c class _ _ _ _ _ (OpenAlts.none {at}) x to block h = OpenAlts.alt block h OpenAlts.none
-alts_after c class _ _ _ _ _ (OpenAlts.alt {at} {end = mid} {last} {a} {alts} {entries} {leaves} y g ys) x to block h = OpenAlts.alt y g (alts_after c class (mid + 1) alts last entries leaves ys x to block h)
+-- the blocks of an `await`
+blocks_after : (c : Code) (class : Class) (at : ℕ) (bodies : List (List Item)) (end : ℕ) (es ls : List ℕ) → OpenBlocks c class at bodies end es ls → (body : List Item) (to : ℕ) → BlockAt c class end body to → Has c to op.End
+    → OpenBlocks c class at (bodies ++ body ∷ []) (to + 1) (es ++ end ∷ []) (ls ++ to ∷ [])
+blocks_after c class _ _ _ _ _ (OpenBlocks.none {at}) body to block h = OpenBlocks.block block h OpenBlocks.none
+blocks_after c class _ _ _ _ _ (OpenBlocks.block {at} {end = mid} {last} {body = first} {bodies} {entries} {leaves} y g ys) body to block h =
+    OpenBlocks.block y g (blocks_after c class (mid + 1) bodies last entries leaves ys body to block h)
 
-pub alts_stay : (c d : Code) (n : ℕ) (class : Class) (at : ℕ) (as' : List Alt) (end : ℕ) (es ls : List ℕ) → Grown c d n → OpenAlts c class at as' end es ls → OpenAlts d class at as' end es ls
-alts_stay c d n class _ _ _ _ _ grown OpenAlts.none = OpenAlts.none
-alts_stay c d n class _ _ _ _ _ grown (OpenAlts.alt {at} {end} {last} {a} {alts} {entries} {leaves} y h ys) =
-    OpenAlts.alt (kept_block c d (grown_keeps c d n grown) class y) (stays_has c d n end op.End grown h) (alts_stay c d n class (end + 1) alts last entries leaves grown ys)
+pub blocks_stay : (c d : Code) (n : ℕ) (class : Class) (at : ℕ) (bodies : List (List Item)) (end : ℕ) (es ls : List ℕ) → Grown c d n → OpenBlocks c class at bodies end es ls → OpenBlocks d class at bodies end es ls
+blocks_stay c d n class _ _ _ _ _ grown OpenBlocks.none = OpenBlocks.none
+blocks_stay c d n class _ _ _ _ _ grown (OpenBlocks.block {at} {end} {last} {body} {bodies} {entries} {leaves} y h ys) =
+    OpenBlocks.block (kept_block c d (grown_keeps c d n grown) class y) (stays_has c d n end op.End grown h) (blocks_stay c d n class (end + 1) bodies last entries leaves grown ys)
 
-pub alt_holes : (c : Code) (class : Class) (at : ℕ) (as' : List Alt) (end : ℕ) (es ls : List ℕ) → OpenAlts c class at as' end es ls → AreHoles c ls
-alt_holes c class _ _ _ _ _ OpenAlts.none = tt
-alt_holes c class _ _ _ _ _ (OpenAlts.alt {at} {end} {last} {a} {alts} {entries} {leaves} y h ys) = (h, alt_holes c class (end + 1) alts last entries leaves ys)
+pub block_holes : (c : Code) (class : Class) (at : ℕ) (bodies : List (List Item)) (end : ℕ) (es ls : List ℕ) → OpenBlocks c class at bodies end es ls → AreHoles c ls
+block_holes c class _ _ _ _ _ OpenBlocks.none = tt
+block_holes c class _ _ _ _ _ (OpenBlocks.block {at} {end} {last} {body} {bodies} {entries} {leaves} y h ys) = (h, block_holes c class (end + 1) bodies last entries leaves ys)
 
-pub alts_written : (c d : Code) (class : Class) (at : ℕ) (as' : List Alt) (end : ℕ) (es ls : List ℕ) → OpenAlts c class at as' end es ls → Keeps c d → AllByRecursion (λ leave. Has d leave (op.Jump end)) ls → AltsAt d class end at as' es
-alts_written c d class _ _ _ _ _ OpenAlts.none keeps all = AltsAt.done
-alts_written c d class _ _ _ _ _ (OpenAlts.alt {at} {end} {last} {a} {alts} {entries} {leaves} y h ys) keeps all =
-    AltsAt.alt (kept_block c d keeps class y) all.0 (alts_written c d class (end + 1) alts last entries leaves ys keeps all.1)
+pub blocks_written : (c d : Code) (class : Class) (at : ℕ) (bodies : List (List Item)) (end : ℕ) (es ls : List ℕ) → OpenBlocks c class at bodies end es ls → Keeps c d → AllByRecursion (λ leave. Has d leave (op.Jump end)) ls
+    → BlocksAt d class end at bodies es
+blocks_written c d class _ _ _ _ _ OpenBlocks.none keeps all = BlocksAt.done
+blocks_written c d class _ _ _ _ _ (OpenBlocks.block {at} {end} {last} {body} {bodies} {entries} {leaves} y h ys) keeps all =
+    BlocksAt.block (kept_block c d keeps class y) all.0 (blocks_written c d class (end + 1) bodies last entries leaves ys keeps all.1)
 
-pub made_no_alt : (a : Code) (es ls : List ℕ) → es ≡ [] → ls ≡ [] → MadeAlts a a [] es ls
-made_no_alt a es ls is_es is_ls =
-    subst (λ l. MadeAlts a a [] l ls) (sym is_es) (subst (MadeAlts a a [] []) (sym is_ls) (record { grown = grown_none a; behind = tt; stands = λ class numbered. OpenAlts.none }))
+-- the blocks of the alternatives up to one behind a place
+pub blocks_next : (alts : List Alt) (k : ℕ) (a : Alt) → k < length alts → a ≡ get_or alts k a → map (λ x. (out-Alt x).body) (take (k + 1) alts) ≡ map (λ x. (out-Alt x).body) (take k alts) ++ (out-Alt a).body ∷ []
+blocks_next alts k a inside at =
+    ap (map (λ x. (out-Alt x).body)) (take_more alts k a inside ∙ ap (λ x. take k alts ++ x ∷ []) (sym at)) ∙ map-append (λ x. (out-Alt x).body) (take k alts) (a ∷ [])
 
-made_alts_after : (a b c d : Code) (as' : List Alt) (es ls : List ℕ) (x : Alt) → MadeAlts a b as' es ls → MadeBlock b c (out-Alt x).body → d ≡ added c op.End → MadeAlts a d (as' ++ x ∷ []) (es ++ end_of b ∷ []) (ls ++ end_of c ∷ [])
-made_alts_after a b c d as' es ls x first block is =
-    let points = one_more Alt alt_points as' x in
-    let ps = flat_map alt_points as' in
+pub blocks_all : (alts : List Alt) (k : ℕ) → length alts ≤ k → map (λ x. (out-Alt x).body) (take k alts) ≡ map (λ x. (out-Alt x).body) alts
+blocks_all alts k past = ap (map (λ x. (out-Alt x).body)) (take_all k alts past)
+
+pub made_no_block : (a : Code) → MadeBlocks a a [] [] []
+made_no_block a = record { grown = grown_none a; behind = tt; stands = λ class numbered. OpenBlocks.none }
+
+pub made_blocks_after : (a b c d : Code) (bodies : List (List Item)) (es ls : List ℕ) (body : List Item) → MadeBlocks a b bodies es ls → MadeBlock b c body → d ≡ added c op.End
+    → MadeBlocks a d (bodies ++ body ∷ []) (es ++ end_of b ∷ []) (ls ++ end_of c ∷ [])
+made_blocks_after a b c d bodies es ls body first block is =
+    let points = one_more (List Item) block_points bodies body in
+    let ps = flat_map block_points bodies in
     let last = put_grown c d op.End is in
-    let bd = then_none b c d (length (alt_points x)) block.grown last in
+    let bd = then_none b c d (length (block_points body)) block.grown last in
     record {
-      grown = subst (λ l. Grown a d (length l)) (sym points) (grown_both a b d ps (alt_points x) first.grown bd);
+      grown = subst (λ l. Grown a d (length l)) (sym points) (grown_both a b d ps (block_points body) first.grown bd);
       behind = behind_too a ls (end_of c) first.behind (omega (arith, first.grown.instrs.longer, block.grown.instrs.longer));
       stands = λ class numbered.
           let all = subst (AreNumbered class (length a.yields)) points numbered in
-          let before = alts_stay b d _ class (end_of a) as' (end_of b) es ls bd (first.stands class (front_numbers class (length a.yields) ps (alt_points x) all)) in
-          let body = kept_block c d (grown_keeps c d 0 last) class (block.stands class (after_numbers class a b ps (alt_points x) first.grown all)) in
-          subst (λ m. OpenAlts d class (end_of a) (as' ++ x ∷ []) m (es ++ end_of b ∷ []) (ls ++ end_of c ∷ [])) (sym (put_end c d op.End is))
-          (alts_after d class (end_of a) as' (end_of b) es ls before x (end_of c) body (put_has c d op.End is));
+          let before = blocks_stay b d _ class (end_of a) bodies (end_of b) es ls bd (first.stands class (front_numbers class (length a.yields) ps (block_points body) all)) in
+          let stands = kept_block c d (grown_keeps c d 0 last) class (block.stands class (after_numbers class a b ps (block_points body) first.grown all)) in
+          subst (λ m. OpenBlocks d class (end_of a) (bodies ++ body ∷ []) m (es ++ end_of b ∷ []) (ls ++ end_of c ∷ [])) (sym (put_end c d op.End is))
+          (blocks_after d class (end_of a) bodies (end_of b) es ls before body (end_of c) stands (put_has c d op.End is));
     }
 
-pub made_alts_next : (a b c d : Code) (as' : List Alt) (k : ℕ) (es es2 ls ls2 : List ℕ) (entry leave : ℕ) (x : Alt) → k < length as' → x ≡ get_or as' k x → MadeAlts a b (take k as') es ls → entry ≡ end_of b → es2 ≡ es ++ entry ∷ []
-    → MadeBlock b c (out-Alt x).body → leave ≡ end_of c → ls2 ≡ ls ++ leave ∷ [] → d ≡ added c op.End → MadeAlts a d (take (k + 1) as') es2 ls2
-made_alts_next a b c d as' k es es2 ls ls2 entry leave x inside at first is_entry is_es block is_leave is_ls is =
-    subst (λ l. MadeAlts a d l es2 ls2) (sym (take_more as' k x inside ∙ ap (λ y. take k as' ++ y ∷ []) (sym at)))
-    (subst (λ l. MadeAlts a d (take k as' ++ x ∷ []) l ls2) (sym (is_es ∙ ap (λ n. es ++ n ∷ []) is_entry))
-    (subst (MadeAlts a d (take k as' ++ x ∷ []) (es ++ end_of b ∷ [])) (sym (is_ls ∙ ap (λ n. ls ++ n ∷ []) is_leave)) (made_alts_after a b c d (take k as') es ls x first block is)))
-
-pub alts_whole : (a b : Code) (as' : List Alt) (k : ℕ) (es ls : List ℕ) → length as' ≤ k → MadeAlts a b (take k as') es ls → MadeAlts a b as' es ls
-alts_whole a b as' k es ls past made = subst (λ l. MadeAlts a b l es ls) (take_all k as' past) made
+pub made_blocks_next : (a b c d : Code) (bodies : List (List Item)) (es es2 ls ls2 : List ℕ) (entry leave : ℕ) (body : List Item) → MadeBlocks a b bodies es ls → entry ≡ end_of b → es2 ≡ es ++ entry ∷ []
+    → MadeBlock b c body → leave ≡ end_of c → ls2 ≡ ls ++ leave ∷ [] → d ≡ added c op.End → MadeBlocks a d (bodies ++ body ∷ []) es2 ls2
+made_blocks_next a b c d bodies es es2 ls ls2 entry leave body first is_entry is_es block is_leave is_ls is =
+    subst (λ l. MadeBlocks a d (bodies ++ body ∷ []) l ls2) (sym (is_es ∙ ap (λ n. es ++ n ∷ []) is_entry))
+    (subst (MadeBlocks a d (bodies ++ body ∷ []) (es ++ end_of b ∷ [])) (sym (is_ls ∙ ap (λ n. ls ++ n ∷ []) is_leave)) (made_blocks_after a b c d bodies es ls body first block is))

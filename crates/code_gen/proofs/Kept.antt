@@ -14,7 +14,7 @@ use Rattle.da_lang.specs.declared.program.RBranch.{RBranch}
 use Rattle.da_lang.specs.declared.program.RExpr.{RExpr}
 use Rattle.da_machine.specs.declared.code.Code.{Code}
 use Rattle.da_machine.specs.declared.code.YieldPoint.{YieldPoint}
-use Rattle.da_machine.specs.CodeFor.{Has, jump_at, ExprAt, ExprsAt, TestsAt, PartsAt, StoresAt, FoundAt, BlockAt, ItemAt, WorkAt, BranchesAt, AltsAt, LoopAt, EnterAt}
+use Rattle.da_machine.specs.CodeFor.{Has, jump_at, ExprAt, ExprsAt, TestsAt, PartsAt, StoresAt, FoundAt, BlockAt, ItemAt, WorkAt, BranchesAt, BlocksAt, LoopAt, EnterAt}
 use Rattle.code_gen.specs.Made.{Grown}
 
 -- a place where an instruction is still to be written
@@ -96,7 +96,7 @@ module _ (c d : Code) (keeps : Keeps c d) where
       pub kept_item : {at : ℕ} {i : Item} {end : ℕ} → ItemAt c class at i end → ItemAt d class at i end
       kept_item (ItemAt.works h x) = ItemAt.works (keeps.instrs _ _ refl h) (kept_work x)
       kept_item (ItemAt.label is h y numbered) = ItemAt.label is (keeps.instrs _ _ refl h) (keeps.yields _ _ refl y) numbered
-      kept_item (ItemAt.await is h y numbered x) = ItemAt.await is (keeps.instrs _ _ refl h) (keeps.yields _ _ refl y) numbered (kept_alts x)
+      kept_item (ItemAt.await is h y numbered x) = ItemAt.await is (keeps.instrs _ _ refl h) (keeps.yields _ _ refl y) numbered (kept_blocks x)
 
       pub kept_work : {at line : ℕ} {k : ItemKind-F ItemKind Alt Item RBranch} {end : ℕ} → WorkAt c class at line k end → WorkAt d class at line k end
       kept_work (WorkAt.assign x h) = WorkAt.assign (kept_expr x) (keeps.instrs _ _ refl h)
@@ -114,9 +114,9 @@ module _ (c d : Code) (keeps : Keeps c d) where
       kept_branches (BranchesAt.otherwise x) = BranchesAt.otherwise (kept_block x)
       kept_branches (BranchesAt.branch x h f y j xs) = BranchesAt.branch (kept_expr x) (keeps.instrs _ _ refl h) (kept_found f) (kept_block y) (keeps.instrs _ _ refl j) (kept_branches xs)
 
-      pub kept_alts : {exit at : ℕ} {alts : List Alt} {entries : List ℕ} → AltsAt c class exit at alts entries → AltsAt d class exit at alts entries
-      kept_alts AltsAt.done = AltsAt.done
-      kept_alts (AltsAt.alt x j xs) = AltsAt.alt (kept_block x) (keeps.instrs _ _ refl j) (kept_alts xs)
+      pub kept_blocks : {exit at : ℕ} {bodies : List (List Item)} {entries : List ℕ} → BlocksAt c class exit at bodies entries → BlocksAt d class exit at bodies entries
+      kept_blocks BlocksAt.done = BlocksAt.done
+      kept_blocks (BlocksAt.block x j xs) = BlocksAt.block (kept_block x) (keeps.instrs _ _ refl j) (kept_blocks xs)
 
       pub kept_loop : {at s : ℕ} {body : List Item} {line end : ℕ} → LoopAt c class at s body line end → LoopAt d class at s body line end
       kept_loop (LoopAt.loop h n x j) = LoopAt.loop (keeps.instrs _ _ refl h) (keeps.instrs _ _ refl n) (kept_block x) (keeps.instrs _ _ refl j)

@@ -92,8 +92,8 @@ cases = record {
   while = λ e body each i is none. let k = is ∙ it.outs-While e body in of_kind i (kind.While e body) k (block_none body each (inside i (kind.While e body) body k (inl refl) none));
   for = λ s e body each i is none. let k = is ∙ it.outs-For s e body in of_kind i (kind.For s e body) k (block_none body each (inside i (kind.For s e body) body k (inl refl) none));
   call = λ args body each i is none. let k = is ∙ it.outs-Call args body in of_kind i (kind.Call args body) k (block_none body each (inside i (kind.Call args body) body k (inl refl) none));
-  await = λ alts each i is none. yields_no i (kind.Await alts) (is ∙ it.outs-Await alts) refl none;
-  label = λ i is none. yields_no i kind.Label (is ∙ it.outs-Label) refl none;
+  await = λ alts timeout label each rest i is none. yields_no i (kind.Await alts timeout label) (is ∙ it.outs-Await alts timeout label) refl none;
+  label = λ l i is none. yields_no i (kind.Label l) (is ∙ it.outs-Label l) refl none;
   pass = λ i is none. of_kind i kind.Pass (is ∙ it.outs-Pass) refl;
   alt = λ b found binds body line each. tt;
   item = λ line k of none. of (roll-Item (record { line = line; kind = k })) (ap (λ z. out-ItemKind z.kind) (out-roll-Item (record { line = line; kind = k }))) none;

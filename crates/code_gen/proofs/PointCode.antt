@@ -1,20 +1,21 @@
 -- The code that is added for labels and for `await`.
-use Rattle.std.proofs.Common.{◌≡◌, ℕ, ◌+◌, ◌^◌, ◌<◌, ◌≤◌, true, false, List, [], ◌∷◌, length, Some, refl, sym, ap, ◌∙◌, subst, arith, inl, inr, ◌⊎◌}
-use Rattle.std.specs.Prelude.{flat_map, slice_get, slice_set}
+use Rattle.std.proofs.Common.{◌≡◌, ℕ, suc, ◌+◌, ◌^◌, ◌<◌, ◌≤◌, true, false, List, [], ◌∷◌, ◌++◌, length, Some, refl, sym, ap, ◌∙◌, subst, arith, inl, inr, ◌⊎◌}
+use Rattle.std.specs.Prelude.{flat_map, is_some, slice_get, slice_set}
 use Rattle.std.specs.List.{AllByRecursion}
 use Rattle.std.proofs.Math.ListN.{length-set}
 use Rattle.std.proofs.lemmas.Option.{slice_get_within}
 use Rattle.da_lang.specs.declared.code.Instr.{Instr}
 use Rattle.da_lang.specs.declared.code.Instr.TheVariants as op
-use Rattle.da_lang.specs.declared.program.Alt.{Alt}
 use Rattle.da_lang.specs.declared.program.Class.{Class}
+use Rattle.da_lang.specs.declared.program.Item.{Item}
 use Rattle.da_machine.specs.declared.code.Code.{Code}
 use Rattle.da_machine.specs.declared.code.YieldPoint.{YieldPoint}
-use Rattle.da_machine.specs.CodeFor.{Has, AltsAt, ItemAt}
+use Rattle.da_machine.specs.CodeFor.{Has, BlocksAt, ItemAt}
 use Rattle.da_machine.specs.Points.{AtAwait, AtLabel, IsNumbered, Point, Points, class_points, ways_of}
-use Rattle.code_gen.specs.Made.{AreNumbered, Grown, MadeAlts, MadeAwait, MadeLabel, added, alt_points, end_of, filled, patched, pointed, repointed}
+use Rattle.code_gen.specs.declared.emit.OpenAwait.{OpenAwait}
+use Rattle.code_gen.specs.Made.{AreNumbered, Awaiting, Grown, MadeAwait, MadeBlock, MadeBlocks, MadeLabel, added, block_points, closed, end_of, filled, patched, pointed, repointed, reserved}
 use Rattle.code_gen.proofs.Growing.{fill_end, fill_grown, fill_has, fill_keeps, grown_on, holes_may_be, none_then, put_end, put_grown, put_has, stays_has, then_none}
-use Rattle.code_gen.proofs.ItemCode.{alt_holes, alts_written}
+use Rattle.code_gen.proofs.ItemCode.{block_holes, blocks_written, made_blocks_next, made_no_block}
 use Rattle.code_gen.proofs.Kept.{Keeps, grown_keeps, is_hole, is_reserved, keeps_on}
 use Rattle.code_gen.proofs.Lists.{at_the_end, elsewhere, in_front, lies, one_longer, stays_as_it_is, where_set}
 use Rattle.code_gen.proofs.PointLaws.{rest_numbers}
@@ -30,9 +31,6 @@ pub point_stays : (a b : Code) (n k : ℕ) (y : YieldPoint) → Grown a b n → 
 point_stays a b n k y grown there = grown.yields k (slice_get_within a.yields k y there) ∙ there
 
 -- another one in the place of one that was reserved
-abbrev pub reserved : YieldPoint
-reserved = record { label = true; entries = [] }
-
 pub repoint_grown : (a c : Code) (n k : ℕ) (y : YieldPoint) → Grown a c n → length a.yields ≤ k → Grown a (repointed c k y) n
 repoint_grown a c n k y grown behind = record {
   instrs = grown.instrs;
@@ -84,57 +82,80 @@ made_label a b c number entry entries is_number is_b is_entry is_entries is_c =
     let has_c = stays_has b c 1 (end_of a) _ bc (put_has a b _ is_b) in
     record {
       grown = none_then a b c 1 ab bc;
-      stands = λ class numbered i is.
-          let own = first_number class (length a.yields) AtLabel [] numbered in
-          let has = subst (λ k. Has c (end_of a) (op.Yield k)) (is_number (small_number class (length a.yields) AtLabel [] numbered)) has_c in
+      stands = λ class label numbered i is.
+          let own = first_number class (length a.yields) (AtLabel label) [] numbered in
+          let has = subst (λ k. Has c (end_of a) (op.Yield k)) (is_number (small_number class (length a.yields) (AtLabel label) [] numbered)) has_c in
           subst (λ n. ItemAt c class (end_of a) i n) (sym end_c) (ItemAt.label is has point own);
     }
 
--- an `await`: the place of its yield point, the instruction, the alternatives up to d, the jumps behind them, and its yield point
-pub made_await : (a b c d e f : Code) (alts : List Alt) (at number : ℕ) (none entries leaves places : List ℕ) (exit : ℕ) → at ≡ length a.yields → (length a.yields < 2 ^ 32 → number ≡ length a.yields) → none ≡ [] → b ≡ pointed a (record { label = true; entries = none }) → c ≡ added b (op.Yield number)
-    → MadeAlts c d alts entries leaves → exit ≡ end_of d → places ≡ leaves → e ≡ filled d places (op.Jump exit) → f ≡ repointed e at (record { label = false; entries = entries }) → MadeAwait a f alts
-made_await a b c d e f alts at number none entries leaves places exit is_at is_number is_none reserved_so is_c made is_exit listed filled_so is_f =
-    let j = op.Jump exit in
-    let y : YieldPoint = record { label = false; entries = entries } in
-    let ps = flat_map alt_points alts in
+-- an `await`: its yield point is reserved up to b, and its instruction stands
+pub await_begun : (a b c : Code) (number : ℕ) (none : List ℕ) (begun : OpenAwait) → (length a.yields < 2 ^ 32 → number ≡ length a.yields) → none ≡ [] → b ≡ pointed a (record { label = true; entries = none }) → c ≡ added b (op.Yield number)
+    → begun.at ≡ length a.yields → begun.entries ≡ [] → begun.leaves ≡ [] → Awaiting a c [] begun
+await_begun a b c number none begun small is_none reserved_so is_c place no_entry no_leave =
     let is_b : b ≡ pointed a reserved = reserved_so ∙ ap (λ l. pointed a (record { label = true; entries = l })) is_none in
-    let is_e : e ≡ filled d leaves j = filled_so ∙ ap (λ l. filled d l j) listed in
-    let ab = point_grown a b reserved is_b in
-    let bc = put_grown b c _ is_c in
-    let ac = then_none a b c 1 ab bc in
-    let cd = made.grown in
-    let bd = none_then b c d (length ps) bc cd in
-    let ad = grown_on a b d 1 (length ps) ab bd in
-    let end_c : end_of c ≡ end_of a + 1 = put_end b c _ is_c ∙ ap (λ z. end_of z + 1) is_b in
-    let behind_a = made.behind in
-    let ce : Grown c e (length ps) = subst (λ z. Grown c z (length ps)) (sym is_e) (fill_grown j c d (length ps) leaves cd made.behind) in
-    let be = none_then b c e (length ps) bc ce in
-    let ae = grown_on a b e 1 (length ps) ab be in
-    let whole : 1 + length ps ≡ length (AtAwait (ways_of alts) ∷ ps) = omega arith in
-    let at_e : slice_get e.yields at ≡ Some reserved = subst (λ k. slice_get e.yields k ≡ Some reserved) (sym is_at) (point_stays b e (length ps) (length a.yields) reserved be (point_there a b reserved is_b)) in
-    let ef : Keeps e f = subst (Keeps e) (sym is_f) (repoint_keeps e at y at_e) in
-    let end_f : end_of f ≡ end_of d = ap end_of is_f ∙ ap end_of is_e ∙ fill_end j d leaves in
-    let cf = keeps_on c e f (grown_keeps c e (length ps) ce) ef in
-    let at_a : end_of b ≡ end_of a = ap end_of is_b in
-    let has_c = subst (λ n. Has c n (op.Yield number)) at_a (put_has b c _ is_c) in
-    let has_f = cf.instrs (end_of a) _ refl has_c in
-    let point_f = subst (λ z. slice_get z.yields at ≡ Some y) (sym is_f) (where_set e.yields at y (slice_get_within e.yields at reserved at_e)) in
-    let point = subst (λ k. slice_get f.yields k ≡ Some y) is_at point_f in
     record {
-      grown = subst (Grown a f) whole (subst (λ z. Grown a z (1 + length ps)) (sym is_f) (repoint_grown a e (1 + length ps) at y ae (omega (arith, is_at))));
-      stands = λ class numbered i is.
-          let own = first_number class (length a.yields) (AtAwait (ways_of alts)) ps numbered in
-          let has = subst (λ k. Has f (end_of a) (op.Yield k)) (is_number (small_number class (length a.yields) (AtAwait (ways_of alts)) ps numbered)) has_f in
-          let others = rest_numbers class (length a.yields) (AtAwait (ways_of alts) ∷ []) ps numbered in
+      first = c;
+      number = number;
+      small = small;
+      begins = is_c ∙ ap (λ z. added z (op.Yield number)) is_b;
+      place = place;
+      blocks = subst (λ l. MadeBlocks c c [] l begun.leaves) (sym no_entry) (subst (MadeBlocks c c [] []) (sym no_leave) (made_no_block c));
+    }
+
+-- a block more, up to d
+pub await_entered : (a b c d : Code) (bodies : List (List Item)) (begun now : OpenAwait) (entry leave : ℕ) (body : List Item) → entry ≡ end_of b → MadeBlock b c body → leave ≡ end_of c → d ≡ added c op.End
+    → now.at ≡ begun.at → now.entries ≡ begun.entries ++ entry ∷ [] → now.leaves ≡ begun.leaves ++ leave ∷ [] → Awaiting a b bodies begun → Awaiting a d (bodies ++ body ∷ []) now
+await_entered a b c d bodies begun now entry leave body is_entry block is_leave is_d same entries leaves awaiting = record {
+  first = awaiting.first;
+  number = awaiting.number;
+  small = awaiting.small;
+  begins = awaiting.begins;
+  place = same ∙ awaiting.place;
+  blocks = made_blocks_next awaiting.first b c d bodies begun.entries now.entries begun.leaves now.leaves entry leave body awaiting.blocks is_entry entries block is_leave leaves is_d;
+}
+
+-- the jumps behind its blocks, and its yield point
+pub made_await : (a d f : Code) (bodies : List (List Item)) (begun : OpenAwait) → Awaiting a d bodies begun → f ≡ closed d begun → MadeAwait a f bodies
+made_await a d f bodies begun awaiting is_f =
+    let entries = begun.entries in
+    let leaves = begun.leaves in
+    let b = pointed a reserved in
+    let c = awaiting.first in
+    let j = op.Jump (end_of d) in
+    let e = filled d leaves j in
+    let y : YieldPoint = record { label = false; entries = entries } in
+    let ps = flat_map block_points bodies in
+    let n = length ps in
+    let ab = point_grown a b reserved refl in
+    let bc = put_grown b c _ awaiting.begins in
+    let ac = then_none a b c 1 ab bc in
+    let cd = awaiting.blocks.grown in
+    let ce : Grown c e n = fill_grown j c d n leaves cd awaiting.blocks.behind in
+    let be = none_then b c e n bc ce in
+    let ae = grown_on a b e 1 n ab be in
+    let whole : 1 + n ≡ suc n = omega arith in
+    let at_e : slice_get e.yields begun.at ≡ Some reserved = subst (λ k. slice_get e.yields k ≡ Some reserved) (sym awaiting.place) (point_stays b e n (length a.yields) reserved be (point_there a b reserved refl)) in
+    let ef : Keeps e f = subst (Keeps e) (sym is_f) (repoint_keeps e begun.at y at_e) in
+    let end_f : end_of f ≡ end_of d = ap end_of is_f ∙ fill_end j d leaves in
+    let end_c : end_of c ≡ end_of a + 1 = put_end b c _ awaiting.begins in
+    let cf = keeps_on c e f (grown_keeps c e n ce) ef in
+    let has_f : Has f (end_of a) (op.Yield awaiting.number) = cf.instrs (end_of a) _ refl (put_has b c _ awaiting.begins) in
+    let point_f = subst (λ z. slice_get z.yields begun.at ≡ Some y) (sym is_f) (where_set e.yields begun.at y (slice_get_within e.yields begun.at reserved at_e)) in
+    let point = subst (λ k. slice_get f.yields k ≡ Some y) awaiting.place point_f in
+    record {
+      grown = subst (Grown a f) whole (subst (λ z. Grown a z (1 + n)) (sym is_f) (repoint_grown a e (1 + n) begun.at y ae (omega (arith, awaiting.place))));
+      stands = λ class alts timeout label same numbered i is.
+          let mine = AtAwait (ways_of alts) (is_some timeout) label in
+          let own = first_number class (length a.yields) mine ps numbered in
+          let has = subst (λ k. Has f (end_of a) (op.Yield k)) (awaiting.small (small_number class (length a.yields) mine ps numbered)) has_f in
+          let others = rest_numbers class (length a.yields) (mine ∷ []) ps numbered in
           let at_c = subst (λ k. AreNumbered class k ps) (sym ac.count) others in
-          let open_d = made.stands class at_c in
-          let may = holes_may_be j d leaves (alt_holes d class (end_of c) alts (end_of d) entries leaves open_d) in
-          let de : Keeps d e = subst (Keeps d) (sym is_e) (fill_keeps j d leaves may) in
-          let df = keeps_on d e f de ef in
-          let written_e = subst (λ z. AllByRecursion (λ at. Has z at j) leaves) (sym is_e) (fill_has j d leaves may) in
-          let written = all_still e f j leaves refl ef written_e in
-          let leads = subst (λ n. AllByRecursion (λ at. Has f at (op.Jump n)) leaves) is_exit written in
-          let blocks = alts_written d f class (end_of c) alts (end_of d) entries leaves open_d df leads in
-          subst (λ n. ItemAt f class (end_of a) i n) (sym end_f)
-          (ItemAt.await is has point own (subst (λ n. AltsAt f class (end_of d) n alts entries) end_c blocks));
+          let open_d = awaiting.blocks.stands class at_c in
+          let may = holes_may_be j d leaves (block_holes d class (end_of c) bodies (end_of d) entries leaves open_d) in
+          let df = keeps_on d e f (fill_keeps j d leaves may) ef in
+          let written = all_still e f j leaves refl ef (fill_has j d leaves may) in
+          let blocks = blocks_written d f class (end_of c) bodies (end_of d) entries leaves open_d df written in
+          let here = subst (λ m. BlocksAt f class (end_of d) m bodies entries) end_c blocks in
+          subst (λ m. ItemAt f class (end_of a) i m) (sym end_f)
+          (ItemAt.await is has point own (subst (λ l. BlocksAt f class (end_of d) (end_of a + 1) l entries) (sym same) here));
     }

@@ -1,6 +1,6 @@
 -- The yield points in a statement, by its kind.
-use Rattle.std.proofs.Common.{◌≡◌, ℕ, ◌+◌, List, [], ◌∷◌, ◌++◌, length, map, Some, refl, sym, ap, ◌∙◌, subst, arith, length-append}
-use Rattle.std.specs.Prelude.{flat_map, slice_get}
+use Rattle.std.proofs.Common.{◌≡◌, ℕ, ◌+◌, List, [], ◌∷◌, ◌++◌, length, map, Option, Some, None, refl, sym, ap, ◌∙◌, subst, arith, append_assoc, append-nil, length-append}
+use Rattle.std.specs.Prelude.{Bool, true, false, flat_map, is_some, slice_get, unwrap_or}
 use Rattle.std.proofs.lemmas.Option.{slice_get_within}
 use Rattle.da_lang.specs.declared.program.Alt.{Alt}
 use Rattle.da_lang.specs.declared.program.Class.{Class}
@@ -11,6 +11,7 @@ use Rattle.da_lang.specs.declared.program.ItemKind.TheOpen as kind
 use Rattle.da_lang.specs.declared.program.ItemKind.TheOpen.{ItemKind-F}
 use Rattle.da_lang.specs.declared.program.ItemKind.TheViews.{out-Alt, out-Item, out-RBranch}
 use Rattle.da_lang.specs.declared.program.RBranch.{RBranch}
+use Rattle.da_lang.specs.Shaped.{blocks_in}
 use Rattle.da_lang.specs.Turns.{kind_of}
 use Rattle.da_machine.specs.declared.code.Code.{Code}
 use Rattle.da_machine.specs.Points.{AltPoints, AtAwait, AtLabel, IsNumbered, Point, Points, alt_points_step, branch_points_step, way_of, ways_of, item_points_step, kind_points_step, points_in, points_of}
@@ -24,8 +25,8 @@ points_in_kind (kind.If branches other) = flat_map branch_points branches ++ blo
 points_in_kind (kind.While e body) = block_points body
 points_in_kind (kind.For s e body) = block_points body
 points_in_kind (kind.Call args body) = block_points body
-points_in_kind (kind.Await alts) = AtAwait (ways_of alts) ∷ flat_map alt_points alts
-points_in_kind kind.Label = AtLabel ∷ []
+points_in_kind (kind.Await alts timeout label) = AtAwait (ways_of alts) (is_some timeout) label ∷ (flat_map alt_points alts ++ block_points (unwrap_or timeout []))
+points_in_kind (kind.Label label) = AtLabel label ∷ []
 points_in_kind _ = []
 
 abbrev KindPoints : ItemKind → Points
@@ -69,6 +70,27 @@ alt_insides (a ∷ alts) =
     ∙ ap (λ l. l ++ flat_map (λ (p : AltPoints). p.inside) (map AltParts alts)) (block_name (out-Alt a).body)
     ∙ ap (λ l. alt_points a ++ l) (alt_insides alts)
 
+await_parts : (alts : List Alt) (has : Bool) (label : Option ℕ) (last : Points)
+    → AtAwait (map (λ (p : AltPoints). p.way) (map AltParts alts)) has label ∷ (flat_map (λ (p : AltPoints). p.inside) (map AltParts alts) ++ last) ≡ AtAwait (ways_of alts) has label ∷ (flat_map alt_points alts ++ last)
+await_parts alts has label last =
+    ap (λ l. AtAwait l has label ∷ (flat_map (λ (p : AltPoints). p.inside) (map AltParts alts) ++ last)) (alt_ways alts)
+    ∙ ap (λ l. AtAwait (ways_of alts) has label ∷ (l ++ last)) (alt_insides alts)
+
+await_layer : (alts : List Alt) (timeout : Option (List Item)) (label : Option ℕ)
+    → kind_points_step (map-ItemKind ItemKind Alt Item RBranch Points AltPoints Points Points KindPoints AltParts ItemPoints BranchPoints (kind.Await alts timeout label)) ≡ points_in_kind (kind.Await alts timeout label)
+await_layer alts None label = await_parts alts false label []
+await_layer alts (Some body) label =
+    await_parts alts true label (points_of (map ItemPoints body)) ∙ ap (λ l. AtAwait (ways_of alts) true label ∷ (flat_map alt_points alts ++ l)) (block_name body)
+
+-- the points in the blocks of an `await`, by its alternatives and its last block
+blocks_points : (alts : List Alt) (more : List (List Item)) → flat_map block_points (map (λ a. (out-Alt a).body) alts ++ more) ≡ flat_map alt_points alts ++ flat_map block_points more
+blocks_points [] more = refl
+blocks_points (a ∷ alts) more = ap (λ l. alt_points a ++ l) (blocks_points alts more) ∙ sym (append_assoc (alt_points a) (flat_map alt_points alts) (flat_map block_points more))
+
+pub await_points : (alts : List Alt) (timeout : Option (List Item)) (label : Option ℕ) → flat_map block_points (blocks_in (kind.Await alts timeout label)) ≡ flat_map alt_points alts ++ block_points (unwrap_or timeout [])
+await_points alts None label = blocks_points alts []
+await_points alts (Some body) label = blocks_points alts (body ∷ []) ∙ ap (λ l. flat_map alt_points alts ++ l) (append-nil (block_points body))
+
 layer : (k : ItemKind-F ItemKind Alt Item RBranch) → kind_points_step (map-ItemKind ItemKind Alt Item RBranch Points AltPoints Points Points KindPoints AltParts ItemPoints BranchPoints k) ≡ points_in_kind k
 layer (kind.Assign s e) = refl
 layer (kind.Add s e) = refl
@@ -79,8 +101,8 @@ layer (kind.If branches other) = ap (λ l. l ++ points_of (map ItemPoints other)
 layer (kind.While e body) = block_name body
 layer (kind.For s e body) = block_name body
 layer (kind.Call args body) = block_name body
-layer (kind.Await alts) = ap (λ l. AtAwait l ∷ flat_map (λ (p : AltPoints). p.inside) (map AltParts alts)) (alt_ways alts) ∙ ap (λ l. AtAwait (ways_of alts) ∷ l) (alt_insides alts)
-layer kind.Label = refl
+layer (kind.Await alts timeout label) = await_layer alts timeout label
+layer (kind.Label label) = refl
 layer kind.Pass = refl
 
 pub points_at : (i : Item) → points_in i ≡ points_in_kind (kind_of i)

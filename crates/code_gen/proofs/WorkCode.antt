@@ -1,6 +1,6 @@
 -- The code that is added for a statement.
-use Rattle.std.proofs.Common.{◌≡◌, ℕ, ◌+◌, List, [], ◌∷◌, ◌++◌, length, map, refl, sym, ap, ◌∙◌, subst, arith}
-use Rattle.std.specs.Prelude.{flat_map}
+use Rattle.std.proofs.Common.{◌≡◌, ℕ, ◌+◌, List, [], ◌∷◌, ◌++◌, length, map, Option, Some, None, refl, sym, ap, ◌∙◌, subst, arith, append-nil}
+use Rattle.std.specs.Prelude.{flat_map, is_some, unwrap_or}
 use Rattle.std.specs.List.{AllByRecursion}
 use Rattle.da_lang.specs.declared.code.Instr.{Instr}
 use Rattle.da_lang.specs.declared.code.Instr.TheVariants as op
@@ -12,18 +12,21 @@ use Rattle.da_lang.specs.declared.program.ItemKind.{ItemKind}
 use Rattle.da_lang.specs.declared.program.ItemKind.TheOpen as kind
 use Rattle.da_lang.specs.declared.program.ItemKind.TheOpen.{ItemKind-F}
 use Rattle.da_lang.specs.declared.program.ItemKind.TheVariants as it
-use Rattle.da_lang.specs.declared.program.ItemKind.TheViews.{out-Item, out-ItemKind}
+use Rattle.da_lang.specs.declared.program.ItemKind.TheViews.{out-Alt, out-Item, out-ItemKind}
 use Rattle.da_lang.specs.declared.program.RBranch.{RBranch}
 use Rattle.da_lang.specs.declared.program.RExpr.{RExpr}
+use Rattle.da_lang.specs.Shaped.{blocks_in}
 use Rattle.da_lang.specs.Turns.{kind_of, line_of, slot_of_arg, value_of_arg}
 use Rattle.da_machine.specs.declared.code.Code.{Code}
 use Rattle.da_machine.specs.CodeFor.{Has, BlockAt, BranchesAt, EnterAt, ExprAt, ExprsAt, ItemAt, LoopAt, WorkAt}
 use Rattle.da_machine.specs.Points.{AtAwait, AtLabel, Points, ways_of, points_in}
-use Rattle.code_gen.specs.Made.{AreNumbered, Grown, MadeAwait, MadeBlock, MadeBranches, MadeDoing, MadeExpr, MadeExprs, MadeItem, MadeLabel, MadeLoop, MadeStores, MadeWhile, added, alt_points, block_points, branch_points, end_of, filled, patched}
+use Rattle.code_gen.specs.declared.emit.OpenAwait.{OpenAwait}
+use Rattle.code_gen.specs.Made.{AreNumbered, Awaiting, Grown, MadeAwait, MadeBlock, MadeBranches, MadeDoing, MadeExpr, MadeExprs, MadeItem, MadeLabel, MadeLoop, MadeStores, MadeWhile, added, alt_points, block_points, branch_points, closed, end_of, filled, patched}
 use Rattle.code_gen.proofs.Growing.{fill_end, fill_grown, fill_has, fill_keeps, grown_on, holes_may_be, none_then, patch_end, patch_grown, patch_has, patch_keeps, put_end, put_grown, put_has, stays_has, then_none}
 use Rattle.code_gen.proofs.ItemCode.{branch_holes, branches_written}
 use Rattle.code_gen.proofs.Kept.{Keeps, grown_keeps, keeps_on, kept_block, kept_expr, kept_exprs, kept_stores}
-use Rattle.code_gen.proofs.PointLaws.{after_numbers, front_numbers, grown_both, points_at, points_in_kind, same_numbers}
+use Rattle.code_gen.proofs.PointCode.{made_await}
+use Rattle.code_gen.proofs.PointLaws.{after_numbers, await_points, front_numbers, grown_both, points_at, points_in_kind, same_numbers}
 use Rattle.code_gen.proofs.ItemCode.{branches_stay}
 
 -- a statement of one turn, from its kind
@@ -190,22 +193,37 @@ made_call a b c d f i args body is is_b values stores block =
     WorkAt.call (EnterAt.enter first (kept_stores d f (grown_keeps d f n df) stores.stands) (block.stands class at_d)))
 
 -- a statement that is a yield point
-pub label_item : (a b : Code) (i : Item) → (out-Item i).kind ≡ it.Label → MadeLabel a b → MadeItem a b i
-label_item a b i is made =
-    let k : kind_of i ≡ kind.Label = ap out-ItemKind is ∙ it.outs-Label in
-    let same : points_in i ≡ AtLabel ∷ [] = points_at i ∙ ap points_in_kind k in
+pub label_item : (a b : Code) (i : Item) (label : ℕ) → (out-Item i).kind ≡ it.Label label → MadeLabel a b → MadeItem a b i
+label_item a b i label is made =
+    let k : kind_of i ≡ kind.Label label = ap out-ItemKind is ∙ it.outs-Label label in
+    let same : points_in i ≡ AtLabel label ∷ [] = points_at i ∙ ap points_in_kind k in
     record {
       grown = subst (λ l. Grown a b (length l)) (sym same) made.grown;
-      stands = λ class numbered. made.stands class (subst (AreNumbered class (length a.yields)) same numbered) i k;
+      stands = λ class numbered. made.stands class label (subst (AreNumbered class (length a.yields)) same numbered) i k;
     }
 
-pub await_item : (a b : Code) (i : Item) (alts : List Alt) → (out-Item i).kind ≡ it.Await alts → MadeAwait a b alts → MadeItem a b i
-await_item a b i alts is made =
-    let k : kind_of i ≡ kind.Await alts = ap out-ItemKind is ∙ it.outs-Await alts in
-    let same : points_in i ≡ AtAwait (ways_of alts) ∷ flat_map alt_points alts = points_at i ∙ ap points_in_kind k in
+pub await_item : (a b : Code) (i : Item) (alts : List Alt) (timeout : Option (List Item)) (label : Option ℕ) (bodies : List (List Item)) → kind_of i ≡ kind.Await alts timeout label → blocks_in (kind.Await alts timeout label) ≡ bodies
+    → MadeAwait a b bodies → MadeItem a b i
+await_item a b i alts timeout label bodies k blocks made =
+    let mine = AtAwait (ways_of alts) (is_some timeout) label in
+    let parts : flat_map block_points bodies ≡ flat_map alt_points alts ++ block_points (unwrap_or timeout []) = ap (flat_map block_points) (sym blocks) ∙ await_points alts timeout label in
+    let same : points_in i ≡ mine ∷ flat_map block_points bodies = points_at i ∙ ap points_in_kind k ∙ ap (λ l. mine ∷ l) (sym parts) in
     record {
       grown = subst (λ l. Grown a b (length l)) (sym same) made.grown;
-      stands = λ class numbered. made.stands class (subst (AreNumbered class (length a.yields)) same numbered) i k;
+      stands = λ class numbered. made.stands class alts timeout label blocks (subst (AreNumbered class (length a.yields)) same numbered) i k;
     }
 
-pub ruleset work_rules = (made_assign, made_add, made_del, made_output, made_send, made_pass, made_if, while_item, made_for, made_call, label_item, await_item)
+-- an `await` without a block for the time that runs out, and one with such a block
+pub await_ends : (a d f : Code) (i : Item) (alts : List Alt) (timeout : Option (List Item)) (label : Option ℕ) (begun : OpenAwait) → (out-Item i).kind ≡ it.Await alts timeout label → timeout ≡ None
+    → Awaiting a d (map (λ a. (out-Alt a).body) alts) begun → f ≡ closed d begun → MadeItem a f i
+await_ends a d f i alts timeout label begun is none awaiting is_f =
+    let k : kind_of i ≡ kind.Await alts None label = ap out-ItemKind is ∙ it.outs-Await alts timeout label ∙ ap (λ t. ItemKind-F.Await alts t label) none in
+    await_item a f i alts None label _ k (append-nil (map (λ a. (out-Alt a).body) alts)) (made_await a d f _ begun awaiting is_f)
+
+pub await_with : (a f : Code) (i : Item) (alts : List Alt) (timeout : Option (List Item)) (body : List Item) (label : Option ℕ) → (out-Item i).kind ≡ it.Await alts timeout label → timeout ≡ Some body
+    → MadeAwait a f (map (λ a. (out-Alt a).body) alts ++ body ∷ []) → MadeItem a f i
+await_with a f i alts timeout body label is some made =
+    let k : kind_of i ≡ kind.Await alts (Some body) label = ap out-ItemKind is ∙ it.outs-Await alts timeout label ∙ ap (λ t. ItemKind-F.Await alts t label) some in
+    await_item a f i alts (Some body) label _ k refl made
+
+pub ruleset work_rules = (made_assign, made_add, made_del, made_output, made_send, made_pass, made_if, while_item, made_for, made_call, label_item)

@@ -1,9 +1,8 @@
 -- What is added to code, and for what it stands.
-use Rattle.std.specs.Prelude.{◌≡◌, ℕ, ◌+◌, ◌^◌, ◌<◌, ◌≤◌, Bool, true, false, List, [], ◌∷◌, ◌++◌, length, map, flat_map, Option, Some, slice_get, slice_set}
+use Rattle.std.specs.Prelude.{◌≡◌, ℕ, suc, ◌+◌, ◌^◌, ◌<◌, ◌≤◌, Bool, true, false, List, [], ◌∷◌, ◌++◌, length, flat_map, Option, Some, is_some, slice_get, slice_set}
 use Rattle.std.specs.List.{AllByRecursion}
 use Rattle.da_lang.specs.declared.code.Instr.{Instr}
 use Rattle.da_lang.specs.declared.program.Alt.{Alt}
-use Rattle.da_lang.specs.declared.program.BindArg.{BindArg}
 use Rattle.da_lang.specs.declared.program.ChainPart.{ChainPart}
 use Rattle.da_lang.specs.declared.program.Class.{Class}
 use Rattle.da_lang.specs.declared.program.Handler.{Handler}
@@ -14,13 +13,15 @@ use Rattle.da_lang.specs.declared.program.RBranch.{RBranch}
 use Rattle.da_lang.specs.declared.program.RExpr.{RExpr}
 use Rattle.da_lang.specs.declared.program.RExpr.TheVariants as ex
 use Rattle.da_lang.specs.declared.program.SetupCall.{SetupCall}
+use Rattle.da_lang.specs.Shaped.{blocks_in}
 use Rattle.da_lang.specs.Turns.{kind_of}
 use Rattle.da_machine.specs.declared.code.Code.{Code}
 use Rattle.da_machine.specs.declared.code.YieldPoint.{YieldPoint}
-use Rattle.da_machine.specs.CodeFor.{BlockAt, EnterAt, ExprAt, ExprsAt, FoundAt, Has, ItemAt, LoopAt, PartsAt, StoresAt, WorkAt}
+use Rattle.da_machine.specs.CodeFor.{BlockAt, ExprAt, ExprsAt, FoundAt, Has, ItemAt, LoopAt, PartsAt, StoresAt, WorkAt}
 use Rattle.da_lang.specs.declared.code.Instr.TheVariants as op
 use Rattle.da_machine.specs.Points.{AtAwait, AtLabel, IsNumbered, Point, Points, class_points, ways_of, points_in}
-use Rattle.code_gen.specs.Open.{HandlersAt, OpenAlts, OpenBranches, OpenSetups, SetupAt}
+use Rattle.code_gen.specs.declared.emit.OpenAwait.{OpenAwait}
+use Rattle.code_gen.specs.Open.{HandlersAt, OpenBlocks, OpenBranches, OpenSetups, SetupAt}
 
 -- with an instruction more; with another one at a place; with the same one at several places
 abbrev pub added : Code → Instr → Code
@@ -39,6 +40,10 @@ pointed code point = record code { yields = code.yields ++ point ∷ [] }
 
 abbrev pub repointed : Code → ℕ → YieldPoint → Code
 repointed code k point = record code { yields = slice_set code.yields k point }
+
+-- one that is reserved
+abbrev pub reserved : YieldPoint
+reserved = record { label = true; entries = [] }
 
 -- where the code ends
 abbrev pub end_of : Code → ℕ
@@ -126,26 +131,41 @@ pub record MadeWhile (old new : Code) (e : RExpr) (body : List Item) (line : ℕ
 
 pub record MadeLabel (old new : Code) : Type 0 where
   pub grown : Grown old new 1
-  pub stands : (class : Class) → AreNumbered class (length old.yields) (AtLabel ∷ []) → (i : Item) → kind_of i ≡ kind.Label → ItemAt new class (end_of old) i (end_of new)
+  pub stands : (class : Class) (label : ℕ) → AreNumbered class (length old.yields) (AtLabel label ∷ []) → (i : Item) → kind_of i ≡ kind.Label label → ItemAt new class (end_of old) i (end_of new)
 
-pub record MadeAwait (old new : Code) (alts : List Alt) : Type 0 where
-  pub grown : Grown old new (length (AtAwait (ways_of alts) ∷ flat_map alt_points alts))
-  pub stands : (class : Class) → AreNumbered class (length old.yields) (AtAwait (ways_of alts) ∷ flat_map alt_points alts) → (i : Item) → kind_of i ≡ kind.Await alts → ItemAt new class (end_of old) i (end_of new)
+-- the same of an `await` with these blocks, whatever it waits for
+pub record MadeAwait (old new : Code) (bodies : List (List Item)) : Type 0 where
+  pub grown : Grown old new (suc (length (flat_map block_points bodies)))
+  pub stands : (class : Class) (alts : List Alt) (timeout : Option (List Item)) (label : Option ℕ) → blocks_in (kind.Await alts timeout label) ≡ bodies
+      → AreNumbered class (length old.yields) (AtAwait (ways_of alts) (is_some timeout) label ∷ flat_map block_points bodies) → (i : Item) → kind_of i ≡ kind.Await alts timeout label → ItemAt new class (end_of old) i (end_of new)
 
 pub record MadeLoop (old new : Code) (slot : ℕ) (body : List Item) (line : ℕ) : Type 0 where
   pub grown : Grown old new (length (block_points body))
   pub stands : (class : Class) → AreNumbered class (length old.yields) (block_points body) → LoopAt new class (end_of old) slot body line (end_of new)
 
--- the same of branches and of alternatives, whose last jumps are still to be written at the places told
+-- the same of branches and of blocks, whose last jumps are still to be written at the places told
 pub record MadeBranches (old new : Code) (branches : List RBranch) (leaves : List ℕ) : Type 0 where
   pub grown : Grown old new (length (flat_map branch_points branches))
   pub behind : AreBehind old leaves
   pub stands : (class : Class) → AreNumbered class (length old.yields) (flat_map branch_points branches) → OpenBranches new class (end_of old) branches (end_of new) leaves
 
-pub record MadeAlts (old new : Code) (alts : List Alt) (entries leaves : List ℕ) : Type 0 where
-  pub grown : Grown old new (length (flat_map alt_points alts))
+pub record MadeBlocks (old new : Code) (bodies : List (List Item)) (entries leaves : List ℕ) : Type 0 where
+  pub grown : Grown old new (length (flat_map block_points bodies))
   pub behind : AreBehind old leaves
-  pub stands : (class : Class) → AreNumbered class (length old.yields) (flat_map alt_points alts) → OpenAlts new class (end_of old) alts (end_of new) entries leaves
+  pub stands : (class : Class) → AreNumbered class (length old.yields) (flat_map block_points bodies) → OpenBlocks new class (end_of old) bodies (end_of new) entries leaves
+
+-- An `await` was begun: its yield point is reserved, its instruction stands, and these of its blocks with their entries.
+pub record Awaiting (old new : Code) (bodies : List (List Item)) (begun : OpenAwait) : Type 0 where
+  pub first : Code
+  pub number : ℕ
+  pub small : length old.yields < 2 ^ 32 → number ≡ length old.yields
+  pub begins : first ≡ added (pointed old reserved) (op.Yield number)
+  pub place : begun.at ≡ length old.yields
+  pub blocks : MadeBlocks first new bodies begun.entries begun.leaves
+
+-- it is ended: each block goes on behind the last one, and the entries are written into the yield point
+abbrev pub closed : Code → OpenAwait → Code
+closed code begun = repointed (filled code begun.leaves (op.Jump (end_of code))) begun.at (record { label = false; entries = begun.entries })
 
 -- Code was added that does what a line of `setup` asks for, if there is one; the openings of processes with where they
 -- start, whose jumps to `run` are still to be written; and the bodies of handlers with their entries.

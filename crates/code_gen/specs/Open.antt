@@ -1,10 +1,10 @@
--- Code of branches, alternatives and openings whose last jumps are still to be written.
-use Rattle.std.specs.Prelude.{◌≡◌, ℕ, ◌+◌, ◌==◌, if◌then◌else◌, List, [], ◌∷◌, Option, Some, None}
+-- Code of branches, blocks and openings whose last jumps are still to be written.
+use Rattle.std.specs.Prelude.{ℕ, ◌+◌, ◌==◌, if◌then◌else◌, List, [], ◌∷◌, Option, Some, None}
 use Rattle.da_lang.specs.declared.code.Instr.TheVariants as op
-use Rattle.da_lang.specs.declared.program.Alt.{Alt}
 use Rattle.da_lang.specs.declared.program.Class.{Class}
 use Rattle.da_lang.specs.declared.program.Handler.{Handler}
-use Rattle.da_lang.specs.declared.program.ItemKind.TheViews.{out-Alt, out-RBranch}
+use Rattle.da_lang.specs.declared.program.Item.{Item}
+use Rattle.da_lang.specs.declared.program.ItemKind.TheViews.{out-RBranch}
 use Rattle.da_lang.specs.declared.program.ProcDecl.{ProcDecl}
 use Rattle.da_lang.specs.declared.program.RBranch.{RBranch}
 use Rattle.da_lang.specs.declared.program.SetupCall.{SetupCall}
@@ -17,10 +17,10 @@ module _ (code : Code) (class : Class) where
     none : {at : ℕ} → OpenBranches at [] at []
     branch : {at test to end last : ℕ} {b : RBranch} {bs : List RBranch} {leaves : List ℕ} → ExprAt code at (out-RBranch b).cond test → Has code test (op.JumpUnless (end + 1)) → FoundAt code (test + 1) (out-RBranch b).found (out-RBranch b).binds to → BlockAt code class to (out-RBranch b).body end → Has code end op.End → OpenBranches (end + 1) bs last leaves → OpenBranches at (b ∷ bs) last (end ∷ leaves)
 
-  -- alternatives with their entries, each with a hole where it leaves
-  pub data OpenAlts : ℕ → List Alt → ℕ → List ℕ → List ℕ → Type 0 where
-    none : {at : ℕ} → OpenAlts at [] at [] []
-    alt : {at end last : ℕ} {a : Alt} {alts : List Alt} {entries leaves : List ℕ} → BlockAt code class at (out-Alt a).body end → Has code end op.End → OpenAlts (end + 1) alts last entries leaves → OpenAlts at (a ∷ alts) last (at ∷ entries) (end ∷ leaves)
+  -- blocks with their entries, each with a hole where it leaves
+  pub data OpenBlocks : ℕ → List (List Item) → ℕ → List ℕ → List ℕ → Type 0 where
+    none : {at : ℕ} → OpenBlocks at [] at [] []
+    block : {at end last : ℕ} {body : List Item} {bodies : List (List Item)} {entries leaves : List ℕ} → BlockAt code class at body end → Has code end op.End → OpenBlocks (end + 1) bodies last entries leaves → OpenBlocks at (body ∷ bodies) last (at ∷ entries) (end ∷ leaves)
 
   -- what a line of `setup` asks for, if there is one
   pub data SetupAt : ℕ → Option SetupCall → ℕ → Type 0 where

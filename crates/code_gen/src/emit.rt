@@ -1,5 +1,5 @@
 //! Instructions that are added, and those that are written later.
-ghost use Rattle.code_gen.specs.Made.{MadeFound, added, end_of, filled, patched, pointed, repointed};
+ghost use Rattle.code_gen.specs.Made.{Awaiting, MadeFound, added, closed, end_of, filled, patched, pointed, repointed};
 ghost use Rattle.da_lang.specs.declared.code.Instr.TheVariants as op;
 ghost use Rattle.da_machine.specs.CodeFor.{jump_at};
 ghost use Rattle.std.specs.Prelude.{◌≡◌, ◌<◌, ◌^◌, ◌++◌, ◌∷◌, [], length, IfOk, OnOk};
@@ -85,6 +85,52 @@ pub fn set_point(code: &mut Code, at: usize, point: YieldPoint)
     if at < code.yields.len() {
         code.yields.set(at, point);
     }
+}
+
+/// An `await` whose blocks are still added: the number of its yield point, the entries of its blocks so far, and where these
+/// leave.
+#[derive(Debug, Drop)]
+pub struct OpenAwait {
+    pub at: usize,
+    pub entries: List<u64>,
+    pub leaves: List<usize>,
+}
+
+/// Adds the instruction of an `await`. Its yield point comes before those in its blocks, so it is reserved.
+pub fn begin_await(alloc: Global, code: &mut Code) -> Result<OpenAwait, NoMemory>
+    ensures { IfOk result (λ begun. Awaiting code.old code.new [] begun) }
+{
+    let at = code.yields.len();
+    let number = next_number(code);
+    let reserved = YieldPoint {
+        label: true,
+        entries: List::new(alloc),
+    };
+    add_point(code, reserved)?;
+    put(code, Instr::Yield(number))?;
+    Ok(OpenAwait {
+        at,
+        entries: List::new(alloc),
+        leaves: List::new(alloc),
+    })
+}
+
+/// Ends an `await`: each of its blocks goes on behind the last one, and its yield point gets their entries.
+pub fn end_await(begun: OpenAwait, code: &mut Code)
+    ensures { code.new ≡ closed code.old begun }
+{
+    let OpenAwait {
+        at,
+        entries,
+        leaves,
+    } = begun;
+    let behind = here(code);
+    fill_jumps(code, leaves.as_slice(), behind);
+    let point = YieldPoint {
+        label: false,
+        entries,
+    };
+    set_point(code, at, point);
 }
 
 /// Adds the binding of the least row of a `some`, if there is one to bind.

@@ -1,9 +1,15 @@
 //! The code of statements.
-ghost use Rattle.code_gen.specs.Made.{MadeAwait, MadeBlock, MadeBranches, MadeItem, MadeLabel, MadeLoop, MadeWhile};
+ghost use Rattle.code_gen.specs.Made.{Awaiting, MadeAwait, MadeBlock, MadeBranches, MadeItem, MadeLabel, MadeLoop, MadeWhile};
+ghost use Rattle.da_lang.specs.declared.program.ItemKind.TheViews.{out-Alt};
 ghost use Rattle.da_lang.specs.Turns.{slot_of_arg, value_of_arg};
-ghost use Rattle.std.specs.Prelude.{◌≡◌, ◌∷◌, [], IfOk, List, OnOk, length, map};
+ghost use Rattle.da_lang.specs.declared.program.Item.{Item};
+ghost use Rattle.da_machine.specs.declared.code.Code.{Code};
+ghost use Rattle.std.specs.Prelude.{◌≡◌, ◌++◌, ◌∷◌, [], IfOk, List, OnOk, length, map};
 
-use crate::emit::{add_point, emit_found, fill_jumps, here, next_number, patch, put, set_point};
+use crate::emit::{
+    OpenAwait, add_point, begin_await, emit_found, end_await, fill_jumps, here, next_number, patch,
+    put,
+};
 use crate::exprs::{emit_bound, emit_doing, emit_expr, emit_values};
 use da_lang::{Alt, BindArg, Instr, Item, ItemKind, RBranch, RExpr};
 use da_machine::{Code, YieldPoint};
@@ -59,8 +65,21 @@ fn emit_item(alloc: Global, item: &Item, code: &mut Code) -> Result<(), NoMemory
             emit_bound(args.as_slice(), code)?;
             emit_block(alloc, body.as_slice(), code)
         }
-        ItemKind::Await(alts) => emit_await(alloc, alts.as_slice(), code),
-        ItemKind::Label => emit_label(alloc, code),
+        ItemKind::Await {
+            alts,
+            timeout,
+            label: _,
+        } => {
+            let begun = emit_alts(alloc, alts.as_slice(), code)?;
+            match timeout {
+                None => {
+                    end_await(begun, code);
+                    Ok(())
+                }
+                Some(body) => emit_timeout(alloc, body.as_slice(), begun, code),
+            }
+        }
+        ItemKind::Label(_) => emit_label(alloc, code),
         ItemKind::Pass => put(code, Instr::Turn(line)),
     }
 }
@@ -143,36 +162,50 @@ fn emit_branch(alloc: Global, branch: &RBranch, code: &mut Code) -> Result<usize
     Ok(leave)
 }
 
-// Adds the code of an `await`: its yield point, and the blocks of its alternatives, which are entered by moves alone. The
-// yield point comes before those in the blocks, so it is reserved, and its entries are written when they are known.
+// Begins an `await`, and adds the blocks of its alternatives.
 #[cycle(items)]
-fn emit_await(alloc: Global, alts: &[Alt], code: &mut Code) -> Result<(), NoMemory>
-    ensures { OnOk result (MadeAwait code.old code.new alts.now) }
+fn emit_alts(alloc: Global, alts: &[Alt], code: &mut Code) -> Result<OpenAwait, NoMemory>
+    ensures { IfOk result (λ begun. Awaiting code.old code.new (map (λ a. (out-Alt a).body) alts.now) begun) }
 {
-    let at = code.yields.len();
-    let number = next_number(code);
-    let reserved = YieldPoint {
-        label: true,
-        entries: List::new(alloc),
-    };
-    add_point(code, reserved)?;
-    put(code, Instr::Yield(number))?;
-    let mut entries = List::new(alloc);
-    let mut leaves = List::new(alloc);
+    let mut begun = begin_await(alloc, code)?;
     'bodies: for alt in alts {
-        entries.push(here(code))?;
-        emit_block(alloc, alt.body.as_slice(), code)?;
-        leaves.push(code.instrs.len())?;
-        put(code, Instr::End)?;
+        emit_entered(alloc, alt.body.as_slice(), &mut begun, code)?;
     }
-    let behind = here(code);
-    fill_jumps(code, leaves.as_slice(), behind);
-    let point = YieldPoint {
-        label: false,
-        entries,
-    };
-    set_point(code, at, point);
+    Ok(begun)
+}
+
+// Adds the block for the time that runs out, which is the last one of an `await`, and ends it.
+#[cycle(items)]
+fn emit_timeout(
+    alloc: Global,
+    body: &[Item],
+    begun: OpenAwait,
+    code: &mut Code,
+) -> Result<(), NoMemory>
+    ensures { (old : Code) (bodies : List (List Item)) → Awaiting old code.old bodies begun
+        → OnOk result (MadeAwait old code.new (bodies ++ body.now ∷ [])) }
+{
+    let mut begun = begun;
+    emit_entered(alloc, body, &mut begun, code)?;
+    end_await(begun, code);
     Ok(())
+}
+
+// Adds a block of an `await`, with its entry, and a hole for the jump behind the last one.
+#[cycle(items)]
+fn emit_entered(
+    alloc: Global,
+    body: &[Item],
+    begun: &mut OpenAwait,
+    code: &mut Code,
+) -> Result<(), NoMemory>
+    ensures { (old : Code) (bodies : List (List Item)) → Awaiting old code.old bodies begun.old
+        → OnOk result (Awaiting old code.new (bodies ++ body.now ∷ []) begun.new) }
+{
+    begun.entries.push(here(code))?;
+    emit_block(alloc, body, code)?;
+    begun.leaves.push(code.instrs.len())?;
+    put(code, Instr::End)
 }
 
 // Adds the code of a label, which is its yield point.

@@ -9,7 +9,7 @@ use Rattle.da_lang.specs.ClassParts as parts
 use Rattle.da_lang.specs.NameRules.{again_after, again}
 use Rattle.da_lang.specs.Scopes.{at_lines}
 use Rattle.da_bodies.specs.Telling.{Refusal, telling}
-use Rattle.da_bodies.specs.Repeats.{declared_of, declared_in}
+use Rattle.da_bodies.specs.Repeats.{declared_of, declared_in, is_declared}
 use Rattle.da_bodies.specs.declared.repeats.Declared as code
 use Rattle.da_bodies.proofs.TellingLaws.{telling-nil, telling-append}
 
@@ -94,6 +94,11 @@ symmetric_by x y false true p q = sym p ∙ (bytes_eq-Decides x y).1 (sym ((byte
 
 pub bytes_eq-sym : (x y : List ℕ) → bytes_eq x y ≡ bytes_eq y x
 bytes_eq-sym x y = symmetric_by x y (bytes_eq x y) (bytes_eq y x) refl refl
+
+-- a name among those of declarations
+pub among_names : (q : List ℕ) (ds : List parts.Declared) → list_any (bytes_eq q) (names_of ds) ≡ is_declared ds q
+among_names q [] = refl
+among_names q (d ∷ ds) = ap (λ b. b || list_any (bytes_eq q) (names_of ds)) (bytes_eq-sym q d.0) ∙ ap (λ b. bytes_eq d.0 q || b) (among_names q ds)
 
 pub seen_more : (q : List ℕ) (ds : List code.Declared) (i : ℕ) (d : code.Declared) (before now : Bool) → i < length ds
     → before ≡ list_any (bytes_eq q) (names_of (declared_in (take i ds)))

@@ -10,7 +10,6 @@ use Rattle.da_lang.specs.NameRules as names
 use Rattle.da_bodies.proofs.TellingLaws.{IsOrder}
 
 name_below : (k : ScopeKind) → names.rank k < 16
-name_below refusal.NotYet = omega arith
 name_below refusal.Unknown = omega arith
 name_below refusal.Twice = omega arith
 name_below refusal.Shadow = omega arith
@@ -23,12 +22,11 @@ name_below refusal.Arity = omega arith
 -- the kind of a rank
 name_at : ℕ → ScopeKind
 name_at n =
-    if n == 0 then refusal.NotYet else if n == 1 then refusal.Unknown else if n == 2 then refusal.Twice else if n == 3 then refusal.Shadow else
-    if n == 4 then refusal.Recursive else if n == 5 then refusal.Yield else if n == 6 then refusal.Setup else if n == 7 then refusal.NoRun else refusal.Arity
+    if n == 0 then refusal.Unknown else if n == 1 then refusal.Twice else if n == 2 then refusal.Shadow else if n == 3 then refusal.Recursive else
+    if n == 4 then refusal.Yield else if n == 5 then refusal.Setup else if n == 6 then refusal.NoRun else refusal.Arity
 
 name_of_rank : (k : ScopeKind) → name_at (names.rank k) ≡ k
 unfolding name_at
-name_of_rank refusal.NotYet = refl
 name_of_rank refusal.Unknown = refl
 name_of_rank refusal.Twice = refl
 name_of_rank refusal.Shadow = refl

@@ -1,8 +1,9 @@
 -- Declarations as code keeps them.
-use Rattle.std.specs.Prelude.{ℕ, Bool, List, map, is_some}
+use Rattle.std.specs.Prelude.{ℕ, Bool, List, map, is_some, bytes_eq}
 use Rattle.std.specs.BTreeMap.{BTreeMap, get_by}
 use Rattle.std.specs.Borrow.{Bor}
 use Rattle.std.specs.Cmp.Lexicographic.{slice_cmp}
+use Rattle.std.specs.List.{list_any}
 use Rattle.std.specs.Ordering.{nat_cmp}
 use Rattle.da_lang.specs.ClassParts as parts
 use Rattle.da_bodies.specs.declared.repeats.Declared.{Declared}
@@ -16,3 +17,7 @@ declared_in ds = map declared_of ds
 -- a map has a name
 abbrev pub is_seen : BTreeMap (Bor (List ℕ)) ℕ → List ℕ → Bool
 is_seen seen name = is_some (get_by (λ k. slice_cmp nat_cmp name k.now) seen)
+
+-- a name is among declarations
+abbrev pub is_declared : List parts.Declared → List ℕ → Bool
+is_declared ds name = list_any (λ d. bytes_eq d.0 name) ds

@@ -24,15 +24,14 @@ impl Kind for ScopeKind {
 
     fn rank(self) -> u8 {
         match self {
-            ScopeKind::NotYet => 0,
-            ScopeKind::Unknown => 1,
-            ScopeKind::Twice => 2,
-            ScopeKind::Shadow => 3,
-            ScopeKind::Recursive => 4,
-            ScopeKind::Yield => 5,
-            ScopeKind::Setup => 6,
-            ScopeKind::NoRun => 7,
-            ScopeKind::Arity => 8,
+            ScopeKind::Unknown => 0,
+            ScopeKind::Twice => 1,
+            ScopeKind::Shadow => 2,
+            ScopeKind::Recursive => 3,
+            ScopeKind::Yield => 4,
+            ScopeKind::Setup => 5,
+            ScopeKind::NoRun => 6,
+            ScopeKind::Arity => 7,
         }
     }
 }

@@ -1,9 +1,9 @@
 //! Names that are declared again.
 ghost use Rattle.da_lang.specs.NameRules.{again};
 ghost use Rattle.da_lang.specs.Scopes.{at_lines};
-ghost use Rattle.da_bodies.specs.Repeats.{declared_in, is_seen};
+ghost use Rattle.da_bodies.specs.Repeats.{declared_in, is_declared, is_seen};
 ghost use Rattle.da_bodies.specs.Telling.{telling};
-ghost use Rattle.std.specs.Prelude.{◌≡◌, ◌||◌, ℕ, List, bytes_eq, false, OnOk};
+ghost use Rattle.std.specs.Prelude.{◌≡◌, ◌||◌, ℕ, List, bytes_eq, false, IfOk, OnOk};
 
 use crate::least::Least;
 use da_lang::ScopeKind;
@@ -19,7 +19,7 @@ pub struct Declared<'t> {
 }
 
 /// Names that are declared, with the line of their first declaration.
-type Seen<'t> = BTreeMap<&'t [u8], u32>;
+pub type Seen<'t> = BTreeMap<&'t [u8], u32>;
 
 /// No name is declared.
 fn nothing_seen<'t>(alloc: Global) -> Seen<'t>
@@ -29,7 +29,7 @@ fn nothing_seen<'t>(alloc: Global) -> Seen<'t>
 }
 
 /// Whether a name is declared.
-fn has_seen(seen: &Seen<'_>, name: &[u8]) -> bool
+pub fn has_seen(seen: &Seen<'_>, name: &[u8]) -> bool
     ensures { result ≡ is_seen seen.now name.now }
 {
     seen.contains_key(name)
@@ -54,6 +54,20 @@ pub fn tell_again(
 ) -> Result<(), NoMemory>
     ensures { OnOk result (least.new ≡ telling least.old (at_lines kind (again (declared_in declared.now)))) }
 {
+    see_again(alloc, declared, kind, least)?;
+    Ok(())
+}
+
+/// The same, and answers which names are declared.
+pub fn see_again<'t>(
+    alloc: Global,
+    declared: &[Declared<'t>],
+    kind: ScopeKind,
+    least: &mut Least<ScopeKind>,
+) -> Result<Seen<'t>, NoMemory>
+    ensures told { OnOk result (least.new ≡ telling least.old (at_lines kind (again (declared_in declared.now)))) }
+    ensures seen { IfOk result (λ seen. (q : List ℕ) → is_seen seen q ≡ is_declared (declared_in declared.now) q) }
+{
     let mut seen = nothing_seen(alloc);
     for one in declared {
         if has_seen(&seen, one.name) {
@@ -61,5 +75,5 @@ pub fn tell_again(
         }
         see(&mut seen, *one)?;
     }
-    Ok(())
+    Ok(seen)
 }

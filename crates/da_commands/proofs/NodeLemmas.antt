@@ -13,9 +13,8 @@ use Rattle.da_types.proofs.resolved.FewProcesses.{few_processes}
 use Rattle.da_types.proofs.sound.AcceptedSound.{filled_procs}
 use Rattle.node_run.specs.declared.outcome.NodeOutcome.{NodeOutcome}
 use Rattle.node_run.specs.declared.outcome.NodeOutcome.TheVariants as outcome
-use Rattle.node_run.specs.NodeCall.{GivesPackets, HasCome, HasEnded, HasRun, IsPacketOf, WasCut, WroteAll, WroteToLast, end_for}
-use Rattle.node_run.specs.NodeRun.{NodeEnd}
-use Rattle.node_run.proofs.RunLaws.{gains_nothing, gains_then}
+use Rattle.node_run.specs.NodeCall.{GivesPackets, HasEnded, HasRun, IsPacketOf, WasCut, WroteAll, WroteFront, WroteGiven, end_for}
+use Rattle.node_run.proofs.TalkLaws.{gains_nothing, gains_then}
 use Rattle.da_commands.specs.declared.status.RefusedKind.{RefusedKind}
 use Rattle.da_commands.specs.declared.status.Status.{Status}
 use Rattle.da_commands.specs.declared.status.Status.TheVariants.{ChildFault, Done, Faulted, Idle, LinkFault, Memory, ReadFault, Refused, Spent, Words, WriteFault}
@@ -82,7 +81,7 @@ module _ (program : Program) (text : List ℕ) (setting : NodeSetting) (may : Ma
 
       by_status : (status : Status) → RunsBound program setting status told_now told_after before after → HasServed text setting status told_before told_after before after
       by_status LinkFault cut = LinkFailed.running (record { program = program; may = may; told_between = told_now; bound = bound; cut = cut })
-      by_status WriteFault come = HasStopped.writing program come.0 told_now may refl bound come.1
+      by_status WriteFault cut = HasStopped.writing refl (record { program = program; may = may; told_between = told_now; bound = bound; cut = cut })
       by_status Memory cut = HasStopped.running refl (record { program = program; may = may; told_between = told_now; bound = bound; cut = cut })
       by_status ReadFault never = absurd never
       by_status ChildFault never = absurd never
@@ -104,9 +103,9 @@ unbound_packets me told_before told_now same = record { talk = []; told = same; 
 
 pub node_runs : (program : Program) (setting : NodeSetting) (how : NodeOutcome) (told_before told_after : Option (List LinkEntry)) (before after : Option (List ℕ))
     → (HasEnded how → HasRun program setting.me setting.idle setting.turns (end_for how) told_before told_after before after)
-    → (how ≡ outcome.WriteFault → (end : NodeEnd) × HasCome program setting.me setting.idle setting.turns end told_before told_after before after WroteToLast)
+    → (how ≡ outcome.WriteFault → WasCut program setting.me setting.idle setting.turns told_before told_after before after WroteGiven)
     → (how ≡ outcome.LinkFault → WasCut program setting.me setting.idle setting.turns told_before told_after before after WroteAll)
-    → (how ≡ outcome.Memory → WasCut program setting.me setting.idle setting.turns told_before told_after before after WroteToLast)
+    → (how ≡ outcome.Memory → WasCut program setting.me setting.idle setting.turns told_before told_after before after WroteFront)
     → RunsBound program setting (status_of_node how) told_before told_after before after
 node_runs program setting outcome.Done told_before told_after before after ran write link memory = (_, refl, ran tt)
 node_runs program setting outcome.Faulted told_before told_after before after ran write link memory = (_, refl, ran tt)

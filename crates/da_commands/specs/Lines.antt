@@ -1,7 +1,7 @@
 -- The lines by which a program is accepted or refused, and a schedule is refused.
 use Rattle.std.specs.Prelude.{ℕ, List, ◌++◌, codes, decimal}
 use Rattle.da_commands.specs.declared.status.RefusedKind.{RefusedKind}
-use Rattle.da_commands.specs.declared.status.RefusedKind.TheVariants.{Size, Byte, Indent, Token, Unclosed, Syntax, Deep, NotYet, Unknown, Twice, Shadow, Recursive, Yield, Setup, NoRun, Arity, Classes, Processes, Items, Blocks, Variables, Parts, Generators, Types, Nodes, Channel, Me}
+use Rattle.da_commands.specs.declared.status.RefusedKind.TheVariants.{Size, Byte, Indent, Token, Unclosed, Syntax, Deep, Unknown, Twice, Shadow, Recursive, Yield, Setup, NoRun, Arity, Classes, Processes, Items, Blocks, Variables, Parts, Generators, Types, Nodes, Channel, Me}
 
 abbrev pub refused_word : RefusedKind → List ℕ
 refused_word Size = codes "size"
@@ -11,7 +11,6 @@ refused_word Token = codes "token"
 refused_word Unclosed = codes "unclosed"
 refused_word Syntax = codes "syntax"
 refused_word Deep = codes "deep"
-refused_word NotYet = codes "notyet"
 refused_word Unknown = codes "unknown"
 refused_word Twice = codes "twice"
 refused_word Shadow = codes "shadow"

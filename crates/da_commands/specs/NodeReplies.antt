@@ -6,7 +6,7 @@ use Rattle.da_outside.specs.declared.link.LinkEntry.{LinkEntry}
 use Rattle.da_outside.specs.declared.link.LinkEntry.TheVariants.{Bound}
 use Rattle.da_outside.specs.Link as link
 use Rattle.da_outside.specs.Outside.{Appends, AppendsFront}
-use Rattle.node_run.specs.NodeCall.{HasCome, HasRun, WasCut, WroteAll, WroteToLast}
+use Rattle.node_run.specs.NodeCall.{HasRun, WasCut, WroteAll, WroteFront, WroteGiven}
 use Rattle.node_run.specs.NodeRun.{NodeEnd, Round}
 use Rattle.node_run.specs.NodeRun as by
 use Rattle.da_commands.specs.declared.status.RefusedKind.{RefusedKind}
@@ -74,7 +74,7 @@ pub data HasAnswered (text : List ℕ) (setting : NodeSetting) (status : Status)
 
 -- The link was bound and the node was cut short: of the lines that were due so much was written.
 pub record WasCutBound (text : List ℕ) (setting : NodeSetting) (told_before told_after : Option (List LinkEntry)) (before after : Option (List ℕ))
-    (Wrote : Option (List ℕ) → Option (List ℕ) → List Round → Type 0) : Type 0 where
+    (Wrote : ℕ → Option (List ℕ) → Option (List ℕ) → List Round → Type 0) : Type 0 where
   pub program : Program
   pub may : MayRun text setting program
   pub told_between : Option (List LinkEntry)
@@ -88,16 +88,13 @@ pub data LinkFailed (text : List ℕ) (setting : NodeSetting) (told_before told_
   running : WasCutBound text setting told_before told_after before after WroteAll → LinkFailed text setting told_before told_after before after
 
 -- A read or a write failed, or memory was refused. Nothing was written and the link was not bound, or a front of a refusal was
--- written. Or the node was running: where a write failed, the link told the talk of the run up to there.
+-- written. Or the node was cut short: where a write failed, the packets of each round that was begun were given.
 pub data HasStopped (text : List ℕ) (setting : NodeSetting) (status : Status) (told_before told_after : Option (List LinkEntry)) (before after : Option (List ℕ)) : Type 0 where
   early : link.Gains told_before told_after [] → Appends before after [] → HasStopped text setting status told_before told_after before after
   refusing : (kind : RefusedKind) (line : ℕ) → NodeRefuses text setting kind line → link.Gains told_before told_after []
       → AppendsFront before after (refused_text kind line) → HasStopped text setting status told_before told_after before after
-  writing : (program : Program) (end : NodeEnd) (told_between : Option (List LinkEntry)) → MayRun text setting program → status ≡ WriteFault
-      → link.Gains told_before told_between (binding program setting ∷ [])
-      → HasCome program setting.me setting.idle setting.turns end told_between told_after before after WroteToLast
-      → HasStopped text setting status told_before told_after before after
-  running : status ≡ Memory → WasCutBound text setting told_before told_after before after WroteToLast → HasStopped text setting status told_before told_after before after
+  writing : status ≡ WriteFault → WasCutBound text setting told_before told_after before after WroteGiven → HasStopped text setting status told_before told_after before after
+  running : status ≡ Memory → WasCutBound text setting told_before told_after before after WroteFront → HasStopped text setting status told_before told_after before after
 
 -- the text was answered, or memory was refused
 abbrev pub IsServed : List ℕ → NodeSetting → Status → Option (List LinkEntry) → Option (List LinkEntry) → Option (List ℕ) → Option (List ℕ) → Type 0

@@ -2,7 +2,7 @@
 use Rattle.std.specs.Prelude.{◌≡◌, ℕ, List, Option, Some}
 use Rattle.da_lang.specs.declared.program.Program.{Program}
 use Rattle.da_outside.specs.declared.link.LinkEntry.{LinkEntry}
-use Rattle.node_run.specs.NodeCall.{HasCome, HasRun, WasCut, WroteAll, WroteToLast}
+use Rattle.node_run.specs.NodeCall.{HasRun, WasCut, WroteAll, WroteFront, WroteGiven}
 use Rattle.node_run.specs.NodeRun.{NodeEnd}
 use Rattle.da_commands.specs.declared.status.Status.{Status}
 use Rattle.da_commands.specs.declared.status.Status.TheVariants.{ChildFault, LinkFault, Memory, ReadFault, WriteFault}
@@ -29,9 +29,9 @@ abbrev pub RunsBound : Program → NodeSetting → Status → Option (List LinkE
 RunsBound program setting LinkFault told_before told_after before after =
     WasCut program setting.me setting.idle setting.turns told_before told_after before after WroteAll
 RunsBound program setting WriteFault told_before told_after before after =
-    (end : NodeEnd) × HasCome program setting.me setting.idle setting.turns end told_before told_after before after WroteToLast
+    WasCut program setting.me setting.idle setting.turns told_before told_after before after WroteGiven
 RunsBound program setting Memory told_before told_after before after =
-    WasCut program setting.me setting.idle setting.turns told_before told_after before after WroteToLast
+    WasCut program setting.me setting.idle setting.turns told_before told_after before after WroteFront
 RunsBound program setting ReadFault told_before told_after before after = ⊥
 RunsBound program setting ChildFault told_before told_after before after = ⊥
 RunsBound program setting status told_before told_after before after =

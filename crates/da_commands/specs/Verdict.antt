@@ -99,7 +99,6 @@ pub record IsOverplanned (text : List ℕ) (line : ℕ) : Type 0 where
 
 -- the kinds of refusal by names and by limits
 abbrev pub kind_of_name : ScopeKind → RefusedKind
-kind_of_name name.NotYet = kind_is.NotYet
 kind_of_name name.Unknown = kind_is.Unknown
 kind_of_name name.Twice = kind_is.Twice
 kind_of_name name.Shadow = kind_is.Shadow

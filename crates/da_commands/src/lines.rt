@@ -18,7 +18,6 @@ fn refused_word(kind: RefusedKind) -> &'static [u8]
         RefusedKind::Unclosed => b"unclosed",
         RefusedKind::Syntax => b"syntax",
         RefusedKind::Deep => b"deep",
-        RefusedKind::NotYet => b"notyet",
         RefusedKind::Unknown => b"unknown",
         RefusedKind::Twice => b"twice",
         RefusedKind::Shadow => b"shadow",

@@ -148,7 +148,6 @@ fn kind_of_name(kind: ScopeKind) -> RefusedKind
     ensures { result ≡ kind_of_name kind }
 {
     match kind {
-        ScopeKind::NotYet => RefusedKind::NotYet,
         ScopeKind::Unknown => RefusedKind::Unknown,
         ScopeKind::Twice => RefusedKind::Twice,
         ScopeKind::Shadow => RefusedKind::Shadow,

@@ -26,13 +26,10 @@ pub enum RefusedKind {
     /// A token opens a thing where 32 are open.
     #[error("more than 32 blocks, brackets, queries or negations are open")]
     Deep,
-    /// A form of the language that is not built yet.
-    #[error("the language has this form, but it is not built yet")]
-    NotYet,
-    /// A name is not in scope for its use.
+    /// A name is not in scope for its use, or no label has it.
     #[error("a name is not in scope here, or cannot be used in this way")]
     Unknown,
-    /// A name is declared twice.
+    /// A name is declared twice, or a label is named twice behind one `at`.
     #[error("this name is declared already")]
     Twice,
     /// A variable has the name of one in scope.

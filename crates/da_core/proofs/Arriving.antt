@@ -1,6 +1,7 @@
 -- The run of the handlers, one after the other.
 use Rattle.std.proofs.Common.{◌≡◌, ◌⊎◌, ℕ, suc, ◌+◌, ◌<◌, ◌≤◌, List, [], ◌∷◌, ◌++◌, length, Some, None, refl, sym, ap, ◌∙◌, subst, inl, inr, append_assoc, append-nil, arith}
-use Rattle.std.specs.Prelude.{nat_lt, if◌then◌else◌, slice_get}
+use Rattle.std.specs.Prelude.{true, false, cond, nat_lt, if◌then◌else◌, slice_get}
+use Rattle.std.specs.List.{filter}
 use Rattle.std.proofs.lemmas.Bool.{le-ltb, lt-ltb}
 use Rattle.std.proofs.lemmas.List.Elements.{All-nil}
 use Rattle.da_values.specs.Value.{val_of}
@@ -10,6 +11,7 @@ use Rattle.da_lang.specs.declared.event.FaultKind.TheVariants.{TooLong}
 use Rattle.da_lang.specs.declared.program.Class.{Class}
 use Rattle.da_lang.specs.declared.program.Handler.{Handler}
 use Rattle.da_lang.specs.declared.program.Program.{Program}
+use Rattle.da_lang.specs.Labels.{is_open}
 use Rattle.da_lang.specs.Matching.{Row}
 use Rattle.da_lang.specs.Runs.{Halt, AtYield, UsedUp, Faults, Ran, behind, max_turns, run_to_yield}
 use Rattle.da_lang.specs.Shaped.{IsTask, ShapedData, ShapedTasks}
@@ -170,9 +172,16 @@ each_entered x [] (e ∷ es) same each = absurd (omega (arith, same))
 each_entered x (h ∷ hs) [] same each = absurd (omega (arith, same))
 each_entered x (h ∷ hs) (e ∷ es) same each = (each 0 h e refl refl, each_entered x hs es (omega (arith, same)) (λ k. each (suc k)))
 
--- these handlers are left, where n turns were taken
+-- these handlers are left, where n turns were taken: those of them that are open are run
 abbrev pub rest_handled : Delivery → List Handler → ℕ → Data → Ran
-rest_handled x hs n d = handle x.class.now (val_of x.message.now) x.from hs n d
+rest_handled x hs n d = handle x.class.now (val_of x.message.now) x.from (filter (is_open x.label) hs) n d
+
+-- where the first one is open, or closed
+with_open : (x : Delivery) (h : Handler) (hs : List Handler) → is_open x.label h ≡ true → filter (is_open x.label) (h ∷ hs) ≡ h ∷ filter (is_open x.label) hs
+with_open x h hs is = ap (λ b. cond b (h ∷ filter (is_open x.label) hs) (filter (is_open x.label) hs)) is
+
+but_closed : (x : Delivery) (h : Handler) (hs : List Handler) → is_open x.label h ≡ false → filter (is_open x.label) (h ∷ hs) ≡ filter (is_open x.label) hs
+but_closed x h hs is = ap (λ b. cond b (h ∷ filter (is_open x.label) hs) (filter (is_open x.label) hs)) is
 
 -- Some handlers were tried, and n turns were taken: the run of all is their actions, and the run of those that are left. So it is for
 -- one process that knew d,
@@ -199,9 +208,26 @@ module _ (x : Delivery) (first now : Known) (n : ℕ) (p : Program) (d : Data) w
   abbrev all : Ran
   all = all_handled x d
 
-  module _ (h : Handler) (hs : List Handler) (by : CameBy p x (h ∷ hs) n d first now) where
+  -- a closed one is passed over
+  one_closed : (h : Handler) (hs : List Handler) → CameBy p x (h ∷ hs) n d first now → is_open x.label h ≡ false → CameBy p x hs n d first now
+  one_closed h hs by closed = record {
+    so_far = by.so_far;
+    may = by.may;
+    mine = by.mine;
+    actions = by.actions;
+    added = by.added;
+    rest =
+        then_alike all (behind by.actions (rest_handled x (h ∷ hs) n by.so_far)) (behind by.actions (rest_handled x hs n by.so_far)) by.rest
+        (same_run _ _ (ap (λ l. behind by.actions (handle x.class.now (val_of x.message.now) x.from l n by.so_far)) (but_closed x h hs closed)));
+  }
+
+  module _ (h : Handler) (hs : List Handler) (by : CameBy p x (h ∷ hs) n d first now) (is_open_here : is_open x.label h ≡ true) where
     abbrev go : ℕ → Data → Ran
     go = rest_handled x hs
+
+    -- the run of those that are left, by its first one
+    by_first : rest_handled x (h ∷ hs) n by.so_far ≡ handle x.class.now (val_of x.message.now) x.from (h ∷ filter (is_open x.label) hs) n by.so_far
+    by_first = ap (λ l. handle x.class.now (val_of x.message.now) x.from l n by.so_far) (with_open x h hs is_open_here)
 
     -- the turns are used up
     one_too_long : max_turns ≤ n → HasHandled p x all first now (handled.Fault TooLong h.line)
@@ -212,15 +238,19 @@ module _ (x : Delivery) (first now : Known) (n : ℕ) (p : Program) (d : Data) w
       halt = by.rest.halt ∙ ap (λ (r : Ran). r.halt) stops;
     }
       where
+        past_end : handle x.class.now (val_of x.message.now) x.from (h ∷ filter (is_open x.label) hs) n by.so_far
+            ≡ record { data' = by.so_far; todo = []; actions = []; turns = n; halt = Faults TooLong h.line }
+        past_end = rw (le-ltb n max_turns past) refl
+
         stops : rest_handled x (h ∷ hs) n by.so_far ≡ record { data' = by.so_far; todo = []; actions = []; turns = n; halt = Faults TooLong h.line }
-        stops = rw (le-ltb n max_turns past) refl
+        stops = by_first ∙ past_end
 
     module _ (early : n < max_turns) where
       abbrev next_run : Ran
       next_run = tried x h (n + 1) by.so_far go
 
       next_tried : rest_handled x (h ∷ hs) n by.so_far ≡ next_run
-      next_tried = in_time n next_run _ early
+      next_tried = by_first ∙ in_time n next_run _ early
 
       next_rest : IsAlike all (behind by.actions next_run)
       next_rest =
@@ -270,26 +300,35 @@ module _ (x : Delivery) (first now : Known) (n : ℕ) (p : Program) (d : Data) w
 
 module _ (x : Delivery) (first now : Known) (n : ℕ) where
   module _ (h : Handler) (e : ℕ) (hs : List Handler) (es : List ℕ) (came : Came x (h ∷ hs) (e ∷ es) n first now) where
-    pub too_long : max_turns ≤ n → Whoever x first (λ p d. HasHandled p x (all_handled x d) first now (handled.Fault TooLong h.line))
-    too_long past p d may = one_too_long x first now n p d h hs (came.each p d may) past
+    -- a closed one is passed over
+    pub came_past : is_open x.label h ≡ false → Came x hs es n first now
+    came_past closed = record {
+      can = came.can;
+      entered = came.entered.1;
+      each = λ p d may. one_closed x first now n p d h hs (came.each p d may) closed;
+    }
 
-    module _ (early : n < max_turns) where
-      pub handled_part : (new : List Action) → TriedPart x h (n + 1) now new → Whoever x first (λ p d. IsFront first.actions new (all_handled x d).actions)
-      handled_part new front p d may = let by = came.each p d may in one_part x first now n p d h hs by early new (front p by.so_far by.may)
+    module _ (is_open_here : is_open x.label h ≡ true) where
+      pub too_long : max_turns ≤ n → Whoever x first (λ p d. HasHandled p x (all_handled x d) first now (handled.Fault TooLong h.line))
+      too_long past p d may = one_too_long x first now n p d h hs (came.each p d may) is_open_here past
 
-      module _ (next : Known) (answer : Handled) (one : Whoever x now (λ p d. HasTried p x h (n + 1) d now next answer)) where
-        can_next : CanHandle x next
-        can_next = let (p, d, may) = came.can in let tried_one = one p d may in (p, tried_one.after, tried_one.may)
+      module _ (early : n < max_turns) where
+        pub handled_part : (new : List Action) → TriedPart x h (n + 1) now new → Whoever x first (λ p d. IsFront first.actions new (all_handled x d).actions)
+        handled_part new front p d may = let by = came.each p d may in one_part x first now n p d h hs by is_open_here early new (front p by.so_far by.may)
 
-        pub came_on : (turns : ℕ) → answer ≡ handled.Through turns → Came x hs es turns first next
-        came_on turns is = record {
-          can = can_next;
-          entered = came.entered.1;
-          each = λ p d may. (let by = came.each p d may in one_on x first now n p d h hs by early next answer (one p by.so_far by.may) turns is);
-        }
+        module _ (next : Known) (answer : Handled) (one : Whoever x now (λ p d. HasTried p x h (n + 1) d now next answer)) where
+          can_next : CanHandle x next
+          can_next = let (p, d, may) = came.can in let tried_one = one p d may in (p, tried_one.after, tried_one.may)
 
-        pub faults_here : (kind : FaultKind) (line : ℕ) → answer ≡ handled.Fault kind line → Whoever x first (λ p d. HasHandled p x (all_handled x d) first next (handled.Fault kind line))
-        faults_here kind line is p d may = let by = came.each p d may in one_fault x first now n p d h hs by early next answer (one p by.so_far by.may) kind line is
+          pub came_on : (turns : ℕ) → answer ≡ handled.Through turns → Came x hs es turns first next
+          came_on turns is = record {
+            can = can_next;
+            entered = came.entered.1;
+            each = λ p d may. (let by = came.each p d may in one_on x first now n p d h hs by is_open_here early next answer (one p by.so_far by.may) turns is);
+          }
+
+          pub faults_here : (kind : FaultKind) (line : ℕ) → answer ≡ handled.Fault kind line → Whoever x first (λ p d. HasHandled p x (all_handled x d) first next (handled.Fault kind line))
+          faults_here kind line is p d may = let by = came.each p d may in one_fault x first now n p d h hs by is_open_here early next answer (one p by.so_far by.may) kind line is
 
   pub came_through : (left : List Handler) (entries : List ℕ) → Came x left entries n first now → (left ≡ []) ⊎ (entries ≡ []) → Whoever x first (λ p d. HasHandled p x (all_handled x d) first now (handled.Through n))
   came_through [] entries came past = λ p d may. one_through x first now n p d (came.each p d may)

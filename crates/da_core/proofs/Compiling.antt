@@ -13,7 +13,9 @@ use Rattle.query_plan.specs.declared.plan.Plan.{Plan}
 use Rattle.query_plan.specs.Questions.{norm_class}
 use Rattle.da_core.specs.declared.compiled.ClassCode.{ClassCode}
 use Rattle.da_core.specs.declared.compiled.Compiled.{Compiled}
+use Rattle.da_core.specs.declared.opened.Opened.{Opened}
 use Rattle.da_core.specs.Compiled.{HasCode, IsCodeFor, IsCompiled, program_of}
+use Rattle.da_core.specs.Opened.{opened}
 use Rattle.da_core.specs.PlanLimit.{is_large, large_lines}
 use Rattle.da_core.specs.Waits.{Waits, waits_of}
 use Rattle.da_core.proofs.Tasks.{get_before, get_last}
@@ -118,6 +120,13 @@ module _ (p lent : Program) (place : ℕ) (class : Class) (same : lent ≡ p) (t
       let both : ◌≡◌ {A = Option Class} (Some found) (Some class) = one_class (Some found) is in
       let one : found ≡ class = cc in
       made ∙ ap (λ c. waits_of c flags) one ∙ ap (waits_of class) (all ∙ ap (λ (x : Plan). x.flags) planned)
+
+  -- the opened patterns of its handlers
+  pub opened_found : (found : Class) → Some found ≡ slice_get lent.classes place → (all : List Opened) → all ≡ map opened found.handlers → all ≡ map opened class.handlers
+  opened_found found is all made =
+      let both : ◌≡◌ {A = Option Class} (Some found) (Some class) = one_class (Some found) is in
+      let one : found ≡ class = cc in
+      made ∙ ap (λ (c : Class). map opened c.handlers) one
 
   pub class_found : None ≡ slice_get lent.classes place → ⊥
   class_found none = let both : ◌≡◌ {A = Option Class} None (Some class) = one_class None none in cc

@@ -10,6 +10,7 @@ pub mod Fronts
 pub mod KeptLaw
 pub mod KnownLaws
 pub mod Laws
+pub mod Letting
 pub mod MessageForms
 pub mod Moving
 pub mod PlanLaws

@@ -7,7 +7,7 @@ use Rattle.da_lang.specs.declared.program.Program.{Program}
 use Rattle.da_lang.specs.declared.query.Node.{Node}
 use Rattle.da_lang.specs.Runs.{Halt, AtYield, UsedUp, Faults, Ran, run_to_yield}
 use Rattle.da_lang.specs.Shaped.{ShapedTasks}
-use Rattle.da_lang.specs.Steps.{move_step, moved, phase_after}
+use Rattle.da_lang.specs.Steps.{Step, moved, phase_after}
 use Rattle.da_lang.specs.World.{Data, Task, World, Phase, New, Waiting, Ended, Faulted, class_of}
 use Rattle.da_types.specs.KeepsShaped.{LeavesShaped}
 use Rattle.da_machine.specs.declared.machine.Machine.{Machine}
@@ -23,7 +23,7 @@ use Rattle.da_core.specs.declared.place.Stopped.{Stopped}
 use Rattle.da_core.specs.Begins.{CanMove, HasRun, IsBehind, MayRun, move_actions}
 use Rattle.da_core.specs.Compiled.{code_of}
 use Rattle.da_core.specs.Made.{HasBegun, HasMade, phase_at, phase_of, stopped_at}
-use Rattle.da_core.specs.StandsFor.{IsAt, IsPlace, StandsFor, program_of}
+use Rattle.da_core.specs.StandsFor.{IsAt, IsPlace, StandsFor, Whichever, program_of}
 use Rattle.da_core.specs.Told.{answers, answers_of, kept_of}
 use Rattle.da_core.proofs.KeptLaw.{rows_are}
 use Rattle.da_core.proofs.KnownLaws.{with_actions}
@@ -99,7 +99,11 @@ pub tells_answers : (core : Core) (w : World) (s : StandsFor core w)
     → answers w.data'.me s.class.queries w.data' ≡ answers_of w.data'.me (class_of (program_of core) w.data'.me) w.data'
 tells_answers core w s = sym (ap (λ class. answers_of w.data'.me class w.data') s.knows.is_class)
 
-module _ (core : Core) (w : World) (s : StandsFor core w) (k : ℕ) (code : ClassCode) (begin : Begin) (can : CanMove core w k code begin) where
+-- a front of the actions that are due was added, whatever the world is
+abbrev pub MovedPart : Core → ℕ → ClassCode → Begin → List Action → List Action → Type 0
+MovedPart core k code begin out given = Whichever core (λ w. (step : Step) → CanMove core w step k code begin → HasBegun core w step out given)
+
+module _ (core : Core) (w : World) (s : StandsFor core w) (step : Step) (k : ℕ) (code : ClassCode) (begin : Begin) (can : CanMove core w step k code begin) where
   abbrev p : Program
   p = program_of core
 
@@ -136,20 +140,20 @@ module _ (core : Core) (w : World) (s : StandsFor core w) (k : ℕ) (code : Clas
             at = at_behind p can.class code m after ran.halt run.behind;
           })
 
-      pub has_made : (out given : List Action) → own ≡ out → given ≡ known.actions → (answer : Stopped) → answer ≡ stopped_at spot → HasMade core w (move_step k) new answer out given
+      pub has_made : (out given : List Action) → own ≡ out → given ≡ known.actions → (answer : Stopped) → answer ≡ stopped_at spot → HasMade core w step new answer out given
       has_made out given from back answer is = record {
         after = moved me k ran;
-        leads = can.step;
+        leads = can.leads;
         stands = stands_after;
         same = left.same ∙ can.mine;
         stopped = ap phase_of is ∙ stops_so ran.todo spot ran.halt run.stands;
         added = back ∙ run.actions ∙ ap (λ x. own ++ move_actions x k ran) can.mine ∙ ap (λ xs. xs ++ move_actions me k ran) from;
       }
 
-  pub has_begun : (own out given told : List Action) → own ≡ out → given ≡ told → IsFront own told (move_actions can.d.me k ran) → HasBegun core w (move_step k) out given
+  pub has_begun : (own out given told : List Action) → own ≡ out → given ≡ told → IsFront own told (move_actions can.d.me k ran) → HasBegun core w step out given
   has_begun own out given told from back (n, is) = record {
     after = moved me k ran;
-    leads = can.step;
+    leads = can.leads;
     front = (
       n,
       back ∙ is ∙ ap (λ x. own ++ take n (move_actions x k ran)) can.mine ∙ ap (λ xs. xs ++ take n (move_actions me k ran)) from,

@@ -1,6 +1,6 @@
 -- How a process stands where its code stopped.
-use Rattle.std.proofs.Common.{◌≡◌, ℕ, List, [], ◌∷◌, ◌++◌, length, Option, Some, refl, sym, ap, ◌∙◌, subst, append_assoc, append-nil}
-use Rattle.std.specs.Prelude.{true, false, slice_get}
+use Rattle.std.proofs.Common.{◌≡◌, ℕ, ◌<◌, List, [], ◌∷◌, ◌++◌, length, Option, Some, refl, sym, ap, ◌∙◌, subst, append_assoc, append-nil}
+use Rattle.std.specs.Prelude.{true, false, is_some, slice_get}
 use Rattle.std.proofs.lemmas.Slice.Zip.{AllZip-long}
 use Rattle.da_values.specs.declared.val.Val.{Val}
 use Rattle.da_lang.specs.declared.event.Action.{Action}
@@ -23,10 +23,10 @@ use Rattle.da_core.specs.declared.compiled.ClassCode.{ClassCode}
 use Rattle.da_core.specs.declared.known.Known.{Known}
 use Rattle.da_core.specs.declared.place.Place.{Place}
 use Rattle.da_core.specs.declared.place.Place.TheVariants as place
-use Rattle.da_core.specs.declared.waits.Alternative.{Alternative}
-use Rattle.da_core.specs.Begins.{HasPoint, HasRun, HasStopped, MayStop, StandsAt, place_at}
+use Rattle.da_core.specs.declared.waits.Wait.{Wait}
+use Rattle.da_core.specs.Begins.{AreFew, HasPoint, HasRun, HasStopped, MayStop, StandsAt, place_at}
 use Rattle.da_core.specs.Known.{Knows}
-use Rattle.da_core.specs.StandsFor.{IsPlace}
+use Rattle.da_core.specs.StandsFor.{IsPlace, last_number}
 use Rattle.da_core.specs.Waits.{waits_of}
 use Rattle.da_core.proofs.KnownLaws.{me_is, with_actions}
 use Rattle.da_core.proofs.WaitLaws.{IsAlternative, await_waits, label_waits}
@@ -34,30 +34,31 @@ use Rattle.da_core.proofs.WaitLaws.{IsAlternative, await_waits, label_waits}
 -- AT A YIELD POINT
 
 -- where the point and what is waited for were found in their lists
-pub stands_there : (code : ClassCode) (number : ℕ) (point : YieldPoint) (alternatives : List Alternative) → Some point ≡ slice_get code.code.yields number
-    → Some alternatives ≡ slice_get code.waits number → (spot : Place) → spot ≡ place_at point.label (length alternatives) → StandsAt code number spot
-stands_there code number point alternatives yields waits spot is = record {
-  has = record { point = point; alternatives = alternatives; there = sym yields; waits = sym waits };
+pub stands_there : (code : ClassCode) (number : ℕ) (point : YieldPoint) (wait : Wait) → Some point ≡ slice_get code.code.yields number → Some wait ≡ slice_get code.waits number
+    → (spot : Place) → spot ≡ place_at point.label (length wait.alternatives) → AreFew point.label (length wait.alternatives) → StandsAt code number spot
+stands_there code number point wait yields waits spot is few = record {
+  has = record { point = point; wait = wait; there = sym yields; waits = sym waits };
   is = is;
+  few = few;
 }
 
 module _ (code : ClassCode) (class : Class) (number : ℕ) (loops : List (List Val)) (waits : code.waits ≡ waits_of class (norm_class class).flags) where
-  wait_there : (own : List Alternative) → slice_get (waits_of class (norm_class class).flags) number ≡ Some own → slice_get code.waits number ≡ Some own
+  wait_there : (own : Wait) → slice_get (waits_of class (norm_class class).flags) number ≡ Some own → slice_get code.waits number ≡ Some own
   wait_there own there = ap (λ ws. slice_get ws number) waits ∙ there
 
   -- a yield point stands in both lists
   pub has_point : (todo : List Task) → IsPoint code.code class number loops todo → HasPoint code number
-  has_point _ (IsPoint.at_label i rest entry is there numbered code_for) = record {
+  has_point _ (IsPoint.at_label i rest l entry is there numbered code_for) = record {
     point = record { label = true; entries = entry ∷ [] };
-    alternatives = [];
+    wait = record { alternatives = []; has_timeout = false; label = Some l };
     there = there;
-    waits = wait_there [] (label_waits class number numbered);
+    waits = wait_there (record { alternatives = []; has_timeout = false; label = Some l }) (label_waits class number l numbered);
   }
-  has_point _ (IsPoint.at_await i rest alts entries is there numbered each) =
-      let (own, found, all) = await_waits class number alts numbered in
+  has_point _ (IsPoint.at_await i rest alts timeout label entries is there numbered each) =
+      let (own, found, all) = await_waits class number alts (is_some timeout) label numbered in
       record {
         point = record { label = false; entries = entries };
-        alternatives = own;
+        wait = own;
         there = there;
         waits = wait_there own found;
       }
@@ -66,26 +67,32 @@ module _ (code : ClassCode) (class : Class) (number : ℕ) (loops : List (List V
     one_point : (point : YieldPoint) → slice_get code.code.yields number ≡ Some point → stands.has.point ≡ point
     one_point point there = let both : ◌≡◌ {A = Option YieldPoint} (Some stands.has.point) (Some point) = sym stands.has.there ∙ there in cc
 
-    one_wait : (own : List Alternative) → slice_get code.waits number ≡ Some own → stands.has.alternatives ≡ own
-    one_wait own there = let both : ◌≡◌ {A = Option (List Alternative)} (Some stands.has.alternatives) (Some own) = sym stands.has.waits ∙ there in cc
+    one_wait : (own : Wait) → slice_get code.waits number ≡ Some own → stands.has.wait ≡ own
+    one_wait own there = let both : ◌≡◌ {A = Option Wait} (Some stands.has.wait) (Some own) = sym stands.has.waits ∙ there in cc
 
     -- who stands there stands at the place of the world
     pub place_there : (todo : List Task) → IsPoint code.code class number loops todo → IsPlace todo spot Waiting
-    place_there _ (IsPoint.at_label i rest entry is there numbered code_for) =
+    place_there _ (IsPoint.at_label i rest l entry is there numbered code_for) =
         let label = one_point (record { label = true; entries = entry ∷ [] }) there in
-        let place_is : spot ≡ place.Label = stands.is ∙ ap (λ (x : YieldPoint). place_at x.label (length stands.has.alternatives)) label in
-        subst (λ x. IsPlace (Do i ∷ rest) x Waiting) (sym place_is) (record { item = i; rest = rest; first = refl; is = is })
-    place_there _ (IsPoint.at_await i rest alts entries is there numbered each) =
-        let (own, found, all) = await_waits class number alts numbered in
+        let place_is : spot ≡ place.Label = stands.is ∙ ap (λ (x : YieldPoint). place_at x.label (length stands.has.wait.alternatives)) label in
+        subst (λ x. IsPlace (Do i ∷ rest) x Waiting) (sym place_is) (l, record { item = i; rest = rest; first = refl; is = is })
+    place_there _ (IsPoint.at_await i rest alts timeout before entries is there numbered each) =
+        let (own, found, all) = await_waits class number alts (is_some timeout) before numbered in
         let label = one_point (record { label = false; entries = entries }) there in
         let those = one_wait own (wait_there own found) in
+        let count : length stands.has.wait.alternatives ≡ length alts =
+        ap (λ (x : Wait). length x.alternatives) those ∙ sym (AllZip-long (IsAlternative class) own.alternatives alts all.alternatives) in
+        let few : length stands.has.wait.alternatives < last_number = subst (λ (x : YieldPoint). AreFew x.label (length stands.has.wait.alternatives)) label stands.few in
         let place_is : spot ≡ place.Await (length alts) =
-        stands.is ∙ ap (λ (x : YieldPoint). place_at x.label (length stands.has.alternatives)) label
-        ∙ ap (λ (xs : List Alternative). place.Await (length xs)) those ∙ sym (ap place.Await (AllZip-long (IsAlternative class) own alts all)) in
+        stands.is ∙ ap (λ (x : YieldPoint). place_at x.label (length stands.has.wait.alternatives)) label
+        ∙ ap place.Await count in
         subst (λ x. IsPlace (Do i ∷ rest) x Waiting) (sym place_is) (record {
           alts = alts;
+          timeout = timeout;
+          label = before;
           begins = record { item = i; rest = rest; first = refl; is = is };
           size = refl;
+          few = subst (λ n. n < last_number) count few;
         })
 
 -- WHERE THE CODE STOPPED

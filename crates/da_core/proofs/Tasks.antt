@@ -16,7 +16,7 @@ use Rattle.da_lang.specs.Shaped.{IsItemOf, IsSetUp, IsTask, ShapedTasks}
 use Rattle.da_lang.specs.Steps.{first_tasks, preparing, setup_of_decl}
 use Rattle.da_lang.specs.Turns.{do_all, kind_of}
 use Rattle.da_lang.specs.World.{Task, Do, Prepare, at_number}
-use Rattle.da_types.proofs.shaped.TasksKept.{alt_block, block_tasks, do_all_tasks, run_item}
+use Rattle.da_types.proofs.shaped.TasksKept.{alt_block, block_tasks, do_all_tasks, run_item, timeout_block}
 
 -- the member that stands at a place is a member
 pub has_at : {A : Type 0} (xs : List A) (n : ℕ) (x : A) → slice_get xs n ≡ Some x → Has xs x
@@ -48,8 +48,12 @@ module _ (p : Program) (class : Class) (me : ℕ) where
     pub rest_shaped : ShapedTasks p class me rest
     rest_shaped = All-tail Is (Do i) rest (subst (All Is) first tasks)
 
-    pub alt_shaped : (alts : List Alt) (a : Alt) (n : ℕ) → kind_of i ≡ kind.Await alts → slice_get alts n ≡ Some a → ShapedTasks p class me (do_all (out-Alt a).body rest)
-    alt_shaped alts a n is there = block_tasks p class me i (out-Alt a).body rest item_shaped (alt_block i alts a is (has_at alts n a there)) rest_shaped
+    pub alt_shaped : (alts : List Alt) (timeout : Option (List Item)) (label : Option ℕ) (a : Alt) (n : ℕ) → kind_of i ≡ kind.Await alts timeout label → slice_get alts n ≡ Some a
+        → ShapedTasks p class me (do_all (out-Alt a).body rest)
+    alt_shaped alts timeout label a n is there = block_tasks p class me i (out-Alt a).body rest item_shaped (alt_block i alts a is (has_at alts n a there)) rest_shaped
+
+    pub timeout_shaped : (alts : List Alt) (body : List Item) (label : Option ℕ) → kind_of i ≡ kind.Await alts (Some body) label → ShapedTasks p class me (do_all body rest)
+    timeout_shaped alts body label is = block_tasks p class me i body rest item_shaped (timeout_block i alts body is) rest_shaped
 
 -- places in a list that got one more member
 pub get_before : {A : Type 0} (xs ys : List A) (n : ℕ) (x : A) → slice_get xs n ≡ Some x → slice_get (xs ++ ys) n ≡ Some x

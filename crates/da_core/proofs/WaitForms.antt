@@ -1,5 +1,5 @@
 -- What is waited for in a statement, by its form, and on the way through a list.
-use Rattle.std.specs.Prelude.{◌≡◌, ℕ, ◌+◌, ◌<◌, List, [], ◌∷◌, ◌++◌, length, map, get_or, refl, OnOk}
+use Rattle.std.specs.Prelude.{◌≡◌, ℕ, ◌+◌, ◌<◌, Bool, List, [], ◌∷◌, ◌++◌, length, map, Option, Some, None, is_some, unwrap_or, get_or, refl, OnOk}
 use Rattle.std.proofs.Common.{◌∙◌, ap, sym, subst, append_assoc, append-nil, drop, Result, Ok, Err}
 use Rattle.std.proofs.lemmas.List.{drop_more}
 use Rattle.da_lang.specs.declared.program.Alt.{Alt, out-Alt}
@@ -12,7 +12,7 @@ use Rattle.da_lang.specs.declared.program.ItemKind.TheFolds.{fold-roll-ItemKind,
 use Rattle.da_lang.specs.declared.program.RBranch.{RBranch, out-RBranch}
 use Rattle.da_lang.specs.declared.program.RExpr.{RExpr}
 use Rattle.da_core.specs.declared.waits.Alternative.{Alternative}
-use Rattle.da_core.specs.Waits.{AltTake, AltsTaken, Take, Taken, Waits, all_taken, alt_step, alt_take, alts_taken, await_taken, branch_step, branch_take, item_step, item_take, items_take, kind_step, kind_take, next_flag, none_taken}
+use Rattle.da_core.specs.Waits.{AltTake, AltsTaken, Take, Taken, Waits, all_taken, alt_step, alt_take, alts_taken, at_label, await_taken, branch_step, branch_take, item_step, item_take, items_take, kind_step, kind_take, next_flag, none_taken}
 
 -- ONE LAYER
 
@@ -67,11 +67,14 @@ module _ (flags : List ℕ) where
   pub take-Call : (args : List BindArg) (body : List Item) → kind_take (it.Call args body) flags ≡ items_take body flags
   take-Call args body = ap (λ (t : Take). t flags) (form (it.Call args body) (ItemKind-F.Call args body) (it.rolls-Call args body))
 
-  pub take-Await : (alts : List Alt) → kind_take (it.Await alts) flags ≡ await_taken (alts_taken (map alt_take alts) flags)
-  take-Await alts = ap (λ (t : Take). t flags) (form (it.Await alts) (ItemKind-F.Await alts) (it.rolls-Await alts))
+  pub take-Await : (alts : List Alt) (timeout : Option (List Item)) (label : Option ℕ)
+      → kind_take (it.Await alts timeout label) flags ≡ await_taken (alts_taken (map alt_take alts) flags) (is_some timeout) label (items_take (unwrap_or timeout []))
+  take-Await alts None label = ap (λ (t : Take). t flags) (form (it.Await alts None label) (ItemKind-F.Await alts None label) (it.rolls-Await alts None label))
+  take-Await alts (Some body) label =
+      ap (λ (t : Take). t flags) (form (it.Await alts (Some body) label) (ItemKind-F.Await alts (Some body) label) (it.rolls-Await alts (Some body) label))
 
-  pub take-Label : kind_take it.Label flags ≡ record { waits = [] ∷ []; left = flags }
-  take-Label = ap (λ (t : Take). t flags) (form it.Label ItemKind-F.Label it.rolls-Label)
+  pub take-Label : (l : ℕ) → kind_take (it.Label l) flags ≡ record { waits = at_label l ∷ []; left = flags }
+  take-Label l = ap (λ (t : Take). t flags) (form (it.Label l) (ItemKind-F.Label l) (it.rolls-Label l))
 
   pub take-Assign : (s : ℕ) (e : RExpr) → kind_take (it.Assign s e) flags ≡ none_taken flags
   take-Assign s e = ap (λ (t : Take). t flags) (form (it.Assign s e) (ItemKind-F.Assign s e) (it.rolls-Assign s e))
@@ -109,12 +112,27 @@ if_parts k branches bs other os flags left is one two three =
     ∙ ap (λ (t : Taken). t.waits) (take-If flags bs os)
     ∙ ap (λ l. (all_taken (map branch_take bs) flags).waits ++ (items_take os l).waits) (sym three)
 
--- where the alternatives come first, and then what is in their blocks
-pub await_parts : (k : ItemKind) (alts lent : List Alt) (own : List Alternative) (inside : Waits) (flags : List ℕ) → k ≡ it.Await alts → lent ≡ alts
-    → own ≡ (alts_taken (map alt_take lent) flags).own → inside ≡ (alts_taken (map alt_take lent) flags).inside → (kind_take k flags).waits ≡ (own ∷ []) ++ inside
-await_parts k alts lent own inside flags is one two three =
-    ap (λ x. (kind_take x flags).waits) (is ∙ ap it.Await (sym one)) ∙ ap (λ (t : Taken). t.waits) (take-Await flags lent)
-    ∙ ap (λ w. w ∷ (alts_taken (map alt_take lent) flags).inside) (sym two) ∙ ap (λ w. own ∷ w) (sym three)
+-- where the alternatives come first, then what is in their blocks, and then the block of the timeout
+pub await_parts : (k : ItemKind) (alts lent : List Alt) (timeout : Option (List Item)) (body : List Item) (label : Option ℕ) (own : List Alternative) (has : Bool) (inside : Waits) (flags left : List ℕ) → k ≡ it.Await alts timeout label → lent ≡ alts
+    → unwrap_or timeout [] ≡ body → has ≡ is_some timeout → own ≡ (alts_taken (map alt_take lent) flags).own → inside ≡ (alts_taken (map alt_take lent) flags).inside → left ≡ (alts_taken (map alt_take lent) flags).left
+    → (kind_take k flags).waits ≡ (record { alternatives = own; has_timeout = has; label = label } ∷ inside) ++ (items_take body left).waits
+await_parts k alts lent timeout body label own has inside flags left is one some timed two three four =
+    let taken = alts_taken (map alt_take lent) flags in
+    ap (λ x. (kind_take x flags).waits) (is ∙ ap (λ xs. it.Await xs timeout label) (sym one)) ∙ ap (λ (t : Taken). t.waits) (take-Await flags lent timeout label)
+    ∙ ap (λ items. (await_taken taken (is_some timeout) label (items_take items)).waits) some
+    ∙ ap (λ b. (await_taken taken b label (items_take body)).waits) (sym timed)
+    ∙ ap (λ alternatives. (record { alternatives = alternatives; has_timeout = has; label = label } ∷ taken.inside) ++ (items_take body taken.left).waits) (sym two)
+    ∙ ap (λ w. (record { alternatives = own; has_timeout = has; label = label } ∷ w) ++ (items_take body taken.left).waits) (sym three)
+    ∙ ap (λ l. (record { alternatives = own; has_timeout = has; label = label } ∷ inside) ++ (items_take body l).waits) (sym four)
+
+-- where nothing comes behind the alternatives
+pub await_alone : (k : ItemKind) (alts lent : List Alt) (timeout : Option (List Item)) (label : Option ℕ) (own : List Alternative) (has : Bool) (inside old new : Waits) (flags : List ℕ) → k ≡ it.Await alts timeout label → lent ≡ alts
+    → timeout ≡ None → has ≡ is_some timeout → own ≡ (alts_taken (map alt_take lent) flags).own → inside ≡ (alts_taken (map alt_take lent) flags).inside
+    → new ≡ old ++ (record { alternatives = own; has_timeout = has; label = label } ∷ inside) → new ≡ old ++ (kind_take k flags).waits
+await_alone k alts lent timeout label own has inside old new flags is one none timed two three put =
+    let first : Waits = record { alternatives = own; has_timeout = has; label = label } ∷ inside in
+    put ∙ ap (λ w. old ++ w) (sym (append-nil first)
+    ∙ sym (await_parts k alts lent timeout [] label own has inside flags (alts_taken (map alt_take lent) flags).left is one (ap (λ t. unwrap_or t []) none) timed two three refl))
 
 -- ON THE WAY THROUGH A LIST
 

@@ -1,6 +1,6 @@
 -- What is waited for at a yield point: the alternatives of its `await`, each with a flag that has a row exactly where its
 -- condition holds.
-use Rattle.std.specs.Prelude.{◌≡◌, ℕ, List, [], ◌∷◌, ◌++◌, drop, flat_map, map, Option, None, Some, refl, slice_get}
+use Rattle.std.specs.Prelude.{◌≡◌, ℕ, List, [], ◌∷◌, ◌++◌, drop, flat_map, map, Bool, true, false, Option, None, Some, unwrap_or, refl, slice_get}
 use Rattle.std.specs.List.{AllByRecursion, AllZip}
 use Rattle.std.proofs.Common.{◌∙◌, ap, sym, subst, append_assoc, append-nil}
 use Rattle.da_lang.specs.declared.program.Alt.{Alt, roll-Alt}
@@ -29,7 +29,8 @@ use Rattle.query_plan.specs.Questions.{Asked, Met, alt_met_step, asks, awaited, 
 use Rattle.query_plan.specs.Told.{TellsFlag, has_row}
 use Rattle.da_core.proofs.PlanLaws.{Together, zipped_at}
 use Rattle.da_core.specs.declared.waits.Alternative.{Alternative}
-use Rattle.da_core.specs.Waits.{AltTake, AltsTaken, Take, Taken, all_taken, alt_take, alts_taken, await_taken, branch_take, class_take, handler_take, item_take, items_take, kind_take, next_flag, none_taken, waits_of}
+use Rattle.da_core.specs.declared.waits.Wait.{Wait}
+use Rattle.da_core.specs.Waits.{AltTake, AltsTaken, Take, Taken, all_taken, alt_take, alts_taken, at_label, await_taken, branch_take, class_take, handler_take, item_take, items_take, kind_take, next_flag, none_taken, waits_of}
 use Rattle.da_core.proofs.WaitForms.{alt_layer, both_taken, branch_layer, item_layer, take-Add, take-Assign, take-Await, take-Call, take-Del, take-For, take-If, take-Label, take-Output, take-Pass, take-Send, take-While}
 
 zip_append : {A B : Type 0} (R : A → B → Type 0) (xs : List A) (ys : List B) (zs : List A) (ws : List B) → AllZip R xs ys → AllZip R zs ws → AllZip R (xs ++ zs) (ys ++ ws)
@@ -47,10 +48,16 @@ module _ (R : Cond → ℕ → Type 0) where
     binds : alternative.binds ≡ way.binds
     flag : R way.waits_for alternative.flag
 
-  -- so do all alternatives of a yield point; a label has none
-  abbrev IsAwaited : List Alternative → Point → Type 0
-  IsAwaited own AtLabel = own ≡ []
-  IsAwaited own (AtAwait ways) = AllZip IsWay own ways
+  -- so do all alternatives of an `await`, with the same label, and a timeout of both or of none
+  record IsAt (own : Wait) (ways : List Way) (timed : Bool) (label : Option ℕ) : Type 0 where
+    alternatives : AllZip IsWay own.alternatives ways
+    timed_is : own.has_timeout ≡ timed
+    label_is : own.label ≡ label
+
+  -- a label is a yield point as it stands
+  abbrev IsAwaited : Wait → Point → Type 0
+  IsAwaited own (AtLabel l) = own ≡ at_label l
+  IsAwaited own (AtAwait ways timed label) = IsAt own ways timed label
 
   -- it was taken for these yield points, and the flags that are left go with what is met next
   record Told (points : Points) (next : List Met) (taken : Taken) : Type 0 where
@@ -113,11 +120,8 @@ module _ (R : Cond → ℕ → Type 0) where
         left = others.left;
       })
 
-  awaits : (alts : List Alt) → AllByRecursion AltGoes alts → Goes (joined (map alt_met alts)) (AtAwait (ways_of alts) ∷ flat_map alt_points alts) (λ flags. await_taken (alts_taken (map alt_take alts) flags))
-  awaits alts each next flags all = let told = alts_go alts each next flags all in record { waits = (told.own, told.inside); left = told.left }
-
-  labels : Goes [] (AtLabel ∷ []) (λ flags. record { waits = [] ∷ []; left = flags })
-  labels next flags all = record { waits = (refl, tt); left = all }
+  labels : (l : ℕ) → Goes [] (AtLabel l ∷ []) (λ flags. record { waits = at_label l ∷ []; left = flags })
+  labels l next flags all = record { waits = (refl, tt); left = all }
 
   -- STATEMENTS
 
@@ -133,6 +137,20 @@ module _ (R : Cond → ℕ → Type 0) where
   body_goes : (body : List Item) → AllByRecursion ItemGoes body → Goes (joined (map item_met body)) (block_points body) (items_take body)
   body_goes = all_go item_met points_in item_take
 
+  -- the alternatives of an `await`, and then the block of its timeout
+  awaits : (alts : List Alt) (body : List Item) (timed : Bool) (label : Option ℕ) → AllByRecursion AltGoes alts → AllByRecursion ItemGoes body
+      → Goes (joined (map alt_met alts) ++ joined (map item_met body)) (AtAwait (ways_of alts) timed label ∷ (flat_map alt_points alts ++ block_points body))
+      (λ flags. await_taken (alts_taken (map alt_take alts) flags) timed label (items_take body))
+  awaits alts body timed label each others next flags all =
+      let met = joined (map item_met body) in
+      let taken = alts_taken (map alt_take alts) flags in
+      let told = alts_go alts each (met ++ next) flags (subst (λ x. AllZip R (awaited x) flags) (append_assoc (joined (map alt_met alts)) met next) all) in
+      let last = body_goes body others next taken.left told.left in
+      record {
+        waits = (record { alternatives = told.own; timed_is = refl; label_is = refl }, zip_append IsAwaited taken.inside (flat_map alt_points alts) (items_take body taken.left).waits (block_points body) told.inside last.waits);
+        left = last.left;
+      }
+
   -- by the form of the statement
   form : (k : ItemKind) (l : ItemKind-F ItemKind Alt Item RBranch) → roll-ItemKind l ≡ k → (took : Take) → ((flags : List ℕ) → kind_take k flags ≡ took flags)
       → Goes (kind_met_step (map-ItemKind ItemKind Alt Item RBranch (List Met) (List Met) (List Met) (List Met) kind_met alt_met item_met branch_met l)) (points_in_kind l) took → KindGoes k
@@ -146,6 +164,14 @@ module _ (R : Cond → ℕ → Type 0) where
       form (it.If branches other) (ItemKind-F.If branches other) (it.rolls-If branches other) (both_taken (all_taken (map branch_take branches)) (items_take other)) (λ flags. take-If flags branches other)
       (both_go (joined (map branch_met branches)) (joined (map item_met other)) (flat_map branch_points branches) (block_points other) (all_taken (map branch_take branches)) (items_take other)
       (all_go branch_met branch_points branch_take branches one) (body_goes other two))
+
+  await_goes : (alts : List Alt) (timeout : Option (List Item)) (label : Option ℕ) → AllByRecursion AltGoes alts → AllByRecursion ItemGoes (unwrap_or timeout []) → KindGoes (it.Await alts timeout label)
+  await_goes alts None label each others =
+      form (it.Await alts None label) (ItemKind-F.Await alts None label) (it.rolls-Await alts None label) (λ flags. await_taken (alts_taken (map alt_take alts) flags) false label (items_take [])) (λ flags. take-Await flags alts None label)
+      (awaits alts [] false label each others)
+  await_goes alts (Some body) label each others =
+      form (it.Await alts (Some body) label) (ItemKind-F.Await alts (Some body) label) (it.rolls-Await alts (Some body) label) (λ flags. await_taken (alts_taken (map alt_take alts) flags) true label (items_take body)) (λ flags. take-Await flags alts (Some body) label)
+      (awaits alts body true label each others)
 
   alt_told : (b : Cond) (body : List Item) (next : List Met) (flags : List ℕ) → AllByRecursion ItemGoes body → AllZip R (b ∷ awaited (joined (map item_met body) ++ next)) flags → AltTold b body next flags
   alt_told b body next [] each all = absurd all
@@ -193,8 +219,8 @@ module _ (R : Cond → ℕ → Type 0) where
     while = λ e body each. form (it.While e body) (ItemKind-F.While e body) (it.rolls-While e body) (items_take body) (λ flags. take-While flags e body) (body_goes body each);
     for = λ s e body each. form (it.For s e body) (ItemKind-F.For s e body) (it.rolls-For s e body) (items_take body) (λ flags. take-For flags s e body) (body_goes body each);
     call = λ args body each. form (it.Call args body) (ItemKind-F.Call args body) (it.rolls-Call args body) (items_take body) (λ flags. take-Call flags args body) (body_goes body each);
-    await = λ alts each. form (it.Await alts) (ItemKind-F.Await alts) (it.rolls-Await alts) (λ flags. await_taken (alts_taken (map alt_take alts) flags)) (λ flags. take-Await flags alts) (awaits alts each);
-    label = form it.Label ItemKind-F.Label it.rolls-Label (λ flags. record { waits = [] ∷ []; left = flags }) take-Label labels;
+    await = await_goes;
+    label = λ l. form (it.Label l) (ItemKind-F.Label l) (it.rolls-Label l) (λ flags. record { waits = at_label l ∷ []; left = flags }) (λ flags. take-Label flags l) (labels l);
     pass = form it.Pass ItemKind-F.Pass it.rolls-Pass none_taken take-Pass nothing;
     alt = alt_goes;
     item = item_goes;
@@ -218,12 +244,12 @@ module _ (R : Cond → ℕ → Type 0) where
       (through (λ (h : Handler). flat_map item_met h.body) (λ h. flat_map points_in h.body) handler_take class.handlers (λ h. items_go h.body))
 
   -- at each yield point
-  of_point : (o : Option (List Alternative)) (point : Point) → Together IsAwaited o (Some point) → (own : List Alternative) × (o ≡ Some own) × IsAwaited own point
+  of_point : (o : Option Wait) (point : Point) → Together IsAwaited o (Some point) → (own : Wait) × (o ≡ Some own) × IsAwaited own point
   of_point None point both = absurd both
   of_point (Some own) point both = (own, refl, both)
 
   point_waits : (class : Class) (flags : List ℕ) → AllZip R (awaited (class_met class)) flags → (k : ℕ) (point : Point) → IsNumbered class k point
-      → (own : List Alternative) × (slice_get (waits_of class flags) k ≡ Some own) × IsAwaited own point
+      → (own : Wait) × (slice_get (waits_of class flags) k ≡ Some own) × IsAwaited own point
   point_waits class flags all k point numbered =
       let told = class_goes class [] flags (subst (λ met. AllZip R (awaited met) flags) (sym (append-nil (class_met class))) all) in
       of_point (slice_get (waits_of class flags) k) point
@@ -254,15 +280,23 @@ are_alternatives class (alternative ∷ own) [] all = absurd all
 are_alternatives class (alternative ∷ own) (a ∷ alts) all = (record { found = all.0.found; binds = all.0.binds; row = all.0.flag }, are_alternatives class own alts all.1)
 
 waits_at : (class : Class) (k : ℕ) (point : Point) → IsNumbered class k point
-    → (own : List Alternative) × (slice_get (waits_of class (norm_class class).flags) k ≡ Some own) × IsAwaited (Tells (norm_class class).nodes) own point
+    → (own : Wait) × (slice_get (waits_of class (norm_class class).flags) k ≡ Some own) × IsAwaited (Tells (norm_class class).nodes) own point
 waits_at class k point numbered =
     let plan = norm_class class in
     point_waits (Tells plan.nodes) class plan.flags (each_tells plan.nodes (awaited (class_met class)) plan.flags (class_law class).flags) k point numbered
 
--- at an `await` there is one for each of its alternatives, in their order; at a label there is none
-pub await_waits : (class : Class) (k : ℕ) (alts : List Alt) → IsNumbered class k (AtAwait (ways_of alts))
-    → (own : List Alternative) × (slice_get (waits_of class (norm_class class).flags) k ≡ Some own) × AllZip (IsAlternative class) own alts
-await_waits class k alts numbered = let (own, there, all) = waits_at class k (AtAwait (ways_of alts)) numbered in (own, there, are_alternatives class own alts all)
+-- what is waited for at an `await`: there is one for each of its alternatives, in their order
+pub record IsWait (class : Class) (own : Wait) (alts : List Alt) (timed : Bool) (label : Option ℕ) : Type 0 where
+  pub alternatives : AllZip (IsAlternative class) own.alternatives alts
+  pub timed_is : own.has_timeout ≡ timed
+  pub label_is : own.label ≡ label
 
-pub label_waits : (class : Class) (k : ℕ) → IsNumbered class k AtLabel → slice_get (waits_of class (norm_class class).flags) k ≡ Some []
-label_waits class k numbered = let (own, there, none) = waits_at class k AtLabel numbered in there ∙ ap Some none
+pub await_waits : (class : Class) (k : ℕ) (alts : List Alt) (timed : Bool) (label : Option ℕ) → IsNumbered class k (AtAwait (ways_of alts) timed label)
+    → (own : Wait) × (slice_get (waits_of class (norm_class class).flags) k ≡ Some own) × IsWait class own alts timed label
+await_waits class k alts timed label numbered =
+    let (own, there, all) = waits_at class k (AtAwait (ways_of alts) timed label) numbered in
+    (own, there, record { alternatives = are_alternatives class own.alternatives alts all.alternatives; timed_is = all.timed_is; label_is = all.label_is })
+
+-- at a label there are no alternatives
+pub label_waits : (class : Class) (k l : ℕ) → IsNumbered class k (AtLabel l) → slice_get (waits_of class (norm_class class).flags) k ≡ Some (at_label l)
+label_waits class k l numbered = let (own, there, is) = waits_at class k (AtLabel l) numbered in there ∙ ap Some is

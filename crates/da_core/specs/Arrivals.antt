@@ -1,5 +1,6 @@
 -- The arrival of a message at a process in code, and the run of the handlers.
 use Rattle.std.specs.Prelude.{◌≡◌, ℕ, List, [], ◌∷◌, ◌++◌, Option}
+use Rattle.std.specs.List.{filter}
 use Rattle.da_values.specs.declared.val.Val.{Val}
 use Rattle.da_values.specs.declared.value.Value.{Value}
 use Rattle.da_values.specs.declared.value.Value.TheVariants as kept
@@ -11,6 +12,7 @@ use Rattle.da_lang.specs.declared.program.Handler.{Handler}
 use Rattle.da_lang.specs.declared.program.Program.{Program}
 use Rattle.da_lang.specs.declared.code.Instr.TheVariants as op
 use Rattle.da_lang.specs.Accepted.{IsAccepted}
+use Rattle.da_lang.specs.Labels.{is_open}
 use Rattle.da_lang.specs.Matching.{Row, matched_entry}
 use Rattle.da_lang.specs.Runs.{Halt, AtYield, Faults, Ran, behind}
 use Rattle.da_lang.specs.Shaped.{IsEntry, ShapedData}
@@ -77,9 +79,9 @@ row_for x h d = matched_entry d h.message h.from (val_of x.message.now) x.from [
 abbrev pub tried : Delivery → Handler → ℕ → Data → (ℕ → Data → Ran) → Ran
 tried x h n d go = try_handler x.class.now h n d (row_for x h d) go
 
--- the run of all handlers
+-- the run of all handlers that are open at the label where the process waits
 abbrev pub all_handled : Delivery → Data → Ran
-all_handled x d = handle x.class.now (val_of x.message.now) x.from x.class.now.handlers 0 d
+all_handled x d = handle x.class.now (val_of x.message.now) x.from (filter (is_open x.label) x.class.now.handlers) 0 d
 
 -- how handlers stop
 abbrev pub halt_of : Handled → Halt

@@ -1,5 +1,6 @@
 -- How a move goes on in the code, and how the process stands behind it.
-use Rattle.std.specs.Prelude.{◌≡◌, ℕ, zero, suc, ◌≤◌, Bool, true, false, List, [], ◌∷◌, ◌++◌, length, Option, Some, None, slice_get}
+use Rattle.std.specs.Prelude.{◌≡◌, ℕ, zero, suc, ◌≤◌, ◌<◌, Bool, true, false, not, ◌&&◌, if◌then◌else◌, List, [], ◌∷◌, ◌++◌, length, Option, Some, None, slice_get}
+use Rattle.std.specs.List.{list_any}
 use Rattle.std.specs.Option.{option_map}
 use Rattle.da_lang.specs.declared.code.Instr.{Instr}
 use Rattle.da_lang.specs.declared.code.Instr.TheVariants as op
@@ -11,7 +12,7 @@ use Rattle.da_lang.specs.Accepted.{IsAccepted}
 use Rattle.da_lang.specs.Runs.{Ran, run_to_yield}
 use Rattle.da_lang.specs.Shaped.{ShapedData, ShapedTasks}
 use Rattle.da_lang.specs.Turns.{bind_found}
-use Rattle.da_lang.specs.Steps.{closing, move_step, moved, phase_after, proc_step}
+use Rattle.da_lang.specs.Steps.{Step, closing, moved, phase_after, proc_step}
 use Rattle.da_lang.specs.World.{Data, Task, World, Phase, Waiting}
 use Rattle.da_machine.specs.declared.code.Code.{Code}
 use Rattle.da_machine.specs.declared.code.YieldPoint.{YieldPoint}
@@ -27,9 +28,10 @@ use Rattle.da_core.specs.declared.moves.Begin.{Begin}
 use Rattle.da_core.specs.declared.place.Place.{Place}
 use Rattle.da_core.specs.declared.place.Place.TheVariants as place
 use Rattle.da_core.specs.declared.waits.Alternative.{Alternative}
+use Rattle.da_core.specs.declared.waits.Wait.{Wait}
 use Rattle.da_core.specs.Compiled.{IsCodeFor, code_of}
 use Rattle.da_core.specs.Known.{Knows}
-use Rattle.da_core.specs.StandsFor.{IsPlace, IsWaiting, program_of}
+use Rattle.da_core.specs.StandsFor.{IsPlace, IsWaiting, last_number, program_of}
 use Rattle.da_core.specs.Waits.{waits_of}
 use Rattle.query_plan.specs.Nodes.{node_rows}
 use Rattle.query_plan.specs.Questions.{norm_class}
@@ -59,22 +61,31 @@ abbrev pub if_flag : Option Bool → Option Begin → Option Begin
 if_flag (Some true) begin = begin
 if_flag _ begin = None
 
--- THE ALTERNATIVE OF A MOVE
+-- WHAT IS WAITED FOR
+
+-- where this instruction is a yield point
+abbrev pub wait_behind : ClassCode → Option Instr → Option Wait
+wait_behind code (Some (op.Yield number)) = slice_get code.waits number
+wait_behind code _ = None
+
+-- at a place in the code
+abbrev pub wait_at : ClassCode → ℕ → Option Wait
+wait_at code at = wait_behind code (slice_get code.code.instrs at)
+
+-- the label of a yield point, if it has one
+abbrev pub label_of : Option Wait → Option ℕ
+label_of None = None
+label_of (Some wait) = wait.label
 
 -- alternative n, counted from 0, of those of a yield point, if they are there
-abbrev pub alternative_of : Option (List Alternative) → ℕ → Option Alternative
+abbrev pub alternative_of : Option Wait → ℕ → Option Alternative
 alternative_of None n = None
-alternative_of (Some alternatives) n = slice_get alternatives n
-
--- what is waited for where this instruction is a yield point
-abbrev pub waits_behind : ClassCode → Option Instr → Option (List Alternative)
-waits_behind code (Some (op.Yield number)) = slice_get code.waits number
-waits_behind code _ = None
+alternative_of (Some wait) n = slice_get wait.alternatives n
 
 -- the alternative that the move of this number takes at a place in the code; the move 0 takes none
 abbrev pub alternative_at : ClassCode → ℕ → ℕ → Option Alternative
 alternative_at code at zero = None
-alternative_at code at (suc n) = alternative_of (waits_behind code (slice_get code.code.instrs at)) n
+alternative_at code at (suc n) = alternative_of (wait_at code at) n
 
 -- WHERE IT GOES ON
 
@@ -93,6 +104,21 @@ begin_at class d code at place.New zero = Some (record { entry = at; turns = 0 }
 begin_at class d code at place.Label zero = behind_turn (entry_behind code.code at 0)
 begin_at class d code at (place.Await count) k = begin_at_await class d code at k
 begin_at class d code at _ k = None
+
+-- WHERE A TIMEOUT GOES ON
+
+-- whether the flag of some of these alternatives has a row
+abbrev pub some_told : Class → Data → List Alternative → Bool
+some_told class d alternatives = list_any (λ a. has_row (node_rows d (norm_class class).nodes a.flag)) alternatives
+
+-- whether the time may run out: there is a block for that, and no alternative may be taken
+abbrev pub may_time_out : Class → Data → Option Wait → Bool
+may_time_out class d None = false
+may_time_out class d (Some wait) = wait.has_timeout && not (some_told class d wait.alternatives)
+
+-- where it goes on at an `await` of so many alternatives, if it is allowed: its entry stands behind theirs
+abbrev pub timeout_at : Class → Data → ClassCode → ℕ → ℕ → Option Begin
+timeout_at class d code at count = if may_time_out class d (wait_at code at) then behind_turn (entry_behind code.code at count) else None
 
 -- THE LEAST ROW
 
@@ -115,8 +141,8 @@ pub record MayRun (p : Program) (class : Class) (code : ClassCode) (known : Know
   pub code_for : CodeFor code.code class begin.entry m.loops todo
   pub early : begin.turns ≤ 1
 
--- the move of this number is allowed, and is the run from this entry of a process that knows d
-pub record CanMove (core : Core) (w : World) (k : ℕ) (code : ClassCode) (begin : Begin) : Type 0 where
+-- the step is allowed, and is the run from this entry of a process that knows d, told with this number
+pub record CanMove (core : Core) (w : World) (step : Step) (k : ℕ) (code : ClassCode) (begin : Begin) : Type 0 where
   pub place : ℕ
   pub class : Class
   pub d : Data
@@ -124,17 +150,17 @@ pub record CanMove (core : Core) (w : World) (k : ℕ) (code : ClassCode) (begin
   pub code_is : code_of core.compiled.now w.data'.me ≡ Some code
   pub is : IsCodeFor (program_of core) place class code
   pub mine : d.me ≡ w.data'.me
-  pub step : proc_step (program_of core) w (move_step k) ≡ Some (moved w.data'.me k (run_to_yield class begin.turns d todo))
+  pub leads : proc_step (program_of core) w step ≡ Some (moved w.data'.me k (run_to_yield class begin.turns d todo))
   pub may : MayRun (program_of core) class code core.known core.machine k begin d todo
 
 -- HOW THE PROCESS STANDS BEHIND IT
 
--- the code stopped in front of a yield point that is there, with its alternatives; or it did not stop in front of one
+-- the code stopped in front of a yield point that is there, with what is waited for at it; or it did not stop in front of one
 pub record HasPoint (code : ClassCode) (number : ℕ) : Type 0 where
   pub point : YieldPoint
-  pub alternatives : List Alternative
+  pub wait : Wait
   pub there : slice_get code.code.yields number ≡ Some point
-  pub waits : slice_get code.waits number ≡ Some alternatives
+  pub waits : slice_get code.waits number ≡ Some wait
 
 abbrev pub MayStop : ClassCode → Stop → Type 0
 MayStop code (stop.Yield number) = HasPoint code number
@@ -148,10 +174,16 @@ abbrev pub place_at : Bool → ℕ → Place
 place_at true count = place.Label
 place_at false count = place.Await count
 
+-- the numbers of the alternatives and of a timeout have 32 bits
+abbrev pub AreFew : Bool → ℕ → Type 0
+AreFew true count = Unit {0}
+AreFew false count = count < last_number
+
 -- it waits there, at the yield point of this number
 pub record StandsAt (code : ClassCode) (number : ℕ) (place : Place) : Type 0 where
   pub has : HasPoint code number
-  pub is : place ≡ place_at has.point.label (length has.alternatives)
+  pub is : place ≡ place_at has.point.label (length has.wait.alternatives)
+  pub few : AreFew has.point.label (length has.wait.alternatives)
 
 -- where the process stands whose code stopped so; the end and a fault are told
 abbrev pub HasStopped : ClassCode → Known → Known → Stop → Place → Type 0

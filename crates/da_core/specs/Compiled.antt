@@ -1,5 +1,5 @@
 -- A program with the code and the plans of its classes.
-use Rattle.std.specs.Prelude.{◌≡◌, ℕ, suc, ◌-◌, nat_eq, if◌then◌else◌, List, [], ◌∷◌, take, Option, Some, None, slice_get}
+use Rattle.std.specs.Prelude.{◌≡◌, ℕ, suc, ◌-◌, nat_eq, if◌then◌else◌, List, [], ◌∷◌, map, take, Option, Some, None, slice_get}
 use Rattle.da_lang.specs.declared.program.Class.{Class}
 use Rattle.da_lang.specs.declared.program.ProcDecl.{ProcDecl}
 use Rattle.da_lang.specs.declared.program.Program.{Program}
@@ -10,18 +10,20 @@ use Rattle.query_plan.specs.PlanLive.{plan_live}
 use Rattle.query_plan.specs.Questions.{norm_class}
 use Rattle.da_core.specs.declared.compiled.ClassCode.{ClassCode}
 use Rattle.da_core.specs.declared.compiled.Compiled.{Compiled}
+use Rattle.da_core.specs.Opened.{opened}
 use Rattle.da_core.specs.Waits.{waits_of}
 
 abbrev pub program_of : Compiled → Program
 program_of c = c.typed
 
--- the code of the class at this place of the program, its plan, what is waited for at each of its yield points, and its live
--- patterns
+-- the code of the class at this place of the program, its plan, what is waited for at each of its yield points, its live
+-- patterns, and the opened patterns of its handlers
 pub record IsCodeFor (p : Program) (place : ℕ) (class : Class) (c : ClassCode) : Type 0 where
   pub code : IsCodeOf p place class c.code
   pub plan : c.plan ≡ norm_class class
   pub waits : c.waits ≡ waits_of class (norm_class class).flags
   pub live : c.live.patterns ≡ plan_live (norm_class class).nodes
+  pub opened : c.opened ≡ map opened class.handlers
 
 -- it stands in the list of codes
 pub record HasCode (p : Program) (codes : List ClassCode) (place : ℕ) (class : Class) : Type 0 where

@@ -3,6 +3,7 @@ pub mod Begins
 pub mod Compiled
 pub mod Known
 pub mod Made
+pub mod Opened
 pub mod PlanLimit
 pub mod StandsFor
 pub mod Told

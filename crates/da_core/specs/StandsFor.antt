@@ -1,5 +1,5 @@
 -- The worlds that a process in code stands for.
-use Rattle.std.specs.Prelude.{◌≡◌, ℕ, Bool, false, List, [], ◌∷◌, length, Some}
+use Rattle.std.specs.Prelude.{◌≡◌, ℕ, ◌<◌, Bool, false, List, [], ◌∷◌, length, Option, Some}
 use Rattle.da_lang.specs.declared.code.Instr.TheVariants as op
 use Rattle.da_lang.specs.declared.program.Alt.{Alt}
 use Rattle.da_lang.specs.declared.program.Class.{Class}
@@ -38,22 +38,34 @@ pub record BeginsWith (todo : List Task) (kind : ItemKind-F ItemKind Alt Item RB
   pub first : todo ≡ Do item ∷ rest
   pub is : kind_of item ≡ kind
 
--- an `await` of so many alternatives
+-- a label
+abbrev pub IsLabelled : List Task → Type 0
+IsLabelled todo = (label : ℕ) × BeginsWith todo (kind.Label label)
+
+-- the greatest number of 32 bits
+abbrev pub last_number : ℕ
+last_number = 4294967295
+
+-- an `await` of so many alternatives, whose timeout has a number of 32 bits too
 pub record Awaits (todo : List Task) (count : ℕ) : Type 0 where
   pub alts : List Alt
-  pub begins : BeginsWith todo (kind.Await alts)
+  pub timeout : Option (List Item)
+  pub label : Option ℕ
+  pub begins : BeginsWith todo (kind.Await alts timeout label)
   pub size : length alts ≡ count
+  pub few : count < last_number
 
 -- where a process stands: its place is that of the world
 abbrev pub IsPlace : List Task → Place → Phase → Type 0
 IsPlace todo place.New New = todo ≡ []
-IsPlace todo place.Label Waiting = BeginsWith todo kind.Label
+IsPlace todo place.Label Waiting = IsLabelled todo
 IsPlace todo (place.Await count) Waiting = Awaits todo count
 IsPlace todo place.Ended Ended = Unit {0}
 IsPlace todo place.Faulted Faulted = Unit {0}
 IsPlace todo place phase = ⊥
 
--- the machine stands in front of a yield point, and the code there stands for what is to do
+-- The machine stands in front of a yield point, and the code there stands for what is to do. So the alternatives, the block for
+-- a timeout and the label are those of the yield point.
 pub record IsWaiting (class : Class) (code : Code) (m : Machine) (todo : List Task) : Type 0 where
   pub number : ℕ
   pub there : Has code m.place (op.Yield number)

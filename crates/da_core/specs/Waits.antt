@@ -1,5 +1,5 @@
 -- What is waited for at the yield points of a class, with the flags of its plan.
-use Rattle.std.specs.Prelude.{ℕ, List, [], ◌∷◌, ◌++◌, map, drop, Option, get_or}
+use Rattle.std.specs.Prelude.{ℕ, Bool, false, List, [], ◌∷◌, ◌++◌, map, drop, Option, Some, is_some, unwrap_or, get_or}
 use Rattle.da_lang.specs.declared.program.Alt.{Alt}
 use Rattle.da_lang.specs.declared.program.Class.{Class}
 use Rattle.da_lang.specs.declared.program.Handler.{Handler}
@@ -9,10 +9,15 @@ use Rattle.da_lang.specs.declared.program.ItemKind.TheFolds.{fold-Alt, fold-Item
 use Rattle.da_lang.specs.declared.program.ItemKind.TheOpen.{ItemKind-F, Alt-F, Item-F, RBranch-F}
 use Rattle.da_lang.specs.declared.program.RBranch.{RBranch}
 use Rattle.da_core.specs.declared.waits.Alternative.{Alternative}
+use Rattle.da_core.specs.declared.waits.Wait.{Wait}
 
--- at a yield point its alternatives, none at a label
+-- at each yield point
 abbrev pub Waits : Type 0
-Waits = List (List Alternative)
+Waits = List Wait
+
+-- a label has no alternatives
+abbrev pub at_label : ℕ → Wait
+at_label l = record { alternatives = []; has_timeout = false; label = Some l }
 
 -- The alternatives of a class take the flags of its plan one after the other in the order of the text: each one before those
 -- in its block. What is waited for at the yield points of a part of the text, and the flags that are left for what follows:
@@ -61,17 +66,23 @@ alts_taken (alt ∷ alts) flags =
       left = others.left;
     }
 
--- an `await` comes before the yield points in its alternatives
-abbrev pub await_taken : AltsTaken → Taken
-await_taken alts = record { waits = alts.own ∷ alts.inside; left = alts.left }
+-- an `await` comes before the yield points in its alternatives, and these before those in the block of its timeout
+abbrev pub await_taken : AltsTaken → Bool → Option ℕ → Take → Taken
+await_taken alts has_timeout label block =
+    let last = block alts.left in
+    record {
+      waits = record { alternatives = alts.own; has_timeout = has_timeout; label = label } ∷ alts.inside ++ last.waits;
+      left = last.left;
+    }
 
 abbrev pub kind_step : ItemKind-F Take AltTake Take Take → Take
 kind_step (ItemKind-F.If branches other) flags = all_taken (branches ++ other) flags
 kind_step (ItemKind-F.While e body) flags = all_taken body flags
 kind_step (ItemKind-F.For s e body) flags = all_taken body flags
 kind_step (ItemKind-F.Call args body) flags = all_taken body flags
-kind_step (ItemKind-F.Await alts) flags = await_taken (alts_taken alts flags)
-kind_step ItemKind-F.Label flags = record { waits = [] ∷ []; left = flags }
+kind_step (ItemKind-F.Await alts timeout label) flags =
+    await_taken (alts_taken alts flags) (is_some timeout) label (all_taken (unwrap_or timeout []))
+kind_step (ItemKind-F.Label l) flags = record { waits = at_label l ∷ []; left = flags }
 kind_step _ flags = none_taken flags
 
 abbrev pub alt_step : Alt-F Take AltTake Take Take → AltTake

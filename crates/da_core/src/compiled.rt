@@ -1,5 +1,6 @@
 //! A program with the code and the plans of its classes.
 ghost use Rattle.da_core.specs.Compiled.{IsCodeFor, IsCompiled, code_of as code_lem, count_of as count_lem, program_of, rank_in, start_in};
+ghost use Rattle.da_core.specs.Opened.{opened as opened_lem};
 ghost use Rattle.da_core.specs.PlanLimit.{is_large, nodes_fault};
 ghost use Rattle.da_lang.specs.Typing.{least_of};
 ghost use Rattle.da_lang.specs.World.{at_number, class_of};
@@ -7,9 +8,10 @@ ghost use Rattle.da_lang.specs.declared.program.Class.{Class as ClassOf};
 ghost use Rattle.quant_norm.specs.declared.top.PlanFault.TheVariants.{TooMany};
 ghost use Rattle.query_plan.specs.Questions.{norm_class};
 ghost use Rattle.std.specs.Option.{option_copied};
-ghost use Rattle.std.specs.Prelude.{◌≡◌, ◌<◌, ℕ, IfErr, IfOk, None, Some, false, length, slice_get, true};
+ghost use Rattle.std.specs.Prelude.{◌≡◌, ◌<◌, ℕ, IfErr, IfOk, None, Some, false, length, map, slice_get, true};
 
-use crate::waits::{Alternative, waits_of};
+use crate::opened::{Opened, opened_of};
+use crate::waits::{Wait, waits_of};
 use code_gen::generate;
 use da_lang::{Class, ProcDecl, Program};
 use da_machine::Code;
@@ -20,13 +22,15 @@ use quant_norm::{PlanFault, normalise};
 use query_plan::Plan;
 use std::alloc::Global;
 
-/// The code of a class, its plan, the alternatives at each of its yield points, and its live patterns.
+/// The code of a class, its plan, what is waited for at each of its yield points, its live patterns, and the opened patterns
+/// of its handlers.
 #[derive(Debug, Drop)]
 pub struct ClassCode {
     pub code: Code,
     pub plan: Plan,
-    pub waits: List<List<Alternative>>,
+    pub waits: List<Wait>,
     pub live: Live,
+    pub opened: List<Opened>,
 }
 
 /// An accepted program with the code and the plans of its classes.
@@ -92,6 +96,7 @@ fn code_with(alloc: Global, t: &Typed, place: usize, plan: Plan) -> Result<Class
     ensures { IfOk result (λ code. (class : ClassOf) → slice_get t.now.classes place ≡ Some class → IsCodeFor t.now place class code) }
 {
     let code = generate(alloc, t, place)?;
+    let opened = opened_in(alloc, t, place)?;
     let live = live_patterns(alloc, &plan)?;
     let waits = match t.program().classes.get(place) {
         Some(class) => waits_of(alloc, class, plan.flags.as_slice())?,
@@ -102,7 +107,18 @@ fn code_with(alloc: Global, t: &Typed, place: usize, plan: Plan) -> Result<Class
         plan,
         waits,
         live,
+        opened,
     })
+}
+
+// The opened patterns of the handlers of the class at this place.
+fn opened_in(alloc: Global, t: &Typed, place: usize) -> Result<List<Opened>, NoMemory>
+    ensures { IfOk result (λ opened. (class : ClassOf) → slice_get t.now.classes place ≡ Some class → opened ≡ map opened_lem class.handlers) }
+{
+    match t.program().classes.get(place) {
+        Some(class) => opened_of(alloc, class.handlers.as_slice()),
+        None => Ok(List::new(alloc)),
+    }
 }
 
 impl Compiled {

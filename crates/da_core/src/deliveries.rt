@@ -15,6 +15,7 @@ ghost use Rattle.std.specs.Prelude.{◌≡◌, ◌≤◌, [], ℕ, IfOk, List, O
 use crate::compiled::ClassCode;
 use crate::known::{Known, bind};
 use crate::moves::stand;
+use crate::opened::is_open;
 use crate::place::Place;
 use da_lang::{Class, FaultKind, Handler, Instr};
 use da_machine::{Code, Machine, Stop, run_code};
@@ -24,13 +25,15 @@ use da_values::{NoMemory, Row, Value};
 /// The turns that one event may take.
 const MOST_TURNS: u32 = 1_000_000;
 
-/// A message that arrives at a process, with its sender; and the class of the process, with its code.
+/// A message that arrives at a process, with its sender; the class of the process, with its code; and the label at which it
+/// waits, if there is one.
 #[derive(Drop)]
 pub struct Delivery<'x> {
     pub class: &'x Class,
     pub code: &'x ClassCode,
     pub message: &'x Value,
     pub from: u16,
+    pub label: Option<u32>,
 }
 
 /// How handlers stop: they come through, with so many turns of the event, or one of them ends by a fault.
@@ -88,7 +91,7 @@ fn waiting_at(code: &Code, at: u64) -> Stop
     }
 }
 
-// Tries the handlers of the class one after the other, in text order.
+// Tries the handlers of the class that are open one after the other, in text order. A closed one takes no turn.
 fn handle_all(delivery: &Delivery<'_>, known: &mut Known<'_>) -> Result<Handled, NoMemory>
     requires { CanHandle delivery.now known.old }
     ensures runs { IfOk result (λ answer. Whoever delivery.now known.old (λ p d.
@@ -100,6 +103,9 @@ fn handle_all(delivery: &Delivery<'_>, known: &mut Known<'_>) -> Result<Handled,
     let handlers = delivery.class.handlers.as_slice();
     let entries = delivery.code.code.handlers.as_slice();
     'handlers: for (handler, entry) in handlers.iter().zip(entries) {
+        if !is_open(handler, delivery.label) {
+            continue;
+        }
         if turns >= MOST_TURNS {
             return Ok(Handled::Fault {
                 kind: FaultKind::TooLong,

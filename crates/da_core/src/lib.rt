@@ -1,4 +1,4 @@
-//! One process in code: what it knows, where it stands in the code of its class, its moves, and the messages
+//! One process in code: what it knows, where it stands in the code of its class, its moves and timeouts, and the messages
 //! that arrive.
 #![tactic(auto)]
 
@@ -9,6 +9,7 @@ mod deliveries;
 mod known;
 mod messages;
 mod moves;
+mod opened;
 mod opening;
 mod place;
 mod process;

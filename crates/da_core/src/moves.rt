@@ -1,5 +1,5 @@
 //! The run of a move.
-ghost use Rattle.da_core.specs.Begins.{HasPoint, HasRun, HasStopped, MayRun, MayStop, StandsAt, alternative_at as alternative_lem, begin_at, begin_at_await as begin_at_await_lem, behind_turn, bound_by, entry_behind, move_actions, place_at as place_lem};
+ghost use Rattle.da_core.specs.Begins.{AreFew, HasPoint, HasRun, HasStopped, MayRun, MayStop, StandsAt, alternative_at as alternative_lem, begin_at, begin_at_await as begin_at_await_lem, behind_turn, bound_by, entry_behind, label_of, move_actions, place_at as place_lem, some_told, timeout_at, wait_at as wait_lem};
 ghost use Rattle.da_core.specs.Known.{Each, Knows, KnowsSome};
 ghost use Rattle.da_lang.specs.Runs.{run_to_yield};
 ghost use Rattle.da_lang.specs.World.{Data, Task};
@@ -7,13 +7,13 @@ ghost use Rattle.da_lang.specs.declared.program.Class.{Class};
 ghost use Rattle.da_lang.specs.declared.program.Program.{Program};
 ghost use Rattle.da_machine.specs.RunsTo.{IsFront};
 ghost use Rattle.std.specs.Option.{option_copied};
-ghost use Rattle.std.specs.Prelude.{◌≡◌, ℕ, IfOk, List, OnErr, OnOk};
+ghost use Rattle.std.specs.Prelude.{◌≡◌, ◌&&◌, ℕ, IfOk, List, OnErr, OnOk, not};
 
 use crate::answers::found;
 use crate::compiled::ClassCode;
 use crate::known::{Known, bind};
 use crate::place::Place;
-use crate::waits::Alternative;
+use crate::waits::{Alternative, Wait};
 use da_lang::{Action, Instr};
 use da_machine::{Code, Machine, Stop, run_code};
 use da_values::NoMemory;
@@ -67,6 +67,39 @@ fn begin_at_await(code: &ClassCode, at: u64, k: u32, known: &Known<'_>) -> Optio
     }
 }
 
+/// Where a timeout goes on at an `await` of so many alternatives, or `None` where it is not allowed: where there is no block
+/// for it, or an alternative may be taken.
+pub fn timeout_in(code: &ClassCode, at: u64, count: u32, known: &Known<'_>) -> Option<Begin>
+    ensures { Each known.now (λ p class d. result ≡ timeout_at class d code.now at count) }
+{
+    let wait = wait_at(code, at)?;
+    let told = some_flag(wait.alternatives.as_slice(), known);
+    if is_late(wait.has_timeout, told) {
+        begin_behind(&code.code, at, count as usize)
+    } else {
+        None
+    }
+}
+
+// Whether the time may run out, by whether there is a block for that and whether some alternative may be taken.
+fn is_late(has_timeout: bool, told: bool) -> bool
+    ensures { result ≡ (has_timeout && not told) }
+{
+    has_timeout && !told
+}
+
+// Whether some of these alternatives may be taken.
+fn some_flag(alternatives: &[Alternative], known: &Known<'_>) -> bool
+    ensures { Each known.now (λ p class d. result ≡ some_told class d alternatives.now) }
+{
+    for alternative in alternatives {
+        if known.answers.flag(alternative.flag) {
+            return true;
+        }
+    }
+    false
+}
+
 // Behind entry `n`, counted from 0, of the yield point at a place. The yield point was the first turn.
 fn begin_behind(code: &Code, at: u64, n: usize) -> Option<Begin>
     ensures { result ≡ behind_turn (entry_behind code.now at n) }
@@ -93,8 +126,22 @@ pub fn alternative_at(code: &ClassCode, at: u64, k: u32) -> Option<&Alternative>
     ensures { option_copied result ≡ alternative_lem code.now at k }
 {
     let n = k.checked_sub(1)? as usize;
+    wait_at(code, at)?.alternatives.get(n)
+}
+
+/// The label at a place in the code, or `None` where there is none.
+pub fn label_at(code: &ClassCode, at: u64) -> Option<u32>
+    ensures { result ≡ label_of (wait_lem code.now at) }
+{
+    wait_at(code, at)?.label
+}
+
+// What is waited for at a place in the code, or `None` where no yield point stands there.
+fn wait_at(code: &ClassCode, at: u64) -> Option<&Wait>
+    ensures { option_copied result ≡ wait_lem code.now at }
+{
     match code.code.instrs.get(at as usize)? {
-        Instr::Yield(number) => code.waits.get(*number as usize)?.get(n),
+        Instr::Yield(number) => code.waits.get(*number as usize),
         _ => None,
     }
 }
@@ -161,7 +208,7 @@ pub fn stand(code: &ClassCode, stop: Stop, known: &mut Known<'_>) -> Result<Plac
     ensures same { OnErr result (known.new.actions ≡ known.old.actions) }
 {
     match stop {
-        Stop::Yield(number) => wait_at(code, number),
+        Stop::Yield(number) => place_of(code, number),
         Stop::Ended => {
             known.actions.push(Action::End {
                 p: known.answers.me,
@@ -180,28 +227,28 @@ pub fn stand(code: &ClassCode, stop: Stop, known: &mut Known<'_>) -> Result<Plac
 }
 
 // Where a process stands that waits at the yield point of this number.
-fn wait_at(code: &ClassCode, number: u32) -> Result<Place, NoMemory>
+fn place_of(code: &ClassCode, number: u32) -> Result<Place, NoMemory>
     requires { HasPoint code.now number }
     ensures { IfOk result (λ place. StandsAt code.now number place) }
 {
     let Some(point) = code.code.yields.get(number as usize) else {
         unreachable!()
     };
-    let Some(alternatives) = code.waits.get(number as usize) else {
+    let Some(wait) = code.waits.get(number as usize) else {
         unreachable!()
     };
-    place_at(point.label, alternatives.len())
+    place_at(point.label, wait.alternatives.len())
 }
 
-// Where a process waits, at a label or at an `await` of so many alternatives. No memory has room for more than 32 bits
-// count.
+// Where a process waits, at a label or at an `await` of so many alternatives. No memory has room for so many that their numbers
+// and that of a timeout take more than 32 bits.
 fn place_at(label: bool, count: usize) -> Result<Place, NoMemory>
-    ensures { IfOk result (λ place. place ≡ place_lem label count) }
+    ensures { IfOk result (λ place. (place ≡ place_lem label count) × AreFew label count) }
 {
     if label {
         return Ok(Place::Label);
     }
-    if count > u32::MAX as usize {
+    if count >= u32::MAX as usize {
         return Err(NoMemory);
     }
     Ok(Place::Await(count as u32))

@@ -7,21 +7,23 @@ ghost use Rattle.da_core.specs.declared.compiled.ClassCode.{ClassCode as ClassCo
 ghost use Rattle.da_core.specs.StandsFor.{BeginsWith, IsPlace, IsReady, StandsFor, Whichever, is_spent, program_of};
 ghost use Rattle.da_core.specs.Told.{answers_of, kept_of};
 ghost use Rattle.da_lang.specs.declared.program.Alt.{Alt as AltOf};
+ghost use Rattle.da_lang.specs.declared.program.Item.{Item as ItemOf};
 ghost use Rattle.da_lang.specs.declared.program.ItemKind.TheOpen as kind;
 ghost use Rattle.da_lang.specs.declared.program.ItemKind.TheViews.{out-Alt};
 ghost use Rattle.da_lang.specs.Queries.{holds};
 ghost use Rattle.da_lang.specs.Shaped.{IsProcess};
-ghost use Rattle.da_lang.specs.Steps.{move_step, proc_step};
-ghost use Rattle.da_lang.specs.World.{Waiting, class_of, opening};
+ghost use Rattle.da_lang.specs.Steps.{Step, TimeOut, move_step, proc_step};
+ghost use Rattle.da_lang.specs.World.{Waiting, World, class_of, opening};
 ghost use Rattle.da_machine.specs.RunsTo.{IsFront};
 ghost use Rattle.std.specs.Option.{option_copied};
-ghost use Rattle.std.specs.Prelude.{◌≡◌, ◌↔◌, ◌++◌, ◌+◌, [], ℕ, IfOk, IsErrOf, IsSome, IsTrue, List as Seq, MatchOption, None, OnErr, OnOk, Some, slice_get, slice_set, true, false};
+ghost use Rattle.std.specs.Prelude.{◌≡◌, ◌↔◌, ◌++◌, ◌+◌, [], ℕ, IfOk, IsErrOf, IsSome, IsTrue, List as Seq, MatchOption, None, OnErr, OnOk, Option as Opt, Some, slice_get, slice_set, true, false};
 
 use crate::answers::tell_answers;
 use crate::compiled::{ClassCode, Compiled};
 use crate::deliveries::{Delivery, take_in};
 use crate::known::Known;
-use crate::moves::{Begin, alternative_at, begin_in, run_from};
+use crate::moves::{Begin, alternative_at, begin_in, label_at, run_from, timeout_in};
+use crate::opened::is_taken;
 use crate::opening::first_values;
 use crate::place::{Place, StepFault, Stopped};
 use crate::waits::Alternative;
@@ -127,11 +129,31 @@ impl<'c> Core<'c> {
         !self.spent && self.begin(k).is_some()
     }
 
+    /// Whether the time may run out: the process waits at an `await` with a block for that, and none of its alternatives may be
+    /// taken. On a spent core it may not. It takes no memory.
+    pub fn can_timeout(&self) -> bool
+        ensures spent { is_spent self.now ≡ true → result ≡ false }
+        ensures allowed { Whichever self.now (λ w.
+            IsTrue result ↔ IsSome (proc_step (program_of self.now) w TimeOut)) }
+    {
+        !self.spent && self.begin_timeout().is_some()
+    }
+
+    /// Whether a message that process `from` sent may arrive: the process waits, and no handler may match the message, or one
+    /// that is open where it waits may, whatever its slots hold. On a spent core none may. It takes no memory.
+    pub fn can_take(&self, from: u16, m: &Value) -> bool
+        ensures spent { is_spent self.now ≡ true → result ≡ false }
+        ensures allowed { Whichever self.now (λ w. (time : ℕ) →
+            IsTrue result ↔ IsSome (proc_step (program_of self.now) w (arrival m.now from time))) }
+    {
+        !self.spent && self.lets_arrive(from, m)
+    }
+
     /// Whether the condition of the alternative of this number holds, where the process waits at an `await`. It takes one step
     /// and no memory, and reads no row.
     pub fn flag_of<L: Ledger>(&self, k: u32, steps: &mut Steps<L>) -> bool
-        ensures holds { Whichever self.now (λ w. (alts : Seq AltOf) (place : ℕ) (alt : AltOf)
-            → w.phase ≡ Waiting → BeginsWith w.todo (kind.Await alts) → k ≡ place + 1 → slice_get alts place ≡ Some alt
+        ensures holds { Whichever self.now (λ w. (alts : Seq AltOf) (timeout : Opt (Seq ItemOf)) (label : Opt ℕ) (place : ℕ) (alt : AltOf)
+            → w.phase ≡ Waiting → BeginsWith w.todo (kind.Await alts timeout label) → k ≡ place + 1 → slice_get alts place ≡ Some alt
             → result ≡ holds w.data' (out-Alt alt).cond []) }
         ensures steps { steps.new ≡ steps.old + 1 }
     {
@@ -171,6 +193,60 @@ impl<'c> Core<'c> {
         let Some((code, begin)) = self.begin(k) else {
             return Err(StepFault::Forbidden);
         };
+        let stopped = self.run_move(code, begin, k, out)?;
+        Ok(stopped)
+    }
+
+    /// Lets the time run out at the `await` where the process waits, and adds the actions to `out`; it is told with the number
+    /// that is one more than there are alternatives. `Spent`, `Forbidden` and `Memory` come as those of a move.
+    pub fn make_timeout(&mut self, out: &mut List<Action>) -> Result<Stopped, StepFault>
+        requires { IsReady self.old }
+        ensures ready { IsReady self.new }
+        ensures program { program_of self.new ≡ program_of self.old }
+        ensures moves { IfOk result (λ stopped. Whichever self.old (λ w.
+            HasMade self.old w TimeOut self.new stopped out.old out.new)) }
+        ensures spent { is_spent self.old ≡ true → IsErrOf result StepFault.Spent }
+        ensures only_spent { IsErrOf result StepFault.Spent
+            → (is_spent self.old ≡ true) × (self.new ≡ self.old) × (out.new ≡ out.old) }
+        ensures forbidden { IsErrOf result StepFault.Forbidden → Whichever self.old (λ w.
+            proc_step (program_of self.old) w TimeOut ≡ None) }
+        ensures allowed { Whichever self.old (λ w.
+            proc_step (program_of self.old) w TimeOut ≡ None
+            → IsErrOf result StepFault.Forbidden) }
+        ensures same { IsErrOf result StepFault.Forbidden
+            → (self.new ≡ self.old) × (out.new ≡ out.old) }
+        ensures memory { IsErrOf result StepFault.Memory → is_spent self.new ≡ true }
+        ensures front { IsErrOf result StepFault.Memory → Whichever self.old (λ w.
+            HasBegun self.old w TimeOut out.old out.new) }
+    {
+        if self.spent {
+            return Err(StepFault::Spent);
+        }
+        let Some((code, begin, k)) = self.begin_timeout() else {
+            return Err(StepFault::Forbidden);
+        };
+        let stopped = self.run_move(code, begin, k, out)?;
+        Ok(stopped)
+    }
+
+    // Makes the step that is told with this number and is the run from this entry, and adds its actions to `out`. Where memory is
+    // refused the core is spent, and `out` has a front of them besides.
+    fn run_move(
+        &mut self,
+        code: &ClassCode,
+        begin: Begin,
+        k: u32,
+        out: &mut List<Action>,
+    ) -> Result<Stopped, NoMemory>
+        requires { (w : World) × (step : Step) × StandsFor self.old w × CanMove self.old w step k code.now begin }
+        ensures ready { IsReady self.new }
+        ensures program { program_of self.new ≡ program_of self.old }
+        ensures moves { IfOk result (λ stopped. Whichever self.old (λ w. (step : Step) → CanMove self.old w step k code.now begin
+            → HasMade self.old w step self.new stopped out.old out.new)) }
+        ensures memory { OnErr result (is_spent self.new ≡ true) }
+        ensures front { OnErr result (Whichever self.old (λ w. (step : Step) → CanMove self.old w step k code.now begin
+            → HasBegun self.old w step out.old out.new)) }
+    {
         self.spent = true;
         self.known.actions = mem::replace(out, List::new(self.alloc));
         let run = run_from(
@@ -187,9 +263,10 @@ impl<'c> Core<'c> {
     }
 
     /// Takes in a message that process `from` sent at this time, and adds the actions of the delivery to `out`: the message
-    /// joins the history first, and then the handlers are tried in text order. `Spent` comes exactly where an earlier event
-    /// found no memory, and else `Forbidden` exactly where the process does not wait at a label or an `await`; nothing has
-    /// changed then. `Memory` leaves a spent core, and `out` has a front of the actions of the delivery besides.
+    /// joins the history first, and then the handlers that are open where the process waits are tried in text order. `Spent`
+    /// comes exactly where an earlier event found no memory, and else `Forbidden` exactly where the message may not arrive
+    /// (`can_take`); nothing has changed then. `Memory` leaves a spent core, and `out` has a front of the actions of the
+    /// delivery besides.
     pub fn deliver(
         &mut self,
         from: u16,
@@ -220,14 +297,15 @@ impl<'c> Core<'c> {
         if self.spent {
             return Err(StepFault::Spent);
         }
-        if !self.is_waiting() {
+        if !self.lets_arrive(from, m) {
             return Err(StepFault::Forbidden);
         }
         let Ok(message) = copy_value(self.alloc, m) else {
             self.spent = true;
             return Err(StepFault::Memory);
         };
-        self.take(from, time, message, out)
+        let stopped = self.run_delivery(from, time, message, out)?;
+        Ok(stopped)
     }
 
     /// The same of a message that it takes over, so that none is copied to be told.
@@ -261,15 +339,41 @@ impl<'c> Core<'c> {
         if self.spent {
             return Err(StepFault::Spent);
         }
-        if !self.is_waiting() {
+        if !self.lets_arrive(from, &m) {
             return Err(StepFault::Forbidden);
         }
+        let stopped = self.run_delivery(from, time, m, out)?;
+        Ok(stopped)
+    }
+
+    // Takes in a message that may arrive, and adds the actions of the delivery to `out`. Where memory is refused the core is spent,
+    // and `out` has a front of them besides.
+    fn run_delivery(
+        &mut self,
+        from: u16,
+        time: u64,
+        m: Value,
+        out: &mut List<Action>,
+    ) -> Result<Stopped, NoMemory>
+        requires ready { IsReady self.old }
+        requires unspent { is_spent self.old ≡ false }
+        requires arrives { MayArrive (program_of self.old) m from time }
+        requires taken { Whichever self.old (λ w. IsSome (proc_step (program_of self.old) w (arrival m from time))) }
+        ensures ready { IsReady self.new }
+        ensures program { program_of self.new ≡ program_of self.old }
+        ensures delivers { IfOk result (λ stopped. Whichever self.old (λ w.
+            HasMade self.old w (arrival m from time) self.new stopped out.old out.new)) }
+        ensures memory { OnErr result (is_spent self.new ≡ true) }
+        ensures front { OnErr result (Whichever self.old (λ w.
+            HasBegun self.old w (arrival m from time) out.old out.new)) }
+    {
         let me = self.known.answers.me;
         let compiled = self.compiled;
         let (Some(class), Some(code)) = (compiled.class_of(me), compiled.code_of(me)) else {
             unreachable!()
         };
-        let delivery = delivery_of(class, code, &m, from);
+        let label = label_at(code, self.machine.place);
+        let delivery = delivery_of(class, code, &m, from, label);
         let told = out.len();
         self.spent = true;
         self.known.actions = mem::replace(out, List::new(self.alloc));
@@ -296,6 +400,24 @@ impl<'c> Core<'c> {
         stopped_at(place)
     }
 
+    // Whether the process waits and takes a message that this process sent.
+    fn lets_arrive(&self, from: u16, m: &Value) -> bool
+        ensures { Whichever self.now (λ w. (time : ℕ) →
+            IsTrue result ↔ IsSome (proc_step (program_of self.now) w (arrival m.now from time))) }
+    {
+        if !self.is_waiting() {
+            return false;
+        }
+        let me = self.known.answers.me;
+        let compiled = self.compiled;
+        let (Some(class), Some(code)) = (compiled.class_of(me), compiled.code_of(me)) else {
+            return false;
+        };
+        let label = label_at(code, self.machine.place);
+        let delivery = delivery_of(class, code, m, from, label);
+        is_taken(self.alloc, &delivery, me)
+    }
+
     // Whether the process waits at a label or an `await`.
     fn is_waiting(&self) -> bool
         ensures { Whichever self.now (λ w. IsTrue result ↔ (w.phase ≡ Waiting)) }
@@ -308,12 +430,29 @@ impl<'c> Core<'c> {
     fn begin(&self, k: u32) -> Option<(&'c ClassCode, Begin)>
         ensures { Whichever self.now (λ w. MatchOption result
             (proc_step (program_of self.now) w (move_step k) ≡ None)
-            (λ found. CanMove self.now w k found.0.now found.1)) }
+            (λ found. CanMove self.now w (move_step k) k found.0.now found.1)) }
     {
         let compiled = self.compiled;
         let code = compiled.code_of(self.known.answers.me)?;
         let begin = begin_in(code, self.machine.place, self.place, k, &self.known)?;
         Some((code, begin))
+    }
+
+    // The code of the process, where a timeout goes on in it, and the number with which it is told, or `None` where it is not
+    // allowed.
+    fn begin_timeout(&self) -> Option<(&'c ClassCode, Begin, u32)>
+        ensures { Whichever self.now (λ w. MatchOption result
+            (proc_step (program_of self.now) w TimeOut ≡ None)
+            (λ found. CanMove self.now w TimeOut found.2 found.0.now found.1)) }
+    {
+        let Place::Await(count) = self.place else {
+            return None;
+        };
+        let k = count.checked_add(1)?;
+        let compiled = self.compiled;
+        let code = compiled.code_of(self.known.answers.me)?;
+        let begin = timeout_in(code, self.machine.place, count, &self.known)?;
+        Some((code, begin, k))
     }
 
     // The alternative that the move of this number takes where the process stands in the code, if it takes one.
@@ -326,23 +465,26 @@ impl<'c> Core<'c> {
     }
 }
 
-// A message that arrives at a process of this class.
+// A message that arrives at a process of this class, which waits at this label.
 fn delivery_of<'x>(
     class: &'x Class,
     code: &'x ClassCode,
     message: &'x Value,
     from: u16,
+    label: Option<u32>,
 ) -> Delivery<'x>
     ensures class { result.class.now ≡ class.now }
     ensures code { result.code.now ≡ code.now }
     ensures message { result.message.now ≡ message.now }
     ensures from { result.from ≡ from }
+    ensures label { result.label ≡ label }
 {
     Delivery {
         class,
         code,
         message,
         from,
+        label,
     }
 }
 

@@ -1,6 +1,6 @@
 //! What is waited for at the yield points of a class, with the flags of its plan.
 ghost use Rattle.da_core.specs.Waits.{all_taken, alt_take, alts_taken, branch_take, handler_take, item_take, items_take, kind_take, next_flag, waits_of as waits_lem};
-ghost use Rattle.std.specs.Prelude.{◌≡◌, ◌++◌, drop, IfOk, OnOk, map};
+ghost use Rattle.std.specs.Prelude.{◌≡◌, ◌++◌, ◌∷◌, drop, IfOk, OnOk, map};
 
 use da_lang::{Alt, Class, Handler, Item, ItemKind, RBranch};
 use da_values::{List, NoMemory};
@@ -13,6 +13,15 @@ pub struct Alternative {
     pub flag: u32,
     pub found: Option<u32>,
     pub binds: List<u16>,
+}
+
+/// What is waited for at a yield point: the alternatives of its `await`, whether it has a block for a timeout, and the label at
+/// which it waits, if there is one. A label has no alternatives.
+#[derive(Debug, Drop)]
+pub struct Wait {
+    pub alternatives: List<Alternative>,
+    pub has_timeout: bool,
+    pub label: Option<u32>,
 }
 
 /// Flags that alternatives take one after the other.
@@ -37,13 +46,8 @@ impl Flags<'_> {
     }
 }
 
-/// The alternatives at each yield point of a class, whose plan has these flags, in the order of the inlined text. There are
-/// none at a label.
-pub fn waits_of(
-    alloc: Global,
-    class: &Class,
-    flags: &[u32],
-) -> Result<List<List<Alternative>>, NoMemory>
+/// What is waited for at each yield point of a class, whose plan has these flags, in the order of the inlined text.
+pub fn waits_of(alloc: Global, class: &Class, flags: &[u32]) -> Result<List<Wait>, NoMemory>
     ensures { IfOk result (λ waits. waits ≡ waits_lem class.now flags.now) }
 {
     let mut flags = Flags { rest: flags };
@@ -58,7 +62,7 @@ fn add_handlers(
     alloc: Global,
     handlers: &[Handler],
     flags: &mut Flags<'_>,
-    waits: &mut List<List<Alternative>>,
+    waits: &mut List<Wait>,
 ) -> Result<(), NoMemory>
     ensures waits { OnOk result
         (waits.new ≡ waits.old ++ (all_taken (map handler_take handlers.now) flags.old.rest.now).waits) }
@@ -77,7 +81,7 @@ fn add_items(
     alloc: Global,
     items: &[Item],
     flags: &mut Flags<'_>,
-    waits: &mut List<List<Alternative>>,
+    waits: &mut List<Wait>,
 ) -> Result<(), NoMemory>
     ensures waits { OnOk result (waits.new ≡ waits.old ++ (items_take items.now flags.old.rest.now).waits) }
     ensures left { OnOk result (flags.new.rest.now ≡ (items_take items.now flags.old.rest.now).left) }
@@ -95,7 +99,7 @@ fn add_kind(
     alloc: Global,
     kind: &ItemKind,
     flags: &mut Flags<'_>,
-    waits: &mut List<List<Alternative>>,
+    waits: &mut List<Wait>,
 ) -> Result<(), NoMemory>
     ensures waits { OnOk result (waits.new ≡ waits.old ++ (kind_take kind.now flags.old.rest.now).waits) }
     ensures left { OnOk result (flags.new.rest.now ≡ (kind_take kind.now flags.old.rest.now).left) }
@@ -108,13 +112,29 @@ fn add_kind(
         ItemKind::While(_, body) => add_items(alloc, body.as_slice(), flags, waits),
         ItemKind::For(_, _, body) => add_items(alloc, body.as_slice(), flags, waits),
         ItemKind::Call(_, body) => add_items(alloc, body.as_slice(), flags, waits),
-        ItemKind::Await(alts) => {
+        ItemKind::Await {
+            alts,
+            timeout,
+            label,
+        } => {
             let mut inside = List::new(alloc);
             let own = alternatives(alloc, alts.as_slice(), flags, &mut inside)?;
-            waits.push(own)?;
-            move_behind(waits, inside)
+            let wait = Wait {
+                alternatives: own,
+                has_timeout: timeout.is_some(),
+                label: *label,
+            };
+            put_await(waits, wait, inside)?;
+            match timeout {
+                None => Ok(()),
+                Some(body) => add_items(alloc, body.as_slice(), flags, waits),
+            }
         }
-        ItemKind::Label => waits.push(List::new(alloc)),
+        ItemKind::Label(label) => waits.push(Wait {
+            alternatives: List::new(alloc),
+            has_timeout: false,
+            label: Some(*label),
+        }),
         ItemKind::Assign(_, _) => Ok(()),
         ItemKind::Add(_, _) => Ok(()),
         ItemKind::Del(_, _) => Ok(()),
@@ -130,7 +150,7 @@ fn add_branches(
     alloc: Global,
     branches: &[RBranch],
     flags: &mut Flags<'_>,
-    waits: &mut List<List<Alternative>>,
+    waits: &mut List<Wait>,
 ) -> Result<(), NoMemory>
     ensures waits { OnOk result
         (waits.new ≡ waits.old ++ (all_taken (map branch_take branches.now) flags.old.rest.now).waits) }
@@ -149,7 +169,7 @@ fn alternatives(
     alloc: Global,
     alts: &[Alt],
     flags: &mut Flags<'_>,
-    inside: &mut List<List<Alternative>>,
+    inside: &mut List<Wait>,
 ) -> Result<List<Alternative>, NoMemory>
     ensures own { IfOk result (λ own. own ≡ (alts_taken (map alt_take alts.now) flags.old.rest.now).own) }
     ensures inside { OnOk result
@@ -180,11 +200,16 @@ fn copy_slots(alloc: Global, slots: &[u16]) -> Result<List<u16>, NoMemory>
     Ok(copy)
 }
 
+// Puts an `await` behind what is there, and what is waited for in its alternatives behind that.
+fn put_await(waits: &mut List<Wait>, wait: Wait, inside: List<Wait>) -> Result<(), NoMemory>
+    ensures { OnOk result (waits.new ≡ waits.old ++ wait ∷ inside) }
+{
+    waits.push(wait)?;
+    move_behind(waits, inside)
+}
+
 // Moves all that is waited for behind what is there.
-fn move_behind(
-    waits: &mut List<List<Alternative>>,
-    more: List<List<Alternative>>,
-) -> Result<(), NoMemory>
+fn move_behind(waits: &mut List<Wait>, more: List<Wait>) -> Result<(), NoMemory>
     ensures { OnOk result (waits.new ≡ waits.old ++ more) }
 {
     let mut more = more;

@@ -87,7 +87,20 @@ fn bound_in(stmt: &Stmt, name: &[u8], before: u32) -> Option<Bound> {
                 },
             }
         }
-        Stmt::Await { alts, .. } => bound_in_branches(alts.as_slice(), name, before),
+        Stmt::Await {
+            alts,
+            timeout,
+            line: _,
+        } => {
+            let found = bound_in_branches(alts.as_slice(), name, before);
+            match timeout {
+                None => found,
+                Some(tree) => match bound_in_block(tree.body.as_slice(), name, before) {
+                    Some(bound) => Some(bound),
+                    None => found,
+                },
+            }
+        }
         Stmt::While { body, .. } => bound_in_block(body.as_slice(), name, before),
         Stmt::For {
             name: own,

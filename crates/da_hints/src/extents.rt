@@ -164,9 +164,15 @@ fn of_stmt(stmt: &Stmt, graph: &CallGraph<'_>, copies: &[Extent]) -> Extent
         }
         Stmt::Await {
             alts,
-            timeout: _,
+            timeout,
             line: _,
-        } => of_branches(alts.as_slice(), graph, copies).held(),
+        } => {
+            let mut whole = of_branches(alts.as_slice(), graph, copies);
+            if let Some(tree) = timeout {
+                whole = whole.with(of_block(tree.body.as_slice(), graph, copies));
+            }
+            whole.held()
+        }
         Stmt::While { body, .. } => of_block(body.as_slice(), graph, copies).held(),
         Stmt::For { body, .. } => of_block(body.as_slice(), graph, copies).wider(1).held(),
         Stmt::AwaitOne { cond, .. } => NOTHING.wider(found_by(cond.get())).held(),

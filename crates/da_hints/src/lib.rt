@@ -5,6 +5,7 @@
 mod case;
 mod elsewhere;
 mod extents;
+mod labels;
 mod limits;
 mod misuse;
 mod names;

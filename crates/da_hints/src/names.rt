@@ -1,6 +1,7 @@
 //! Names that are not what their place asks for.
 use crate::case::Case;
 use crate::elsewhere::bound_before;
+use crate::labels::tell_no_label;
 use crate::misuse::{Misuse, Wanted, misuse_in, misuse_in_all, misuse_in_pattern};
 use crate::parts::{blame_expr, blame_name};
 use crate::scope::{Role, Scope, put_role};
@@ -20,7 +21,7 @@ pub fn tell_unknown<'t>(case: Case<'t>, site: Site<'t>, scope: &mut Scope<'t>, h
     match misuse_at(site, ScopeKind::Unknown, scope) {
         Some(Misuse::Name(name, wanted)) => tell_name(case, site, name, wanted, scope, hint),
         Some(Misuse::Form(x)) => tell_form(case, x, hint),
-        None => {}
+        None => tell_no_label(case, site, hint),
     }
 }
 

@@ -1,12 +1,13 @@
 //! Names that are declared twice, and names of variables that are taken.
 use crate::case::Case;
+use crate::labels::{labels_of, line_of_label, tell_label_again};
 use crate::misuse::Misuse;
 use crate::names::misuse_at;
 use crate::parts::{blame_name, blame_word};
 use crate::scope::{Role, Scope, put_role};
 use crate::site::{Part, Site, line_of_main};
 use da_bodies::{Body, Place, body_of};
-use da_lang::{Branch, ClassTree, MainLine, Member, Param, ScopeKind, Stmt};
+use da_lang::{MainLine, Member, Param, ScopeKind, Stmt};
 use text_hints::Hint;
 
 /// Tells which name is declared a second time.
@@ -73,12 +74,12 @@ fn tell_variable(case: Case<'_>, site: Site<'_>, name: &[u8], hint: &mut Hint) {
     }
 }
 
-// A parameter, or a method, `setup` or `run`.
+// A parameter, a label behind `at`, or a method, `setup` or `run`.
 fn tell_header(case: Case<'_>, site: Site<'_>, hint: &mut Hint) {
     let (Some(class), Some(body)) = (site.class, site.body) else {
         return;
     };
-    if tell_params(case, body.params, hint) {
+    if tell_params(case, body.params, hint) || tell_label_again(case, site, hint) {
         return;
     }
     for member in class.members.as_slice() {
@@ -144,70 +145,11 @@ fn tell_label(case: Case<'_>, site: Site<'_>, name: &[u8], hint: &mut Hint) {
     let Some(class) = site.class else {
         return;
     };
-    if let Some(line) = label_in_class(class, name) {
+    let labels = labels_of(case.alloc, class);
+    if let Some(line) = line_of_label(labels.as_slice(), name) {
         put_twice(case, b"the label", name, line, hint);
         hint.note(b"the labels of a class have different names");
     }
-}
-
-// The line of the first label of a name.
-fn label_in_class(class: &ClassTree, name: &[u8]) -> Option<u32> {
-    for member in class.members.as_slice() {
-        if let Some(body) = body_of(member) {
-            if let Some(line) = label_in_block(body.stmts, name) {
-                return Some(line);
-            }
-        }
-    }
-    None
-}
-
-#[cycle(labels)]
-fn label_in_block(stmts: &[Stmt], name: &[u8]) -> Option<u32> {
-    for stmt in stmts {
-        if let Some(line) = label_in(stmt, name) {
-            return Some(line);
-        }
-    }
-    None
-}
-
-#[cycle(labels)]
-fn label_in(stmt: &Stmt, name: &[u8]) -> Option<u32> {
-    match stmt {
-        Stmt::Label { name: other, line } => {
-            if other.as_slice() == name {
-                Some(*line)
-            } else {
-                None
-            }
-        }
-        Stmt::If {
-            branches,
-            otherwise,
-            line: _,
-        } => match label_in_branches(branches.as_slice(), name) {
-            Some(line) => Some(line),
-            None => match otherwise {
-                None => None,
-                Some(body) => label_in_block(body.as_slice(), name),
-            },
-        },
-        Stmt::While { body, .. } => label_in_block(body.as_slice(), name),
-        Stmt::For { body, .. } => label_in_block(body.as_slice(), name),
-        Stmt::Await { alts, .. } => label_in_branches(alts.as_slice(), name),
-        _ => None,
-    }
-}
-
-#[cycle(labels)]
-fn label_in_branches(branches: &[Branch], name: &[u8]) -> Option<u32> {
-    for branch in branches {
-        if let Some(line) = label_in_block(branch.body.as_slice(), name) {
-            return Some(line);
-        }
-    }
-    None
 }
 
 // A name of `main`, or its second line of `setup`.

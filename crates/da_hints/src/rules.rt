@@ -461,18 +461,3 @@ fn class_of<'t>(case: Case<'t>, name: &[u8]) -> Option<&'t ClassTree> {
     }
     None
 }
-
-/// Tells what is not built yet.
-pub fn tell_later(case: Case<'_>, site: Site<'_>, hint: &mut Hint) {
-    if matches!(site.part, Part::Header) {
-        hint.say(b"'at' in a handler is not built yet");
-        blame_word(case.alloc, case.text, case.line, b"at", hint);
-        hint.note(b"let run set a variable at the label, and let the handler look at it");
-    } else {
-        hint.say(b"'timeout' is not built yet");
-        blame_word(case.alloc, case.text, case.line, b"timeout", hint);
-        hint.note(
-            b"write a second alternative, or true:, which the schedule takes when time is over",
-        );
-    }
-}

@@ -21,8 +21,6 @@ pub enum Part<'t> {
     Branch(&'t Expr),
     /// A condition of an `await`.
     Wait(&'t Expr),
-    /// `timeout`
-    Timeout,
     /// A line of `main`.
     Main(&'t MainLine),
 }
@@ -213,7 +211,6 @@ fn part_in<'t>(stmt: &'t Stmt, number: u32, scope: &mut Scope<'t>) -> Option<Par
             Some(part) => Some(part),
             None => match timeout {
                 None => None,
-                Some(tree) if tree.line == number => Some(Part::Timeout),
                 Some(tree) => part_in_block(tree.body.as_slice(), number, scope),
             },
         },

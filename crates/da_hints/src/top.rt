@@ -4,7 +4,7 @@ use crate::limits::{tell_limit, tell_nodes};
 use crate::names::tell_unknown;
 use crate::parts::tokens_of;
 use crate::repeats::{tell_shadow, tell_twice};
-use crate::rules::{tell_arity, tell_later, tell_norun, tell_recursive, tell_setup, tell_yield};
+use crate::rules::{tell_arity, tell_norun, tell_recursive, tell_setup, tell_yield};
 use crate::scope::Scope;
 use crate::site::{Site, site_of};
 use crate::types::tell_types;
@@ -83,7 +83,6 @@ fn tell_names<'t>(
     hint: &mut Hint,
 ) {
     match kind {
-        ScopeKind::NotYet => tell_later(case, site, hint),
         ScopeKind::Unknown => tell_unknown(case, site, scope, hint),
         ScopeKind::Twice => tell_twice(case, site, hint),
         ScopeKind::Shadow => tell_shadow(case, site, scope, hint),

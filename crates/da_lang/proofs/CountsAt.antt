@@ -1,5 +1,5 @@
 -- The numbers of statements and of blocks within blocks, one layer at a time.
-use Rattle.std.specs.Prelude.{ℕ, List, map, Option}
+use Rattle.std.specs.Prelude.{ℕ, List, map, Option, Some, None, option_map, unwrap_or}
 use Rattle.std.proofs.Common.{◌≡◌, ◌∙◌, ap, sym}
 use Rattle.da_lang.specs.declared.program.Alt.{Alt, roll-Alt}
 use Rattle.da_lang.specs.declared.program.BindArg.{BindArg}
@@ -44,11 +44,12 @@ kind_counted-For slot x body = ap (kind_counted) (sym (it.rolls-For slot x body)
 pub kind_counted-Call : (args : List BindArg) (body : List Item) → kind_counted (it.Call args body) ≡ kind_count (ItemKind-F.Call args (map item_count body))
 kind_counted-Call args body = ap (kind_counted) (sym (it.rolls-Call args body)) ∙ kind_counted_layer (ItemKind-F.Call args body)
 
-pub kind_counted-Await : (alts : List Alt) → kind_counted (it.Await alts) ≡ kind_count (ItemKind-F.Await (map alt_counted alts))
-kind_counted-Await alts = ap (kind_counted) (sym (it.rolls-Await alts)) ∙ kind_counted_layer (ItemKind-F.Await alts)
+pub kind_counted-Await : (alts : List Alt) (timeout : Option (List Item)) (label : Option ℕ) → kind_counted (it.Await alts timeout label) ≡ kind_count (ItemKind-F.Await (map alt_counted alts) (option_map (map item_count) timeout) label)
+kind_counted-Await alts None label = ap (kind_counted) (sym (it.rolls-Await alts None label)) ∙ kind_counted_layer (ItemKind-F.Await alts None label)
+kind_counted-Await alts (Some body) label = ap (kind_counted) (sym (it.rolls-Await alts (Some body) label)) ∙ kind_counted_layer (ItemKind-F.Await alts (Some body) label)
 
-pub kind_counted-Label : kind_counted it.Label ≡ kind_count ItemKind-F.Label
-kind_counted-Label = ap (kind_counted) (sym it.rolls-Label) ∙ kind_counted_layer ItemKind-F.Label
+pub kind_counted-Label : (l : ℕ) → kind_counted (it.Label l) ≡ kind_count (ItemKind-F.Label l)
+kind_counted-Label l = ap (kind_counted) (sym (it.rolls-Label l)) ∙ kind_counted_layer (ItemKind-F.Label l)
 
 pub kind_counted-Pass : kind_counted it.Pass ≡ kind_count ItemKind-F.Pass
 kind_counted-Pass = ap (kind_counted) (sym it.rolls-Pass) ∙ kind_counted_layer ItemKind-F.Pass
@@ -98,11 +99,12 @@ kind_depth_of-For slot x body = ap (kind_depth_of) (sym (it.rolls-For slot x bod
 pub kind_depth_of-Call : (args : List BindArg) (body : List Item) → kind_depth_of (it.Call args body) ≡ kind_depth (ItemKind-F.Call args (map item_depth body))
 kind_depth_of-Call args body = ap (kind_depth_of) (sym (it.rolls-Call args body)) ∙ kind_depth_of_layer (ItemKind-F.Call args body)
 
-pub kind_depth_of-Await : (alts : List Alt) → kind_depth_of (it.Await alts) ≡ kind_depth (ItemKind-F.Await (map alt_depth_of alts))
-kind_depth_of-Await alts = ap (kind_depth_of) (sym (it.rolls-Await alts)) ∙ kind_depth_of_layer (ItemKind-F.Await alts)
+pub kind_depth_of-Await : (alts : List Alt) (timeout : Option (List Item)) (label : Option ℕ) → kind_depth_of (it.Await alts timeout label) ≡ kind_depth (ItemKind-F.Await (map alt_depth_of alts) (option_map (map item_depth) timeout) label)
+kind_depth_of-Await alts None label = ap (kind_depth_of) (sym (it.rolls-Await alts None label)) ∙ kind_depth_of_layer (ItemKind-F.Await alts None label)
+kind_depth_of-Await alts (Some body) label = ap (kind_depth_of) (sym (it.rolls-Await alts (Some body) label)) ∙ kind_depth_of_layer (ItemKind-F.Await alts (Some body) label)
 
-pub kind_depth_of-Label : kind_depth_of it.Label ≡ kind_depth ItemKind-F.Label
-kind_depth_of-Label = ap (kind_depth_of) (sym it.rolls-Label) ∙ kind_depth_of_layer ItemKind-F.Label
+pub kind_depth_of-Label : (l : ℕ) → kind_depth_of (it.Label l) ≡ kind_depth (ItemKind-F.Label l)
+kind_depth_of-Label l = ap (kind_depth_of) (sym (it.rolls-Label l)) ∙ kind_depth_of_layer (ItemKind-F.Label l)
 
 pub kind_depth_of-Pass : kind_depth_of it.Pass ≡ kind_depth ItemKind-F.Pass
 kind_depth_of-Pass = ap (kind_depth_of) (sym it.rolls-Pass) ∙ kind_depth_of_layer ItemKind-F.Pass

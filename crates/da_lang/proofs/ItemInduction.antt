@@ -1,5 +1,5 @@
 -- What holds of an expression or a statement where it holds of its parts holds of every one.
-use Rattle.std.specs.Prelude.{ℕ, List, [], ◌∷◌, Option}
+use Rattle.std.specs.Prelude.{ℕ, List, [], ◌∷◌, Option, Some, None, unwrap_or}
 use Rattle.std.specs.List.{AllByRecursion}
 use Rattle.std.proofs.Common.{subst, sym}
 use Rattle.da_values.specs.declared.value.Value.{Value}
@@ -87,8 +87,8 @@ pub record ItemCases : Type 1 where
   pub while : (e : RExpr) (body : List Item) → AllByRecursion Of_item body → Of_kind (kind.While e body)
   pub for : (s : ℕ) (e : RExpr) (body : List Item) → AllByRecursion Of_item body → Of_kind (kind.For s e body)
   pub call : (args : List BindArg) (body : List Item) → AllByRecursion Of_item body → Of_kind (kind.Call args body)
-  pub await : (alts : List Alt) → AllByRecursion Of_alt alts → Of_kind (kind.Await alts)
-  pub label : Of_kind kind.Label
+  pub await : (alts : List Alt) (timeout : Option (List Item)) (label : Option ℕ) → AllByRecursion Of_alt alts → AllByRecursion Of_item (unwrap_or timeout []) → Of_kind (kind.Await alts timeout label)
+  pub label : (l : ℕ) → Of_kind (kind.Label l)
   pub pass : Of_kind kind.Pass
   pub alt : (b : Cond) (found : Option ℕ) (binds : List ℕ) (body : List Item) (line : ℕ) → AllByRecursion Of_item body → Of_alt (roll-Alt (record { cond = b; found = found; binds = binds; body = body; line = line }))
   pub item : (line : ℕ) (k : ItemKind) → Of_kind k → Of_item (roll-Item (record { line = line; kind = k }))
@@ -119,8 +119,11 @@ module _ (c : ItemCases) where
   kind_case (ItemKind-F.While e body) = subst c.Of_kind (sym (kind.rolls-While e (bare body))) (c.while e (bare body) (all_of-bare c.Of_item body))
   kind_case (ItemKind-F.For s e body) = subst c.Of_kind (sym (kind.rolls-For s e (bare body))) (c.for s e (bare body) (all_of-bare c.Of_item body))
   kind_case (ItemKind-F.Call args body) = subst c.Of_kind (sym (kind.rolls-Call args (bare body))) (c.call args (bare body) (all_of-bare c.Of_item body))
-  kind_case (ItemKind-F.Await alts) = subst c.Of_kind (sym (kind.rolls-Await (bare alts))) (c.await (bare alts) (all_of-bare c.Of_alt alts))
-  kind_case ItemKind-F.Label = subst c.Of_kind (sym kind.rolls-Label) c.label
+  kind_case (ItemKind-F.Await alts None label) =
+      subst c.Of_kind (sym (kind.rolls-Await (bare alts) None label)) (c.await (bare alts) None label (all_of-bare c.Of_alt alts) tt)
+  kind_case (ItemKind-F.Await alts (Some body) label) =
+      subst c.Of_kind (sym (kind.rolls-Await (bare alts) (Some (bare body)) label)) (c.await (bare alts) (Some (bare body)) label (all_of-bare c.Of_alt alts) (all_of-bare c.Of_item body))
+  kind_case (ItemKind-F.Label l) = subst c.Of_kind (sym (kind.rolls-Label l)) (c.label l)
   kind_case ItemKind-F.Pass = subst c.Of_kind (sym kind.rolls-Pass) c.pass
 
   alt_case : (y : Alt-F AtKind AtAlt AtItem AtBranch) → c.Of_alt (roll-Alt (map-Alt AtKind AtAlt AtItem AtBranch ItemKind Alt Item RBranch (λ e. e.0) (λ e. e.0) (λ e. e.0) (λ e. e.0) y))

@@ -1,5 +1,6 @@
 -- What a step is where it is allowed: one equation for each kind of step. What a move tells.
-use Rattle.std.specs.Prelude.{◌≡◌, refl, ℕ, zero, suc, Bool, true, false, cond, List, [], ◌∷◌, Option, Some, None, IfSome}
+use Rattle.std.specs.Prelude.{◌≡◌, refl, ℕ, zero, suc, ◌+◌, length, Bool, true, false, cond, List, [], ◌∷◌, Option, Some, None, IfSome}
+use Rattle.std.specs.List.{list_any}
 use Rattle.da_values.specs.declared.val.Val.{Val}
 use Rattle.da_lang.specs.declared.program.Alt.{Alt}
 use Rattle.da_lang.specs.declared.program.Class.{Class}
@@ -9,9 +10,10 @@ use Rattle.da_lang.specs.declared.program.ItemKind.TheOpen.{ItemKind-F, Await, L
 use Rattle.da_lang.specs.declared.program.ItemKind.TheViews.{out-Alt}
 use Rattle.da_lang.specs.declared.program.Program.{Program}
 use Rattle.da_lang.specs.declared.program.RBranch.{RBranch}
+use Rattle.da_lang.specs.Labels.{open_handlers, takes}
 use Rattle.da_lang.specs.Queries.{holds}
 use Rattle.da_lang.specs.Runs.{Ran, run_to_yield}
-use Rattle.da_lang.specs.Steps.{Go, Take, Deliver, Stepped, class_step, first_tasks, go_waiting, handle, handled, move_step, moved, past_await, past_label, proc_step, received_at, step_in, take_alternative, take_waiting}
+use Rattle.da_lang.specs.Steps.{Go, Take, TimeOut, Deliver, Stepped, class_step, first_tasks, go_waiting, handle, handled, move_step, moved, past_await, past_label, proc_step, received_at, step_in, take_alternative, take_waiting}
 use Rattle.da_lang.specs.Turns.{bind_found, do_all, kind_of}
 use Rattle.da_lang.specs.World.{Data, Task, Do, Loop, Prepare, World, class_of, at_number, Phase, New, Waiting, Ended, Faulted}
 
@@ -28,7 +30,7 @@ IsMove me k step = IfSome step (λ s. (ran : Ran) × (s ≡ moved me k ran))
 
 module _ (class : Class) (d : Data) where
   label_moves : (rest : List Task) (kind : ItemKind-F ItemKind Alt Item RBranch) → IsMove d.me 0 (past_label class d rest kind)
-  label_moves rest Label = (run_to_yield class 1 d rest, refl)
+  label_moves rest (Label l) = (run_to_yield class 1 d rest, refl)
   label_moves rest _ = tt
 
   go_moves : (todo : List Task) → IsMove d.me 0 (go_waiting class d todo)
@@ -48,7 +50,7 @@ module _ (class : Class) (d : Data) where
       (run_to_yield class 1 (bind_found class.queries (out-Alt alt).found (out-Alt alt).binds d) (do_all (out-Alt alt).body rest))
 
   await_moves : (rest : List Task) (k : ℕ) (kind : ItemKind-F ItemKind Alt Item RBranch) → IsMove d.me k (past_await class d rest k kind)
-  await_moves rest k (Await alts) = alternative_moves rest k (at_number alts k)
+  await_moves rest k (Await alts timeout label) = alternative_moves rest k (at_number alts k)
   await_moves rest k _ = tt
 
   take_moves : (k : ℕ) (todo : List Task) → IsMove d.me k (take_waiting class d k todo)
@@ -80,15 +82,20 @@ module _ (program : Program) (class : Class) (w : World) (known : class_of progr
   pub step_begins : w.phase ≡ New → proc_step program w Go ≡ Some (moved w.data'.me 0 (run_to_yield class 0 w.data' (first_tasks program class w.data'.me)))
   step_begins is = rw (known, is) refl
 
-  pub step_at_label : (i : Item) (rest : List Task) → w.phase ≡ Waiting → w.todo ≡ Do i ∷ rest → kind_of i ≡ Label
+  pub step_at_label : (i : Item) (rest : List Task) (l : ℕ) → w.phase ≡ Waiting → w.todo ≡ Do i ∷ rest → kind_of i ≡ Label l
       → proc_step program w Go ≡ Some (moved w.data'.me 0 (run_to_yield class 1 w.data' rest))
-  step_at_label i rest waits stands label = rw (known, waits, stands, label) refl
+  step_at_label i rest l waits stands label = rw (known, waits, stands, label) refl
 
-  pub step_at_await : (i : Item) (rest : List Task) (alts : List Alt) (alt : Alt) (k : ℕ)
-      → w.phase ≡ Waiting → w.todo ≡ Do i ∷ rest → kind_of i ≡ Await alts → at_number alts k ≡ Some alt → holds w.data' (out-Alt alt).cond [] ≡ true
+  pub step_at_await : (i : Item) (rest : List Task) (alts : List Alt) (timeout : Option (List Item)) (label : Option ℕ) (alt : Alt) (k : ℕ)
+      → w.phase ≡ Waiting → w.todo ≡ Do i ∷ rest → kind_of i ≡ Await alts timeout label → at_number alts k ≡ Some alt → holds w.data' (out-Alt alt).cond [] ≡ true
       → proc_step program w (Take k) ≡ Some (moved w.data'.me k (run_to_yield class 1 (bind_found class.queries (out-Alt alt).found (out-Alt alt).binds w.data') (do_all (out-Alt alt).body rest)))
-  step_at_await i rest alts alt k waits stands is there true' = rw (known, waits, stands, is, there, true') refl
+  step_at_await i rest alts timeout label alt k waits stands is there true' = rw (known, waits, stands, is, there, true') refl
 
-  pub step_delivers : (m : Val) (p time : ℕ) → w.phase ≡ Waiting
-      → proc_step program w (Deliver m p time) ≡ Some (handled w.todo w.data'.me m p time (handle class m p class.handlers 0 (received_at m p time w.data')))
-  step_delivers m p time waits = rw (known, waits) refl
+  pub step_times_out : (i : Item) (rest : List Task) (alts : List Alt) (body : List Item) (label : Option ℕ)
+      → w.phase ≡ Waiting → w.todo ≡ Do i ∷ rest → kind_of i ≡ Await alts (Some body) label → list_any (λ alt. holds w.data' (out-Alt alt).cond []) alts ≡ false
+      → proc_step program w TimeOut ≡ Some (moved w.data'.me (length alts + 1) (run_to_yield class 1 w.data' (do_all body rest)))
+  step_times_out i rest alts body label waits stands is none' = rw (known, waits, stands, is, none') refl
+
+  pub step_delivers : (m : Val) (p time : ℕ) → w.phase ≡ Waiting → takes class w m p ≡ true
+      → proc_step program w (Deliver m p time) ≡ Some (handled w.todo w.data'.me m p time (handle class m p (open_handlers class w.todo) 0 (received_at m p time w.data')))
+  step_delivers m p time waits taken = rw (known, waits, taken) refl

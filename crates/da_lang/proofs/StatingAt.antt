@@ -67,44 +67,44 @@ unfolding stating guarding waiting
 waiting-of copy body_ line_ = fold-roll-TimeoutTree Stating Guarded (List Stating) (stmt_meant copy) branch_meant timeout_meant (record { body = body_; line = line_ })
 
 -- the same where the names in scope, and what was met so far, are given
-pub stating_in-Assign : (copy : Copy) (name : List ℕ) (x : Expr) (line : ℕ) (scope : Scope Meaning) (tables : Tables) → stating copy (stmt.Assign name x line) scope tables ≡ stmt_meant copy (Stmt-F.Assign name x line) scope tables
-stating_in-Assign copy name x line scope tables = ap (λ (f : Stating). f scope tables) (stating-Assign copy name x line)
+pub stating_in-Assign : (copy : Copy) (name : List ℕ) (x : Expr) (line : ℕ) (label : Option ℕ) (scope : Scope Meaning) (tables : Tables) → stating copy (stmt.Assign name x line) label scope tables ≡ stmt_meant copy (Stmt-F.Assign name x line) label scope tables
+stating_in-Assign copy name x line label scope tables = ap (λ (f : Stating). f label scope tables) (stating-Assign copy name x line)
 
-pub stating_in-Add : (copy : Copy) (name : List ℕ) (x : Expr) (line : ℕ) (scope : Scope Meaning) (tables : Tables) → stating copy (stmt.Add name x line) scope tables ≡ stmt_meant copy (Stmt-F.Add name x line) scope tables
-stating_in-Add copy name x line scope tables = ap (λ (f : Stating). f scope tables) (stating-Add copy name x line)
+pub stating_in-Add : (copy : Copy) (name : List ℕ) (x : Expr) (line : ℕ) (label : Option ℕ) (scope : Scope Meaning) (tables : Tables) → stating copy (stmt.Add name x line) label scope tables ≡ stmt_meant copy (Stmt-F.Add name x line) label scope tables
+stating_in-Add copy name x line label scope tables = ap (λ (f : Stating). f label scope tables) (stating-Add copy name x line)
 
-pub stating_in-Del : (copy : Copy) (name : List ℕ) (x : Expr) (line : ℕ) (scope : Scope Meaning) (tables : Tables) → stating copy (stmt.Del name x line) scope tables ≡ stmt_meant copy (Stmt-F.Del name x line) scope tables
-stating_in-Del copy name x line scope tables = ap (λ (f : Stating). f scope tables) (stating-Del copy name x line)
+pub stating_in-Del : (copy : Copy) (name : List ℕ) (x : Expr) (line : ℕ) (label : Option ℕ) (scope : Scope Meaning) (tables : Tables) → stating copy (stmt.Del name x line) label scope tables ≡ stmt_meant copy (Stmt-F.Del name x line) label scope tables
+stating_in-Del copy name x line label scope tables = ap (λ (f : Stating). f label scope tables) (stating-Del copy name x line)
 
-pub stating_in-Send : (copy : Copy) (x : Expr) (to : Expr) (line : ℕ) (scope : Scope Meaning) (tables : Tables) → stating copy (stmt.Send x to line) scope tables ≡ stmt_meant copy (Stmt-F.Send x to line) scope tables
-stating_in-Send copy x to line scope tables = ap (λ (f : Stating). f scope tables) (stating-Send copy x to line)
+pub stating_in-Send : (copy : Copy) (x : Expr) (to : Expr) (line : ℕ) (label : Option ℕ) (scope : Scope Meaning) (tables : Tables) → stating copy (stmt.Send x to line) label scope tables ≡ stmt_meant copy (Stmt-F.Send x to line) label scope tables
+stating_in-Send copy x to line label scope tables = ap (λ (f : Stating). f label scope tables) (stating-Send copy x to line)
 
-pub stating_in-Output : (copy : Copy) (x : Expr) (line : ℕ) (scope : Scope Meaning) (tables : Tables) → stating copy (stmt.Output x line) scope tables ≡ stmt_meant copy (Stmt-F.Output x line) scope tables
-stating_in-Output copy x line scope tables = ap (λ (f : Stating). f scope tables) (stating-Output copy x line)
+pub stating_in-Output : (copy : Copy) (x : Expr) (line : ℕ) (label : Option ℕ) (scope : Scope Meaning) (tables : Tables) → stating copy (stmt.Output x line) label scope tables ≡ stmt_meant copy (Stmt-F.Output x line) label scope tables
+stating_in-Output copy x line label scope tables = ap (λ (f : Stating). f label scope tables) (stating-Output copy x line)
 
-pub stating_in-Pass : (copy : Copy) (line : ℕ) (scope : Scope Meaning) (tables : Tables) → stating copy (stmt.Pass line) scope tables ≡ stmt_meant copy (Stmt-F.Pass line) scope tables
-stating_in-Pass copy line scope tables = ap (λ (f : Stating). f scope tables) (stating-Pass copy line)
+pub stating_in-Pass : (copy : Copy) (line : ℕ) (label : Option ℕ) (scope : Scope Meaning) (tables : Tables) → stating copy (stmt.Pass line) label scope tables ≡ stmt_meant copy (Stmt-F.Pass line) label scope tables
+stating_in-Pass copy line label scope tables = ap (λ (f : Stating). f label scope tables) (stating-Pass copy line)
 
-pub stating_in-Label : (copy : Copy) (name : List ℕ) (line : ℕ) (scope : Scope Meaning) (tables : Tables) → stating copy (stmt.Label name line) scope tables ≡ stmt_meant copy (Stmt-F.Label name line) scope tables
-stating_in-Label copy name line scope tables = ap (λ (f : Stating). f scope tables) (stating-Label copy name line)
+pub stating_in-Label : (copy : Copy) (name : List ℕ) (line : ℕ) (label : Option ℕ) (scope : Scope Meaning) (tables : Tables) → stating copy (stmt.Label name line) label scope tables ≡ stmt_meant copy (Stmt-F.Label name line) label scope tables
+stating_in-Label copy name line label scope tables = ap (λ (f : Stating). f label scope tables) (stating-Label copy name line)
 
-pub stating_in-Call : (copy : Copy) (name : List ℕ) (xs : List Expr) (line : ℕ) (scope : Scope Meaning) (tables : Tables) → stating copy (stmt.Call name xs line) scope tables ≡ stmt_meant copy (Stmt-F.Call name xs line) scope tables
-stating_in-Call copy name xs line scope tables = ap (λ (f : Stating). f scope tables) (stating-Call copy name xs line)
+pub stating_in-Call : (copy : Copy) (name : List ℕ) (xs : List Expr) (line : ℕ) (label : Option ℕ) (scope : Scope Meaning) (tables : Tables) → stating copy (stmt.Call name xs line) label scope tables ≡ stmt_meant copy (Stmt-F.Call name xs line) label scope tables
+stating_in-Call copy name xs line label scope tables = ap (λ (f : Stating). f label scope tables) (stating-Call copy name xs line)
 
-pub stating_in-If : (copy : Copy) (branches : List Branch) (other : Option (List Stmt)) (line : ℕ) (scope : Scope Meaning) (tables : Tables) → stating copy (stmt.If branches other line) scope tables ≡ stmt_meant copy (Stmt-F.If (map (guarding copy) branches) (option_map (map (stating copy)) other) line) scope tables
-stating_in-If copy branches other line scope tables = ap (λ (f : Stating). f scope tables) (stating-If copy branches other line)
+pub stating_in-If : (copy : Copy) (branches : List Branch) (other : Option (List Stmt)) (line : ℕ) (label : Option ℕ) (scope : Scope Meaning) (tables : Tables) → stating copy (stmt.If branches other line) label scope tables ≡ stmt_meant copy (Stmt-F.If (map (guarding copy) branches) (option_map (map (stating copy)) other) line) label scope tables
+stating_in-If copy branches other line label scope tables = ap (λ (f : Stating). f label scope tables) (stating-If copy branches other line)
 
-pub stating_in-While : (copy : Copy) (x : Expr) (body : List Stmt) (line : ℕ) (scope : Scope Meaning) (tables : Tables) → stating copy (stmt.While x body line) scope tables ≡ stmt_meant copy (Stmt-F.While x (map (stating copy) body) line) scope tables
-stating_in-While copy x body line scope tables = ap (λ (f : Stating). f scope tables) (stating-While copy x body line)
+pub stating_in-While : (copy : Copy) (x : Expr) (body : List Stmt) (line : ℕ) (label : Option ℕ) (scope : Scope Meaning) (tables : Tables) → stating copy (stmt.While x body line) label scope tables ≡ stmt_meant copy (Stmt-F.While x (map (stating copy) body) line) label scope tables
+stating_in-While copy x body line label scope tables = ap (λ (f : Stating). f label scope tables) (stating-While copy x body line)
 
-pub stating_in-For : (copy : Copy) (name : List ℕ) (x : Expr) (body : List Stmt) (line : ℕ) (scope : Scope Meaning) (tables : Tables) → stating copy (stmt.For name x body line) scope tables ≡ stmt_meant copy (Stmt-F.For name x (map (stating copy) body) line) scope tables
-stating_in-For copy name x body line scope tables = ap (λ (f : Stating). f scope tables) (stating-For copy name x body line)
+pub stating_in-For : (copy : Copy) (name : List ℕ) (x : Expr) (body : List Stmt) (line : ℕ) (label : Option ℕ) (scope : Scope Meaning) (tables : Tables) → stating copy (stmt.For name x body line) label scope tables ≡ stmt_meant copy (Stmt-F.For name x (map (stating copy) body) line) label scope tables
+stating_in-For copy name x body line label scope tables = ap (λ (f : Stating). f label scope tables) (stating-For copy name x body line)
 
-pub stating_in-AwaitOne : (copy : Copy) (x : Expr) (line : ℕ) (scope : Scope Meaning) (tables : Tables) → stating copy (stmt.AwaitOne x line) scope tables ≡ stmt_meant copy (Stmt-F.AwaitOne x line) scope tables
-stating_in-AwaitOne copy x line scope tables = ap (λ (f : Stating). f scope tables) (stating-AwaitOne copy x line)
+pub stating_in-AwaitOne : (copy : Copy) (x : Expr) (line : ℕ) (label : Option ℕ) (scope : Scope Meaning) (tables : Tables) → stating copy (stmt.AwaitOne x line) label scope tables ≡ stmt_meant copy (Stmt-F.AwaitOne x line) label scope tables
+stating_in-AwaitOne copy x line label scope tables = ap (λ (f : Stating). f label scope tables) (stating-AwaitOne copy x line)
 
-pub stating_in-Await : (copy : Copy) (alts : List Branch) (timeout : Option TimeoutTree) (line : ℕ) (scope : Scope Meaning) (tables : Tables) → stating copy (stmt.Await alts timeout line) scope tables ≡ stmt_meant copy (Stmt-F.Await (map (guarding copy) alts) (option_map (waiting copy) timeout) line) scope tables
-stating_in-Await copy alts timeout line scope tables = ap (λ (f : Stating). f scope tables) (stating-Await copy alts timeout line)
+pub stating_in-Await : (copy : Copy) (alts : List Branch) (timeout : Option TimeoutTree) (line : ℕ) (label : Option ℕ) (scope : Scope Meaning) (tables : Tables) → stating copy (stmt.Await alts timeout line) label scope tables ≡ stmt_meant copy (Stmt-F.Await (map (guarding copy) alts) (option_map (waiting copy) timeout) line) label scope tables
+stating_in-Await copy alts timeout line label scope tables = ap (λ (f : Stating). f label scope tables) (stating-Await copy alts timeout line)
 
 pub ruleset stating_in = (stating_in-Assign, stating_in-Add, stating_in-Del, stating_in-Send, stating_in-Output, stating_in-Pass, stating_in-Label, stating_in-Call, stating_in-If, stating_in-While, stating_in-For, stating_in-AwaitOne, stating_in-Await)
 

@@ -82,8 +82,8 @@ module _ (class : Class) (line : ℕ) (d : Data) (todo : List Task) where
   kind_keeps itself (While e body) = value_keeps e _ (λ v. none)
   kind_keeps itself (For s e body) = value_keeps e _ (λ v. none)
   kind_keeps itself (Call args body) = enter_keeps _ _ body
-  kind_keeps itself (Await alts) = none
-  kind_keeps itself Label = none
+  kind_keeps itself (Await alts timeout label) = none
+  kind_keeps itself (Label l) = none
   kind_keeps itself Pass = none
 
   loop_keeps : (s : ℕ) (left : List Val) (body : List Item) → Keeps (loop_turn class line d todo s left body)

@@ -25,6 +25,7 @@ use Rattle.da_lang.specs.declared.ty.Ty.{Ty}
 use Rattle.da_lang.specs.ClassParts.{Body, method_of, variables, params_if, stmts_if}
 use Rattle.da_lang.specs.ExprMeaning.{Meaning, InSlot, Tables, numbered, meant, all_outside}
 use Rattle.da_lang.specs.ExprNames.{found_names}
+use Rattle.da_lang.specs.LabelNames.{label_number}
 use Rattle.da_lang.specs.Scopes.{Scope, look}
 
 -- what a part of a text becomes, by the names in scope and what was met so far
@@ -71,18 +72,29 @@ abbrev pub slot_of : Option Meaning → ℕ
 slot_of (Some (InSlot slot)) = slot
 slot_of _ = 0
 
--- a statement, with the names in scope behind it
+-- a statement, with the label that it is, and the names in scope behind it
 pub record Behind : Type 0 where
   pub item : Item
+  pub label : Option ℕ
   pub scope : Scope Meaning
   pub tables : Tables
 
+-- by the label directly before it in its block, if there is one
 abbrev pub Stating : Type 0
-Stating = Scope Meaning → Tables → Behind
+Stating = Option ℕ → Scope Meaning → Tables → Behind
 
+abbrev pub item_at : ℕ → ItemKind → Item
+item_at line kind = roll-Item (record { line = line; kind = kind })
+
+-- the statements of a block behind a label, or behind another statement
+abbrev pub behind_label : Option ℕ → List Stating → Becomes (List Item)
+behind_label label [] scope tables = ([], tables)
+behind_label label (s ∷ ss) scope tables =
+    let first = s label scope tables in let others = behind_label first.label ss first.scope first.tables in (first.item ∷ others.0, others.1)
+
+-- those of a whole block
 abbrev pub block : List Stating → Becomes (List Item)
-block [] scope tables = ([], tables)
-block (s ∷ ss) scope tables = let first = s scope tables in let others = block ss first.scope first.tables in (first.item ∷ others.0, others.1)
+block = behind_label None
 
 abbrev pub block_if : Option (List Stating) → Becomes (List Item)
 block_if None scope tables = ([], tables)
@@ -93,12 +105,9 @@ abbrev pub each : {A : Type 0} → List (Becomes A) → Becomes (List A)
 each [] scope tables = ([], tables)
 each (part ∷ parts) scope tables = let first = part scope tables in let others = each parts scope first.1 in (first.0 ∷ others.0, others.1)
 
-abbrev pub item_at : ℕ → ItemKind → Item
-item_at line kind = roll-Item (record { line = line; kind = kind })
-
 -- a statement that leaves the scope as it was
 abbrev pub states : ℕ → Becomes ItemKind → Stating
-states line becomes scope tables = let kind = becomes scope tables in record { item = item_at line kind.0; scope = scope; tables = kind.1 }
+states line becomes label scope tables = let kind = becomes scope tables in record { item = item_at line kind.0; label = None; scope = scope; tables = kind.1 }
 
 abbrev pub with_expr : (RExpr → ItemKind) → Expr → Becomes ItemKind
 with_expr make x scope tables = let first = (meant x).outside scope tables in (make first.0, first.1)
@@ -146,19 +155,32 @@ for_each name x body scope tables =
 
 -- an `await` without a block: its variables stay in scope
 abbrev pub await_one : ℕ → Expr → Stating
-await_one line x scope tables =
+await_one line x label scope tables =
     let alt = as_alt line x [] scope tables in
-    record { item = item_at line (it.Await (alt.0 ∷ [])); scope = named_slots (found_names x) tables scope; tables = alt.1 }
+    record { item = item_at line (it.Await (alt.0 ∷ []) None label); label = None; scope = named_slots (found_names x) tables scope; tables = alt.1 }
 
-abbrev pub awaits : List Guarded → Becomes ItemKind
-awaits alts scope tables = let all = each (map (λ b. b.alt) alts) scope tables in (it.Await all.0, all.1)
+-- the block of a `timeout`, which stands behind the alternatives and sees none of their variables
+abbrev pub timeout_block : Option (List Stating) → Becomes (Option (List Item))
+timeout_block None scope tables = (None, tables)
+timeout_block (Some body) scope tables = let items = block body scope tables in (Some items.0, items.1)
 
--- a call of a method with these arguments
-abbrev pub Copy : Type 0
-Copy = List ℕ → List RExpr → Tables → ItemKind × Tables
+abbrev pub awaits : List Guarded → Option (List Stating) → Option ℕ → Becomes ItemKind
+awaits alts timeout label scope tables =
+    let all = each (map (λ b. b.alt) alts) scope tables in
+    let last = timeout_block timeout scope all.1 in
+    (it.Await all.0 last.0 label, last.1)
+
+-- a label of this number
+abbrev pub labels : ℕ → ℕ → Stating
+labels line number label scope tables = record { item = item_at line (it.Label number); label = Some number; scope = scope; tables = tables }
+
+-- what names stand for in a class: the copy of a method for a call with these arguments, and the number of a label
+pub record Copy : Type 0 where
+  pub call : List ℕ → List RExpr → Tables → ItemKind × Tables
+  pub number : List ℕ → ℕ
 
 abbrev pub calling : Copy → List ℕ → List Expr → Becomes ItemKind
-calling copy name xs scope tables = let args = all_outside (map meant xs) scope tables in copy name args.0 args.1
+calling copy name xs scope tables = let args = all_outside (map meant xs) scope tables in copy.call name args.0 args.1
 
 abbrev pub stmt_meant : Copy → Stmt-F Stating Guarded (List Stating) → Stating
 stmt_meant copy (Stmt-F.Assign name x line) = states line (changing it.Assign name x)
@@ -167,13 +189,13 @@ stmt_meant copy (Stmt-F.Del name x line) = states line (changing it.Del name x)
 stmt_meant copy (Stmt-F.Send x to line) = states line (with_exprs it.Send x to)
 stmt_meant copy (Stmt-F.Output x line) = states line (with_expr it.Output x)
 stmt_meant copy (Stmt-F.Pass line) = states line (λ scope tables. (it.Pass, tables))
-stmt_meant copy (Stmt-F.Label name line) = states line (λ scope tables. (it.Label, tables))
+stmt_meant copy (Stmt-F.Label name line) = labels line (copy.number name)
 stmt_meant copy (Stmt-F.Call name xs line) = states line (calling copy name xs)
 stmt_meant copy (Stmt-F.If branches other line) = states line (ifs branches other)
 stmt_meant copy (Stmt-F.While x body line) = states line (loop x body)
 stmt_meant copy (Stmt-F.For name x body line) = states line (for_each name x body)
 stmt_meant copy (Stmt-F.AwaitOne x line) = await_one line x
-stmt_meant copy (Stmt-F.Await alts timeout line) = states line (awaits alts)
+stmt_meant copy (Stmt-F.Await alts timeout line) = λ label. states line (awaits alts timeout label) label
 
 abbrev pub branch_meant : Branch-F Stating Guarded (List Stating) → Guarded
 branch_meant b = record { branch = as_branch b.line b.cond b.body; alt = as_alt b.line b.cond b.body }
@@ -206,8 +228,8 @@ copy_of inner c method args tables =
 
 -- the same, where at most so many calls are within calls
 unfoldable pub copies : ℕ → ClassTree → Copy
-copies zero c name args tables = (it.Pass, tables)
-copies (suc most) c name args tables = copy_of (copies most c) c (method_of c name) args tables
+copies zero c = record { call = λ name args tables. (it.Pass, tables); number = label_number c }
+copies (suc most) c = record { call = λ name args tables. copy_of (copies most c) c (method_of c name) args tables; number = label_number c }
 
 -- the statements of a body of a class: no chain of calls is longer than the number of its members
 abbrev pub body_of : ClassTree → List Stmt → Becomes (List Item)

@@ -14,6 +14,8 @@ pub mod ExprMeaning
 pub mod ExprNames
 pub mod ExprTypes
 pub mod Grammar
+pub mod LabelNames
+pub mod Labels
 pub mod Limits
 pub mod Literals
 pub mod Live

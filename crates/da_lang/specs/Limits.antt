@@ -1,5 +1,5 @@
 -- The refusals by limits: for each kind the lines that it names, and the one that is told.
-use Rattle.std.specs.Prelude.{◌≡◌, ℕ, suc, ◌+◌, max, nat_lt, Bool, true, false, ◌||◌, if◌then◌else◌, List, [], ◌∷◌, ◌++◌, map, length, drop, sum, Option, option_to_list, flat_map, filter, filter_map}
+use Rattle.std.specs.Prelude.{◌≡◌, ℕ, suc, ◌+◌, max, nat_lt, Bool, true, false, ◌||◌, if◌then◌else◌, List, [], ◌∷◌, ◌++◌, map, length, drop, sum, Option, option_to_list, unwrap_or, flat_map, filter, filter_map}
 use Rattle.std.specs.List.{list_any}
 use Rattle.da_lang.specs.declared.program.Alt.{Alt}
 use Rattle.da_lang.specs.declared.program.Class.{Class}
@@ -52,7 +52,7 @@ kind_count (ItemKind-F.If branches other) = sum branches + sum other
 kind_count (ItemKind-F.While x body) = sum body
 kind_count (ItemKind-F.For slot x body) = sum body
 kind_count (ItemKind-F.Call args body) = sum body
-kind_count (ItemKind-F.Await alts) = sum alts
+kind_count (ItemKind-F.Await alts timeout label) = sum alts + sum (unwrap_or timeout [])
 kind_count _ = 0
 
 abbrev pub alt_count : Alt-F ℕ ℕ ℕ ℕ → ℕ
@@ -86,7 +86,7 @@ kind_depth (ItemKind-F.If branches other) = max (greatest branches) (block_depth
 kind_depth (ItemKind-F.While x body) = block_depth body
 kind_depth (ItemKind-F.For slot x body) = block_depth body
 kind_depth (ItemKind-F.Call args body) = block_depth body
-kind_depth (ItemKind-F.Await alts) = greatest alts
+kind_depth (ItemKind-F.Await alts timeout label) = max (greatest alts) (block_depth (unwrap_or timeout []))
 kind_depth _ = 0
 
 abbrev pub alt_depth : Alt-F ℕ ℕ ℕ ℕ → ℕ

@@ -1,6 +1,6 @@
 -- The refusals by names: for each kind the lines that it names, and the one that is told.
 use Rattle.std.specs.Prelude.{ℕ, Bool, true, false, not, ◌||◌, ◌==◌, if◌then◌else◌, List, [], ◌∷◌, ◌++◌, map, length, drop, Option, Some, None, option_map, option_and_then, option_to_list, flat_map, filter, filter_map, is_none, bytes_eq}
-use Rattle.std.specs.List.{list_any}
+use Rattle.std.specs.List.{list_any, list_all}
 use Rattle.da_lang.specs.declared.refusal.ScopeKind.{ScopeKind}
 use Rattle.da_lang.specs.declared.refusal.ScopeKind.TheVariants as refusal
 use Rattle.da_lang.specs.declared.tree.ClassTree.{ClassTree}
@@ -11,8 +11,9 @@ use Rattle.da_lang.specs.declared.tree.MainLine.TheVariants as main_line
 use Rattle.da_lang.specs.declared.tree.Tree.{Tree}
 use Rattle.da_lang.specs.Calls.{is_yield, leads, yields, deeds_in}
 use Rattle.da_lang.specs.ClassParts.{Declared, Place, InHandler, Body, bodies, bodies_where, variables, is_setup, is_run, is_handler, method_name, labels_at, method_of, class_of, setup_of, params_if}
-use Rattle.da_lang.specs.Deeds.{Doing, Sends, Outputs, Labels, Calls, Loops, TimesOut, Deed, deeds}
+use Rattle.da_lang.specs.Deeds.{Doing, Sends, Outputs, Calls, Loops, Deed, deeds}
 use Rattle.da_lang.specs.ExprNames.{Role, ClassVariable, Local, Made, Part, in_order, taken, refused_in, pattern_part}
+use Rattle.da_lang.specs.LabelNames.{all_deeds, labels_of}
 use Rattle.da_lang.specs.Scopes.{Scope, Refused, look, entered, at_line, at_lines, told}
 use Rattle.da_lang.specs.StmtNames.{refused_in_body}
 use Rattle.da_lang.specs.Written.{asks, reads_clock}
@@ -28,17 +29,6 @@ again_after before (x ∷ xs) = if list_any (bytes_eq x.0) before then x.1 ∷ a
 
 abbrev pub again : List Declared → List ℕ
 again = again_after []
-
--- notyet: `timeout`, and `at` in a `receive`
-abbrev pub times_out : Doing → Bool
-times_out TimesOut = true
-times_out _ = false
-
-abbrev pub has_labels : Body → Bool
-has_labels b = not (length (labels_at b.place) == 0)
-
-abbrev pub not_yet_in : Body → List ℕ
-not_yet_in b = (if has_labels b then b.line ∷ [] else []) ++ lines_where (λ d. times_out d.does) (deeds b.stmts)
 
 -- unknown and shadow, by what is in scope: in a class its variables, in a body its parameters or the variables of its
 -- patterns besides
@@ -68,7 +58,14 @@ abbrev pub calls_none : ClassTree → Doing → Bool
 calls_none c (Calls name) = is_none (method_of c name)
 calls_none c _ = false
 
--- twice: variables, methods, `setup` and `run`, labels of a class, parameters of a list
+-- unknown: a name behind `at` that is no label of the class
+abbrev pub is_label : ClassTree → List ℕ → Bool
+is_label c name = list_any (λ l. bytes_eq l.0 name) (labels_of c)
+
+abbrev pub labels_none : ClassTree → Body → List ℕ
+labels_none c b = if list_all (is_label c) (labels_at b.place) then [] else b.line ∷ []
+
+-- twice: variables, methods, `setup` and `run`, labels of a class and behind one `at`, parameters of a list
 abbrev pub variables_again : ClassTree → List ℕ
 variables_again c = again (map (λ v. (v.name, v.line)) (variables c))
 
@@ -81,21 +78,18 @@ methods_again c = again (filter_map named_body (bodies c))
 abbrev pub behind_first : (Place → Bool) → ClassTree → List ℕ
 behind_first test c = map (λ b. b.line) (drop 1 (bodies_where test c))
 
-abbrev pub labelled : ℕ → Doing → Option Declared
-labelled line (Labels name) = Some (name, line)
-labelled line _ = None
-
-abbrev pub all_deeds : ClassTree → List Deed
-all_deeds c = flat_map (λ b. deeds b.stmts) (bodies c)
-
 abbrev pub labels_again : ClassTree → List ℕ
-labels_again c = again (filter_map (λ d. labelled d.line d.does) (all_deeds c))
+labels_again c = again (labels_of c)
+
+-- a label that stands twice behind one `at`
+abbrev pub named_again : Body → List ℕ
+named_again b = again (map (λ name. (name, b.line)) (labels_at b.place))
 
 abbrev pub params_again : Body → List ℕ
 params_again b = again (map (λ p. (p.name, b.line)) b.params)
 
 abbrev pub twice_in : ClassTree → List ℕ
-twice_in c = variables_again c ++ methods_again c ++ behind_first is_setup c ++ behind_first is_run c ++ labels_again c ++ flat_map params_again (bodies c)
+twice_in c = variables_again c ++ methods_again c ++ behind_first is_setup c ++ behind_first is_run c ++ labels_again c ++ flat_map named_again (bodies c) ++ flat_map params_again (bodies c)
 
 -- recursive: a call in a method that leads back to it
 abbrev pub leads_back : ClassTree → List ℕ → Doing → Bool
@@ -141,8 +135,8 @@ misfits c d _ = false
 
 abbrev pub class_refusals : ClassTree → List (Refused ScopeKind)
 class_refusals c =
-    at_lines refusal.NotYet (flat_map not_yet_in (bodies c))
-    ++ at_lines refusal.Unknown (lines_where (λ d. calls_none c d.does) (all_deeds c))
+    at_lines refusal.Unknown (lines_where (λ d. calls_none c d.does) (all_deeds c))
+    ++ at_lines refusal.Unknown (flat_map (labels_none c) (bodies c))
     ++ flat_map (scope_refusals (class_scope c)) (bodies c)
     ++ at_lines refusal.Twice (twice_in c)
     ++ at_lines refusal.Recursive (flat_map (recursive_in c) (method_names c))
@@ -208,15 +202,14 @@ name_refusals t = flat_map class_refusals t.classes ++ at_lines refusal.Twice (t
 
 -- the order of the kinds on one line
 abbrev pub rank : ScopeKind → ℕ
-rank refusal.NotYet = 0
-rank refusal.Unknown = 1
-rank refusal.Twice = 2
-rank refusal.Shadow = 3
-rank refusal.Recursive = 4
-rank refusal.Yield = 5
-rank refusal.Setup = 6
-rank refusal.NoRun = 7
-rank refusal.Arity = 8
+rank refusal.Unknown = 0
+rank refusal.Twice = 1
+rank refusal.Shadow = 2
+rank refusal.Recursive = 3
+rank refusal.Yield = 4
+rank refusal.Setup = 5
+rank refusal.NoRun = 6
+rank refusal.Arity = 7
 
 -- the refusal by names that is told, if there is one
 abbrev pub name_fault : Tree → Option (Refused ScopeKind)

@@ -16,8 +16,9 @@ use Rattle.da_lang.specs.declared.tree.MainLine.TheVariants as main_line
 use Rattle.da_lang.specs.declared.tree.PatternTree.{PatternTree}
 use Rattle.da_lang.specs.declared.tree.Tree.{Tree}
 use Rattle.da_lang.specs.BodyMeaning.{fresh, named_slots, untyped, with_params, param_slots, class_slots, body_of}
-use Rattle.da_lang.specs.ClassParts.{Place, InHandler, Body, bodies_where, variables, is_handler, setup_of, params_if, stmts_if, run_of}
+use Rattle.da_lang.specs.ClassParts.{Place, InHandler, Body, bodies_where, variables, is_handler, labels_at, setup_of, params_if, stmts_if, run_of}
 use Rattle.da_lang.specs.ExprMeaning.{Meaning, OneProcess, Processes, Tables, Matching, with_row, matching, meant}
+use Rattle.da_lang.specs.LabelNames.{label_number}
 use Rattle.da_lang.specs.Scopes.{Scope}
 
 -- the patterns of a handler, the second with the variables of the first
@@ -43,6 +44,7 @@ handler c b tables =
       record {
         message = (message_matching b.place).pattern (class_slots c);
         from = (sender_matching b.place).pattern (with_row (message_matching b.place).binds (class_slots c));
+        at = map (label_number c) (labels_at b.place);
         binds = fresh tables (length binds);
         body = items.0;
         line = b.line;

@@ -14,8 +14,8 @@ use Rattle.da_lang.specs.World.{Data, Task, Do, Loop, Prepare}
 
 -- a label or an `await`, which only a move takes
 abbrev pub kind_yields : ItemKind-F ItemKind Alt Item RBranch → Bool
-kind_yields (Await alts) = true
-kind_yields Label = true
+kind_yields (Await alts timeout label) = true
+kind_yields (Label l) = true
 kind_yields _ = false
 
 abbrev pub yields : Task → Bool

@@ -1,5 +1,5 @@
 -- The worlds that a typed program can have, as far as types say.
-use Rattle.std.specs.Prelude.{◌≡◌, ℕ, ◌^◌, ◌<◌, ◌≤◌, nat_lt, nat_le, Bool, true, ◌&&◌, List, [], ◌∷◌, ◌++◌, map, length, Option, Some, None}
+use Rattle.std.specs.Prelude.{◌≡◌, ℕ, ◌^◌, ◌<◌, ◌≤◌, nat_lt, nat_le, Bool, true, ◌&&◌, List, [], ◌∷◌, ◌++◌, map, length, Option, Some, None, option_to_list}
 use Rattle.std.specs.List.{All, list_all}
 use Rattle.da_values.specs.declared.val.Val.{Val, out-Val}
 use Rattle.da_values.specs.declared.val.Val.TheFolds.{fold-Val}
@@ -80,7 +80,7 @@ blocks_in (ItemKind-F.If branches other) = map (λ b. (out-RBranch b).body) bran
 blocks_in (ItemKind-F.While x body) = body ∷ []
 blocks_in (ItemKind-F.For slot x body) = body ∷ []
 blocks_in (ItemKind-F.Call args body) = body ∷ []
-blocks_in (ItemKind-F.Await alts) = map (λ a. (out-Alt a).body) alts
+blocks_in (ItemKind-F.Await alts timeout label) = map (λ a. (out-Alt a).body) alts ++ option_to_list timeout
 blocks_in _ = []
 
 abbrev pub blocks_of : Item → List (List Item)

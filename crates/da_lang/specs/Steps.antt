@@ -1,5 +1,6 @@
--- The step of a process: a move, or the delivery of a message.
-use Rattle.std.specs.Prelude.{ℕ, zero, suc, ◌+◌, max, nat_lt, if◌then◌else◌, List, [], ◌∷◌, ◌++◌, Option, Some, None}
+-- The step of a process: a move, a timeout, or the delivery of a message.
+use Rattle.std.specs.Prelude.{ℕ, zero, suc, ◌+◌, max, nat_lt, if◌then◌else◌, List, [], ◌∷◌, ◌++◌, length, Option, Some, None}
+use Rattle.std.specs.List.{list_any}
 use Rattle.da_values.specs.declared.val.Val.{Val}
 use Rattle.da_values.specs.Value.{value_of}
 use Rattle.da_lang.specs.declared.event.Action.{Action}
@@ -16,17 +17,19 @@ use Rattle.da_lang.specs.declared.program.ProcDecl.{ProcDecl}
 use Rattle.da_lang.specs.declared.program.Program.{Program}
 use Rattle.da_lang.specs.declared.program.RBranch.{RBranch}
 use Rattle.da_lang.specs.declared.program.SetupCall.{SetupCall}
+use Rattle.da_lang.specs.Labels.{open_handlers, takes}
 use Rattle.da_lang.specs.Matching.{Row, matched_entry}
 use Rattle.da_lang.specs.Queries.{holds}
 use Rattle.da_lang.specs.Runs.{Halt, AtYield, UsedUp, Faults, Ran, stopped, behind, max_turns, run_to_yield}
 use Rattle.da_lang.specs.Turns.{bind_all, bind_found, do_all, later, kind_of}
 use Rattle.da_lang.specs.World.{Data, Task, Do, Prepare, World, at_number, class_of, Phase, New, Waiting, Ended, Faulted}
 
--- a move from the opening or a label; one that takes the alternative of this number; a message with its sender and its
--- time that arrives
+-- a move from the opening or a label; one that takes the alternative of this number; the time that runs out; a message with
+-- its sender and its time that arrives
 pub data Step : Type 0 where
   Go : Step
   Take : (k : ℕ) → Step
+  TimeOut : Step
   Deliver : (message : Val) (sender : ℕ) (time : ℕ) → Step
 
 -- the move that a number names: 0 is the one from the opening or a label
@@ -73,7 +76,7 @@ first_tasks program class me = preparing (setup_of_decl (at_number program.procs
 
 -- the first thing to do is a label: it is taken off, which is the first turn
 abbrev pub past_label : Class → Data → List Task → ItemKind-F ItemKind Alt Item RBranch → Option Stepped
-past_label class d todo Label = Some (moved d.me 0 (run_to_yield class 1 d todo))
+past_label class d todo (Label l) = Some (moved d.me 0 (run_to_yield class 1 d todo))
 past_label class d todo _ = None
 
 -- the first thing to do is an `await`: it is taken off, which is the first turn, the least row is bound, and the block
@@ -86,8 +89,17 @@ take_alternative class d todo k (Some alt) =
     else None
 
 abbrev pub past_await : Class → Data → List Task → ℕ → ItemKind-F ItemKind Alt Item RBranch → Option Stepped
-past_await class d todo k (Await alts) = take_alternative class d todo k (at_number alts k)
+past_await class d todo k (Await alts timeout label) = take_alternative class d todo k (at_number alts k)
 past_await class d todo k _ = None
+
+-- the first thing to do is an `await` with a block for a timeout, and no alternative may be taken: it is taken off, which is
+-- the first turn, and that block stands in front
+abbrev pub past_timeout : Class → Data → List Task → ItemKind-F ItemKind Alt Item RBranch → Option Stepped
+past_timeout class d todo (Await alts (Some body) label) =
+    if list_any (λ alt. holds d (out-Alt alt).cond []) alts
+    then None
+    else Some (moved d.me (length alts + 1) (run_to_yield class 1 d (do_all body todo)))
+past_timeout class d todo _ = None
 
 abbrev pub go_waiting : Class → Data → List Task → Option Stepped
 go_waiting class d (Do i ∷ todo) = past_label class d todo (kind_of i)
@@ -96,6 +108,10 @@ go_waiting class d _ = None
 abbrev pub take_waiting : Class → Data → ℕ → List Task → Option Stepped
 take_waiting class d k (Do i ∷ todo) = past_await class d todo k (kind_of i)
 take_waiting class d k _ = None
+
+abbrev pub time_out_waiting : Class → Data → List Task → Option Stepped
+time_out_waiting class d (Do i ∷ todo) = past_timeout class d todo (kind_of i)
+time_out_waiting class d _ = None
 
 -- DELIVERIES
 
@@ -118,7 +134,7 @@ abbrev pub try_handler : Class → Handler → ℕ → Data → Option Row → (
 try_handler class h n d None go = go n d
 try_handler class h n d (Some row) go = after_body (run_to_yield class n (bind_all h.binds row d) (do_all h.body [])) go
 
--- the handlers in text order, where n turns were taken; behind the last one the process stands at its yield point again
+-- some handlers in text order, where n turns were taken; behind the last one the process stands at its yield point again
 abbrev pub handle : Class → Val → ℕ → List Handler → ℕ → Data → Ran
 handle class m p [] n d = stopped d [] n AtYield
 handle class m p (h ∷ hs) n d =
@@ -140,8 +156,11 @@ abbrev pub class_step : Program → Class → World → Step → Phase → Optio
 class_step program class w Go New = Some (moved w.data'.me 0 (run_to_yield class 0 w.data' (first_tasks program class w.data'.me)))
 class_step program class w Go Waiting = go_waiting class w.data' w.todo
 class_step program class w (Take k) Waiting = take_waiting class w.data' k w.todo
+class_step program class w TimeOut Waiting = time_out_waiting class w.data' w.todo
 class_step program class w (Deliver m p time) Waiting =
-    Some (handled w.todo w.data'.me m p time (handle class m p class.handlers 0 (received_at m p time w.data')))
+    if takes class w m p
+    then Some (handled w.todo w.data'.me m p time (handle class m p (open_handlers class w.todo) 0 (received_at m p time w.data')))
+    else None
 class_step program class w step phase = None
 
 abbrev pub step_in : Program → World → Step → Option Class → Option Stepped

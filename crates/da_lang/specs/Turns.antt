@@ -171,8 +171,8 @@ module _ (class : Class) (line : ℕ) (d : Data) (todo : List Task) where
   kind_turn itself (For s e body) = with_value e (λ v. quiet d (Loop s (elements_of v) body line ∷ todo))
   kind_turn itself (Call args body) = enter (map value_of_arg args) (map slot_of_arg args) body
   -- a run stops in front of these, and never takes them by a turn
-  kind_turn itself (Await alts) = quiet d todo
-  kind_turn itself Label = quiet d todo
+  kind_turn itself (Await alts timeout label) = quiet d todo
+  kind_turn itself (Label l) = quiet d todo
   kind_turn itself Pass = quiet d todo
 
   -- the rest of a loop: its first element is bound, and behind the body comes what is left then

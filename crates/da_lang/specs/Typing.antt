@@ -1,5 +1,5 @@
 -- The types of the slots of a program, and the lines that break a rule of types.
-use Rattle.std.specs.Prelude.{◌≡◌, ℕ, zero, suc, nat_lt, Bool, true, false, ◌&&◌, ◌||◌, if◌then◌else◌, List, [], ◌∷◌, ◌++◌, map, Option, Some, None, is_some, flat_map, slice_get, slice_set}
+use Rattle.std.specs.Prelude.{◌≡◌, ℕ, zero, suc, nat_lt, Bool, true, false, ◌&&◌, ◌||◌, if◌then◌else◌, List, [], ◌∷◌, ◌++◌, map, Option, Some, None, is_some, unwrap_or, flat_map, slice_get, slice_set}
 use Rattle.std.specs.List.{list_all}
 use Rattle.da_values.specs.declared.value.Value.TheVariants as kept
 use Rattle.da_lang.specs.declared.program.Alt.{Alt}
@@ -97,7 +97,7 @@ module _ (messages : List MessageDecl) (queries : List Query) where
   kind_types (ItemKind-F.While x body) slots = in_turn body slots
   kind_types (ItemKind-F.For slot x body) slots = in_turn body (with_type slot (given (typed slots x).type_ element_of) slots)
   kind_types (ItemKind-F.Call args body) slots = in_turn body slots
-  kind_types (ItemKind-F.Await alts) slots = in_turn alts slots
+  kind_types (ItemKind-F.Await alts timeout label) slots = in_turn (alts ++ unwrap_or timeout []) slots
   kind_types _ slots = slots
 
   abbrev pub alt_types : Alt-F (Slots → Slots) (Slots → Slots) (Slots → Slots) (Slots → Slots) → Slots → Slots
@@ -180,8 +180,8 @@ module _ (messages : List MessageDecl) (queries : List Query) where
     kind_breaks (ItemKind-F.While x body) = breaks (truth (typed slots x)) body
     kind_breaks (ItemKind-F.For slot x body) = breaks (takes_elements slot x) body
     kind_breaks (ItemKind-F.Call args body) = breaks (fits_params args) body
-    kind_breaks (ItemKind-F.Await alts) = breaks true alts
-    kind_breaks ItemKind-F.Label = breaks true []
+    kind_breaks (ItemKind-F.Await alts timeout label) = breaks true (alts ++ unwrap_or timeout [])
+    kind_breaks (ItemKind-F.Label l) = breaks true []
     kind_breaks ItemKind-F.Pass = breaks true []
 
     abbrev pub alt_breaks : Alt-F Breaks (List ℕ) (List ℕ) (List ℕ) → List ℕ

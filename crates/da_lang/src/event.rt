@@ -8,6 +8,8 @@ pub enum Event {
     Move { p: u32 },
     /// Process `p` takes alternative `k` of the `await` where it waits, counted from 1.
     Take { p: u32, k: u32 },
+    /// The time runs out at the `await` where process `p` waits.
+    Timeout { p: u32 },
     /// Message `i` of the channel from `p` to `q` arrives.
     Deliver { p: u32, q: u32, i: u32 },
     /// Message `i` of the channel from `p` to `q` is lost.
@@ -38,7 +40,8 @@ pub enum FaultKind {
 /// What a process does at an event, what is told of it, and where a run stops.
 #[derive(Debug, Drop)]
 pub enum Action {
-    /// Process `p` made a move: from its opening or a label with 0, else with the number of the alternative.
+    /// Process `p` made a move: from its opening or a label with 0, else with the number of the alternative; that of a
+    /// timeout is one more than there are alternatives.
     Took { p: u16, k: u32 },
     /// Process `p` sent the message `v` to `q` at the time `t`.
     Sent { p: u16, q: u16, t: u64, v: Value },

@@ -51,11 +51,13 @@ pub struct Class {
     pub line: u32,
 }
 
-/// A handler. `binds` are the slots that take the parts of the row of its two patterns. The line is that of `receive`.
+/// A handler. `binds` are the slots that take the parts of the row of its two patterns. `at` are the labels at which it is
+/// open; it is open everywhere where there are none. The line is that of `receive`.
 #[derive(Debug, Drop)]
 pub struct Handler {
     pub message: Pattern,
     pub from: Pattern,
+    pub at: List<u32>,
     pub binds: List<u16>,
     pub body: List<Item>,
     pub line: u32,
@@ -91,10 +93,15 @@ pub enum ItemKind {
     For(u16, Boxed<RExpr>, List<Item>),
     /// A method's statements in the place of the call, with its arguments.
     Call(List<BindArg>, List<Item>),
-    /// Waits for one of the alternatives.
-    Await(List<Alt>),
-    /// A yield point, which a move takes.
-    Label,
+    /// Waits for one of the alternatives, or for the time to run out where there is a block for that. `label` is that of a
+    /// label which stands directly before it in the same block.
+    Await {
+        alts: List<Alt>,
+        timeout: Option<List<Item>>,
+        label: Option<u32>,
+    },
+    /// A yield point, which a move takes. The labels of a class are numbered from 1, in text order.
+    Label(u32),
     /// Does nothing.
     Pass,
 }

@@ -1,5 +1,5 @@
 -- What statements become is as large as their extent says: its statements, its blocks, and the slots that it adds.
-use Rattle.std.specs.Prelude.{◌≡◌, refl, ℕ, suc, ◌+◌, max, List, [], ◌∷◌, ◌++◌, map, length, sum, Option, Some, None}
+use Rattle.std.specs.Prelude.{◌≡◌, refl, ℕ, suc, ◌+◌, max, List, [], ◌∷◌, ◌++◌, map, length, sum, Option, Some, None, unwrap_or}
 use Rattle.std.specs.List.{AllByRecursion, fold}
 use Rattle.std.specs.Option.{option_map}
 use Rattle.std.proofs.Common.{◌∙◌, ap, sym, arith, length-append}
@@ -15,9 +15,9 @@ use Rattle.da_lang.specs.declared.tree.Branch.{Branch, roll-Branch}
 use Rattle.da_lang.specs.declared.tree.Expr.{Expr}
 use Rattle.da_lang.specs.declared.tree.Stmt.{Stmt}
 use Rattle.da_lang.specs.declared.tree.Stmt.TheVariants as stmt
-use Rattle.da_lang.specs.declared.tree.TimeoutTree.{TimeoutTree}
+use Rattle.da_lang.specs.declared.tree.TimeoutTree.{TimeoutTree, roll-TimeoutTree}
 use Rattle.da_lang.specs.declared.ty.Ty.{Ty}
-use Rattle.da_lang.specs.BodyMeaning.{Copy, Guarded, Becomes, Behind, stating, guarding, block, block_if, bound, each, states, named_slots, as_alt, as_branch}
+use Rattle.da_lang.specs.BodyMeaning.{Copy, Guarded, Becomes, Behind, Stating, stating, guarding, block, block_if, bound, each, states, named_slots, as_alt, as_branch, behind_label, timeout_block, waiting}
 use Rattle.da_lang.specs.ExprMeaning.{Meaning, Tables, meant, all_outside}
 use Rattle.da_lang.specs.ExprNames.{found_names}
 use Rattle.da_lang.specs.Limits.{item_count, item_depth, block_depth, kind_counted, kind_depth_of, branch_counted, branch_depth_of, alt_counted, alt_depth_of}
@@ -25,12 +25,12 @@ use Rattle.da_lang.specs.Scopes.{Scope}
 use Rattle.da_lang.specs.Written.{greatest}
 use Rattle.da_lang.proofs.CondInduction.{Where}
 use Rattle.da_lang.proofs.CountsAt.{kind_counted-Assign, kind_counted-Add, kind_counted-Del, kind_counted-Send, kind_counted-Output, kind_counted-If, kind_counted-While, kind_counted-For, kind_counted-Await, kind_counted-Label, kind_counted-Pass, alt_counted-of, item_count-of, branch_counted-of, kind_depth_of-Assign, kind_depth_of-Add, kind_depth_of-Del, kind_depth_of-Send, kind_depth_of-Output, kind_depth_of-If, kind_depth_of-While, kind_depth_of-For, kind_depth_of-Await, kind_depth_of-Label, kind_depth_of-Pass, alt_depth_of-of, item_depth-of, branch_depth_of-of}
-use Rattle.da_lang.proofs.StatingAt.{stating_in-Assign, stating_in-Add, stating_in-Del, stating_in-Send, stating_in-Output, stating_in-Pass, stating_in-Label, stating_in-Call, stating_in-If, stating_in-While, stating_in-For, stating_in-AwaitOne, stating_in-Await, guarding-of}
+use Rattle.da_lang.proofs.StatingAt.{stating_in-Assign, stating_in-Add, stating_in-Del, stating_in-Send, stating_in-Output, stating_in-Pass, stating_in-Label, stating_in-Call, stating_in-If, stating_in-While, stating_in-For, stating_in-AwaitOne, stating_in-Await, guarding-of, waiting-of}
 use Rattle.da_lang.proofs.StmtInduction.{StmtCases, stmt_induction}
 use Rattle.da_limits.specs.declared.extent.Extent.{Extent}
 use Rattle.da_limits.specs.Capped.{capped}
-use Rattle.da_limits.specs.Extents.{Called, nothing, beside, together, one, deeper, wider, as_block, else_extent, extent, extent_of_branch}
-use Rattle.da_limits.proofs.ExtentsAt.{extent-Assign, extent-Add, extent-Del, extent-Send, extent-Output, extent-Pass, extent-Label, extent-Call, extent-If, extent-While, extent-For, extent-AwaitOne, extent-Await, extent_of_branch-of}
+use Rattle.da_limits.specs.Extents.{Called, nothing, beside, together, one, deeper, wider, as_block, else_extent, extent, extent_of_branch, extent_of_timeout}
+use Rattle.da_limits.proofs.ExtentsAt.{extent-Assign, extent-Add, extent-Del, extent-Send, extent-Output, extent-Pass, extent-Label, extent-Call, extent-If, extent-While, extent-For, extent-AwaitOne, extent-Await, extent_of_branch-of, extent_of_timeout-of}
 use Rattle.da_limits.proofs.SlotsKept.{slots_kept, all_slots_kept}
 
 -- so many statements, so many blocks within each other, and from so many slots on to so many
@@ -103,31 +103,34 @@ module _ {A B C : Type 0} (pick : C → Becomes A) (part : B → C) (count depth
 -- the copies of methods are as large as is said
 pub record Copies (copy : Copy) (called : Called) : Type 0 where
   pub of : (name : List ℕ) (args : List RExpr) (tables : Tables)
-      → Fits (called name) (kind_counted (copy name args tables).0) (kind_depth_of (copy name args tables).0) (length tables.slots) (length (copy name args tables).1.slots)
+      → Fits (called name) (kind_counted (copy.call name args tables).0) (kind_depth_of (copy.call name args tables).0) (length tables.slots) (length (copy.call name args tables).1.slots)
 
 module _ (copy : Copy) (called : Called) (copied : Copies copy called) where
   abbrev StmtFits : Stmt → Type 0
-  StmtFits s = (scope : Scope Meaning) (tables : Tables)
-      → Fits (extent called s) (item_count (stating copy s scope tables).item) (item_depth (stating copy s scope tables).item) (length tables.slots) (length (stating copy s scope tables).tables.slots)
+  StmtFits s = (label : Option ℕ) (scope : Scope Meaning) (tables : Tables)
+      → Fits (extent called s) (item_count (stating copy s label scope tables).item) (item_depth (stating copy s label scope tables).item) (length tables.slots) (length (stating copy s label scope tables).tables.slots)
 
   abbrev Block : List Stmt → Scope Meaning → Tables → List Item × Tables
   Block ss scope tables = block (map (stating copy) ss) scope tables
 
-  stmts_from : (ss : List Stmt) → AllByRecursion StmtFits ss → (x : Extent) (a i l : ℕ) (scope : Scope Meaning) (tables : Tables) → Fits x a i l (length tables.slots)
-      → Fits (fold beside x (map (extent called) ss)) (a + sum (map item_count (Block ss scope tables).0)) (max i (greatest (map item_depth (Block ss scope tables).0))) l (length (Block ss scope tables).1.slots)
-  stmts_from [] fit x a i l scope tables f = fits_as _ _ _ _ _ refl (omega arith) (omega arith) refl refl f
-  stmts_from (s ∷ ss) fit x a i l scope tables f =
-      let first = stating copy s scope tables in
-      let others = Block ss first.scope first.tables in
+  abbrev Behind_label : Option ℕ → List Stmt → Scope Meaning → Tables → List Item × Tables
+  Behind_label label ss scope tables = behind_label label (map (stating copy) ss) scope tables
+
+  stmts_from : (ss : List Stmt) → AllByRecursion StmtFits ss → (x : Extent) (a i l : ℕ) (label : Option ℕ) (scope : Scope Meaning) (tables : Tables) → Fits x a i l (length tables.slots)
+      → Fits (fold beside x (map (extent called) ss)) (a + sum (map item_count (Behind_label label ss scope tables).0)) (max i (greatest (map item_depth (Behind_label label ss scope tables).0))) l (length (Behind_label label ss scope tables).1.slots)
+  stmts_from [] fit x a i l label scope tables f = fits_as _ _ _ _ _ refl (omega arith) (omega arith) refl refl f
+  stmts_from (s ∷ ss) fit x a i l label scope tables f =
+      let first = stating copy s label scope tables in
+      let others = Behind_label first.label ss first.scope first.tables in
       fits_as _ _ _ _ _ refl (omega (arith, sum_by-cons (λ k. k) (item_count first.item) (map item_count others.0))) (omega arith) refl refl
-      (stmts_from ss fit.1 (beside x (extent called s)) (a + item_count first.item) (max i (item_depth first.item)) l first.scope first.tables (beside_fits _ _ _ _ _ _ _ _ _ f (fit.0 scope tables)))
+      (stmts_from ss fit.1 (beside x (extent called s)) (a + item_count first.item) (max i (item_depth first.item)) l first.label first.scope first.tables (beside_fits _ _ _ _ _ _ _ _ _ f (fit.0 label scope tables)))
 
   block_fits : (ss : List Stmt) → AllByRecursion StmtFits ss → (scope : Scope Meaning) (tables : Tables)
       → Fits (as_block (map (extent called) ss)) (sum (map item_count (Block ss scope tables).0)) (block_depth (map item_depth (Block ss scope tables).0)) (length tables.slots) (length (Block ss scope tables).1.slots)
   unfolding as_block together
   block_fits [] fit scope tables = nothing_fits (length tables.slots)
   block_fits (s ∷ ss) fit scope tables =
-      deeper_fits _ _ _ _ _ (fits_as _ _ _ _ _ refl (omega arith) (omega arith) refl refl (stmts_from (s ∷ ss) fit nothing 0 0 (length tables.slots) scope tables (nothing_fits (length tables.slots))))
+      deeper_fits _ _ _ _ _ (fits_as _ _ _ _ _ refl (omega arith) (omega arith) refl refl (stmts_from (s ∷ ss) fit nothing 0 0 (length tables.slots) None scope tables (nothing_fits (length tables.slots))))
 
   -- a block behind new slots
   widened : {A : Type 0} (types : A → Option Ty) (xs : List A) (tables : Tables) → length (tables.slots ++ map types xs) ≡ length tables.slots + length xs
@@ -139,16 +142,17 @@ module _ (copy : Copy) (called : Called) (copied : Copies copy called) where
       wider_fits _ _ _ _ _ _ _ (widened (λ name. None) names tables) (block_fits ss fit (named_slots names tables scope) (record { slots = tables.slots ++ map (λ name. None) names; queries = tables.queries }))
 
   -- two statements of one meaning
-  stmt_as : (s : Stmt) (e : Extent) (b : Scope Meaning → Tables → Behind) → extent called s ≡ e → ((scope : Scope Meaning) (tables : Tables) → stating copy s scope tables ≡ b scope tables)
-      → ((scope : Scope Meaning) (tables : Tables) → Fits e (item_count (b scope tables).item) (item_depth (b scope tables).item) (length tables.slots) (length (b scope tables).tables.slots)) → StmtFits s
-  stmt_as s e b is means fit scope tables =
-      fits_as _ _ _ _ _ is (ap (λ (x : Behind). item_count x.item) (means scope tables)) (ap (λ (x : Behind). item_depth x.item) (means scope tables)) refl (ap (λ (x : Behind). length x.tables.slots) (means scope tables)) (fit scope tables)
+  stmt_as : (s : Stmt) (e : Extent) (b : Stating) → extent called s ≡ e → ((label : Option ℕ) (scope : Scope Meaning) (tables : Tables) → stating copy s label scope tables ≡ b label scope tables)
+      → ((label : Option ℕ) (scope : Scope Meaning) (tables : Tables) → Fits e (item_count (b label scope tables).item) (item_depth (b label scope tables).item) (length tables.slots) (length (b label scope tables).tables.slots)) → StmtFits s
+  stmt_as s e b is means fit label scope tables =
+      fits_as _ _ _ _ _ is (ap (λ (x : Behind). item_count x.item) (means label scope tables)) (ap (λ (x : Behind). item_depth x.item) (means label scope tables)) refl (ap (λ (x : Behind). length x.tables.slots) (means label scope tables)) (fit label scope tables)
 
-  kind_as : (s : Stmt) (line : ℕ) (becomes : Becomes ItemKind) (e : Extent) → extent called s ≡ one e → ((scope : Scope Meaning) (tables : Tables) → stating copy s scope tables ≡ states line becomes scope tables)
-      → ((scope : Scope Meaning) (tables : Tables) → Fits e (kind_counted (becomes scope tables).0) (kind_depth_of (becomes scope tables).0) (length tables.slots) (length (becomes scope tables).1.slots)) → StmtFits s
+  kind_as : (s : Stmt) (line : ℕ) (becomes : Option ℕ → Becomes ItemKind) (e : Extent) → extent called s ≡ one e
+      → ((label : Option ℕ) (scope : Scope Meaning) (tables : Tables) → stating copy s label scope tables ≡ states line (becomes label) label scope tables)
+      → ((label : Option ℕ) (scope : Scope Meaning) (tables : Tables) → Fits e (kind_counted (becomes label scope tables).0) (kind_depth_of (becomes label scope tables).0) (length tables.slots) (length (becomes label scope tables).1.slots)) → StmtFits s
   kind_as s line becomes e is means fit =
-      stmt_as s (one e) (states line becomes) is means (λ scope tables.
-      fits_as _ _ _ _ _ refl (item_count-of line (becomes scope tables).0) (item_depth-of line (becomes scope tables).0) refl refl (one_fits _ _ _ _ _ (fit scope tables)))
+      stmt_as s (one e) (λ label. states line (becomes label) label) is means (λ label scope tables.
+      fits_as _ _ _ _ _ refl (item_count-of line (becomes label scope tables).0) (item_depth-of line (becomes label scope tables).0) refl refl (one_fits _ _ _ _ _ (fit label scope tables)))
 
   -- a statement without blocks that adds no slot
   plain : (kind : ItemKind) (n m : ℕ) → kind_counted kind ≡ 0 → kind_depth_of kind ≡ 0 → m ≡ n → Fits nothing (kind_counted kind) (kind_depth_of kind) n m
@@ -213,56 +217,84 @@ module _ (copy : Copy) (called : Called) (copied : Copies copy called) where
 
   if_fits : (bs : List Branch) (other : Option (List Stmt)) (line : ℕ) → AllByRecursion BranchFits bs → Where (AllByRecursion StmtFits) other → StmtFits (stmt.If bs other line)
   if_fits bs other line fit others =
-      kind_as _ line _ _ (extent-If called bs other line) (stating_in-If copy bs other line) (λ scope tables.
+      kind_as _ line _ _ (extent-If called bs other line) (stating_in-If copy bs other line) (λ label scope tables.
       let conds = each (map (λ (g : Guarded). g.branch) (map (guarding copy) bs)) scope tables in
       let last = block_if (option_map (map (stating copy)) other) scope conds.1 in
       fits_as _ _ _ _ _ refl (kind_counted-If conds.0 last.0) (kind_depth_of-If conds.0 last.0) refl refl
       (beside_fits _ _ _ _ _ _ _ _ _ (parts_fit (λ (g : Guarded). g.branch) (guarding copy) branch_counted branch_depth_of (extent_of_branch called) bs (firsts FitsAsBranch FitsAsAlt bs fit) scope tables) (else_fits other others scope conds.1)))
 
-  await_fits : (bs : List Branch) (over : Option TimeoutTree) (line : ℕ) → AllByRecursion BranchFits bs → StmtFits (stmt.Await bs over line)
-  await_fits bs over line fit =
-      kind_as _ line _ _ (extent-Await called bs over line) (stating_in-Await copy bs over line) (λ scope tables.
+  abbrev TimeoutFits : TimeoutTree → Type 0
+  TimeoutFits t = (scope : Scope Meaning) (tables : Tables)
+      → Fits (extent_of_timeout called t) (sum (map item_count (block (waiting copy t) scope tables).0)) (block_depth (map item_depth (block (waiting copy t) scope tables).0)) (length tables.slots) (length (block (waiting copy t) scope tables).1.slots)
+
+  abbrev Late : Option TimeoutTree → Scope Meaning → Tables → Option (List Item) × Tables
+  Late over scope tables = timeout_block (option_map (waiting copy) over) scope tables
+
+  late_fits : (over : Option TimeoutTree) → Where TimeoutFits over → (scope : Scope Meaning) (tables : Tables)
+      → Fits (unwrap_or (option_map (extent_of_timeout called) over) nothing) (sum (unwrap_or (option_map (map item_count) (Late over scope tables).0) []))
+      (block_depth (unwrap_or (option_map (map item_depth) (Late over scope tables).0) [])) (length tables.slots) (length (Late over scope tables).1.slots)
+  late_fits None fit scope tables = nothing_fits (length tables.slots)
+  late_fits (Some t) fit scope tables = fit scope tables
+
+  timeout_fits : (ss : List Stmt) (line : ℕ) → AllByRecursion StmtFits ss → TimeoutFits (roll-TimeoutTree (record { body = ss; line = line }))
+  timeout_fits ss line fit scope tables =
+      let is : block (waiting copy (roll-TimeoutTree (record { body = ss; line = line }))) scope tables ≡ Block ss scope tables = ap (λ (body : List Stating). block body scope tables) (waiting-of copy ss line) in
+      fits_as _ _ _ _ _ (extent_of_timeout-of called ss line)
+      (ap (λ (r : List Item × Tables). sum (map item_count r.0)) is) (ap (λ (r : List Item × Tables). block_depth (map item_depth r.0)) is)
+      refl (ap (λ (r : List Item × Tables). length r.1.slots) is) (block_fits ss fit scope tables)
+
+  await_fits : (bs : List Branch) (over : Option TimeoutTree) (line : ℕ) → AllByRecursion BranchFits bs → Where TimeoutFits over → StmtFits (stmt.Await bs over line)
+  await_fits bs over line fit others =
+      kind_as _ line _ _ (extent-Await called bs over line) (stating_in-Await copy bs over line) (λ label scope tables.
       let alts = each (map (λ (g : Guarded). g.alt) (map (guarding copy) bs)) scope tables in
-      fits_as _ _ _ _ _ refl (kind_counted-Await alts.0) (kind_depth_of-Await alts.0) refl refl
-      (parts_fit (λ (g : Guarded). g.alt) (guarding copy) alt_counted alt_depth_of (extent_of_branch called) bs (seconds FitsAsBranch FitsAsAlt bs fit) scope tables))
+      let last = Late over scope alts.1 in
+      fits_as _ _ _ _ _ refl (kind_counted-Await alts.0 last.0 label) (kind_depth_of-Await alts.0 last.0 label) refl refl
+      (beside_fits _ _ _ _ _ _ _ _ _ (parts_fit (λ (g : Guarded). g.alt) (guarding copy) alt_counted alt_depth_of (extent_of_branch called) bs (seconds FitsAsBranch FitsAsAlt bs fit) scope tables) (late_fits over others scope alts.1)))
 
   await_one_fits : (x : Expr) (line : ℕ) → StmtFits (stmt.AwaitOne x line)
   unfolding nothing as_block
   await_one_fits x line =
-      stmt_as _ _ _ (extent-AwaitOne called x line) (stating_in-AwaitOne copy x line) (λ scope tables.
+      stmt_as _ _ _ (extent-AwaitOne called x line) (stating_in-AwaitOne copy x line) (λ label scope tables.
       let alt = as_alt line x [] scope tables in
+      let kind = it.Await (alt.0 ∷ []) None label in
       let counted : alt_counted alt.0 ≡ 0 = alt_counted-of _ _ _ [] _ in
       let flat : alt_depth_of alt.0 ≡ 0 = alt_depth_of-of _ _ _ [] _ in
       fits_as _ _ _ _ _ refl
-      (item_count-of line (it.Await (alt.0 ∷ [])) ∙ ap suc (kind_counted-Await (alt.0 ∷ []) ∙ ap (λ n. sum (n ∷ [])) counted))
-      (item_depth-of line (it.Await (alt.0 ∷ [])) ∙ kind_depth_of-Await (alt.0 ∷ []) ∙ ap (λ n. greatest (n ∷ [])) flat)
+      (item_count-of line kind ∙ ap suc (kind_counted-Await (alt.0 ∷ []) None label ∙ ap (λ n. sum (n ∷ []) + 0) counted))
+      (item_depth-of line kind ∙ kind_depth_of-Await (alt.0 ∷ []) None label ∙ ap (λ n. max (greatest (n ∷ [])) 0) flat)
       refl refl
       (one_fits _ _ _ _ _ (named_fit x (found_names x) [] tt scope tables)))
+
+  label_fits : (name : List ℕ) (line : ℕ) → StmtFits (stmt.Label name line)
+  label_fits name line =
+      let kind = it.Label (copy.number name) in
+      stmt_as _ _ _ (extent-Label called name line) (stating_in-Label copy name line) (λ label scope tables.
+      fits_as _ _ _ _ _ refl (item_count-of line kind) (item_depth-of line kind) refl refl (one_fits _ _ _ _ _ (plain kind _ _ (kind_counted-Label _) (kind_depth_of-Label _) refl)))
 
   fit_cases : StmtCases
   fit_cases = record {
     Of_stmt = StmtFits;
     Of_branch = BranchFits;
-    Of_timeout = λ t. Unit {0};
-    assign = λ name x line. kind_as _ line _ _ (extent-Assign called name x line) (stating_in-Assign copy name x line) (λ scope tables. plain _ _ _ (kind_counted-Assign _ _) (kind_depth_of-Assign _ _) (behind x scope tables));
-    add = λ name x line. kind_as _ line _ _ (extent-Add called name x line) (stating_in-Add copy name x line) (λ scope tables. plain _ _ _ (kind_counted-Add _ _) (kind_depth_of-Add _ _) (behind x scope tables));
-    delete = λ name x line. kind_as _ line _ _ (extent-Del called name x line) (stating_in-Del copy name x line) (λ scope tables. plain _ _ _ (kind_counted-Del _ _) (kind_depth_of-Del _ _) (behind x scope tables));
-    send = λ x to line. kind_as _ line _ _ (extent-Send called x to line) (stating_in-Send copy x to line) (λ scope tables. plain _ _ _ (kind_counted-Send _ _) (kind_depth_of-Send _ _) (ap length (two_kept x to scope tables)));
-    output = λ x line. kind_as _ line _ _ (extent-Output called x line) (stating_in-Output copy x line) (λ scope tables. plain _ _ _ (kind_counted-Output _) (kind_depth_of-Output _) (behind x scope tables));
-    pass = λ line. kind_as _ line _ _ (extent-Pass called line) (stating_in-Pass copy line) (λ scope tables. plain _ _ _ kind_counted-Pass kind_depth_of-Pass refl);
-    label = λ name line. kind_as _ line _ _ (extent-Label called name line) (stating_in-Label copy name line) (λ scope tables. plain _ _ _ kind_counted-Label kind_depth_of-Label refl);
-    call = λ name xs line. kind_as _ line _ _ (extent-Call called name xs line) (stating_in-Call copy name xs line) (λ scope tables.
+    Of_timeout = TimeoutFits;
+    assign = λ name x line. kind_as _ line _ _ (extent-Assign called name x line) (stating_in-Assign copy name x line) (λ label scope tables. plain _ _ _ (kind_counted-Assign _ _) (kind_depth_of-Assign _ _) (behind x scope tables));
+    add = λ name x line. kind_as _ line _ _ (extent-Add called name x line) (stating_in-Add copy name x line) (λ label scope tables. plain _ _ _ (kind_counted-Add _ _) (kind_depth_of-Add _ _) (behind x scope tables));
+    delete = λ name x line. kind_as _ line _ _ (extent-Del called name x line) (stating_in-Del copy name x line) (λ label scope tables. plain _ _ _ (kind_counted-Del _ _) (kind_depth_of-Del _ _) (behind x scope tables));
+    send = λ x to line. kind_as _ line _ _ (extent-Send called x to line) (stating_in-Send copy x to line) (λ label scope tables. plain _ _ _ (kind_counted-Send _ _) (kind_depth_of-Send _ _) (ap length (two_kept x to scope tables)));
+    output = λ x line. kind_as _ line _ _ (extent-Output called x line) (stating_in-Output copy x line) (λ label scope tables. plain _ _ _ (kind_counted-Output _) (kind_depth_of-Output _) (behind x scope tables));
+    pass = λ line. kind_as _ line _ _ (extent-Pass called line) (stating_in-Pass copy line) (λ label scope tables. plain _ _ _ kind_counted-Pass kind_depth_of-Pass refl);
+    label = label_fits;
+    call = λ name xs line. kind_as _ line _ _ (extent-Call called name xs line) (stating_in-Call copy name xs line) (λ label scope tables.
         let args = all_outside (map meant xs) scope tables in
         fits_as _ _ _ _ _ refl refl refl (sym (ap length (all_slots_kept xs scope tables))) refl (copied.of name args.0 args.1));
     conditional = if_fits;
-    loop = λ x body line fit. kind_as _ line _ _ (extent-While called x body line) (stating_in-While copy x body line) (λ scope tables.
+    loop = λ x body line fit. kind_as _ line _ _ (extent-While called x body line) (stating_in-While copy x body line) (λ label scope tables.
         fits_as _ _ _ _ _ refl (kind_counted-While _ _) (kind_depth_of-While _ _) refl refl (loop_fit x body fit scope tables));
-    each = λ name x body line fit. kind_as _ line _ _ (extent-For called name x body line) (stating_in-For copy name x body line) (λ scope tables.
+    each = λ name x body line fit. kind_as _ line _ _ (extent-For called name x body line) (stating_in-For copy name x body line) (λ label scope tables.
         fits_as _ _ _ _ _ refl (kind_counted-For _ _ _) (kind_depth_of-For _ _ _) refl refl (named_fit x (name ∷ []) body fit scope tables));
     await_one = await_one_fits;
-    await = λ bs over line fit others. await_fits bs over line fit;
+    await = await_fits;
     branch = branch_fits;
-    timeout = λ body line fit. tt;
+    timeout = timeout_fits;
   }
 
   pub stmt_fits : (s : Stmt) → StmtFits s

@@ -6,12 +6,13 @@ use Rattle.std.proofs.lemmas.List.{map-append, take_all}
 use Rattle.da_lang.specs.declared.tree.Branch.{Branch, out-Branch}
 use Rattle.da_lang.specs.declared.tree.Expr.{Expr}
 use Rattle.da_lang.specs.declared.tree.Stmt.TheVariants as stmt
+use Rattle.da_lang.specs.declared.tree.TimeoutTree.{TimeoutTree, out-TimeoutTree}
 use Rattle.da_lang.specs.ExprNames.{found_names}
 use Rattle.da_limits.specs.Bound.{found}
 use Rattle.da_limits.specs.Capped.{capped}
 use Rattle.da_limits.specs.declared.extent.Extent.{Extent}
-use Rattle.da_limits.specs.Extents.{Called, nothing, beside, together, one, deeper, wider, as_block, else_extent, extent, extent_of_branch}
-use Rattle.da_limits.proofs.ExtentsAt.{extent-Assign, extent-Add, extent-Del, extent-Send, extent-Output, extent-Pass, extent-Label, extent-Call, extent-If, extent-While, extent-For, extent-AwaitOne, extent-Await, extent_of_branch-of}
+use Rattle.da_limits.specs.Extents.{Called, nothing, beside, together, one, deeper, wider, as_block, else_extent, extent, extent_of_branch, extent_of_timeout}
+use Rattle.da_limits.proofs.ExtentsAt.{extent-Assign, extent-Add, extent-Del, extent-Send, extent-Output, extent-Pass, extent-Label, extent-Call, extent-If, extent-While, extent-For, extent-AwaitOne, extent-Await, extent_of_branch-of, extent_of_timeout-of}
 use Rattle.da_lang.proofs.Taken.{taken}
 
 -- so many slots, counted up to the greatest number
@@ -33,7 +34,10 @@ pub stmt-AwaitOne : (called : Called) (x : Expr) (line : ℕ) → extent called 
 unfolding found
 stmt-AwaitOne called x line = extent-AwaitOne called x line ∙ ap one (sym (wider-capped (length (found_names x)) nothing))
 
-pub ruleset stmt_rules = (else_extent-None, else_extent-Some, extent-Assign, extent-Add, extent-Del, extent-Send, extent-Output, extent-Pass, extent-Label, extent-Call, extent-If, extent-While, extent-For, stmt-AwaitOne, extent-Await)
+pub timeout-of : (called : Called) (t : TimeoutTree) → extent_of_timeout called t ≡ as_block (map (extent called) (out-TimeoutTree t).body)
+timeout-of called t = let v = out-TimeoutTree t in extent_of_timeout-of called v.body v.line
+
+pub ruleset stmt_rules = (else_extent-None, else_extent-Some, extent-Assign, extent-Add, extent-Del, extent-Send, extent-Output, extent-Pass, extent-Label, extent-Call, extent-If, extent-While, extent-For, stmt-AwaitOne, extent-Await, timeout-of)
 
 pub branch-of : (called : Called) (b : Branch) → extent_of_branch called b ≡ wider (found (out-Branch b).cond) (as_block (map (extent called) (out-Branch b).body))
 unfolding found

@@ -1,22 +1,22 @@
 -- The extent of statements depends on the extents of those methods alone that they call.
-use Rattle.std.specs.Prelude.{◌≡◌, refl, ℕ, List, [], ◌∷◌, ◌++◌, map, length, Option, Some, None, filter_map, Contains}
+use Rattle.std.specs.Prelude.{◌≡◌, refl, ℕ, List, [], ◌∷◌, ◌++◌, map, length, Option, Some, None, unwrap_or, filter_map, Contains}
 use Rattle.std.specs.List.{AllByRecursion, cons_option}
-use Rattle.std.specs.Option.{option_map}
+use Rattle.std.specs.Option.{option_map, option_to_list}
 use Rattle.std.proofs.Common.{◌∙◌, ap, sym, subst}
 use Rattle.da_lang.specs.declared.tree.Branch.{Branch}
 use Rattle.da_lang.specs.declared.tree.Stmt.{Stmt}
 use Rattle.da_lang.specs.declared.tree.Stmt.TheVariants as stmt
 use Rattle.da_lang.specs.declared.tree.TimeoutTree.{TimeoutTree}
 use Rattle.da_lang.specs.Calls.{called}
-use Rattle.da_lang.specs.Deeds.{Deed, Doing, Sends, Outputs, Labels, Calls, Loops, Awaits, TimesOut, Other, all, all_if, deeds, deeds_of, deeds_of_branch}
+use Rattle.da_lang.specs.Deeds.{Deed, Doing, Sends, Outputs, Labels, Calls, Loops, Awaits, TimesOut, Other, all, all_if, deeds, deeds_of, deeds_of_branch, deeds_of_timeout}
 use Rattle.da_lang.specs.ExprNames.{found_names}
 use Rattle.da_lang.proofs.CondInduction.{Where}
-use Rattle.da_lang.proofs.DeedsAt.{deeds_of-Call, deeds_of-If, deeds_of-While, deeds_of-For, deeds_of-Await, deeds_of_branch-of}
+use Rattle.da_lang.proofs.DeedsAt.{deeds_of-Call, deeds_of-If, deeds_of-While, deeds_of-For, deeds_of-Await, deeds_of_branch-of, deeds_of_timeout-of}
 use Rattle.da_lang.proofs.StmtInduction.{StmtCases, stmt_induction}
 use Rattle.da_limits.specs.declared.extent.Extent.{Extent}
-use Rattle.da_limits.specs.Extents.{Called, beside, together, one, wider, as_block, else_extent, extent, extent_of_branch}
+use Rattle.da_limits.specs.Extents.{Called, nothing, beside, together, one, wider, as_block, else_extent, extent, extent_of_branch, extent_of_timeout}
 use Rattle.da_calls.proofs.CallBounds.{in_first, in_cons_option}
-use Rattle.da_limits.proofs.ExtentsAt.{extent-Assign, extent-Add, extent-Del, extent-Send, extent-Output, extent-Pass, extent-Label, extent-Call, extent-If, extent-While, extent-For, extent-AwaitOne, extent-Await, extent_of_branch-of}
+use Rattle.da_limits.proofs.ExtentsAt.{extent-Assign, extent-Add, extent-Del, extent-Send, extent-Output, extent-Pass, extent-Label, extent-Call, extent-If, extent-While, extent-For, extent-AwaitOne, extent-Await, extent_of_branch-of, extent_of_timeout-of}
 
 module _ (f g : Called) where
   -- the same at what a statement calls
@@ -47,6 +47,9 @@ module _ (f g : Called) where
   abbrev BranchAgrees : Branch → Type 0
   BranchAgrees b = Agree (deeds_of_branch b) → extent_of_branch f b ≡ extent_of_branch g b
 
+  abbrev TimeoutAgrees : TimeoutTree → Type 0
+  TimeoutAgrees t = Agree (deeds_of_timeout t) → extent_of_timeout f t ≡ extent_of_timeout g t
+
   body_agrees : (body : List Stmt) → AllByRecursion StmtAgrees body → Agree (all (map deeds_of body)) → as_block (map (extent f) body) ≡ as_block (map (extent g) body)
   body_agrees body each same = ap as_block (parts_agree deeds_of extent body each same)
 
@@ -68,16 +71,27 @@ module _ (f g : Called) where
       ∙ ap one (ap (λ e. beside e (else_extent (option_map (map (extent f)) other))) first ∙ ap (λ e. beside (together (map (extent_of_branch g) bs)) e) second)
       ∙ sym (extent-If g bs other line)
 
-  await_agrees : (bs : List Branch) (over : Option TimeoutTree) (line : ℕ) → AllByRecursion BranchAgrees bs → StmtAgrees (stmt.Await bs over line)
-  await_agrees bs over line each same =
+  late_agrees : (over : Option TimeoutTree) → Where TimeoutAgrees over → Agree (all (option_to_list (option_map deeds_of_timeout over)))
+      → unwrap_or (option_map (extent_of_timeout f) over) nothing ≡ unwrap_or (option_map (extent_of_timeout g) over) nothing
+  late_agrees None each same = refl
+  late_agrees (Some t) each same = each (front (deeds_of_timeout t) [] same)
+
+  await_agrees : (bs : List Branch) (over : Option TimeoutTree) (line : ℕ) → AllByRecursion BranchAgrees bs → Where TimeoutAgrees over → StmtAgrees (stmt.Await bs over line)
+  await_agrees bs over line each others same =
+      let conds = all (map deeds_of_branch bs) in
+      let last = all (option_to_list (option_map deeds_of_timeout over)) in
       let known = subst Agree (deeds_of-Await bs over line) same in
-      extent-Await f bs over line ∙ ap one (branches_agree bs each (front (all (map deeds_of_branch bs)) _ known.1)) ∙ sym (extent-Await g bs over line)
+      let first = branches_agree bs each (front conds last known.1) in
+      let second = late_agrees over others (back conds last known.1) in
+      extent-Await f bs over line
+      ∙ ap one (ap (λ e. beside e (unwrap_or (option_map (extent_of_timeout f) over) nothing)) first ∙ ap (λ e. beside (together (map (extent_of_branch g) bs)) e) second)
+      ∙ sym (extent-Await g bs over line)
 
   abbrev agree_cases : StmtCases
   agree_cases = record {
     Of_stmt = StmtAgrees;
     Of_branch = BranchAgrees;
-    Of_timeout = λ t. Unit {0};
+    Of_timeout = TimeoutAgrees;
     assign = λ name x line same. extent-Assign f name x line ∙ sym (extent-Assign g name x line);
     add = λ name x line same. extent-Add f name x line ∙ sym (extent-Add g name x line);
     delete = λ name x line same. extent-Del f name x line ∙ sym (extent-Del g name x line);
@@ -94,11 +108,13 @@ module _ (f g : Called) where
         let known = subst Agree (deeds_of-For name x body line) same in
         extent-For f name x body line ∙ ap (λ e. one (wider 1 e)) (body_agrees body each known.1) ∙ sym (extent-For g name x body line);
     await_one = λ x line same. extent-AwaitOne f x line ∙ sym (extent-AwaitOne g x line);
-    await = λ bs over line each others. await_agrees bs over line each;
+    await = await_agrees;
     branch = λ x body line each same.
         let known = subst Agree (deeds_of_branch-of x body line) same in
         extent_of_branch-of f x body line ∙ ap (λ e. wider (length (found_names x)) e) (body_agrees body each known.1) ∙ sym (extent_of_branch-of g x body line);
-    timeout = λ body line each. tt;
+    timeout = λ body line each same.
+        let known = subst Agree (deeds_of_timeout-of body line) same in
+        extent_of_timeout-of f body line ∙ body_agrees body each known.1 ∙ sym (extent_of_timeout-of g body line);
   }
 
   stmt_agrees : (s : Stmt) → StmtAgrees s

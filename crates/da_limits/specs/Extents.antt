@@ -1,6 +1,6 @@
 -- How large the inlined text of statements is, in numbers up to 65,535, where the extent of the copy of each method is
 -- given.
-use Rattle.std.specs.Prelude.{ℕ, zero, suc, ◌+◌, max, List, [], ◌∷◌, map, length, Option, Some, None}
+use Rattle.std.specs.Prelude.{ℕ, zero, suc, ◌+◌, max, List, [], ◌∷◌, map, length, Option, Some, None, unwrap_or}
 use Rattle.std.specs.List.{fold}
 use Rattle.da_lang.specs.declared.tree.Branch.{Branch}
 use Rattle.da_lang.specs.declared.tree.ClassTree.{ClassTree}
@@ -60,14 +60,13 @@ stmt_extent called (Stmt-F.If branches other line) = one (beside (together branc
 stmt_extent called (Stmt-F.While x body line) = one (as_block body)
 stmt_extent called (Stmt-F.For name x body line) = one (wider 1 (as_block body))
 stmt_extent called (Stmt-F.AwaitOne x line) = one (wider (length (found_names x)) nothing)
-stmt_extent called (Stmt-F.Await branches timeout line) = one (together branches)
+stmt_extent called (Stmt-F.Await branches timeout line) = one (beside (together branches) (unwrap_or timeout nothing))
 
 abbrev pub branch_extent : Branch-F Extent Extent Extent → Extent
 branch_extent b = wider (length (found_names b.cond)) (as_block b.body)
 
--- what stands behind `timeout` is not a part of the inlined text yet
 abbrev pub timeout_extent : TimeoutTree-F Extent Extent Extent → Extent
-timeout_extent t = nothing
+timeout_extent t = as_block t.body
 
 unfoldable pub extent : Called → Stmt → Extent
 extent called = fold-Stmt Extent Extent Extent (stmt_extent called) branch_extent timeout_extent

@@ -130,7 +130,17 @@ fn stmt_nodes(stmt: &Stmt, graph: &CallGraph<'_>, copies: &[u32]) -> u32
             copies,
         )),
         Stmt::AwaitOne { cond, .. } => expr_nodes(cond.get()),
-        Stmt::Await { alts, .. } => branches_nodes(alts.as_slice(), graph, copies),
+        Stmt::Await { alts, timeout, .. } => {
+            let first = branches_nodes(alts.as_slice(), graph, copies);
+            match timeout {
+                None => first,
+                Some(late) => first.saturating_add(block_nodes(
+                    late.body.as_slice(),
+                    graph,
+                    copies,
+                )),
+            }
+        }
     };
     within.saturating_add(1)
 }

@@ -39,7 +39,13 @@ fn statement(stmt: &Stmt, copies: &Copies<'_, '_>) -> Extent
         Stmt::While { body, .. } => block(body.as_slice(), copies).one(),
         Stmt::For { body, .. } => block(body.as_slice(), copies).wider(1).one(),
         Stmt::AwaitOne { cond, .. } => Extent::nothing().wider(found_by(cond.get())).one(),
-        Stmt::Await { alts, .. } => branches_of(alts.as_slice(), copies).one(),
+        Stmt::Await { alts, timeout, .. } => {
+            let conditions = branches_of(alts.as_slice(), copies);
+            match timeout {
+                None => conditions.beside(Extent::nothing()).one(),
+                Some(late) => conditions.beside(block(late.body.as_slice(), copies)).one(),
+            }
+        }
     }
 }
 

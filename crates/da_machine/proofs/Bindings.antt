@@ -1,13 +1,11 @@
 -- A loop that puts values into slots one by one.
-use Rattle.std.proofs.Common.{◌≡◌, ℕ, zero, suc, ◌+◌, List, [], ◌∷◌, ◌++◌, map, length, drop, ◌≤◌, Option, Some, None, refl, sym, ap, ◌∙◌, subst, arith}
+use Rattle.std.proofs.Common.{◌≡◌, ℕ, zero, suc, ◌+◌, List, [], ◌∷◌, length, drop, ◌≤◌, Some, None, refl, sym, ap, ◌∙◌, subst, arith}
 use Rattle.std.specs.Prelude.{slice_get}
 use Rattle.da_values.specs.declared.val.Val.{Val}
 use Rattle.da_lang.specs.declared.event.Action.{Action}
-use Rattle.da_lang.specs.declared.program.Class.{Class}
-use Rattle.da_lang.specs.declared.program.Program.{Program}
 use Rattle.da_lang.specs.Turns.{bind_all}
 use Rattle.da_lang.specs.World.{Data, put_slot}
-use Rattle.da_machine.specs.Conditions.{Standing, SomeProcess, EachProcess, IsKnown, Takes, TakesAll}
+use Rattle.da_machine.specs.Conditions.{Standing, SomeProcess, EachProcess, Takes, TakesAll}
 use Rattle.da_machine.specs.RunsTo.{IsFront}
 use Rattle.da_machine.proofs.Fronts.{same_front}
 use Rattle.da_machine.proofs.KnownLaws.{put_known}

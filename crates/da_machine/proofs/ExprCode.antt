@@ -1,17 +1,13 @@
 -- The code of an expression puts its value on the stack.
-use Rattle.std.proofs.Common.{◌≡◌, ℕ, suc, ◌+◌, ◌-◌, List, [], ◌∷◌, ◌++◌, length, map, take, drop, Option, Some, None, Ok, Err, refl, sym, ap, ◌∙◌, subst, arith, if◌then◌else◌, length-append}
-use Rattle.std.specs.Prelude.{Bool, true, false, pos, not, is_some}
+use Rattle.std.proofs.Common.{◌≡◌, ℕ, suc, ◌+◌, ◌-◌, List, [], ◌∷◌, ◌++◌, length, map, Option, Some, None, Ok, Err, refl, sym, ap, ◌∙◌, subst, arith, if◌then◌else◌, length-append}
+use Rattle.std.specs.Prelude.{Bool, true, false, is_some}
 use Rattle.std.specs.List.{AllByRecursion}
 use mathlib.Core.List.{append-nil}
 use Rattle.std.proofs.lemmas.Bool.{false≢true}
 use Rattle.da_values.specs.declared.val.Val.{Val}
 use Rattle.da_values.specs.declared.val.Val.TheVariants as val
-use Rattle.da_values.specs.declared.value.Value.{Value}
 use Rattle.da_values.specs.declared.value.Value.TheVariants as kept
-use Rattle.da_values.specs.Order.{val_cmp}
-use Rattle.da_values.specs.Sets.{canon, set_has}
-use Rattle.da_values.specs.Views.{int_of, truth_of, elements_of}
-use Rattle.da_lang.specs.declared.code.Instr.{Instr}
+use Rattle.da_values.specs.Views.{int_of, truth_of}
 use Rattle.da_lang.specs.declared.code.Instr.TheVariants as op
 use Rattle.da_lang.specs.declared.program.ChainPart.{ChainPart}
 use Rattle.da_lang.specs.declared.program.Class.{Class}
@@ -19,18 +15,17 @@ use Rattle.da_lang.specs.declared.program.Program.{Program}
 use Rattle.da_lang.specs.declared.program.RExpr.{RExpr}
 use Rattle.da_lang.specs.declared.program.RExpr.TheViews.{out-ChainPart}
 use Rattle.da_lang.specs.declared.query.Query.{Query}
-use Rattle.da_lang.specs.declared.ty.Ty.{Ty}
 use Rattle.da_lang.specs.Arithmetic.{Outcome, arithmetic, range}
-use Rattle.da_lang.specs.Evaluation.{Outcomes, after, after_all, all_true, some_true, asked, chained, in_order, with_first, eval, eval_all}
-use Rattle.da_lang.specs.Queries.{compares, query_value}
+use Rattle.da_lang.specs.Evaluation.{Outcomes, all_true, some_true, asked, chained, in_order, with_first, eval, eval_all}
+use Rattle.da_lang.specs.Queries.{query_value}
 use Rattle.da_lang.specs.QueryTypes.{type_at}
-use Rattle.da_lang.specs.World.{Data, at_number, slot_of}
+use Rattle.da_lang.specs.World.{Data, at_number}
 use Rattle.da_lang.proofs.EvaluationLaws.{part_of, part_of-is, eval-Const, eval-Procs, eval-Me, eval-Slot, eval-Clock, eval-Ask, eval-Range, eval-Tuple, eval-SetOf, eval-Or, eval-And, eval-Not, eval-Cmp, eval-Member, eval-Chain}
 use Rattle.da_machine.specs.declared.code.Code.{Code}
 use Rattle.da_machine.specs.declared.machine.Machine.{Machine}
-use Rattle.da_machine.specs.Acts.{below, top, lower, upper, moved}
+use Rattle.da_machine.specs.Acts.{lower, upper, moved}
 use Rattle.da_machine.specs.CodeFor.{Has, ExprAt, ExprsAt, TestsAt, PartsAt}
-use Rattle.da_machine.specs.Conditions.{IsKnown, HasSlot, HasQuery}
+use Rattle.da_machine.specs.Conditions.{IsKnown}
 use Rattle.da_machine.specs.Promises.{AllRead}
 use Rattle.da_machine.specs.Reads.{reads, reads_part}
 use Rattle.da_machine.proofs.Leading.{Leads, Gives, GivesAll, rests, joined, gives_later, gives_after, gives_after_all, all_after, one, pushes}

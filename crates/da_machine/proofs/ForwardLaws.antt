@@ -1,5 +1,5 @@
 -- Code that stands for statements always comes to its next turn.
-use Rattle.std.proofs.Common.{◌≡◌, ℕ, ◌+◌, ◌<◌, ◌≤◌, List, length, Option, Some, refl, sym, ap, ◌∙◌, subst, arith, inl, inr, ⊎_elim}
+use Rattle.std.proofs.Common.{◌≡◌, ℕ, ◌+◌, ◌<◌, ◌≤◌, List, length, Option, Some, sym, ap, ◌∙◌, subst, arith, inl, inr, ⊎_elim}
 use Rattle.std.specs.Prelude.{Bool, true, false, slice_get}
 use Rattle.std.proofs.lemmas.Bool.{cases_lt}
 use Rattle.std.proofs.lemmas.Option.{slice_get_within}
@@ -14,7 +14,7 @@ use Rattle.da_lang.specs.declared.program.ItemKind.TheOpen.{ItemKind-F}
 use Rattle.da_lang.specs.declared.program.RBranch.{RBranch}
 use Rattle.da_lang.specs.declared.program.RExpr.{RExpr}
 use Rattle.da_machine.specs.declared.code.Code.{Code}
-use Rattle.da_machine.specs.CodeFor.{Has, jump_at, ExprAt, ExprsAt, TestsAt, PartsAt, StoresAt, FoundAt, BlockAt, ItemAt, WorkAt, BranchesAt, AltsAt, LoopAt, EnterAt}
+use Rattle.da_machine.specs.CodeFor.{Has, jump_at, ExprAt, ExprsAt, TestsAt, PartsAt, StoresAt, FoundAt, BlockAt, ItemAt, WorkAt, BranchesAt, BlocksAt, LoopAt, EnterAt}
 use Rattle.da_machine.specs.Forward.{IsForward, LeadsOn, is_turn}
 
 -- every jump between the places leads on
@@ -107,7 +107,7 @@ module _ (code : Code) where
       item_on : (at : ℕ) (i : Item) (end : ℕ) → ItemAt code class at i end → Onward code at end
       item_on _ _ _ (ItemAt.works {at} {end} has work) = one_and at end _ has tt (work_on at _ _ end work has)
       item_on _ _ _ (ItemAt.label {at} is has point numbered) = at_one at _ has tt
-      item_on _ _ _ (ItemAt.await {at} {end} {alts = alts} {entries} is has point numbered blocks) = one_and at end _ has tt (alts_on end (at + 1) alts entries blocks)
+      item_on _ _ _ (ItemAt.await {at} {end} {entries = entries} is has point numbered blocks) = one_and at end _ has tt (blocks_on end (at + 1) _ entries blocks)
 
       work_on : (at line : ℕ) (k : ItemKind-F ItemKind Alt Item RBranch) (end : ℕ) → WorkAt code class at line k end → Has code at (op.Turn line) → Onward code (at + 1) end
       work_on _ _ _ _ (WorkAt.assign {at} {end = end} x has) turn = and_one (at + 1) end _ (expr_on (at + 1) _ end x) has tt
@@ -132,10 +132,10 @@ module _ (code : Code) where
           let tested = and_one at test _ (expr_on at _ test x) jump (omega (arith, inner.upward)) in
           both_on at (end + 1) exit (and_one at end _ (both_on at (test + 1) end tested inner) leave (inl (omega (arith, rest.upward)))) rest
 
-      alts_on : (exit at : ℕ) (alts : List Alt) (entries : List ℕ) → AltsAt code class exit at alts entries → Onward code at exit
-      alts_on _ _ _ _ (AltsAt.done {exit}) = nowhere exit
-      alts_on _ _ _ _ (AltsAt.alt {exit} {at} {end} {alts = alts} {entries} block leave others) =
-          let rest = alts_on exit (end + 1) alts entries others in
+      blocks_on : (exit at : ℕ) (bodies : List (List Item)) (entries : List ℕ) → BlocksAt code class exit at bodies entries → Onward code at exit
+      blocks_on _ _ _ _ (BlocksAt.done {exit}) = nowhere exit
+      blocks_on _ _ _ _ (BlocksAt.block {exit} {at} {end} {bodies = bodies} {entries} block leave others) =
+          let rest = blocks_on exit (end + 1) bodies entries others in
           both_on at (end + 1) exit (and_one at end _ (block_on at _ end block) leave (inl (omega (arith, rest.upward)))) rest
 
       pub loop_on : (at s : ℕ) (body : List Item) (line end : ℕ) → LoopAt code class at s body line end → Onward code at end

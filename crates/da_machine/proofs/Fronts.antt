@@ -1,5 +1,5 @@
 -- Fronts of the actions that are due, and what has been told when memory is refused.
-use Rattle.std.proofs.Common.{◌≡◌, ℕ, ◌+◌, List, [], ◌++◌, take, drop, length, Option, Result, Ok, Err, refl, sym, ap, ◌∙◌, append_assoc, append-nil, take-append-drop}
+use Rattle.std.proofs.Common.{◌≡◌, ◌+◌, List, [], ◌++◌, take, drop, length, Option, Result, Ok, Err, refl, sym, ap, ◌∙◌, append_assoc, append-nil, take-append-drop}
 use Rattle.std.proofs.Math.Seq.{take-append-add}
 use Rattle.std.specs.Prelude.{OnErr}
 use Rattle.da_lang.specs.declared.code.Instr.{Instr}

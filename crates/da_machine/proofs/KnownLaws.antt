@@ -1,5 +1,5 @@
 -- What a process knows stays as types say where a slot gets a value that it takes.
-use Rattle.std.proofs.Common.{◌≡◌, ℕ, zero, suc, ◌+◌, ◌<◌, ◌≤◌, List, [], ◌∷◌, length, Option, Some, None, refl, sym, ap, ◌∙◌, subst, arith}
+use Rattle.std.proofs.Common.{◌≡◌, ℕ, zero, suc, ◌<◌, ◌≤◌, List, length, Option, Some, None, refl, sym, ◌∙◌, subst, arith}
 use Rattle.std.specs.Prelude.{◌==◌, Bool, true, false, slice_get}
 use Rattle.std.proofs.lemmas.Bool.{eqb-true, eqb-false}
 use Rattle.std.proofs.lemmas.Option.{slice_get_within}
@@ -10,7 +10,7 @@ use Rattle.da_lang.specs.declared.program.Program.{Program}
 use Rattle.da_lang.specs.declared.ty.Ty.{Ty}
 use Rattle.da_lang.specs.QueryTypes.{type_at, given}
 use Rattle.da_lang.specs.Shaped.{HasType, IsOf, ShapedData}
-use Rattle.da_lang.specs.World.{Data, at_number, put_slot, slot_of, with_slot}
+use Rattle.da_lang.specs.World.{Data, put_slot, slot_of, with_slot}
 use Rattle.da_lang.proofs.WorldLaws.{slot-put_there, slot-put_other}
 use Rattle.da_machine.specs.Conditions.{IsKnown, Takes}
 

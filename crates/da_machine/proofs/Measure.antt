@@ -1,5 +1,5 @@
 -- Each instruction leaves fewer that the event may still take.
-use Rattle.std.proofs.Common.{◌≡◌, ℕ, zero, suc, ◌+◌, ◌-◌, ◌*◌, ◌<◌, ◌≤◌, ◌⊎◌, inl, inr, List, [], ◌∷◌, ◌++◌, length, Option, Some, None, Ok, Err, refl, sym, ap, ◌∙◌, subst, arith, if◌then◌else◌}
+use Rattle.std.proofs.Common.{◌≡◌, ℕ, zero, suc, ◌+◌, ◌-◌, ◌*◌, ◌<◌, ◌≤◌, ◌⊎◌, inl, inr, List, [], ◌∷◌, length, Some, None, Ok, Err, refl, sym, ap, subst, arith, if◌then◌else◌}
 use Rattle.std.specs.Prelude.{Bool, true, false, slice_get, nat_lt, nat_le}
 use Rattle.std.proofs.lemmas.Bool.{ltb-true}
 use Rattle.da_values.specs.declared.val.Val.{Val}
@@ -16,7 +16,6 @@ use Rattle.da_lang.specs.Turns.{packet_len, max_packet, recipients}
 use Rattle.da_lang.specs.World.{Data}
 use Rattle.da_machine.specs.declared.code.Code.{Code}
 use Rattle.da_machine.specs.declared.machine.Machine.{Machine}
-use Rattle.da_machine.specs.declared.machine.Stop.{Stop}
 use Rattle.da_machine.specs.Acts.{Act, Goes, Halts, act, below, innermost, moved, next_element, push_outcome, send_act, top, turn_if}
 use Rattle.da_machine.specs.Forward.{IsForward, LeadsOn, instrs_left, is_turn, way}
 use Rattle.da_machine.specs.RunsTo.{IsAct}

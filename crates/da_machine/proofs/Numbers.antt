@@ -1,12 +1,10 @@
 -- Ranges, sets and quotients as code works them out.
-use Rattle.std.proofs.Common.{◌≡◌, ℕ, zero, suc, ◌+◌, ◌-◌, ◌*◌, ◌<◌, ◌≤◌, ◌/◌, ◌%◌, ◌^◌, List, [], ◌∷◌, ◌++◌, length, map, take, Ok, Err, refl, sym, ap, ◌∙◌, subst, arith, inl, inr, append_assoc, if◌then◌else◌}
-use Rattle.std.specs.Prelude.{Bool, true, false, cond, slice_index_or, ℤ, pos, negsuc, neg_ℤ, ◌+ℤ◌, ◌-ℤ◌, ◌*ℤ◌, ◌<ℤ◌, int_lt, nat_lt, not, FitsSigned, unsigned_abs}
-use Rattle.std.specs.Int.{complement_if, int_div_euclid, int_rem_euclid, w128}
+use Rattle.std.proofs.Common.{◌≡◌, ℕ, zero, suc, ◌+◌, ◌-◌, ◌*◌, ◌<◌, ◌≤◌, ◌/◌, ◌%◌, ◌^◌, List, [], ◌∷◌, ◌++◌, length, take, Ok, Err, refl, sym, ap, ◌∙◌, arith, inl, inr, if◌then◌else◌}
+use Rattle.std.specs.Prelude.{Bool, true, false, cond, slice_index_or, ℤ, pos, negsuc, neg_ℤ, ◌+ℤ◌, ◌-ℤ◌, ◌*ℤ◌, int_lt, nat_lt, FitsSigned, unsigned_abs}
+use Rattle.std.specs.Int.{complement_if, int_div_euclid, w128}
 use Rattle.std.specs.Cmp.{int_cmp_is}
 use Rattle.std.specs.List.{filter}
-use Rattle.std.specs.Ordering.{int_cmp}
-use Rattle.std.specs.declared.cmp.Ordering.{Ordering}
-use Rattle.std.specs.declared.cmp.Ordering.TheVariants.{Less, Equal, Greater}
+use Rattle.std.specs.declared.cmp.Ordering.TheVariants.{Greater}
 use Rattle.std.proofs.lemmas.Int.{fits_signed_from_abs, ints}
 use Rattle.std.proofs.Math.IntN.{+ℤ_idr, pos-*ℤ-negsuc, negsuc-*ℤ-pos, *ℤ-negsuc}
 use Rattle.std.proofs.lemmas.Bool.{lt-leb, ltb-true}
@@ -16,13 +14,12 @@ use Rattle.da_values.specs.declared.val.Val.TheVariants as val
 use Rattle.da_values.specs.declared.value.Value.{Value}
 use Rattle.da_values.specs.Narrow.{is_i64}
 use Rattle.da_values.specs.Order.{val_cmp}
-use Rattle.da_values.specs.Sets.{Ascends, Has, IsAlike, canon, placed, set_has, set_insert}
+use Rattle.da_values.specs.Sets.{Ascends, Has, IsAlike, canon, placed, set_insert}
 use Rattle.da_values.specs.Value.{val_of, vals}
 use Rattle.da_values.proofs.Members.{of_append, Has-append_left, Has-append_right}
 use Rattle.da_values.proofs.OrderAt.{val_cmp-Int}
 use Rattle.da_values.proofs.OrderLaws.{val_order, same_from_val_cmp}
 use Rattle.da_values.proofs.SetLaws.{Ascends-filter, canon_alike, canon_itself}
-use Rattle.da_lang.specs.declared.event.FaultKind.{FaultKind}
 use Rattle.da_lang.specs.declared.event.FaultKind.TheVariants.{Overflow}
 use Rattle.da_lang.specs.Arithmetic.{fitted, numbers_from, quotient, remainder}
 use Rattle.da_machine.specs.Acts.{same}

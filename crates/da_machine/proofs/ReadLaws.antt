@@ -1,6 +1,6 @@
 -- Which slots and queries an expression reads, one equation for each form.
-use Rattle.std.proofs.Common.{◌≡◌, ℕ, List, [], ◌∷◌, map, refl, sym, ap, ◌∙◌}
-use Rattle.std.specs.Prelude.{Bool, true, ◌&&◌, is_some}
+use Rattle.std.proofs.Common.{◌≡◌, ℕ, List, [], ◌∷◌, map, sym, ap, ◌∙◌}
+use Rattle.std.specs.Prelude.{Bool, true, is_some}
 use Rattle.std.specs.List.{AllByRecursion, list_all}
 use Rattle.std.proofs.lemmas.Bool.{and_parts}
 use Rattle.da_lang.specs.declared.program.ChainPart.{ChainPart}

@@ -1,9 +1,8 @@
 -- The code runs as what it stands for.
 use Rattle.std.proofs.Common.{◌≡◌, ℕ, zero, suc, ◌+◌, ◌-◌, ◌<◌, ◌≤◌, List, [], ◌∷◌, ◌++◌, Option, Some, None, refl, sym, ap, ◌∙◌, subst, arith}
-use Rattle.std.specs.Prelude.{Bool, true, false, nat_lt}
-use Rattle.std.specs.List.{All, AllByRecursion}
+use Rattle.std.specs.Prelude.{true, false, nat_lt}
 use Rattle.std.proofs.lemmas.Bool.{lt-ltb, lt-leb}
-use Rattle.std.proofs.lemmas.List.Elements.{All-head, All-tail}
+use Rattle.std.proofs.lemmas.List.Elements.{All-head}
 use Rattle.da_values.specs.declared.val.Val.{Val}
 use Rattle.da_lang.specs.declared.code.Instr.{Instr}
 use Rattle.da_lang.specs.declared.code.Instr.TheVariants as op
@@ -14,23 +13,22 @@ use Rattle.da_lang.specs.declared.program.Alt.{Alt}
 use Rattle.da_lang.specs.declared.program.Class.{Class}
 use Rattle.da_lang.specs.declared.program.Item.{Item}
 use Rattle.da_lang.specs.declared.program.ItemKind.{ItemKind}
-use Rattle.da_lang.specs.declared.program.ItemKind.TheOpen as kind
 use Rattle.da_lang.specs.declared.program.ItemKind.TheOpen.{ItemKind-F}
 use Rattle.da_lang.specs.declared.program.Program.{Program}
 use Rattle.da_lang.specs.declared.program.RBranch.{RBranch}
 use Rattle.da_lang.specs.declared.program.SetupCall.{SetupCall}
-use Rattle.da_lang.specs.Runs.{AtYield, UsedUp, Faults, Ran, behind, behind_turn, go_after, kind_yields, max_turns, run, run_to_yield, stopped, yields}
-use Rattle.da_lang.specs.Shaped.{IsTask, ShapedData, ShapedTasks}
-use Rattle.da_lang.specs.Turns.{AfterTurn, kind_of, line_of, line_of_task, turn}
+use Rattle.da_lang.specs.Runs.{Ran, behind, behind_turn, kind_yields, max_turns, run, run_to_yield, yields}
+use Rattle.da_lang.specs.Shaped.{IsTask, ShapedTasks}
+use Rattle.da_lang.specs.Turns.{kind_of, line_of, line_of_task, turn}
 use Rattle.da_lang.specs.World.{Data, Task, Do, Loop, Prepare}
 use Rattle.da_lang.proofs.RunLaws.{run_end, run_late, run_turn, run_yield}
 use Rattle.da_machine.specs.declared.code.Code.{Code}
 use Rattle.da_machine.specs.declared.machine.Machine.{Machine}
 use Rattle.da_machine.specs.declared.machine.Stop.{Stop}
 use Rattle.da_machine.specs.declared.machine.Stop.TheVariants as stop
-use Rattle.da_machine.specs.Acts.{moved, turn_if, Goes}
+use Rattle.da_machine.specs.Acts.{turn_if}
 use Rattle.da_machine.specs.CodeFor.{Has, CodeFor, EnterAt, ItemAt, LoopAt, WorkAt}
-use Rattle.da_machine.specs.Conditions.{IsKnown, Takes}
+use Rattle.da_machine.specs.Conditions.{IsKnown}
 use Rattle.da_machine.specs.Promises.{Promises}
 use Rattle.da_machine.specs.RunsTo.{RunsTo}
 use Rattle.da_machine.specs.Stops.{IsReady, IsRun, IsStop}
@@ -145,9 +143,9 @@ module _ (p : Program) (class : Class) (code : Code) (promises : Promises p clas
       (works p class code (in_turn m (line_of i) (at + 1)) d world.known (line_of i) refl todo at (kind_of i) end work i (ItemAt.works has work) (promises.reads_all i stands) (promises.kinds i stands) m.stack
       (with_loops m end loops todo is.inside code_for))
       (goes_on left refl)
-  item_as _ _ _ (ItemAt.label {at} {k} {i} is_kind has point numbered) left n sum m d loops todo world is code_for goes_on =
+  item_as _ _ _ (ItemAt.label {at} {k} {l} {i} is_kind has point numbered) left n sum m d loops todo world is code_for goes_on =
       yields_as m d at k n left loops (Do i) todo world.known is (ap kind_yields is_kind) has (CodeFor.does (ItemAt.label is_kind has point numbered) code_for)
-  item_as _ _ _ (ItemAt.await {at} {end} {k} {i} {alts} {entries} is_kind has point numbered blocks) left n sum m d loops todo world is code_for goes_on =
+  item_as _ _ _ (ItemAt.await {at} {end} {k} {i} is_kind has point numbered blocks) left n sum m d loops todo world is code_for goes_on =
       yields_as m d at k n left loops (Do i) todo world.known is (ap kind_yields is_kind) has (CodeFor.does (ItemAt.await is_kind has point numbered blocks) code_for)
 
   loop_as : (at s line end : ℕ) (body : List Item) → LoopAt code class at s body line end → (left n : ℕ) → left + n ≡ max_turns → (m : Machine) (d : Data) (outer : List (List Val)) (elements : List Val) (todo : List Task)

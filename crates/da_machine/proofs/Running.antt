@@ -1,6 +1,5 @@
 -- A run in code, instruction by instruction.
-use Rattle.std.proofs.Common.{◌≡◌, ℕ, List, [], ◌∷◌, ◌++◌, Option, Some, None, refl, sym, ap, ◌∙◌, subst, append_assoc}
-use Rattle.std.specs.Prelude.{slice_get}
+use Rattle.std.proofs.Common.{◌≡◌, List, [], ◌++◌, Option, Some, None, refl, sym, ap, ◌∙◌, subst}
 use mathlib.Core.List.{append-nil}
 use Rattle.da_lang.specs.declared.code.Instr.{Instr}
 use Rattle.da_lang.specs.declared.event.Action.{Action}

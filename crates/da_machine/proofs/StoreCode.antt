@@ -4,16 +4,15 @@ use Rattle.std.specs.Prelude.{slice_set}
 use mathlib.Core.List.{append-nil}
 use Rattle.da_values.specs.declared.val.Val.{Val}
 use Rattle.da_values.specs.Sets.{Has, Distinct}
-use Rattle.da_lang.specs.declared.code.Instr.TheVariants as op
 use Rattle.da_lang.specs.declared.program.Class.{Class}
 use Rattle.da_lang.specs.declared.program.Program.{Program}
 use Rattle.da_lang.specs.Turns.{bind_all}
 use Rattle.da_lang.specs.World.{Data, put_slot, with_slot}
 use Rattle.da_machine.specs.declared.code.Code.{Code}
 use Rattle.da_machine.specs.declared.machine.Machine.{Machine}
-use Rattle.da_machine.specs.Acts.{top, below, moved}
+use Rattle.da_machine.specs.Acts.{moved}
 use Rattle.da_machine.specs.CodeFor.{StoresAt}
-use Rattle.da_machine.specs.Conditions.{IsKnown, Takes, TakesAll}
+use Rattle.da_machine.specs.Conditions.{IsKnown, TakesAll}
 use Rattle.da_machine.proofs.KnownLaws.{put_known}
 use Rattle.da_machine.proofs.Leading.{Leads, rests, joined, one}
 use Rattle.da_machine.proofs.Stacks.{top_last, below_last}

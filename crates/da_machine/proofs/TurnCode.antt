@@ -1,10 +1,9 @@
 -- The code behind a turn does what the turn does.
-use Rattle.std.proofs.Common.{◌≡◌, ℕ, ◌+◌, ◌≤◌, List, [], ◌∷◌, ◌++◌, length, map, Option, Some, None, Ok, Err, refl, sym, ap, ◌∙◌, subst, arith, if◌then◌else◌}
+use Rattle.std.proofs.Common.{◌≡◌, ℕ, ◌+◌, ◌≤◌, List, [], ◌∷◌, ◌++◌, map, Option, Some, None, Ok, Err, refl, sym, ◌∙◌, subst, arith, if◌then◌else◌}
 use Rattle.std.specs.Prelude.{Bool, true, false, nat_le}
 use Rattle.std.specs.List.{AllByRecursion}
 use Rattle.std.proofs.lemmas.Bool.{leb-true}
 use Rattle.da_values.specs.declared.val.Val.{Val}
-use Rattle.da_values.specs.declared.val.Val.TheVariants as val
 use Rattle.da_values.specs.Value.{value_of}
 use Rattle.da_values.specs.Views.{truth_of, elements_of}
 use Rattle.da_lang.specs.declared.code.Instr.TheVariants as op
@@ -16,13 +15,11 @@ use Rattle.da_lang.specs.declared.program.Alt.{Alt}
 use Rattle.da_lang.specs.declared.program.Class.{Class}
 use Rattle.da_lang.specs.declared.program.Item.{Item}
 use Rattle.da_lang.specs.declared.program.ItemKind.{ItemKind}
-use Rattle.da_lang.specs.declared.program.ItemKind.TheOpen as kind
 use Rattle.da_lang.specs.declared.program.ItemKind.TheOpen.{ItemKind-F}
 use Rattle.da_lang.specs.declared.program.ItemKind.TheViews.{out-RBranch}
 use Rattle.da_lang.specs.declared.program.Program.{Program}
 use Rattle.da_lang.specs.declared.program.RBranch.{RBranch}
 use Rattle.da_lang.specs.declared.program.RExpr.{RExpr}
-use Rattle.da_lang.specs.declared.query.Query.{Query}
 use Rattle.da_lang.specs.Arithmetic.{Outcome}
 use Rattle.da_lang.specs.Evaluation.{Outcomes, eval, eval_all}
 use Rattle.da_lang.specs.Queries.{least_row}
@@ -32,7 +29,7 @@ use Rattle.da_lang.specs.World.{Data, Task, Do, Loop, put_slot}
 use Rattle.da_machine.specs.declared.code.Code.{Code}
 use Rattle.da_machine.specs.declared.machine.Machine.{Machine}
 use Rattle.da_machine.specs.declared.machine.Stop.TheVariants as stop
-use Rattle.da_machine.specs.Acts.{below, innermost, moved, top}
+use Rattle.da_machine.specs.Acts.{moved}
 use Rattle.da_machine.specs.CodeFor.{Has, BlockAt, BranchesAt, CodeFor, EnterAt, FoundAt, ItemAt, LoopAt, WorkAt}
 use Rattle.da_machine.specs.Allowed.{TakesRow}
 use Rattle.da_machine.specs.Conditions.{HasSome, IsKnown, IsSendable, Takes}

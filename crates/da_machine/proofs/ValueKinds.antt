@@ -1,12 +1,12 @@
 -- What a kept value shows, by its kind.
-use Rattle.std.proofs.Common.{◌≡◌, Bool, true, false, ◌&&◌, List, [], map, Ok, refl, ap, ◌∙◌}
+use Rattle.std.proofs.Common.{◌≡◌, true, false, ◌&&◌, List, [], Ok, refl, ap, ◌∙◌}
 use Rattle.da_values.specs.declared.val.Val.{Val, out-Val}
 use Rattle.da_values.specs.declared.val.Val.TheOpen.{Val-F, Int, Bool as Truth, Text, Proc, Tuple, Set}
 use Rattle.da_values.specs.declared.val.Val.TheVariants as val
 use Rattle.da_values.specs.declared.value.Value.{Value}
 use Rattle.da_values.specs.Layer.{layer, out-val_of, value_of-val_of}
 use Rattle.da_values.specs.Value.{val_of, value_of}
-use Rattle.da_values.specs.Views.{int_of, truth_of, elements_of, int_in, truth_in, elements_in, proc_of}
+use Rattle.da_values.specs.Views.{int_of, truth_of, elements_of, int_in, truth_in, elements_in}
 use Rattle.da_values.proofs.ViewLaws.{int_of-val_of, truth_of-val_of, elements_of-val_of, proc_of-Proc}
 use Rattle.da_lang.specs.Arithmetic.{arithmetic, of_layers, of_numbers, of_sets}
 use Rattle.da_lang.specs.declared.tree.ArithOp.{ArithOp}

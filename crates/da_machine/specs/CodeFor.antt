@@ -1,5 +1,5 @@
 -- The code that stands for what is still to do.
-use Rattle.std.specs.Prelude.{◌≡◌, ℕ, ◌+◌, Bool, true, false, not, List, [], ◌∷◌, ◌++◌, map, length, Option, Some, None, slice_get}
+use Rattle.std.specs.Prelude.{◌≡◌, ℕ, ◌+◌, Bool, true, false, List, [], ◌∷◌, ◌++◌, map, length, Option, Some, None, is_some, slice_get}
 use Rattle.da_values.specs.declared.val.Val.{Val}
 use Rattle.da_values.specs.declared.val.Val.TheVariants as val
 use Rattle.da_values.specs.declared.value.Value.{Value}
@@ -17,13 +17,14 @@ use Rattle.da_lang.specs.declared.program.Item.{Item}
 use Rattle.da_lang.specs.declared.program.ItemKind.{ItemKind}
 use Rattle.da_lang.specs.declared.program.ItemKind.TheOpen as kind
 use Rattle.da_lang.specs.declared.program.ItemKind.TheOpen.{ItemKind-F}
-use Rattle.da_lang.specs.declared.program.ItemKind.TheViews.{out-Alt, out-RBranch}
+use Rattle.da_lang.specs.declared.program.ItemKind.TheViews.{out-RBranch}
 use Rattle.da_lang.specs.declared.program.RBranch.{RBranch}
 use Rattle.da_lang.specs.declared.program.RExpr.{RExpr}
 use Rattle.da_lang.specs.declared.program.RExpr.TheVariants as ex
 use Rattle.da_lang.specs.declared.program.RExpr.TheViews.{out-ChainPart}
 use Rattle.da_lang.specs.declared.program.SetupCall.{SetupCall}
 use Rattle.da_lang.specs.declared.tree.CmpOp.{CmpOp}
+use Rattle.da_lang.specs.Shaped.{blocks_in}
 use Rattle.da_lang.specs.Turns.{kind_of, line_of, slot_of_arg, value_of_arg}
 use Rattle.da_lang.specs.World.{Task, Do, Loop, Prepare}
 use Rattle.da_machine.specs.declared.code.Code.{Code}
@@ -91,11 +92,11 @@ module _ (code : Code) where
         item : {at to end : ℕ} {i : Item} {is : List Item} → ItemAt at i to → BlockAt to is end → BlockAt at (i ∷ is) end
 
       -- The code of a statement begins with its turn. Of a label or an `await` it is a yield point, behind which the
-      -- statement goes on: behind the label, or with the alternatives. Its number is that of the statement in the class.
+      -- statement goes on: behind the label, or with the blocks of the `await`. Its number is that of the statement in the class.
       pub data ItemAt : ℕ → Item → ℕ → Type 0 where
         works : {at end : ℕ} {i : Item} → Has code at (op.Turn (line_of i)) → WorkAt at (line_of i) (kind_of i) end → ItemAt at i end
-        label : {at k : ℕ} {i : Item} → kind_of i ≡ kind.Label → Has code at (op.Yield k) → slice_get code.yields k ≡ Some (record { label = true; entries = (at + 1) ∷ [] }) → IsNumbered class k AtLabel → ItemAt at i (at + 1)
-        await : {at end k : ℕ} {i : Item} {alts : List Alt} {entries : List ℕ} → kind_of i ≡ kind.Await alts → Has code at (op.Yield k) → slice_get code.yields k ≡ Some (record { label = false; entries = entries }) → IsNumbered class k (AtAwait (ways_of alts)) → AltsAt end (at + 1) alts entries → ItemAt at i end
+        label : {at k l : ℕ} {i : Item} → kind_of i ≡ kind.Label l → Has code at (op.Yield k) → slice_get code.yields k ≡ Some (record { label = true; entries = (at + 1) ∷ [] }) → IsNumbered class k (AtLabel l) → ItemAt at i (at + 1)
+        await : {at end k : ℕ} {i : Item} {alts : List Alt} {timeout : Option (List Item)} {l : Option ℕ} {entries : List ℕ} → kind_of i ≡ kind.Await alts timeout l → Has code at (op.Yield k) → slice_get code.yields k ≡ Some (record { label = false; entries = entries }) → IsNumbered class k (AtAwait (ways_of alts) (is_some timeout) l) → BlocksAt end (at + 1) (blocks_in (kind.Await alts timeout l)) entries → ItemAt at i end
 
       -- the code behind the turn at this place, of a statement of a kind on a line
       pub data WorkAt : ℕ → ℕ → ItemKind-F ItemKind Alt Item RBranch → ℕ → Type 0 where
@@ -115,10 +116,10 @@ module _ (code : Code) where
         otherwise : {exit at : ℕ} {other : List Item} → BlockAt at other exit → BranchesAt exit at [] other
         branch : {exit at test to end : ℕ} {b : RBranch} {bs : List RBranch} {other : List Item} → ExprAt at (out-RBranch b).cond test → Has code test (op.JumpUnless (end + 1)) → FoundAt (test + 1) (out-RBranch b).found (out-RBranch b).binds to → BlockAt to (out-RBranch b).body end → Has code end (op.Jump exit) → BranchesAt exit (end + 1) bs other → BranchesAt exit at (b ∷ bs) other
 
-      -- the blocks of alternatives with their entries, each of which goes on at the given place; no code runs into them
-      pub data AltsAt : ℕ → ℕ → List Alt → List ℕ → Type 0 where
-        done : {exit : ℕ} → AltsAt exit exit [] []
-        alt : {exit at end : ℕ} {a : Alt} {alts : List Alt} {entries : List ℕ} → BlockAt at (out-Alt a).body end → Has code end (op.Jump exit) → AltsAt exit (end + 1) alts entries → AltsAt exit at (a ∷ alts) (at ∷ entries)
+      -- blocks with their entries, each of which goes on at the given place; no code runs into them
+      pub data BlocksAt : ℕ → ℕ → List (List Item) → List ℕ → Type 0 where
+        done : {exit : ℕ} → BlocksAt exit exit [] []
+        block : {exit at end : ℕ} {body : List Item} {bodies : List (List Item)} {entries : List ℕ} → BlockAt at body end → Has code end (op.Jump exit) → BlocksAt exit (end + 1) bodies entries → BlocksAt exit at (body ∷ bodies) (at ∷ entries)
 
       -- the code of the rest of a loop, which a turn begins too
       pub data LoopAt : ℕ → ℕ → List Item → ℕ → ℕ → Type 0 where

@@ -1,5 +1,5 @@
 -- What a store stands for, and what it may be asked.
-use Rattle.std.specs.Prelude.{◌≡◌, ℕ, ◌≤◌, true, false, List, [], ◌∷◌, Option, Some, None}
+use Rattle.std.specs.Prelude.{◌≡◌, ℕ, ◌≤◌, true, false, List, [], ◌∷◌, Option, Some}
 use Rattle.std.specs.List.{All}
 use Rattle.da_values.specs.declared.val.Val.{Val}
 use Rattle.da_values.specs.Proper.{IsValue}

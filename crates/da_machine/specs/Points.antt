@@ -1,9 +1,8 @@
 -- The yield points of a class.
-use Rattle.std.specs.Prelude.{◌≡◌, ℕ, List, [], ◌∷◌, ◌++◌, map, Option, Some, flat_map, slice_get}
+use Rattle.std.specs.Prelude.{◌≡◌, ℕ, Bool, List, [], ◌∷◌, ◌++◌, map, Option, Some, is_some, unwrap_or, flat_map, slice_get}
 use Rattle.da_lang.specs.declared.program.Alt.{Alt}
 use Rattle.da_lang.specs.declared.program.Class.{Class}
 use Rattle.da_lang.specs.declared.program.Item.{Item}
-use Rattle.da_lang.specs.declared.program.ItemKind.{ItemKind}
 use Rattle.da_lang.specs.declared.program.ItemKind.TheFolds.{fold-Item}
 use Rattle.da_lang.specs.declared.program.ItemKind.TheOpen.{ItemKind-F, Alt-F, Item-F, RBranch-F}
 use Rattle.da_lang.specs.declared.program.ItemKind.TheViews.{out-Alt}
@@ -16,10 +15,11 @@ pub record Way : Type 0 where
   pub found : Option ℕ
   pub binds : List ℕ
 
--- a label, or an `await` with its alternatives
+-- a label; or an `await` with its alternatives, whether it has a block for the time that runs out, and the label directly
+-- before it
 pub data Point : Type 0 where
-  AtLabel : Point
-  AtAwait : List Way → Point
+  AtLabel : (label : ℕ) → Point
+  AtAwait : (ways : List Way) (has_timeout : Bool) (label : Option ℕ) → Point
 
 abbrev pub way_of : Alt → Way
 way_of a = record { waits_for = (out-Alt a).cond; found = (out-Alt a).found; binds = (out-Alt a).binds }
@@ -38,14 +38,15 @@ Points = List Point
 abbrev pub points_of : List Points → Points
 points_of = flat_map (λ points. points)
 
--- the yield points in a statement; an `await` comes before those of its alternatives
+-- the yield points in a statement; an `await` comes before those of its alternatives, and then come those of its last block
 abbrev pub kind_points_step : ItemKind-F Points AltPoints Points Points → Points
 kind_points_step (ItemKind-F.If branches other) = points_of branches ++ points_of other
 kind_points_step (ItemKind-F.While e body) = points_of body
 kind_points_step (ItemKind-F.For s e body) = points_of body
 kind_points_step (ItemKind-F.Call args body) = points_of body
-kind_points_step (ItemKind-F.Await alts) = AtAwait (map (λ a. a.way) alts) ∷ flat_map (λ a. a.inside) alts
-kind_points_step ItemKind-F.Label = AtLabel ∷ []
+kind_points_step (ItemKind-F.Await alts timeout label) =
+    AtAwait (map (λ a. a.way) alts) (is_some timeout) label ∷ (flat_map (λ a. a.inside) alts ++ points_of (unwrap_or timeout []))
+kind_points_step (ItemKind-F.Label label) = AtLabel label ∷ []
 kind_points_step _ = []
 
 abbrev pub alt_points_step : Alt-F Points AltPoints Points Points → AltPoints

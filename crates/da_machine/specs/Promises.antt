@@ -1,10 +1,9 @@
 -- What types promise of the statements of a class.
-use Rattle.std.specs.Prelude.{◌≡◌, ℕ, ◌≤◌, true, List, [], ◌∷◌, map, length, Option, Some, Ok}
+use Rattle.std.specs.Prelude.{◌≡◌, ℕ, ◌≤◌, true, List, [], ◌∷◌, map, length, Some, Ok}
 use Rattle.std.specs.List.{AllByRecursion}
 use Rattle.da_values.specs.declared.val.Val.{Val}
-use Rattle.da_values.specs.Sets.{Distinct, Has}
+use Rattle.da_values.specs.Sets.{Distinct}
 use Rattle.da_lang.specs.declared.program.Alt.{Alt}
-use Rattle.da_lang.specs.declared.program.BindArg.{BindArg}
 use Rattle.da_lang.specs.declared.program.Class.{Class}
 use Rattle.da_lang.specs.declared.program.Item.{Item}
 use Rattle.da_lang.specs.declared.program.ItemKind.{ItemKind}
@@ -17,8 +16,8 @@ use Rattle.da_lang.specs.declared.program.RExpr.{RExpr}
 use Rattle.da_lang.specs.declared.program.SetupCall.{SetupCall}
 use Rattle.da_lang.specs.Evaluation.{eval, eval_all}
 use Rattle.da_lang.specs.Queries.{least_row}
-use Rattle.da_lang.specs.Shaped.{IsItemOf, IsLoop, IsProcess, IsSetUp, ShapedData, ShapedTasks}
-use Rattle.da_lang.specs.Turns.{AfterTurn, kind_of, packet_len, max_packet, recipients, slot_of_arg, turn, value_of_arg}
+use Rattle.da_lang.specs.Shaped.{IsItemOf, IsLoop, IsSetUp, ShapedData, ShapedTasks}
+use Rattle.da_lang.specs.Turns.{kind_of, packet_len, max_packet, recipients, slot_of_arg, turn, value_of_arg}
 use Rattle.da_lang.specs.World.{Data, Task, at_number, class_of}
 use Rattle.da_machine.specs.Allowed.{TakesRow}
 use Rattle.da_machine.specs.Conditions.{HasSome, IsPrintable, IsSendable, Takes, TakesElement, TakesAll}
@@ -35,8 +34,8 @@ exprs_in (kind.If branches other) = map (λ b. (out-RBranch b).cond) branches
 exprs_in (kind.While e body) = e ∷ []
 exprs_in (kind.For s e body) = e ∷ []
 exprs_in (kind.Call args body) = map value_of_arg args
-exprs_in (kind.Await alts) = []
-exprs_in kind.Label = []
+exprs_in (kind.Await alts timeout label) = []
+exprs_in (kind.Label label) = []
 exprs_in kind.Pass = []
 
 abbrev pub AllRead : Class → List RExpr → Type 0

@@ -1,5 +1,5 @@
 -- Expressions whose slots and queries are there.
-use Rattle.std.specs.Prelude.{Bool, true, ◌&&◌, List, is_some, slice_get}
+use Rattle.std.specs.Prelude.{Bool, true, ◌&&◌, is_some}
 use Rattle.std.specs.List.{list_all}
 use Rattle.da_lang.specs.declared.program.Class.{Class}
 use Rattle.da_lang.specs.declared.program.RExpr.{RExpr}

@@ -2,8 +2,8 @@
 use da_lang::Instr;
 use da_values::List;
 
-/// A yield point: behind a label there is one entry, at an `await` one for each alternative, in order. An entry is a
-/// place in the instructions.
+/// A yield point: behind a label there is one entry. At an `await` there is one for each alternative, in order, and last that
+/// of the block for the time that runs out, where there is such a block. An entry is a place in the instructions.
 #[derive(Debug, Drop)]
 pub struct YieldPoint {
     pub label: bool,

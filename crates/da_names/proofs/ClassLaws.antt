@@ -1,17 +1,16 @@
 -- The refusals of a class, found in another order.
-use Rattle.std.specs.Prelude.{◌≡◌, refl, ℕ, List, [], ◌∷◌, ◌++◌, map, filter, filter_map, flat_map, Bool, Option}
+use Rattle.std.specs.Prelude.{◌≡◌, refl, ℕ, List, [], ◌∷◌, ◌++◌, filter_map, flat_map, Option}
 use Rattle.std.proofs.Common.{◌∙◌, sym, ap}
-use Rattle.std.proofs.lemmas.List.{map-append}
-use Rattle.std.proofs.lemmas.List.Elements.{filter-append}
 use Rattle.da_lang.specs.declared.refusal.ScopeKind.{ScopeKind}
 use Rattle.da_lang.specs.declared.refusal.ScopeKind.TheVariants as refusal
 use Rattle.da_lang.specs.declared.tree.ClassTree.{ClassTree}
 use Rattle.da_lang.specs.ClassParts.{Body, bodies, is_setup, is_run}
-use Rattle.da_lang.specs.Deeds.{Deed, deeds}
+use Rattle.da_lang.specs.Deeds.{Deed}
 use Rattle.da_lang.specs.ExprNames.{Role}
 use Rattle.da_lang.specs.NameRules as rules_of
 use Rattle.da_lang.specs.Scopes.{Scope, at_lines}
-use Rattle.da_names.specs.ClassRules.{body_refusals, deed_refusals, member_refusals, deeds_by, label_lines, label_names, lines_behind, no_run_line}
+use Rattle.da_names.specs.ClassRules.{body_refusals, deed_refusals, label_refusals, member_refusals, deeds_by, label_names, missing_at, lines_behind, no_run_line}
+use Rattle.da_bodies.specs.Repeats.{is_declared}
 use Rattle.da_bodies.specs.Telling.{Refusal, telling}
 use Rattle.da_bodies.proofs.AgainLaws.{at_lines-append}
 use Rattle.da_names.proofs.SameBody.{flat_map-same, scope_refusals-same}
@@ -35,56 +34,43 @@ module _ (f : Option Refusal) where
   pub tells_four : (a b c d : List Refusal) → telling f (a ++ b ++ c ++ d) ≡ tells f (a ∷ b ∷ c ∷ d ∷ [])
   tells_four a b c d = telling-append f (a ++ b ++ c) d ∙ ap (λ g. telling g d) (telling-append f (a ++ b) c ∙ ap (λ g. telling g c) (telling-append f a b))
 
-  tells_six : (a b c d e g : List Refusal) → telling f (a ++ b ++ c ++ d ++ e ++ g) ≡ tells f (a ∷ b ∷ c ∷ d ∷ e ∷ g ∷ [])
-  tells_six a b c d e g = telling-append f (a ++ b ++ c ++ d ++ e) g ∙ ap (λ h. telling h g) (telling-append f (a ++ b ++ c ++ d) e ∙ ap (λ h. telling h e) (tells_four a b c d))
+  tells_seven : (a b c d e g h : List Refusal) → telling f (a ++ b ++ c ++ d ++ e ++ g ++ h) ≡ tells f (a ∷ b ∷ c ∷ d ∷ e ∷ g ∷ h ∷ [])
+  tells_seven a b c d e g h =
+      telling-append f (a ++ b ++ c ++ d ++ e ++ g) h
+      ∙ ap (λ x. telling x h) (telling-append f (a ++ b ++ c ++ d ++ e) g ∙ ap (λ x. telling x g) (telling-append f (a ++ b ++ c ++ d) e ∙ ap (λ x. telling x e) (tells_four a b c d)))
 
   tells_nine : (a b c d e g h i j : List Refusal) → telling f (a ++ b ++ c ++ d ++ e ++ g ++ h ++ i ++ j) ≡ tells f (a ∷ b ∷ c ∷ d ∷ e ∷ g ∷ h ∷ i ∷ j ∷ [])
   tells_nine a b c d e g h i j =
       telling-append f (a ++ b ++ c ++ d ++ e ++ g ++ h ++ i) j
-      ∙ ap (λ x. telling x j) (telling-append f (a ++ b ++ c ++ d ++ e ++ g ++ h) i ∙ ap (λ x. telling x i) (telling-append f (a ++ b ++ c ++ d ++ e ++ g) h ∙ ap (λ x. telling x h) (tells_six a b c d e g)))
+      ∙ ap (λ x. telling x j) (telling-append f (a ++ b ++ c ++ d ++ e ++ g ++ h) i ∙ ap (λ x. telling x i) (tells_seven a b c d e g h))
 
 -- the order of the code, and that of the rules
-in_other_order : (f : Option Refusal) (variables headers scopes params yields early late unknown arity labels methods setups runs norun recursive : List Refusal)
-    → tells f (variables ∷ headers ∷ scopes ∷ params ∷ yields ∷ early ∷ late ∷ unknown ∷ arity ∷ labels ∷ methods ∷ setups ∷ runs ∷ norun ∷ recursive ∷ [])
-    ≡ tells f (headers ∷ late ∷ unknown ∷ scopes ∷ variables ∷ methods ∷ setups ∷ runs ∷ labels ∷ params ∷ recursive ∷ yields ∷ early ∷ norun ∷ arity ∷ [])
-in_other_order f variables headers scopes params yields early late unknown arity labels methods setups runs norun recursive =
-    let f1 = telling f headers in
-    let f2 = telling f1 late in
-    let f3 = telling f2 unknown in
-    let f4 = telling (telling f3 scopes) variables in
-    let f5 = telling f4 methods in
-    let f6 = telling f5 setups in
-    let f7 = telling f6 runs in
-    let f8 = telling (telling f7 labels) params in
-    let f9 = telling (telling (telling f8 recursive) yields) early in
-    sooner_found f (variables ∷ []) headers (scopes ∷ params ∷ yields ∷ early ∷ late ∷ unknown ∷ arity ∷ labels ∷ methods ∷ setups ∷ runs ∷ norun ∷ recursive ∷ [])
-    ∙ sooner_found f1 (variables ∷ scopes ∷ params ∷ yields ∷ early ∷ []) late (unknown ∷ arity ∷ labels ∷ methods ∷ setups ∷ runs ∷ norun ∷ recursive ∷ [])
-    ∙ sooner_found f2 (variables ∷ scopes ∷ params ∷ yields ∷ early ∷ []) unknown (arity ∷ labels ∷ methods ∷ setups ∷ runs ∷ norun ∷ recursive ∷ [])
-    ∙ sooner_found f3 (variables ∷ []) scopes (params ∷ yields ∷ early ∷ arity ∷ labels ∷ methods ∷ setups ∷ runs ∷ norun ∷ recursive ∷ [])
-    ∙ sooner_found f4 (params ∷ yields ∷ early ∷ arity ∷ labels ∷ []) methods (setups ∷ runs ∷ norun ∷ recursive ∷ [])
-    ∙ sooner_found f5 (params ∷ yields ∷ early ∷ arity ∷ labels ∷ []) setups (runs ∷ norun ∷ recursive ∷ [])
-    ∙ sooner_found f6 (params ∷ yields ∷ early ∷ arity ∷ labels ∷ []) runs (norun ∷ recursive ∷ [])
-    ∙ sooner_found f7 (params ∷ yields ∷ early ∷ arity ∷ []) labels (norun ∷ recursive ∷ [])
-    ∙ sooner_found f8 (yields ∷ early ∷ arity ∷ norun ∷ []) recursive []
-    ∙ sooner_found f9 (arity ∷ []) norun []
+in_other_order : (f : Option Refusal) (variables scopes named params yields early unknown arity labels missing methods setups runs norun recursive : List Refusal)
+    → tells f (variables ∷ scopes ∷ named ∷ params ∷ yields ∷ early ∷ unknown ∷ arity ∷ labels ∷ missing ∷ methods ∷ setups ∷ runs ∷ norun ∷ recursive ∷ [])
+    ≡ tells f (unknown ∷ missing ∷ scopes ∷ variables ∷ methods ∷ setups ∷ runs ∷ labels ∷ named ∷ params ∷ recursive ∷ yields ∷ early ∷ norun ∷ arity ∷ [])
+in_other_order f variables scopes named params yields early unknown arity labels missing methods setups runs norun recursive =
+    let f1 = telling f unknown in
+    let f2 = telling f1 missing in
+    let f3 = telling (telling f2 scopes) variables in
+    let f4 = telling f3 methods in
+    let f5 = telling f4 setups in
+    let f6 = telling f5 runs in
+    let f7 = telling (telling (telling f6 labels) named) params in
+    let f8 = telling (telling (telling f7 recursive) yields) early in
+    sooner_found f (variables ∷ scopes ∷ named ∷ params ∷ yields ∷ early ∷ []) unknown (arity ∷ labels ∷ missing ∷ methods ∷ setups ∷ runs ∷ norun ∷ recursive ∷ [])
+    ∙ sooner_found f1 (variables ∷ scopes ∷ named ∷ params ∷ yields ∷ early ∷ arity ∷ labels ∷ []) missing (methods ∷ setups ∷ runs ∷ norun ∷ recursive ∷ [])
+    ∙ sooner_found f2 (variables ∷ []) scopes (named ∷ params ∷ yields ∷ early ∷ arity ∷ labels ∷ methods ∷ setups ∷ runs ∷ norun ∷ recursive ∷ [])
+    ∙ sooner_found f3 (named ∷ params ∷ yields ∷ early ∷ arity ∷ labels ∷ []) methods (setups ∷ runs ∷ norun ∷ recursive ∷ [])
+    ∙ sooner_found f4 (named ∷ params ∷ yields ∷ early ∷ arity ∷ labels ∷ []) setups (runs ∷ norun ∷ recursive ∷ [])
+    ∙ sooner_found f5 (named ∷ params ∷ yields ∷ early ∷ arity ∷ labels ∷ []) runs (norun ∷ recursive ∷ [])
+    ∙ sooner_found f6 (named ∷ params ∷ yields ∷ early ∷ arity ∷ []) labels (norun ∷ recursive ∷ [])
+    ∙ sooner_found f7 (yields ∷ early ∷ arity ∷ norun ∷ []) recursive []
+    ∙ sooner_found f8 (arity ∷ []) norun []
 
 -- lines of many things
-flat_lines : {A : Type 0} (kind : ScopeKind) (p : A → List ℕ) (xs : List A) → flat_map (λ x. at_lines kind (p x)) xs ≡ at_lines kind (flat_map p xs)
+pub flat_lines : {A : Type 0} (kind : ScopeKind) (p : A → List ℕ) (xs : List A) → flat_map (λ x. at_lines kind (p x)) xs ≡ at_lines kind (flat_map p xs)
 flat_lines kind p [] = refl
 flat_lines kind p (x ∷ xs) = ap (λ rs. at_lines kind (p x) ++ rs) (flat_lines kind p xs) ∙ sym (at_lines-append kind (p x) (flat_map p xs))
-
-flat_where : (test : Deed → Bool) (bs : List Body) → flat_map (λ b. rules_of.lines_where test (deeds b.stmts)) bs ≡ rules_of.lines_where test (deeds_by bs)
-flat_where test [] = refl
-flat_where test (b ∷ bs) =
-    ap (λ ls. rules_of.lines_where test (deeds b.stmts) ++ ls) (flat_where test bs)
-    ∙ sym (ap (map (λ (d : Deed). d.line)) (filter-append test (deeds b.stmts) (deeds_by bs)) ∙ map-append (λ (d : Deed). d.line) (filter test (deeds b.stmts)) (filter test (deeds_by bs)))
-
-both_lines : {A : Type 0} (f : Option Refusal) (kind : ScopeKind) (p q : A → List ℕ) (xs : List A) → telling f (at_lines kind (flat_map (λ x. p x ++ q x) xs)) ≡ tells f (at_lines kind (flat_map p xs) ∷ at_lines kind (flat_map q xs) ∷ [])
-both_lines f kind p q xs =
-    ap (telling f) (sym (flat_lines kind (λ x. p x ++ q x) xs) ∙ flat_map-same (λ x. at_lines kind (p x ++ q x)) (λ x. at_lines kind (p x) ++ at_lines kind (q x)) xs (λ x. at_lines-append kind (p x) (q x)))
-    ∙ telling-both name_order (λ x. at_lines kind (p x)) (λ x. at_lines kind (q x)) f xs
-    ∙ ap (λ rs. telling (telling f rs) (flat_map (λ x. at_lines kind (q x)) xs)) (flat_lines kind p xs)
-    ∙ ap (telling (telling f (at_lines kind (flat_map p xs)))) (flat_lines kind q xs)
 
 both_five : {A : Type 0} (f : Option Refusal) (p q r s t : A → List Refusal) (xs : List A) → telling f (flat_map (λ x. p x ++ q x ++ r x ++ s x ++ t x) xs) ≡ tells f (flat_map p xs ∷ flat_map q xs ∷ flat_map r xs ∷ flat_map s xs ∷ flat_map t xs ∷ [])
 both_five f p q r s t xs =
@@ -93,46 +79,51 @@ both_five f p q r s t xs =
     ∙ ap (λ g. telling g (flat_map s xs)) (telling-both name_order (λ x. p x ++ q x) r f xs
     ∙ ap (λ g. telling g (flat_map r xs)) (telling-both name_order p q f xs)))
 
-twice_lines : (f : Option Refusal) (a b c d e g : List ℕ) → telling f (at_lines refusal.Twice (a ++ b ++ c ++ d ++ e ++ g))
-    ≡ tells f (at_lines refusal.Twice a ∷ at_lines refusal.Twice b ∷ at_lines refusal.Twice c ∷ at_lines refusal.Twice d ∷ at_lines refusal.Twice e ∷ at_lines refusal.Twice g ∷ [])
-twice_lines f a b c d e g =
+twice_lines : (f : Option Refusal) (a b c d e g h : List ℕ) → telling f (at_lines refusal.Twice (a ++ b ++ c ++ d ++ e ++ g ++ h))
+    ≡ tells f (at_lines refusal.Twice a ∷ at_lines refusal.Twice b ∷ at_lines refusal.Twice c ∷ at_lines refusal.Twice d ∷ at_lines refusal.Twice e ∷ at_lines refusal.Twice g ∷ at_lines refusal.Twice h ∷ [])
+twice_lines f a b c d e g h =
     let at = at_lines refusal.Twice in
     ap (telling f) (
-    at_lines-append refusal.Twice (a ++ b ++ c ++ d ++ e) g
+    at_lines-append refusal.Twice (a ++ b ++ c ++ d ++ e ++ g) h
+    ∙ ap (λ x. x ++ at h) (at_lines-append refusal.Twice (a ++ b ++ c ++ d ++ e) g
     ∙ ap (λ x. x ++ at g) (at_lines-append refusal.Twice (a ++ b ++ c ++ d) e
     ∙ ap (λ x. x ++ at e) (at_lines-append refusal.Twice (a ++ b ++ c) d
     ∙ ap (λ x. x ++ at d) (at_lines-append refusal.Twice (a ++ b) c
-    ∙ ap (λ x. x ++ at c) (at_lines-append refusal.Twice a b)))))
-    ∙ tells_six f (at a) (at b) (at c) (at d) (at e) (at g)
+    ∙ ap (λ x. x ++ at c) (at_lines-append refusal.Twice a b))))))
+    ∙ tells_seven f (at a) (at b) (at c) (at d) (at e) (at g) (at h)
 
 body_same : (c : ClassTree) (s t : Scope Role) (b : Body) → rules_of.scope_refusals s b ≡ rules_of.scope_refusals t b → body_refusals c s b ≡ body_refusals c t b
 unfolding body_refusals
 body_same c s t b same =
-    ap (λ rs. at_lines refusal.NotYet (label_lines b) ++ rs ++ at_lines refusal.Twice (rules_of.params_again b) ++ at_lines refusal.Yield (rules_of.yield_in c b) ++ at_lines refusal.Setup (rules_of.setup_in b)) same
+    ap (λ rs. rs ++ at_lines refusal.Twice (rules_of.named_again b) ++ at_lines refusal.Twice (rules_of.params_again b) ++ at_lines refusal.Yield (rules_of.yield_in c b) ++ at_lines refusal.Setup (rules_of.setup_in b)) same
 
 -- the rules on bodies, on statements, and on members
 module _ (f : Option Refusal) (c : ClassTree) where
   body_told : (scope : Scope Role) (bs : List Body) → telling f (flat_map (body_refusals c scope) bs)
-      ≡ tells f (at_lines refusal.NotYet (flat_map label_lines bs) ∷ flat_map (rules_of.scope_refusals scope) bs ∷ at_lines refusal.Twice (flat_map rules_of.params_again bs)
+      ≡ tells f (flat_map (rules_of.scope_refusals scope) bs ∷ at_lines refusal.Twice (flat_map rules_of.named_again bs) ∷ at_lines refusal.Twice (flat_map rules_of.params_again bs)
       ∷ at_lines refusal.Yield (flat_map (rules_of.yield_in c) bs) ∷ at_lines refusal.Setup (flat_map rules_of.setup_in bs) ∷ [])
   unfolding body_refusals
   body_told scope bs =
-      let scopes = flat_map (rules_of.scope_refusals scope) bs in
-      let headers = flat_lines refusal.NotYet label_lines bs in
+      let named = flat_lines refusal.Twice rules_of.named_again bs in
       let params = flat_lines refusal.Twice rules_of.params_again bs in
       let yields = flat_lines refusal.Yield (rules_of.yield_in c) bs in
       let early = flat_lines refusal.Setup rules_of.setup_in bs in
-      both_five f (λ b. at_lines refusal.NotYet (label_lines b)) (rules_of.scope_refusals scope) (λ b. at_lines refusal.Twice (rules_of.params_again b)) (λ b. at_lines refusal.Yield (rules_of.yield_in c b)) (λ b. at_lines refusal.Setup (rules_of.setup_in b)) bs
-      ∙ five_same f scopes headers params yields early
+      both_five f (rules_of.scope_refusals scope) (λ b. at_lines refusal.Twice (rules_of.named_again b)) (λ b. at_lines refusal.Twice (rules_of.params_again b)) (λ b. at_lines refusal.Yield (rules_of.yield_in c b)) (λ b. at_lines refusal.Setup (rules_of.setup_in b)) bs
+      ∙ five_same f (flat_map (rules_of.scope_refusals scope) bs) named params yields early
     where
-      five_same : (g : Option Refusal) {a r c' s d t e u : List Refusal} (b : List Refusal) → a ≡ r → c' ≡ s → d ≡ t → e ≡ u → tells g (a ∷ b ∷ c' ∷ d ∷ e ∷ []) ≡ tells g (r ∷ b ∷ s ∷ t ∷ u ∷ [])
+      five_same : (g : Option Refusal) {a r c' s d t e u : List Refusal} (b : List Refusal) → a ≡ r → c' ≡ s → d ≡ t → e ≡ u → tells g (b ∷ a ∷ c' ∷ d ∷ e ∷ []) ≡ tells g (b ∷ r ∷ s ∷ t ∷ u ∷ [])
       five_same g b p q v w = cc
 
-  deed_told : (ds : List Deed) → telling f (deed_refusals c ds)
-      ≡ tells f (at_lines refusal.NotYet (rules_of.lines_where (λ d. rules_of.times_out d.does) ds) ∷ at_lines refusal.Unknown (rules_of.lines_where (λ d. rules_of.calls_none c d.does) ds)
-      ∷ at_lines refusal.Arity (rules_of.lines_where (λ d. rules_of.misfits c d d.does) ds) ∷ at_lines refusal.Twice (rules_of.again (label_names ds)) ∷ [])
-  unfolding deed_refusals
-  deed_told ds = tells_four f _ _ _ _
+  deed_told : (ds : List Deed) (bs : List Body) → telling f (deed_refusals c ds bs)
+      ≡ tells f (at_lines refusal.Unknown (rules_of.lines_where (λ d. rules_of.calls_none c d.does) ds) ∷ at_lines refusal.Arity (rules_of.lines_where (λ d. rules_of.misfits c d d.does) ds)
+      ∷ at_lines refusal.Twice (rules_of.again (label_names ds)) ∷ at_lines refusal.Unknown (flat_map (missing_at (is_declared (label_names ds))) bs) ∷ [])
+  unfolding deed_refusals label_refusals
+  deed_told ds bs =
+      let unknown = at_lines refusal.Unknown (rules_of.lines_where (λ d. rules_of.calls_none c d.does) ds) in
+      let arity = at_lines refusal.Arity (rules_of.lines_where (λ d. rules_of.misfits c d d.does) ds) in
+      let labels = at_lines refusal.Twice (rules_of.again (label_names ds)) in
+      let missing = at_lines refusal.Unknown (flat_map (missing_at (is_declared (label_names ds))) bs) in
+      telling-append f (unknown ++ arity) (labels ++ missing) ∙ ap (λ g. telling g (labels ++ missing)) (tells_two f unknown arity) ∙ tells_two (telling (telling f unknown) arity) labels missing
 
   member_told : (line : ℕ) (bs : List Body) → telling f (member_refusals line bs)
       ≡ tells f (at_lines refusal.Twice (rules_of.again (filter_map rules_of.named_body bs)) ∷ at_lines refusal.Twice (lines_behind is_setup bs) ∷ at_lines refusal.Twice (lines_behind is_run bs) ∷ at_lines refusal.NoRun (no_run_line line bs) ∷ [])
@@ -140,35 +131,27 @@ module _ (f : Option Refusal) (c : ClassTree) where
   member_told line bs = tells_four f _ _ _ _
 
 -- a whole class, by its rules
-class_by : (f : Option Refusal) (variables headers scopes params yields early late unknown arity labels methods setups runs norun recursive not_yet twice : List Refusal) (g h i j last : Option Refusal)
+class_by : (f : Option Refusal) (variables scopes named params yields early unknown arity labels missing methods setups runs norun recursive twice : List Refusal) (g h i j last : Option Refusal)
     → g ≡ telling f variables
-    → h ≡ tells g (headers ∷ scopes ∷ params ∷ yields ∷ early ∷ [])
-    → i ≡ tells h (late ∷ unknown ∷ arity ∷ labels ∷ [])
+    → h ≡ tells g (scopes ∷ named ∷ params ∷ yields ∷ early ∷ [])
+    → i ≡ tells h (unknown ∷ arity ∷ labels ∷ missing ∷ [])
     → j ≡ tells i (methods ∷ setups ∷ runs ∷ norun ∷ [])
     → last ≡ telling j recursive
-    → ((k : Option Refusal) → telling k not_yet ≡ tells k (headers ∷ late ∷ []))
-    → ((k : Option Refusal) → telling k twice ≡ tells k (variables ∷ methods ∷ setups ∷ runs ∷ labels ∷ params ∷ []))
-    → last ≡ telling f (not_yet ++ unknown ++ scopes ++ twice ++ recursive ++ yields ++ early ++ norun ++ arity)
-class_by f variables headers scopes params yields early late unknown arity labels methods setups runs norun recursive not_yet twice g h i j last first second third fourth fifth is_not_yet is_twice =
+    → ((k : Option Refusal) → telling k twice ≡ tells k (variables ∷ methods ∷ setups ∷ runs ∷ labels ∷ named ∷ params ∷ []))
+    → last ≡ telling f (unknown ++ missing ++ scopes ++ twice ++ recursive ++ yields ++ early ++ norun ++ arity)
+class_by f variables scopes named params yields early unknown arity labels missing methods setups runs norun recursive twice g h i j last first second third fourth fifth is_twice =
     fifth
-    ∙ ap (λ k. telling k recursive) (fourth ∙ ap (λ k. tells k (methods ∷ setups ∷ runs ∷ norun ∷ [])) (third ∙ ap (λ k. tells k (late ∷ unknown ∷ arity ∷ labels ∷ [])) (second ∙ ap (λ k. tells k (headers ∷ scopes ∷ params ∷ yields ∷ early ∷ [])) first)))
-    ∙ in_other_order f variables headers scopes params yields early late unknown arity labels methods setups runs norun recursive
+    ∙ ap (λ k. telling k recursive) (fourth ∙ ap (λ k. tells k (methods ∷ setups ∷ runs ∷ norun ∷ [])) (third ∙ ap (λ k. tells k (unknown ∷ arity ∷ labels ∷ missing ∷ [])) (second ∙ ap (λ k. tells k (scopes ∷ named ∷ params ∷ yields ∷ early ∷ [])) first)))
+    ∙ in_other_order f variables scopes named params yields early unknown arity labels missing methods setups runs norun recursive
     ∙ sym (
-    tells_nine f not_yet unknown scopes twice recursive yields early norun arity
-    ∙ ap (λ k. tells k (unknown ∷ scopes ∷ twice ∷ recursive ∷ yields ∷ early ∷ norun ∷ arity ∷ [])) (is_not_yet f)
-    ∙ ap (λ k. tells k (recursive ∷ yields ∷ early ∷ norun ∷ arity ∷ [])) (is_twice (telling (telling (telling (telling f headers) late) unknown) scopes)))
-
-not_yet_told : (c : ClassTree) (k : Option Refusal) → telling k (at_lines refusal.NotYet (flat_map rules_of.not_yet_in (bodies c)))
-    ≡ tells k (at_lines refusal.NotYet (flat_map label_lines (bodies c)) ∷ at_lines refusal.NotYet (rules_of.lines_where (λ d. rules_of.times_out d.does) (deeds_by (bodies c))) ∷ [])
-not_yet_told c k =
-    both_lines k refusal.NotYet label_lines (λ b. rules_of.lines_where (λ d. rules_of.times_out d.does) (deeds b.stmts)) (bodies c)
-    ∙ ap (λ ls. telling (telling k (at_lines refusal.NotYet (flat_map label_lines (bodies c)))) (at_lines refusal.NotYet ls)) (flat_where (λ d. rules_of.times_out d.does) (bodies c))
+    tells_nine f unknown missing scopes twice recursive yields early norun arity
+    ∙ ap (λ k. tells k (recursive ∷ yields ∷ early ∷ norun ∷ arity ∷ [])) (is_twice (telling (telling (telling f unknown) missing) scopes)))
 
 -- with names in scope that stand for the same as the variables of the class
 pub class_told : (f : Option Refusal) (c : ClassTree) (scope : Scope Role) (g h i j last : Option Refusal) → SameLook (rules_of.class_scope c) scope
     → g ≡ telling f (at_lines refusal.Twice (rules_of.variables_again c))
     → h ≡ telling g (flat_map (body_refusals c scope) (bodies c))
-    → i ≡ telling h (deed_refusals c (deeds_by (bodies c)))
+    → i ≡ telling h (deed_refusals c (deeds_by (bodies c)) (bodies c))
     → j ≡ telling i (member_refusals c.line (bodies c))
     → last ≡ telling j (at_lines refusal.Recursive (flat_map (rules_of.recursive_in c) (rules_of.method_names c)))
     → last ≡ telling f (rules_of.class_refusals c)
@@ -179,27 +162,25 @@ class_told f c scope g h i j last same first second third fourth fifth =
     flat_map-same (body_refusals c scope) (body_refusals c (rules_of.class_scope c)) bs (λ b. body_same c scope (rules_of.class_scope c) b (sym (scope_refusals-same (rules_of.class_scope c) scope b same))) in
     class_by f
     (at_lines refusal.Twice (rules_of.variables_again c))
-    (at_lines refusal.NotYet (flat_map label_lines bs))
     (flat_map (rules_of.scope_refusals (rules_of.class_scope c)) bs)
+    (at_lines refusal.Twice (flat_map rules_of.named_again bs))
     (at_lines refusal.Twice (flat_map rules_of.params_again bs))
     (at_lines refusal.Yield (flat_map (rules_of.yield_in c) bs))
     (at_lines refusal.Setup (flat_map rules_of.setup_in bs))
-    (at_lines refusal.NotYet (rules_of.lines_where (λ d. rules_of.times_out d.does) ds))
     (at_lines refusal.Unknown (rules_of.lines_where (λ d. rules_of.calls_none c d.does) ds))
     (at_lines refusal.Arity (rules_of.lines_where (λ d. rules_of.misfits c d d.does) ds))
     (at_lines refusal.Twice (rules_of.again (label_names ds)))
+    (at_lines refusal.Unknown (flat_map (missing_at (is_declared (label_names ds))) bs))
     (at_lines refusal.Twice (rules_of.again (filter_map rules_of.named_body bs)))
     (at_lines refusal.Twice (lines_behind is_setup bs))
     (at_lines refusal.Twice (lines_behind is_run bs))
     (at_lines refusal.NoRun (no_run_line c.line bs))
     (at_lines refusal.Recursive (flat_map (rules_of.recursive_in c) (rules_of.method_names c)))
-    (at_lines refusal.NotYet (flat_map rules_of.not_yet_in bs))
     (at_lines refusal.Twice (rules_of.twice_in c))
     g h i j last
     first
     (second ∙ ap (telling g) scopes ∙ body_told g c (rules_of.class_scope c) bs)
-    (third ∙ deed_told h c ds)
+    (third ∙ deed_told h c ds bs)
     (fourth ∙ member_told i c c.line bs)
     fifth
-    (not_yet_told c)
-    (λ k. twice_lines k (rules_of.variables_again c) (rules_of.methods_again c) (rules_of.behind_first is_setup c) (rules_of.behind_first is_run c) (rules_of.labels_again c) (flat_map rules_of.params_again bs))
+    (λ k. twice_lines k (rules_of.variables_again c) (rules_of.methods_again c) (rules_of.behind_first is_setup c) (rules_of.behind_first is_run c) (rules_of.labels_again c) (flat_map rules_of.named_again bs) (flat_map rules_of.params_again bs))

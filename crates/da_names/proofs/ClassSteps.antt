@@ -124,10 +124,11 @@ pub told_nothing : (kind : ScopeKind) (found : Option Refusal) (t : Bool) (lines
 told_nothing kind found t lines is = sym (ap (λ u. telling found (at_lines kind (if u then lines else []))) is ∙ telling-nil found)
 
 -- rules one after the other
+pub three_steps : (f g h : Option Refusal) (a b c : List Refusal) → g ≡ telling f a → h ≡ telling g b → telling h c ≡ telling f (a ++ b ++ c)
+three_steps f g h a b c first second = ap (λ x. telling x c) (second ∙ ap (λ x. telling x b) first ∙ sym (telling-append f a b)) ∙ sym (telling-append f (a ++ b) c)
+
 pub four_steps : (f g h i : Option Refusal) (a b c d : List Refusal) → g ≡ telling f a → h ≡ telling g b → i ≡ telling h c → telling i d ≡ telling f (a ++ b ++ c ++ d)
-four_steps f g h i a b c d first second third =
-    ap (λ x. telling x d) (third ∙ ap (λ x. telling x c) (second ∙ ap (λ x. telling x b) first ∙ sym (telling-append f a b)) ∙ sym (telling-append f (a ++ b) c))
-    ∙ sym (telling-append f (a ++ b ++ c) d)
+four_steps f g h i a b c d first second third = ap (λ x. telling x d) (third ∙ three_steps f g h a b c first second) ∙ sym (telling-append f (a ++ b ++ c) d)
 
 pub five_steps : (f g h i j : Option Refusal) (a b c d e : List Refusal) → g ≡ telling f a → h ≡ telling g b → i ≡ telling h c → j ≡ telling i d → telling j e ≡ telling f (a ++ b ++ c ++ d ++ e)
 five_steps f g h i j a b c d e first second third fourth =

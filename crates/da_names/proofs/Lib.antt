@@ -3,6 +3,7 @@ pub mod ClassSteps
 pub mod DeedLaws
 pub mod DeedRules
 pub mod EarlyAt
+pub mod LabelLaws
 pub mod MainLaws
 pub mod MainMaps
 pub mod RecursiveLaws

@@ -1,12 +1,12 @@
 //! The refusals by names of a class.
 ghost use Rattle.da_lang.specs.ClassParts.{bodies, is_handler as is_handler_of, is_run as is_run_of, is_setup as is_setup_of, variables as variables_in};
-ghost use Rattle.da_lang.specs.declared.refusal.ScopeKind.TheVariants.{NotYet, Setup, Twice, Yield};
+ghost use Rattle.da_lang.specs.declared.refusal.ScopeKind.TheVariants.{Setup, Twice, Yield};
 ghost use Rattle.da_lang.specs.ExprNames.{ClassVariable};
-ghost use Rattle.da_lang.specs.NameRules.{class_refusals, has_labels as has_labels_of, params_again, setup_in, variables_again, yield_in};
+ghost use Rattle.da_lang.specs.NameRules.{class_refusals, params_again, setup_in, variables_again, yield_in};
 ghost use Rattle.da_lang.specs.Scopes.{at_lines};
 ghost use Rattle.da_bodies.specs.BodyView.{body_view, place_view};
 ghost use Rattle.da_calls.specs.CallGraph.{IsCallGraph, class_in};
-ghost use Rattle.da_names.specs.ClassRules.{bodies_in, body_refusals, deed_refusals, deeds_by, has_some, is_once, label_lines, lines_behind, member_refusals};
+ghost use Rattle.da_names.specs.ClassRules.{bodies_in, body_refusals, deed_refusals, deeds_by, has_some, is_once, lines_behind, member_refusals};
 ghost use Rattle.da_names.specs.DeedView.{deeds_in};
 ghost use Rattle.da_bodies.specs.Telling.{telling};
 ghost use Rattle.da_bodies.specs.Told.{entered_each};
@@ -14,9 +14,10 @@ ghost use Rattle.std.specs.List.{flat_map};
 ghost use Rattle.std.specs.Prelude.{◌≡◌, IfOk, OnOk, map};
 
 use crate::call_rules::{tell_misfits, tell_recursive, tell_unknown, tell_yields};
-use crate::declared::{labels_of, methods_of, params_of, variables_of};
-use crate::deed_rules::{tell_early, tell_timeouts};
+use crate::declared::{methods_of, params_of, variables_of};
+use crate::deed_rules::tell_early;
 use crate::deeds::{Deed, deeds_of_body, put_body};
+use crate::labels::{tell_labels, tell_named};
 use da_bodies::{Body, Least, Names, Place, Role, body_of, check_body, enter_all, tell_again};
 use da_calls::CallGraph;
 use da_lang::{ClassTree, ScopeKind};
@@ -112,34 +113,11 @@ fn check_one<'t>(
     ensures told { OnOk result (least.new ≡ telling least.old (body_refusals (class_in graph.now) names.old (body_view body.entry))) }
     ensures same { OnOk result (names.new ≡ names.old) }
 {
-    tell_labels(body, least);
     check_body(alloc, body, names, least)?;
+    tell_named(alloc, body, least)?;
     tell_params(alloc, body, least)?;
     tell_yields_in(alloc, body, graph, least)?;
     tell_early_in(alloc, body, least)
-}
-
-/// Tells the line of a handler with labels behind its patterns.
-fn tell_labels(body: Body<'_>, least: &mut Least<ScopeKind>)
-    ensures { least.new ≡ telling least.old (at_lines NotYet (label_lines (body_view body.entry))) }
-{
-    if has_labels(body) {
-        least.tell(ScopeKind::NotYet, body.line);
-    }
-}
-
-/// Whether there are labels behind the patterns of a handler.
-fn has_labels(body: Body<'_>) -> bool
-    ensures { result ≡ has_labels_of (body_view body.entry) }
-{
-    match body.place {
-        Place::Setup | Place::Run | Place::Method(_) => false,
-        Place::Handler {
-            message: _,
-            from: _,
-            at,
-        } => at.len() != 0,
-    }
 }
 
 /// Tells the parameters of a body that are declared again.
@@ -228,7 +206,7 @@ fn is_handler(place: Place<'_>) -> bool
     }
 }
 
-/// Tells the refusals of the statements of all bodies that a scope does not matter for.
+/// Tells the refusals of the statements of all bodies that a scope does not matter for, and those of labels.
 fn check_deeds(
     alloc: Global,
     bodies: &[Body<'_>],
@@ -236,15 +214,13 @@ fn check_deeds(
     least: &mut Least<ScopeKind>,
 ) -> Result<(), NoMemory>
     requires { IsCallGraph graph.now }
-    ensures { OnOk result (least.new ≡ telling least.old (deed_refusals (class_in graph.now) (deeds_by (bodies_in bodies.now)))) }
+    ensures { OnOk result (least.new ≡ telling least.old (deed_refusals (class_in graph.now) (deeds_by (bodies_in bodies.now)) (bodies_in bodies.now))) }
 {
     let list = deeds_of_bodies(alloc, bodies)?;
     let deeds = list.as_slice();
-    tell_timeouts(deeds, least);
     tell_unknown(deeds, graph, least);
     tell_misfits(deeds, graph, least);
-    let labels = labels_of(alloc, deeds)?;
-    tell_again(alloc, labels.as_slice(), ScopeKind::Twice, least)
+    tell_labels(alloc, bodies, deeds, least)
 }
 
 /// The statements of all bodies.

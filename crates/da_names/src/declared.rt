@@ -1,12 +1,10 @@
-//! What a class declares: variables, methods, parameters and labels.
-ghost use Rattle.da_lang.specs.NameRules.{labelled, named_body};
+//! What a class declares: variables, methods and parameters.
+ghost use Rattle.da_lang.specs.NameRules.{named_body};
 ghost use Rattle.da_bodies.specs.BodyView.{body_view};
-ghost use Rattle.da_names.specs.ClassRules.{bodies_in, label_names, param_names, variable_name, variable_names};
-ghost use Rattle.da_names.specs.DeedView.{deeds_in, doing_of};
+ghost use Rattle.da_names.specs.ClassRules.{bodies_in, param_names, variable_name, variable_names};
 ghost use Rattle.da_bodies.specs.Repeats.{declared_in, declared_of};
 ghost use Rattle.std.specs.Prelude.{◌≡◌, IfOk, filter_map, option_map};
 
-use crate::deeds::{Deed, Doing};
 use da_bodies::{Body, Declared, Place};
 use da_lang::{ClassTree, Member, Param};
 use da_values::{List, NoMemory};
@@ -89,36 +87,4 @@ pub fn params_of<'t>(
         })?;
     }
     Ok(list)
-}
-
-/// The labels among statements.
-pub fn labels_of<'t>(alloc: Global, deeds: &[Deed<'t>]) -> Result<List<Declared<'t>>, NoMemory>
-    ensures { IfOk result (λ list. declared_in list ≡ label_names (deeds_in deeds.now)) }
-{
-    let mut list = List::new(alloc);
-    for deed in deeds {
-        if let Some(label) = label_in(*deed) {
-            list.push(label)?;
-        }
-    }
-    Ok(list)
-}
-
-/// The label that a statement is, if it is one.
-fn label_in(deed: Deed<'_>) -> Option<Declared<'_>>
-    ensures { option_map declared_of result ≡ labelled deed.entry.line (doing_of deed.entry.does) }
-{
-    match deed.does {
-        Doing::Labels(name) => Some(Declared {
-            name,
-            line: deed.line,
-        }),
-        Doing::Sends
-        | Doing::Outputs
-        | Doing::Calls(_)
-        | Doing::Loops
-        | Doing::Awaits
-        | Doing::TimesOut
-        | Doing::Other => None,
-    }
 }

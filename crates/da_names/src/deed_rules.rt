@@ -1,6 +1,6 @@
 //! Rules on what the statements of a body do.
-ghost use Rattle.da_lang.specs.declared.refusal.ScopeKind.TheVariants.{NotYet, Setup};
-ghost use Rattle.da_lang.specs.NameRules.{acts as acts_of, lines_where, times_out};
+ghost use Rattle.da_lang.specs.declared.refusal.ScopeKind.TheVariants.{Setup};
+ghost use Rattle.da_lang.specs.NameRules.{acts as acts_of, lines_where};
 ghost use Rattle.da_lang.specs.Scopes.{at_lines};
 ghost use Rattle.da_lang.specs.Written.{asks};
 ghost use Rattle.da_names.specs.DeedView.{deeds_in, doing_of, said_of};
@@ -14,17 +14,6 @@ use crate::early::{asks_early, some_asks_early};
 use da_bodies::Least;
 use da_lang::ScopeKind;
 
-/// Tells the lines of `timeout`.
-pub fn tell_timeouts(deeds: &[Deed<'_>], least: &mut Least<ScopeKind>)
-    ensures { least.new ≡ telling least.old (at_lines NotYet (lines_where (λ d. times_out d.does) (deeds_in deeds.now))) }
-{
-    for deed in deeds {
-        if is_timeout(deed.does) {
-            least.tell(ScopeKind::NotYet, deed.line);
-        }
-    }
-}
-
 /// Tells the lines of `setup` that send, print, loop, call or ask.
 pub fn tell_early(deeds: &[Deed<'_>], least: &mut Least<ScopeKind>)
     ensures { least.new ≡ telling least.old (at_lines Setup (lines_where (λ d. acts_of d.does || list_any asks d.says) (deeds_in deeds.now))) }
@@ -33,22 +22,6 @@ pub fn tell_early(deeds: &[Deed<'_>], least: &mut Least<ScopeKind>)
         if is_early(*deed) {
             least.tell(ScopeKind::Setup, deed.line);
         }
-    }
-}
-
-/// Whether this is `timeout`.
-fn is_timeout(does: Doing<'_>) -> bool
-    ensures { result ≡ times_out (doing_of does.entry) }
-{
-    match does {
-        Doing::TimesOut => true,
-        Doing::Sends
-        | Doing::Outputs
-        | Doing::Labels(_)
-        | Doing::Calls(_)
-        | Doing::Loops
-        | Doing::Awaits
-        | Doing::Other => false,
     }
 }
 

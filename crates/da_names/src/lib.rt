@@ -8,6 +8,7 @@ mod declared;
 mod deed_rules;
 mod deeds;
 mod early;
+mod labels;
 mod main_lines;
 mod top_names;
 mod tree;

@@ -13,11 +13,11 @@ use Rattle.da_lang.specs.ClassParts.{method_of, params_if, stmts_if}
 use Rattle.da_lang.specs.ExprMeaning.{Meaning, Tables}
 use Rattle.da_lang.specs.Scopes.{Scope}
 
-copies-none : (c : ClassTree) (name : List ℕ) (args : List RExpr) (tables : Tables) → ◌≡◌ {A = ItemKind × Tables} (copies 0 c name args tables) (it.Pass, tables)
+copies-none : (c : ClassTree) (name : List ℕ) (args : List RExpr) (tables : Tables) → ◌≡◌ {A = ItemKind × Tables} ((copies 0 c).call name args tables) (it.Pass, tables)
 unfolding copies
 copies-none c name args tables = refl
 
-copies-some : (fewer : ℕ) (c : ClassTree) (name : List ℕ) (args : List RExpr) (tables : Tables) → copies (suc fewer) c name args tables ≡ copy_of (copies fewer c) c (method_of c name) args tables
+copies-some : (fewer : ℕ) (c : ClassTree) (name : List ℕ) (args : List RExpr) (tables : Tables) → (copies (suc fewer) c).call name args tables ≡ copy_of (copies fewer c) c (method_of c name) args tables
 unfolding copies
 copies-some fewer c name args tables = refl
 
@@ -29,9 +29,9 @@ copy_by inner args tables params stmts scope =
 
 copy_is : (most fewer : ℕ) (c : ClassTree) (name : List ℕ) (args : List RExpr) (tables : Tables) (params : List Param) (stmts : List Stmt) (outer : Scope Meaning)
     → most ≡ suc fewer → params ≡ params_if (method_of c name) → stmts ≡ stmts_if (method_of c name) → outer ≡ class_slots c
-    → copies most c name args tables ≡ copy_by (copies fewer c) args tables params stmts outer
+    → (copies most c).call name args tables ≡ copy_by (copies fewer c) args tables params stmts outer
 copy_is most fewer c name args tables params stmts outer one params_are stmts_are outside =
-    ap (λ m. copies m c name args tables) one ∙ copies-some fewer c name args tables
+    ap (λ m. (copies m c).call name args tables) one ∙ copies-some fewer c name args tables
     ∙ sym (ap (λ ps. copy_by (copies fewer c) args tables ps stmts outer) params_are ∙ ap (λ ss. copy_by (copies fewer c) args tables (params_if (method_of c name)) ss outer) stmts_are
     ∙ ap (λ s. copy_by (copies fewer c) args tables (params_if (method_of c name)) (stmts_if (method_of c name)) s) outside)
 
@@ -44,7 +44,7 @@ pub copied_kind : (most fewer : ℕ) (c : ClassTree) (name : List ℕ) (args : L
     (slots : List ℕ) (binds : List BindArg) (items : List Item)
     → most ≡ suc fewer → params ≡ params_if (method_of c name) → stmts ≡ stmts_if (method_of c name) → outer ≡ class_slots c
     → slots ≡ fresh tables (length params) → scope ≡ param_slots params tables outer → middle ≡ with_params params tables
-    → items ≡ (body_with (copies fewer c) stmts scope middle).0 → binds ≡ map bind_arg (zip slots args) → it.Call binds items ≡ (copies most c name args tables).0
+    → items ≡ (body_with (copies fewer c) stmts scope middle).0 → binds ≡ map bind_arg (zip slots args) → it.Call binds items ≡ ((copies most c).call name args tables).0
 copied_kind most fewer c name args tables middle params stmts outer scope slots binds items one params_are stmts_are outside slots_are inside tables_are items_are binds_are =
     ap (λ bs. it.Call bs items) (binds_are ∙ ap (λ ns. map bind_arg (zip ns args)) slots_are)
     ∙ ap (λ (is : List Item). it.Call (map bind_arg (zip (fresh tables (length params)) args)) is) (items_are ∙ ap (λ (p : List Item × Tables). p.0) (body_is (copies fewer c) stmts params outer scope tables middle inside tables_are))
@@ -53,10 +53,10 @@ copied_kind most fewer c name args tables middle params stmts outer scope slots 
 pub copied_tables : (most fewer : ℕ) (c : ClassTree) (name : List ℕ) (args : List RExpr) (tables middle after : Tables) (params : List Param) (stmts : List Stmt) (outer scope : Scope Meaning)
     → most ≡ suc fewer → params ≡ params_if (method_of c name) → stmts ≡ stmts_if (method_of c name) → outer ≡ class_slots c
     → scope ≡ param_slots params tables outer → middle ≡ with_params params tables
-    → after ≡ (body_with (copies fewer c) stmts scope middle).1 → after ≡ (copies most c name args tables).1
+    → after ≡ (body_with (copies fewer c) stmts scope middle).1 → after ≡ ((copies most c).call name args tables).1
 copied_tables most fewer c name args tables middle after params stmts outer scope one params_are stmts_are outside inside tables_are after_is =
     after_is ∙ ap (λ (p : List Item × Tables). p.1) (body_is (copies fewer c) stmts params outer scope tables middle inside tables_are)
     ∙ sym (ap (λ (p : ItemKind × Tables). p.1) (copy_is most fewer c name args tables params stmts outer one params_are stmts_are outside))
 
-pub no_copy : (most : ℕ) (c : ClassTree) (name : List ℕ) (args : List RExpr) (tables : Tables) → most < 1 → ◌≡◌ {A = ItemKind × Tables} (copies most c name args tables) (it.Pass, tables)
-no_copy most c name args tables none = let zeroth : most ≡ 0 = omega (arith, none) in ap (λ m. copies m c name args tables) zeroth ∙ copies-none c name args tables
+pub no_copy : (most : ℕ) (c : ClassTree) (name : List ℕ) (args : List RExpr) (tables : Tables) → most < 1 → ◌≡◌ {A = ItemKind × Tables} ((copies most c).call name args tables) (it.Pass, tables)
+no_copy most c name args tables none = let zeroth : most ≡ 0 = omega (arith, none) in ap (λ m. (copies m c).call name args tables) zeroth ∙ copies-none c name args tables

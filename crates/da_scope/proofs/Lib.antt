@@ -3,6 +3,8 @@ pub mod BodiesAt
 pub mod ClassAt
 pub mod CopiesAt
 pub mod FoundAt
+pub mod LabelLaws
+pub mod LabelsAt
 pub mod MakingAt
 pub mod MethodLaws
 pub mod SlotLaws

@@ -17,6 +17,6 @@ pub record Copies (c : ClassTree) (most : ℕ)
     (post : Global → Bor Home → ℕ → Bor (List ℕ) → List RExpr → MutBor Tables → Result ItemKind NoMemory → MutBor Tables → Type 0) : Type 0 where
   pub callable : (alloc : Global) (home : Bor Home) (name : Bor (List ℕ)) (args : List RExpr) (old : MutBor Tables) → pre alloc home most name args old
   pub kind : (alloc : Global) (home : Bor Home) (name : Bor (List ℕ)) (args : List RExpr) (old new : MutBor Tables) (r : Result ItemKind NoMemory)
-      → home.now.class.now ≡ c → post alloc home most name args old r new → IfOk r (λ kind. kind ≡ (copies most c name.now args old.now).0)
+      → home.now.class.now ≡ c → post alloc home most name args old r new → IfOk r (λ kind. kind ≡ ((copies most c).call name.now args old.now).0)
   pub tables : (alloc : Global) (home : Bor Home) (name : Bor (List ℕ)) (args : List RExpr) (old new : MutBor Tables) (r : Result ItemKind NoMemory)
-      → home.now.class.now ≡ c → post alloc home most name args old r new → OnOk r (new.now ≡ (copies most c name.now args old.now).1)
+      → home.now.class.now ≡ c → post alloc home most name args old r new → OnOk r (new.now ≡ ((copies most c).call name.now args old.now).1)

@@ -1,10 +1,12 @@
 //! Conditions that wait, and the variables that they bring.
-ghost use Rattle.da_lang.specs.BodyMeaning.{await_one, found_number, fresh, named_slots, slot_of, untyped};
+ghost use Rattle.da_lang.specs.declared.program.ItemKind.TheVariants as it;
+ghost use Rattle.da_lang.specs.BodyMeaning.{await_one, found_number, fresh, item_at, named_slots, slot_of, untyped};
 ghost use Rattle.da_lang.specs.ExprMeaning.{meant};
 ghost use Rattle.da_lang.specs.ExprNames.{found_names};
 ghost use Rattle.da_lang.specs.Scopes.{look};
 ghost use Rattle.std.specs.Prelude.{◌≡◌, IfOk, OnOk, length};
 
+use crate::simple::item;
 use crate::slots::declare_names;
 use crate::variables::{finds, found_names};
 use da_lang::{Alt, Cond, Expr, Item, ItemKind};
@@ -63,17 +65,33 @@ pub fn awaited<'t>(
     boxed_condition(alloc, x, scope)
 }
 
+/// An `await` with these alternatives, and a block for the case that the time runs out, where it has one. The label is that
+/// of a label directly before it.
+pub fn waiting(alts: List<Alt>, timeout: Option<List<Item>>, label: Option<u32>, line: u32) -> Item
+    ensures { result ≡ item_at line (it.Await alts timeout label) }
+{
+    item(
+        line,
+        ItemKind::Await {
+            alts,
+            timeout,
+            label,
+        },
+    )
+}
+
 /// An `await` without a block: its variables stay in scope.
 pub fn await_one<'t>(
     alloc: Global,
     x: &'t Expr,
+    label: Option<u32>,
     line: u32,
     scope: &mut Scope<'t>,
     tables: &mut Tables,
 ) -> Result<Item, NoMemory>
-    ensures item { IfOk result (λ item. item ≡ (await_one line x.now scope.old tables.old).item) }
-    ensures scope { OnOk result (scope.new ≡ (await_one line x.now scope.old tables.old).scope) }
-    ensures tables { OnOk result (tables.new ≡ (await_one line x.now scope.old tables.old).tables) }
+    ensures item { IfOk result (λ item. item ≡ (await_one line x.now label scope.old tables.old).item) }
+    ensures scope { OnOk result (scope.new ≡ (await_one line x.now label scope.old tables.old).scope) }
+    ensures tables { OnOk result (tables.new ≡ (await_one line x.now label scope.old tables.old).tables) }
 {
     let found = found_number(x, tables)?;
     let cond = awaited(alloc, x, scope, tables)?;
@@ -86,8 +104,5 @@ pub fn await_one<'t>(
         body: List::new(alloc),
         line,
     })?;
-    Ok(Item {
-        line,
-        kind: ItemKind::Await(alts),
-    })
+    Ok(waiting(alts, None, label, line))
 }

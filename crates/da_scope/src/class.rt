@@ -7,6 +7,7 @@ use crate::bodies::{Wanted, first_body};
 use crate::copying::body;
 use crate::handler::add_handlers;
 use crate::home::Home;
+use crate::labels::numbers_of;
 use crate::methods::places_of;
 use crate::slots::{declare_params, declare_variables};
 use da_lang::{Class, ClassTree, Item};
@@ -65,7 +66,7 @@ fn build_run(alloc: Global, home: &Home<'_>, tables: &mut Tables) -> Result<List
     body(alloc, home, entry.stmts, &home.scope, tables)
 }
 
-// The class with its variables, which get the first slots, and the places of its methods.
+// The class with its variables, which get the first slots, the places of its methods, and the numbers of its labels.
 fn home_of<'t>(
     alloc: Global,
     class: &'t ClassTree,
@@ -78,9 +79,11 @@ fn home_of<'t>(
     let mut scope = Scope::new(alloc);
     declare_variables(alloc, class.members.as_slice(), &mut scope, tables)?;
     let places = places_of(alloc, class.members.as_slice())?;
+    let labels = numbers_of(alloc, class)?;
     Ok(Home {
         class,
         scope,
         places,
+        labels,
     })
 }

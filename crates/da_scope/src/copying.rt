@@ -40,8 +40,8 @@ pub fn copy_body(
     args: List<RExpr>,
     tables: &mut Tables,
 ) -> Result<ItemKind, NoMemory>
-    ensures kind { IfOk result (λ kind. kind ≡ (copies most home.now.class.now name.now args tables.old).0) }
-    ensures tables { OnOk result (tables.new ≡ (copies most home.now.class.now name.now args tables.old).1) }
+    ensures kind { IfOk result (λ kind. kind ≡ ((copies most home.now.class.now).call name.now args tables.old).0) }
+    ensures tables { OnOk result (tables.new ≡ ((copies most home.now.class.now).call name.now args tables.old).1) }
 {
     let Some(fewer) = most.checked_sub(1) else {
         return Ok(ItemKind::Pass);

@@ -2,16 +2,17 @@
 ghost use Rattle.da_lang.specs.BodyMeaning.{body_of, fresh, named_slots, untyped};
 ghost use Rattle.da_lang.specs.ClassParts.{InHandler};
 ghost use Rattle.da_lang.specs.ExprMeaning.{matching, with_row};
+ghost use Rattle.da_lang.specs.LabelNames.{label_number};
 ghost use Rattle.da_lang.specs.Resolution.{from_matching, handler, handlers};
 ghost use Rattle.da_scope.specs.ClassView.{handlers_in};
 ghost use Rattle.da_scope.specs.NamesView.{texts};
-ghost use Rattle.std.specs.Prelude.{◌≡◌, [], ◌∷◌, ◌++◌, IfOk, OnOk, length};
+ghost use Rattle.std.specs.Prelude.{◌≡◌, [], ◌∷◌, ◌++◌, IfOk, OnOk, length, map};
 
 use crate::copying::body;
 use crate::home::Home;
 use crate::slots::declare_names;
 use crate::variables::add_variables;
-use da_lang::{Handler, Item, Member, Pattern, PatternTree, Stmt};
+use da_lang::{Handler, Item, Member, Name, Pattern, PatternTree, Stmt};
 use da_meaning::{Scope, Tables, pattern};
 use da_values::{List, NoMemory};
 use std::alloc::Global;
@@ -47,10 +48,19 @@ fn add_handler<'t>(
         Member::Receive {
             message,
             from,
+            at,
             body,
             line,
-            ..
-        } => found.push(handler(alloc, home, message, from, body.as_slice(), *line, tables)?),
+        } => found.push(handler(
+            alloc,
+            home,
+            message,
+            from,
+            at.as_slice(),
+            body.as_slice(),
+            *line,
+            tables,
+        )?),
         Member::Var { .. } | Member::Setup { .. } | Member::Run { .. } | Member::Method { .. } => {
             Ok(())
         }
@@ -63,23 +73,37 @@ fn handler<'t>(
     home: &Home<'t>,
     message: &'t PatternTree,
     from: &'t Option<PatternTree>,
+    at: &[Name],
     stmts: &'t [Stmt],
     line: u32,
     tables: &mut Tables,
 ) -> Result<Handler, NoMemory>
-    ensures handler { IfOk result (λ found. found ≡ (handler home.now.class.now (record { place = InHandler message.now from.now []; params = []; stmts = stmts.now; line = line }) tables.old).0) }
-    ensures tables { OnOk result (tables.new ≡ (handler home.now.class.now (record { place = InHandler message.now from.now []; params = []; stmts = stmts.now; line = line }) tables.old).1) }
+    ensures handler { IfOk result (λ found. found ≡ (handler home.now.class.now (record { place = InHandler message.now from.now at.now; params = []; stmts = stmts.now; line = line }) tables.old).0) }
+    ensures tables { OnOk result (tables.new ≡ (handler home.now.class.now (record { place = InHandler message.now from.now at.now; params = []; stmts = stmts.now; line = line }) tables.old).1) }
 {
+    let at = labels_named(alloc, home, at)?;
     let names = variables_of(alloc, message, from)?;
     let (message, from) = patterns_of(alloc, &home.scope, message, from)?;
     let (binds, body) = body_behind(alloc, home, names.as_slice(), stmts, tables)?;
     Ok(Handler {
         message,
         from,
+        at,
         binds,
         body,
         line,
     })
+}
+
+// The numbers of labels.
+fn labels_named(alloc: Global, home: &Home<'_>, names: &[Name]) -> Result<List<u32>, NoMemory>
+    ensures { IfOk result (λ numbers. numbers ≡ map (label_number home.now.class.now) names.now) }
+{
+    let mut numbers = List::new(alloc);
+    for name in names {
+        numbers.push(home.label(name.as_slice()))?;
+    }
+    Ok(numbers)
 }
 
 // The patterns of a message and of its sender, the second with the variables of the first in scope.

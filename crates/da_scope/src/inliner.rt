@@ -1,10 +1,12 @@
 //! Statements, with the bodies of methods in the place of calls.
 ghost use Rattle.da_lang.specs.declared.program.ItemKind.TheVariants as it;
-ghost use Rattle.da_lang.specs.BodyMeaning.{Guarded, awaits, body_with, calling, copies, each, for_each, guarding, item_at, loop, states, stating};
+ghost use Rattle.da_lang.specs.BodyMeaning.{Guarded, body_with, calling, copies, each, for_each, guarding, item_at, loop, stating};
+ghost use Rattle.da_lang.specs.ExprMeaning.{Meaning, Tables as TablesOf};
+ghost use Rattle.da_lang.specs.Scopes.{Scope as ScopeOf};
 ghost use Rattle.da_scope.specs.Inlining.{Copies};
-ghost use Rattle.std.specs.Prelude.{◌≡◌, IfOk, OnOk, map};
+ghost use Rattle.std.specs.Prelude.{◌≡◌, ℕ, Option, Some, IfOk, OnOk, map};
 
-use crate::awaiting::await_one;
+use crate::awaiting::{await_one, waiting};
 use crate::heads::{alt_head, branch_head, for_head};
 use crate::home::Home;
 use crate::simple::{add, assign, delete, item, output, send};
@@ -42,25 +44,28 @@ impl<
     {
         let mut inner = scope.copy(self.alloc)?;
         let mut items = List::new(self.alloc);
+        let mut label = None;
         for stmt in stmts {
-            items.push(self.statement(stmt, &mut inner, tables)?)?;
+            items.push(self.statement(stmt, label, &mut inner, tables)?)?;
+            label = self.label_of(stmt);
         }
         Ok(items)
     }
 
-    // A statement. Names that it brings come into scope.
+    // A statement behind a label, where one stands directly before it. Names that it brings come into scope.
     #[cycle(statements)]
     #[tactic(auto, using(crate::proofs::StatementsAt::statements_at))]
     fn statement(
         &self,
         stmt: &'t Stmt,
+        label: Option<u32>,
         scope: &mut Scope<'t>,
         tables: &mut Tables,
     ) -> Result<Item, NoMemory>
         requires { Copies self.now.home.now.class.now self.now.most (F.pre self.now.copy) (F.post self.now.copy) }
-        ensures item { IfOk result (λ item. item ≡ (stating (copies self.now.most self.now.home.now.class.now) stmt.now scope.old tables.old).item) }
-        ensures scope { OnOk result (scope.new ≡ (stating (copies self.now.most self.now.home.now.class.now) stmt.now scope.old tables.old).scope) }
-        ensures tables { OnOk result (tables.new ≡ (stating (copies self.now.most self.now.home.now.class.now) stmt.now scope.old tables.old).tables) }
+        ensures item { IfOk result (λ item. item ≡ (stating (copies self.now.most self.now.home.now.class.now) stmt.now label scope.old tables.old).item) }
+        ensures scope { OnOk result (scope.new ≡ (stating (copies self.now.most self.now.home.now.class.now) stmt.now label scope.old tables.old).scope) }
+        ensures tables { OnOk result (tables.new ≡ (stating (copies self.now.most self.now.home.now.class.now) stmt.now label scope.old tables.old).tables) }
     {
         match stmt {
             Stmt::Assign { name, value, line } => {
@@ -75,7 +80,9 @@ impl<
             }
             Stmt::Output { value, line } => output(self.alloc, value, *line, scope, tables),
             Stmt::Pass { line } => Ok(item(*line, ItemKind::Pass)),
-            Stmt::Label { line, .. } => Ok(item(*line, ItemKind::Label)),
+            Stmt::Label { name, line } => {
+                Ok(item(*line, ItemKind::Label(self.home.label(name.as_slice()))))
+            }
             Stmt::Call { name, args, line } => { self.call(name, args, *line, scope, tables) }
             Stmt::If {
                 branches,
@@ -98,10 +105,20 @@ impl<
                 line,
             } => self.over_each(body.as_slice(), name, over, *line, scope, tables),
             Stmt::AwaitOne { cond, line } => {
-                await_one(self.alloc, cond.get(), *line, scope, tables)
+                await_one(self.alloc, cond.get(), label, *line, scope, tables)
             }
-            Stmt::Await { alts, line, .. } => {
-                self.awaited(alts.as_slice(), *line, scope, tables)
+            Stmt::Await {
+                alts,
+                timeout,
+                line,
+            } => {
+                let alts = self.alternatives(alts.as_slice(), scope, tables)?;
+                match timeout {
+                    None => Ok(waiting(alts, None, label, *line)),
+                    Some(late) => {
+                        self.timed(late.body.as_slice(), alts, label, *line, scope, tables)
+                    }
+                }
             }
         }
     }
@@ -135,8 +152,8 @@ impl<
         tables: &mut Tables,
     ) -> Result<Item, NoMemory>
         requires { Copies self.now.home.now.class.now self.now.most (F.pre self.now.copy) (F.post self.now.copy) }
-        ensures item { IfOk result (λ item. item ≡ (states line (loop cond.now (map (stating (copies self.now.most self.now.home.now.class.now)) body.now)) scope.now tables.old).item) }
-        ensures tables { OnOk result (tables.new ≡ (states line (loop cond.now (map (stating (copies self.now.most self.now.home.now.class.now)) body.now)) scope.now tables.old).tables) }
+        ensures item { IfOk result (λ item. item ≡ item_at line (loop cond.now (map (stating (copies self.now.most self.now.home.now.class.now)) body.now) scope.now tables.old).0) }
+        ensures tables { OnOk result (tables.new ≡ (loop cond.now (map (stating (copies self.now.most self.now.home.now.class.now)) body.now) scope.now tables.old).1) }
     {
         let cond = boxed_outside(self.alloc, cond.get(), scope, tables)?;
         let body = self.block(body, scope, tables)?;
@@ -155,29 +172,31 @@ impl<
         tables: &mut Tables,
     ) -> Result<Item, NoMemory>
         requires { Copies self.now.home.now.class.now self.now.most (F.pre self.now.copy) (F.post self.now.copy) }
-        ensures item { IfOk result (λ item. item ≡ (states line (for_each name.now over.now (map (stating (copies self.now.most self.now.home.now.class.now)) body.now)) scope.now tables.old).item) }
-        ensures tables { OnOk result (tables.new ≡ (states line (for_each name.now over.now (map (stating (copies self.now.most self.now.home.now.class.now)) body.now)) scope.now tables.old).tables) }
+        ensures item { IfOk result (λ item. item ≡ item_at line (for_each name.now over.now (map (stating (copies self.now.most self.now.home.now.class.now)) body.now) scope.now tables.old).0) }
+        ensures tables { OnOk result (tables.new ≡ (for_each name.now over.now (map (stating (copies self.now.most self.now.home.now.class.now)) body.now) scope.now tables.old).1) }
     {
         let head = for_head(self.alloc, name, over, scope, tables)?;
         let body = self.block(body, &head.scope, tables)?;
         Ok(head.with_block(body, line))
     }
 
-    // An `await` with blocks.
+    // An `await` with these alternatives and a block for a timeout.
     #[cycle(statements)]
-    fn awaited(
+    fn timed(
         &self,
-        alts: &'t [Branch],
+        stmts: &'t [Stmt],
+        alts: List<Alt>,
+        label: Option<u32>,
         line: u32,
         scope: &Scope<'t>,
         tables: &mut Tables,
     ) -> Result<Item, NoMemory>
         requires { Copies self.now.home.now.class.now self.now.most (F.pre self.now.copy) (F.post self.now.copy) }
-        ensures item { IfOk result (λ item. item ≡ (states line (awaits (map (guarding (copies self.now.most self.now.home.now.class.now)) alts.now)) scope.now tables.old).item) }
-        ensures tables { OnOk result (tables.new ≡ (states line (awaits (map (guarding (copies self.now.most self.now.home.now.class.now)) alts.now)) scope.now tables.old).tables) }
+        ensures item { IfOk result (λ item. item ≡ item_at line (it.Await alts (Some (body_with (copies self.now.most self.now.home.now.class.now) stmts.now scope.now tables.old).0) label)) }
+        ensures tables { OnOk result (tables.new ≡ (body_with (copies self.now.most self.now.home.now.class.now) stmts.now scope.now tables.old).1) }
     {
-        let alts = self.alternatives(alts, scope, tables)?;
-        Ok(item(line, ItemKind::Await(alts)))
+        let stmts = self.block(stmts, scope, tables)?;
+        Ok(waiting(alts, Some(stmts), label, line))
     }
 
     // The branches of an `if`.
@@ -254,6 +273,28 @@ impl<
         Ok(head.with_block(body, alt.line))
     }
 
+    // The number of the label that a statement is.
+    #[tactic(auto, using(crate::proofs::StatementsAt::statements_at))]
+    fn label_of(&self, stmt: &Stmt) -> Option<u32>
+        ensures { (label : Option ℕ) (scope : ScopeOf Meaning) (tables : TablesOf) → result ≡ (stating (copies self.now.most self.now.home.now.class.now) stmt.now label scope tables).label }
+    {
+        match stmt {
+            Stmt::Label { name, .. } => Some(self.home.label(name.as_slice())),
+            Stmt::Assign { .. }
+            | Stmt::Add { .. }
+            | Stmt::Del { .. }
+            | Stmt::Send { .. }
+            | Stmt::Output { .. }
+            | Stmt::Pass { .. }
+            | Stmt::Call { .. }
+            | Stmt::If { .. }
+            | Stmt::While { .. }
+            | Stmt::For { .. }
+            | Stmt::AwaitOne { .. }
+            | Stmt::Await { .. } => None,
+        }
+    }
+
     // A call: a copy of the body of the method, with its arguments.
     fn call(
         &self,
@@ -264,8 +305,8 @@ impl<
         tables: &mut Tables,
     ) -> Result<Item, NoMemory>
         requires { Copies self.now.home.now.class.now self.now.most (F.pre self.now.copy) (F.post self.now.copy) }
-        ensures item { IfOk result (λ item. item ≡ (states line (calling (copies self.now.most self.now.home.now.class.now) name.now args.now) scope.now tables.old).item) }
-        ensures tables { OnOk result (tables.new ≡ (states line (calling (copies self.now.most self.now.home.now.class.now) name.now args.now) scope.now tables.old).tables) }
+        ensures item { IfOk result (λ item. item ≡ item_at line (calling (copies self.now.most self.now.home.now.class.now) name.now args.now scope.now tables.old).0) }
+        ensures tables { OnOk result (tables.new ≡ (calling (copies self.now.most self.now.home.now.class.now) name.now args.now scope.now tables.old).1) }
     {
         let args = all_outside(self.alloc, args.as_slice(), scope, tables)?;
         let kind = (self.copy)(

@@ -10,6 +10,7 @@ mod handler;
 mod heads;
 mod home;
 mod inliner;
+mod labels;
 mod making;
 mod methods;
 mod program;

@@ -1,6 +1,6 @@
 //! Statements that hold no others.
 ghost use Rattle.da_lang.specs.declared.program.ItemKind.TheVariants as it;
-ghost use Rattle.da_lang.specs.BodyMeaning.{changing, item_at, states, with_expr, with_exprs};
+ghost use Rattle.da_lang.specs.BodyMeaning.{changing, item_at, with_expr, with_exprs};
 ghost use Rattle.std.specs.Prelude.{◌≡◌, IfOk, OnOk};
 
 use crate::awaiting::slot_named;
@@ -25,8 +25,8 @@ pub fn assign<'t>(
     scope: &Scope<'t>,
     tables: &mut Tables,
 ) -> Result<Item, NoMemory>
-    ensures item { IfOk result (λ item. item ≡ (states line (changing it.Assign name.now value.now) scope.now tables.old).item) }
-    ensures tables { OnOk result (tables.new ≡ (states line (changing it.Assign name.now value.now) scope.now tables.old).tables) }
+    ensures item { IfOk result (λ item. item ≡ item_at line (changing it.Assign name.now value.now scope.now tables.old).0) }
+    ensures tables { OnOk result (tables.new ≡ (changing it.Assign name.now value.now scope.now tables.old).1) }
 {
     let slot = slot_named(scope, name.as_slice());
     let value = boxed_outside(alloc, value.get(), scope, tables)?;
@@ -42,8 +42,8 @@ pub fn add<'t>(
     scope: &Scope<'t>,
     tables: &mut Tables,
 ) -> Result<Item, NoMemory>
-    ensures item { IfOk result (λ item. item ≡ (states line (changing it.Add name.now value.now) scope.now tables.old).item) }
-    ensures tables { OnOk result (tables.new ≡ (states line (changing it.Add name.now value.now) scope.now tables.old).tables) }
+    ensures item { IfOk result (λ item. item ≡ item_at line (changing it.Add name.now value.now scope.now tables.old).0) }
+    ensures tables { OnOk result (tables.new ≡ (changing it.Add name.now value.now scope.now tables.old).1) }
 {
     let slot = slot_named(scope, name.as_slice());
     let value = boxed_outside(alloc, value.get(), scope, tables)?;
@@ -59,8 +59,8 @@ pub fn delete<'t>(
     scope: &Scope<'t>,
     tables: &mut Tables,
 ) -> Result<Item, NoMemory>
-    ensures item { IfOk result (λ item. item ≡ (states line (changing it.Del name.now value.now) scope.now tables.old).item) }
-    ensures tables { OnOk result (tables.new ≡ (states line (changing it.Del name.now value.now) scope.now tables.old).tables) }
+    ensures item { IfOk result (λ item. item ≡ item_at line (changing it.Del name.now value.now scope.now tables.old).0) }
+    ensures tables { OnOk result (tables.new ≡ (changing it.Del name.now value.now scope.now tables.old).1) }
 {
     let slot = slot_named(scope, name.as_slice());
     let value = boxed_outside(alloc, value.get(), scope, tables)?;
@@ -76,8 +76,8 @@ pub fn send<'t>(
     scope: &Scope<'t>,
     tables: &mut Tables,
 ) -> Result<Item, NoMemory>
-    ensures item { IfOk result (λ item. item ≡ (states line (with_exprs it.Send message.now to.now) scope.now tables.old).item) }
-    ensures tables { OnOk result (tables.new ≡ (states line (with_exprs it.Send message.now to.now) scope.now tables.old).tables) }
+    ensures item { IfOk result (λ item. item ≡ item_at line (with_exprs it.Send message.now to.now scope.now tables.old).0) }
+    ensures tables { OnOk result (tables.new ≡ (with_exprs it.Send message.now to.now scope.now tables.old).1) }
 {
     let message = boxed_outside(alloc, message.get(), scope, tables)?;
     let to = boxed_outside(alloc, to.get(), scope, tables)?;
@@ -92,8 +92,8 @@ pub fn output<'t>(
     scope: &Scope<'t>,
     tables: &mut Tables,
 ) -> Result<Item, NoMemory>
-    ensures item { IfOk result (λ item. item ≡ (states line (with_expr it.Output value.now) scope.now tables.old).item) }
-    ensures tables { OnOk result (tables.new ≡ (states line (with_expr it.Output value.now) scope.now tables.old).tables) }
+    ensures item { IfOk result (λ item. item ≡ item_at line (with_expr it.Output value.now scope.now tables.old).0) }
+    ensures tables { OnOk result (tables.new ≡ (with_expr it.Output value.now scope.now tables.old).1) }
 {
     let value = boxed_outside(alloc, value.get(), scope, tables)?;
     Ok(item(line, ItemKind::Output(value)))

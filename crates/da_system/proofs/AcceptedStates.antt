@@ -1,6 +1,6 @@
 -- The states of an accepted program stay sound, and a move tells of itself.
-use Rattle.std.specs.Prelude.{◌≡◌, refl, ℕ, zero, suc, List, [], ◌∷◌, ◌++◌, Option, Some, None, IfSome}
-use Rattle.std.specs.List.{All, AllByRecursion}
+use Rattle.std.specs.Prelude.{◌≡◌, refl, ℕ, zero, suc, ◌+◌, Bool, true, false, cond, length, List, [], ◌∷◌, ◌++◌, Option, Some, None, IfSome}
+use Rattle.std.specs.List.{All, AllByRecursion, list_any}
 use Rattle.std.proofs.Common.{◌∙◌, ap, sym, subst}
 use Rattle.std.proofs.lemmas.List.Elements.{All-head, All-tail}
 use Rattle.da_lang.specs.declared.event.Action.{Action}
@@ -12,16 +12,20 @@ use Rattle.da_lang.specs.declared.program.Class.{Class}
 use Rattle.da_lang.specs.declared.program.Item.{Item}
 use Rattle.da_lang.specs.declared.program.ItemKind.{ItemKind}
 use Rattle.da_lang.specs.declared.program.ItemKind.TheOpen.{ItemKind-F, Await}
+use Rattle.da_lang.specs.declared.program.ItemKind.TheViews.{out-Alt}
 use Rattle.da_lang.specs.declared.program.Program.{Program}
 use Rattle.da_lang.specs.declared.program.RBranch.{RBranch}
 use Rattle.da_lang.specs.Accepted.{IsAccepted}
-use Rattle.da_lang.specs.Steps.{Go, Take, Deliver, Step, Stepped, class_step, closing, past_await, proc_step, step_in, take_waiting}
-use Rattle.da_lang.specs.Turns.{kind_of}
-use Rattle.da_lang.specs.World.{Task, Do, Loop, Prepare, World, class_of, at_number, Phase, New, Waiting, Ended, Faulted}
+use Rattle.da_lang.specs.Queries.{holds}
+use Rattle.da_lang.specs.Runs.{Ran, run_to_yield}
+use Rattle.da_lang.specs.Steps.{Go, Take, TimeOut, Deliver, Step, Stepped, class_step, closing, moved, past_await, past_timeout, proc_step, step_in, take_waiting, time_out_waiting}
+use Rattle.da_lang.specs.Turns.{do_all, kind_of}
+use Rattle.da_lang.specs.World.{Data, Task, Do, Loop, Prepare, World, class_of, at_number, Phase, New, Waiting, Ended, Faulted}
 use Rattle.da_lang.proofs.MoveLaws.{IsMove, move_tells}
 use Rattle.da_types.specs.KeepsShaped.{MayStep, MayTell}
 use Rattle.da_types.proofs.sound.AcceptedLaws.{is_sound}
 use Rattle.da_types.proofs.sound.AcceptedShaped.{keeps_shaped}
+use Rattle.da_system.specs.Choices.{alternatives, alternatives_at, alternatives_in}
 use Rattle.da_system.specs.SoundState.{IsSoundState, LeadsOn, StaysSound, TellsMove}
 use Rattle.da_system.specs.State.{Whichever}
 use Rattle.da_system.specs.declared.system.System.{System}
@@ -41,6 +45,7 @@ all_send program me (a ∷ others) tells = (sends program me a (All-head (MayTel
 may_step : (program : Program) (step : Step) → MayArrive program step → MayStep program step
 may_step program Go may = tt
 may_step program (Take k) may = tt
+may_step program TimeOut may = tt
 may_step program (Deliver m p t) may = may
 
 pub stays_shaped : (program : Program) → IsAccepted program → StaysShaped program
@@ -62,7 +67,7 @@ sound_start program accepted = start_sound program (stays_shaped program accepte
 -- there is no alternative of number 0
 module _ (program : Program) (class : Class) (w : World) where
   never_at : (rest : List Task) (kind : ItemKind-F ItemKind Alt Item RBranch) → past_await class w.data' rest 0 kind ≡ None
-  never_at rest (Await alts) = refl
+  never_at rest (Await alts timeout label) = refl
   never_at rest _ = refl
 
   never_waiting : (todo : List Task) → take_waiting class w.data' 0 todo ≡ None
@@ -85,6 +90,36 @@ take_tells : (program : Program) (k : ℕ) (w : World) → IsMove w.data'.me k (
 take_tells program zero w = subst (IsMove w.data'.me 0) (sym (never_steps program w (class_of program w.data'.me))) tt
 take_tells program (suc k) w = move_tells program w (suc k)
 
+-- a timeout tells the number behind that of the last alternative
+module _ (class : Class) (d : Data) where
+  none_timed : (b : Bool) (k : ℕ) (ran : Ran) → IsMove d.me k (cond b None (Some (moved d.me k ran)))
+  none_timed true k ran = tt
+  none_timed false k ran = (ran, refl)
+
+  kind_timed : (rest : List Task) (kind : ItemKind-F ItemKind Alt Item RBranch) → IsMove d.me (alternatives_in kind + 1) (past_timeout class d rest kind)
+  kind_timed rest (Await alts (Some body) label) = none_timed (list_any (λ alt. holds d (out-Alt alt).cond []) alts) (length alts + 1) (run_to_yield class 1 d (do_all body rest))
+  kind_timed rest _ = tt
+
+  waiting_timed : (todo : List Task) → IsMove d.me (alternatives Waiting todo + 1) (time_out_waiting class d todo)
+  waiting_timed [] = tt
+  waiting_timed (Do i ∷ rest) = kind_timed rest (kind_of i)
+  waiting_timed (Loop slot left body line ∷ rest) = tt
+  waiting_timed (Prepare call ∷ rest) = tt
+
+module _ (program : Program) (w : World) where
+  phase_timed : (class : Class) (phase : Phase) → IsMove w.data'.me (alternatives phase w.todo + 1) (class_step program class w TimeOut phase)
+  phase_timed class New = tt
+  phase_timed class Waiting = waiting_timed class w.data' w.todo
+  phase_timed class Ended = tt
+  phase_timed class Faulted = tt
+
+  found_timed : (class : Option Class) → IsMove w.data'.me (alternatives w.phase w.todo + 1) (step_in program w TimeOut class)
+  found_timed None = tt
+  found_timed (Some class) = phase_timed class w.phase
+
+  timeout_tells : IsMove w.data'.me (alternatives w.phase w.todo + 1) (proc_step program w TimeOut)
+  timeout_tells = found_timed (class_of program w.data'.me)
+
 module _ (program : Program) (s : SystemState) (sound : IsSoundState program s) where
   abbrev Begins : ℕ → ℕ → Option AfterEvent → Type 0
   Begins p k step = IfSome step (λ (after : AfterEvent). (rest : List Action) × (after.actions ≡ act.Took p k ∷ rest))
@@ -100,20 +135,25 @@ module _ (program : Program) (s : SystemState) (sound : IsSoundState program s) 
   of_tells p k step move None there = tt
   of_tells p k step move (Some world) there = stepped_tells p k world (proc_step program world step) (sound.numbers p world there) (move world)
 
+  timed : (p : ℕ) (world : Option World) → at_number s.worlds p ≡ world → Begins p (alternatives_at world + 1) (step_of program s p world TimeOut)
+  timed p None there = tt
+  timed p (Some world) there = stepped_tells p (alternatives world.phase world.todo + 1) world (proc_step program world TimeOut) (sound.numbers p world there) (timeout_tells program world)
+
   any : (step : Option AfterEvent) → IfSome step (λ (after : AfterEvent). Unit {0})
   any None = tt
   any (Some after) = tt
 
-  tells : (e : Event) → IfSome (sys_step program s e) (λ (after : AfterEvent). TellsMove e after.actions)
+  tells : (e : Event) → IfSome (sys_step program s e) (λ (after : AfterEvent). TellsMove s e after.actions)
   tells (event.Move p) = of_tells p 0 Go (λ w. move_tells program w 0) (at_number s.worlds p) refl
   tells (event.Take p k) = of_tells p k (Take k) (take_tells program k) (at_number s.worlds p) refl
+  tells (event.Timeout p) = timed p (at_number s.worlds p) refl
   tells (event.Deliver p q i) = any (sys_step program s (event.Deliver p q i))
   tells (event.Lose p q i) = any (sys_step program s (event.Lose p q i))
   tells (event.Repeat p q i) = any (sys_step program s (event.Repeat p q i))
   tells (event.Show p) = any (sys_step program s (event.Show p))
   tells (event.Stat p) = any (sys_step program s (event.Stat p))
 
-  leads : (e : Event) (step : Option AfterEvent) → IfSome step (λ (after : AfterEvent). IsSoundState program after.state) → IfSome step (λ (after : AfterEvent). TellsMove e after.actions) → IfSome step (LeadsOn program e)
+  leads : (e : Event) (step : Option AfterEvent) → IfSome step (λ (after : AfterEvent). IsSoundState program after.state) → IfSome step (λ (after : AfterEvent). TellsMove s e after.actions) → IfSome step (LeadsOn program s e)
   leads e None stays says = tt
   leads e (Some after) stays says = record { sound = stays; tells = says }
 

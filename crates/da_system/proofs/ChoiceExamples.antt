@@ -1,20 +1,24 @@
 -- The events that may be picked in some states.
-use Rattle.std.specs.Prelude.{◌≡◌, refl, Bool, true, false, List, [], ◌∷◌, None}
+use Rattle.std.specs.Prelude.{◌≡◌, refl, pos, Bool, true, false, List, [], ◌∷◌, Option, Some, None, codes}
 use Rattle.da_values.specs.declared.value.Value.TheVariants as literal
-use Rattle.da_lang.specs.declared.event.Event.TheVariants.{Deliver, Move, Take}
+use Rattle.da_lang.specs.declared.event.Event.TheVariants.{Deliver, Move, Take, Timeout}
 use Rattle.da_lang.specs.declared.program.Alt.{Alt, roll-Alt}
+use Rattle.da_lang.specs.declared.program.Handler.{Handler}
 use Rattle.da_lang.specs.declared.program.Item.{Item, roll-Item}
 use Rattle.da_lang.specs.declared.program.ItemKind.TheVariants as it
+use Rattle.da_lang.specs.declared.program.Program.{Program}
 use Rattle.da_lang.specs.declared.query.Cond.TheVariants as cond
+use Rattle.da_lang.specs.declared.query.Pattern.TheVariants.{Any, Const, Tuple}
 use Rattle.da_lang.specs.declared.query.Term.TheVariants as term
+use Rattle.da_lang.specs.declared.ty.ChannelKind.{ChannelKind}
 use Rattle.da_lang.specs.declared.ty.ChannelKind.TheVariants.{FifoReliable, UnorderedUnreliable}
-use Rattle.da_lang.specs.World.{Do, World, New, Waiting, Ended}
-use Rattle.da_lang.proofs.Computing.{stepping}
+use Rattle.da_lang.specs.World.{Do, World, Waiting, Ended}
+use Rattle.da_lang.proofs.Computing.{stepping, taking}
 use Rattle.da_system.specs.Channels.{Letter}
 use Rattle.da_system.specs.Choices.{choices}
 use Rattle.da_system.specs.StressRun.{next_number}
-use Rattle.da_system.specs.SystemStep.{SystemState, start}
-use Rattle.da_system.proofs.SystemExamples.{both, first, knows, letter, program, second, system, under_way}
+use Rattle.da_system.specs.SystemStep.{start}
+use Rattle.da_system.proofs.SystemExamples.{both, class, knows, letter, program, second, system}
 
 -- both processes wait at a label, and two messages are under way: moves come first, and then the deliveries
 unordered_choices : choices (program UnorderedUnreliable) (system UnorderedUnreliable both (second Waiting (knows [] 0))) ≡ Move 1 ∷ Move 2 ∷ Deliver 1 2 1 ∷ Deliver 1 2 2 ∷ []
@@ -43,11 +47,31 @@ new_choices = refl
 abbrev way : Bool → Alt
 way b = roll-Alt (record { cond = cond.Truth (term.Const (literal.Bool b)); found = None; binds = []; body = []; line = 4 })
 
-abbrev awaits : World
-awaits = record { data' = knows [] 0; todo = Do (roll-Item (record { line = 4; kind = it.Await (way true ∷ way false ∷ way true ∷ []) })) ∷ []; phase = Waiting }
+abbrev awaits : List Alt → Option (List Item) → World
+awaits alts timeout = record { data' = knows [] 0; todo = Do (roll-Item (record { line = 4; kind = it.Await alts timeout None })) ∷ []; phase = Waiting }
 
-await_choices : choices (program FifoReliable) (system FifoReliable both awaits) ≡ Move 1 ∷ Take 2 1 ∷ Take 2 3 ∷ Deliver 1 2 1 ∷ []
+await_choices : choices (program FifoReliable) (system FifoReliable both (awaits (way true ∷ way false ∷ way true ∷ []) (Some []))) ≡ Move 1 ∷ Take 2 1 ∷ Take 2 3 ∷ Deliver 1 2 1 ∷ []
 await_choices = simp stepping
+
+-- the timeout behind the moves, where no alternative is true and there is a block for it
+timeout_choices : choices (program FifoReliable) (system FifoReliable both (awaits (way false ∷ way false ∷ []) (Some []))) ≡ Move 1 ∷ Timeout 2 ∷ Deliver 1 2 1 ∷ []
+timeout_choices = simp stepping
+
+no_timeout_choices : choices (program FifoReliable) (system FifoReliable both (awaits (way false ∷ way false ∷ []) None)) ≡ Move 1 ∷ Deliver 1 2 1 ∷ []
+no_timeout_choices = simp stepping
+
+-- a message that only a handler of another label may match does not arrive, and another one behind it does
+abbrev shut_out : ChannelKind → Program
+shut_out kind =
+    let seven : Handler = record { message = Tuple (Const (literal.Text (codes "note")) ∷ Const (literal.Int (pos 7)) ∷ []); from = Any; at = 2 ∷ []; binds = []; body = []; line = 5 } in
+    record (program kind) { classes = record class { handlers = seven ∷ [] } ∷ [] }
+
+later_choices : choices (shut_out UnorderedUnreliable) (system UnorderedUnreliable both (second Waiting (knows [] 0))) ≡ Move 1 ∷ Move 2 ∷ Deliver 1 2 2 ∷ []
+later_choices = simp taking
+
+-- in a fifo channel it has to wait
+blocked_choices : choices (shut_out FifoReliable) (system FifoReliable both (second Waiting (knows [] 0))) ≡ Move 1 ∷ Move 2 ∷ []
+blocked_choices = simp taking
 
 -- the first number behind 1
 number_behind_1 : next_number 1 ≡ 25214903928

@@ -1,4 +1,4 @@
--- Which events may be picked: the moves that are allowed, and the deliveries that are allowed of one of the first four messages
+-- Which events may be picked: the moves and timeouts that are allowed, and the deliveries that are allowed of one of the first four messages
 -- of a channel.
 use Rattle.std.proofs.Common.{◌≡◌, refl, sym, ◌∙◌, ap, subst, ℕ, zero, suc, ◌+◌, ◌<◌, ◌≤◌, inl, inr, Bool, true, false, cond, List, [], ◌∷◌, length, map, arith}
 use Rattle.std.specs.Prelude.{◌↔◌, ◌⊎◌, Option, Some, None, IsSome, is_some}
@@ -7,7 +7,7 @@ use Rattle.std.proofs.lemmas.Bool.{false≢true}
 use Rattle.da_values.specs.Sets.{Has}
 use Rattle.da_values.proofs.Members.{Has-append_left, Has-append_right, Has-filter, Has-flat_map, Has-map, of_append, of_filter, of_flat_map, of_map}
 use Rattle.da_lang.specs.declared.event.Event.{Event}
-use Rattle.da_lang.specs.declared.event.Event.TheVariants.{Move, Take, Deliver, Lose, Repeat, Show, Stat}
+use Rattle.da_lang.specs.declared.event.Event.TheVariants.{Move, Take, Timeout, Deliver, Lose, Repeat, Show, Stat}
 use Rattle.da_lang.specs.declared.program.Alt.{Alt}
 use Rattle.da_lang.specs.declared.program.Class.{Class}
 use Rattle.da_lang.specs.declared.program.Item.{Item}
@@ -22,7 +22,7 @@ use Rattle.da_lang.specs.World.{Data, Task, Do, Loop, Prepare, World, Phase, New
 use Rattle.da_system.specs.Channels.{Letter, channel, may_arrive, or_empty, without_letter}
 use Rattle.da_system.specs.Choices.{alternatives, alternatives_at, alternatives_in, candidates, choices, deliveries_from, deliveries_to, is_allowed, moves_of, processes}
 use Rattle.da_system.specs.SoundState.{IsSoundState}
-use Rattle.da_system.specs.SystemStep.{AfterEvent, SystemState, arrive, step_of, stepped, sys_step}
+use Rattle.da_system.specs.SystemStep.{SystemState, arrive, step_of, sys_step}
 use Rattle.da_system.proofs.LetterLemmas.{stepped_some}
 use Rattle.da_system.proofs.PlaceLemmas.{within_numbers}
 use Rattle.da_system.proofs.WorldLemmas.{numbered_none}
@@ -31,6 +31,7 @@ use Rattle.da_system.proofs.WorldLemmas.{numbered_none}
 abbrev pub IsPickable : Event → Type 0
 IsPickable (Move p) = Unit {0}
 IsPickable (Take p k) = Unit {0}
+IsPickable (Timeout p) = Unit {0}
 IsPickable (Deliver p q i) = i ≤ 4
 IsPickable _ = ⊥
 
@@ -57,7 +58,7 @@ step_there program s p None x is = is
 step_there program s p (Some w) x is = refl
 
 taken_kind : (class : Class) (d : Data) (todo : List Task) (k : ℕ) (kind : ItemKind-F ItemKind Alt Item RBranch) → is_some (past_await class d todo k kind) ≡ true → (0 < k) × (k ≤ alternatives_in kind)
-taken_kind class d todo k (Await alts) is = of (at_number alts k) refl is
+taken_kind class d todo k (Await alts timeout label) is = of (at_number alts k) refl is
   where
     of : (alt : Option Alt) → at_number alts k ≡ alt → is_some (take_alternative class d todo k alt) ≡ true → (0 < k) × (k ≤ length alts)
     of None there is = absurd (false≢true is)
@@ -113,7 +114,13 @@ module _ (program : Program) (s : SystemState) (sound : IsSoundState program s) 
       let (some, few) = taken_at program s p k (at_number s.worlds p) is in
       let numbers = range_with_len 1 (alternatives_at (at_number s.worlds p)) in
       Has-append_left (flat_map (moves_of s) (processes s)) (flat_map (deliveries_from s) (processes s)) (Take p k)
-      (Has-flat_map (moves_of s) (processes s) p (Take p k) here (inr (Has-map (Take p) numbers k (has_number (alternatives_at (at_number s.worlds p)) k some few))))
+      (Has-flat_map (moves_of s) (processes s) p (Take p k) here
+      (Has-append_left (Move p ∷ map (Take p) numbers) (Timeout p ∷ []) (Take p k) (inr (Has-map (Take p) numbers k (has_number (alternatives_at (at_number s.worlds p)) k some few)))))
+  among (Timeout p) kind is =
+      let here = has_process p (step_there program s p (at_number s.worlds p) step.TimeOut is) in
+      let takes = Move p ∷ map (Take p) (range_with_len 1 (alternatives_at (at_number s.worlds p))) in
+      Has-append_left (flat_map (moves_of s) (processes s)) (flat_map (deliveries_from s) (processes s)) (Timeout p)
+      (Has-flat_map (moves_of s) (processes s) p (Timeout p) here (Has-append_right takes (Timeout p ∷ []) (Timeout p) (inl refl)))
   among (Deliver p q i) kind is =
       let (letter, receiver) = arrived program s p q i (may_arrive s.kind i) (at_number (channel s.channels p q) i) is in
       let (some, few) = sent_from s.channels p q i letter in
@@ -128,9 +135,19 @@ module _ (program : Program) (s : SystemState) (sound : IsSoundState program s) 
   among (Show p) kind is = absurd kind
   among (Stat p) kind is = absurd kind
 
+  take_kind : (p : ℕ) (e : Event) → Has (Move p ∷ map (Take p) (range_with_len 1 (alternatives_at (at_number s.worlds p)))) e → IsPickable e
+  take_kind p e (inl is) = subst IsPickable (sym is) tt
+  take_kind p e (inr has) = let (k, there, is) = of_map (Take p) (range_with_len 1 (alternatives_at (at_number s.worlds p))) e has in subst IsPickable (sym is) tt
+
+  one_kind : (p : ℕ) (e : Event) → Has (Timeout p ∷ []) e → IsPickable e
+  one_kind p e (inl is) = subst IsPickable (sym is) tt
+  one_kind p e (inr none) = absurd none
+
   move_kind : (p : ℕ) (e : Event) → Has (moves_of s p) e → IsPickable e
-  move_kind p e (inl is) = subst IsPickable (sym is) tt
-  move_kind p e (inr has) = let (k, there, is) = of_map (Take p) (range_with_len 1 (alternatives_at (at_number s.worlds p))) e has in subst IsPickable (sym is) tt
+  move_kind p e has = elim (of_append (Move p ∷ map (Take p) (range_with_len 1 (alternatives_at (at_number s.worlds p)))) (Timeout p ∷ []) e has) [
+    | inl take ↦ take_kind p e take
+    | inr timeout ↦ one_kind p e timeout
+  ]
 
   delivery_kind : (p : ℕ) (e : Event) → Has (deliveries_from s p) e → IsPickable e
   delivery_kind p e has =

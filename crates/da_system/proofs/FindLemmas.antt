@@ -1,8 +1,7 @@
 -- The search for an event of a list that is walked piece by piece.
-use Rattle.std.proofs.Common.{◌≡◌, refl, sym, ◌∙◌, ap, subst, ℕ, zero, suc, ◌+◌, ◌-◌, ◌<◌, ◌≤◌, Bool, true, false, cond, List, [], ◌∷◌, ◌++◌, length, map, arith, length-append}
-use Rattle.std.specs.Prelude.{◌↔◌, Option, Some, None, Result, Ok, Err, is_some, slice_get}
+use Rattle.std.proofs.Common.{◌≡◌, refl, sym, ◌∙◌, ap, subst, ℕ, suc, ◌+◌, ◌-◌, ◌<◌, ◌≤◌, Bool, List, [], ◌∷◌, ◌++◌, map, arith, length-append}
+use Rattle.std.specs.Prelude.{Result, Ok, Err, slice_get}
 use Rattle.std.specs.List.{filter, flat_map, range_with_len}
-use Rattle.std.proofs.lemmas.Bool.{false_from_ne_true}
 use Rattle.std.proofs.lemmas.List.Elements.{filter-append}
 use Rattle.std.proofs.lemmas.Option.{slice_get_within}
 use Rattle.da_lang.specs.declared.event.Event.{Event}
@@ -79,55 +78,3 @@ pieces_start allowed pieces count many j same =
 pub single_pieces : (f : ℕ → Event) (ns : List ℕ) → flat_map (λ n. f n ∷ []) ns ≡ map f ns
 single_pieces f [] = refl
 single_pieces f (n ∷ ns) = ap (λ es. f n ∷ es) (single_pieces f ns)
-
--- THE FIRST SO MANY OF SOME NUMBERS
-
-module _ (allowed : Event → Bool) (f : ℕ → Event) where
-  -- of m numbers from a on the first k are allowed, and no others
-  abbrev pub AllowsFirst : ℕ → ℕ → ℕ → Type 0
-  AllowsFirst a m k = (i : ℕ) → a ≤ i → i < a + m → (allowed (f i) ≡ true) ↔ (i < a + k)
-
-  allows_next : (a m k : ℕ) → AllowsFirst a (suc m) (suc k) → AllowsFirst (a + 1) m k
-  allows_next a m k allows i from to =
-      let both = allows i (omega (arith, from)) (omega (arith, to)) in
-      (λ is. omega (arith, both.0 is), λ inside. both.1 (omega (arith, inside)))
-
-  allows_none : (a m : ℕ) → AllowsFirst a (suc m) 0 → AllowsFirst (a + 1) m 0
-  allows_none a m allows i from to =
-      let both = allows i (omega (arith, from)) (omega (arith, to)) in
-      (λ is. absurd (omega (arith, both.0 is, from)), λ inside. absurd (omega (arith, inside, from)))
-
-  pub filter_first : (a m k : ℕ) → k ≤ m → AllowsFirst a m k → filter allowed (map f (range_with_len a m)) ≡ map f (range_with_len a k)
-  filter_first a zero zero few allows = refl
-  filter_first a zero (suc k) few allows = absurd (omega (arith, few))
-  filter_first a (suc m) zero few allows =
-      let out : allowed (f a) ≡ false = false_from_ne_true (allowed (f a)) (λ is. omega (arith, (allows a (omega arith) (omega arith)).0 is)) in
-      let rest = filter allowed (map f (range_with_len (a + 1) m)) in
-      ap (λ b. cond b (f a ∷ rest) rest) out ∙ filter_first (a + 1) m zero (omega arith) (allows_none a m allows)
-  filter_first a (suc m) (suc k) few allows =
-      let inside : allowed (f a) ≡ true = (allows a (omega arith) (omega arith)).1 (omega arith) in
-      let rest = filter allowed (map f (range_with_len (a + 1) m)) in
-      ap (λ b. cond b (f a ∷ rest) rest) inside ∙ ap (λ es. f a ∷ es) (filter_first (a + 1) m k (omega (arith, few)) (allows_next a m k allows))
-
-pub get_range : (f : ℕ → Event) (a n j : ℕ) → j < n → slice_get (map f (range_with_len a n)) j ≡ Some (f (a + j))
-get_range f a zero j inside = absurd (omega (arith, inside))
-get_range f a (suc n) zero inside = ap (λ i. Some (f i)) (let here : a ≡ a + 0 = omega arith in here)
-get_range f a (suc n) (suc j) inside = get_range f (a + 1) n j (omega (arith, inside)) ∙ ap (λ i. Some (f i)) (let here : a + 1 + j ≡ a + suc j = omega arith in here)
-
-pub length_range : (f : ℕ → Event) (a n : ℕ) → length (map f (range_with_len a n)) ≡ n
-length_range f a zero = refl
-length_range f a (suc n) = ap suc (length_range f (a + 1) n)
-
--- of four numbers from 1 on the first k are allowed
-module _ (allowed : Event → Bool) (f : ℕ → Event) (k j : ℕ) (few : k ≤ 4) (allows : (i : ℕ) → 0 < i → i ≤ 4 → (allowed (f i) ≡ true) ↔ (i ≤ k)) where
-  first_are : filter allowed (map f (range_with_len 1 4)) ≡ map f (range_with_len 1 k)
-  first_are = filter_first allowed f 1 4 k few (λ i from to.
-      let both = allows i (omega (arith, from)) (omega (arith, to)) in
-      (λ is. omega (arith, both.0 is), λ inside. both.1 (omega (arith, inside))))
-
-  pub first_found : j < k → Finds (filter allowed (map f (range_with_len 1 4))) j (Ok (f (j + 1)))
-  first_found inside =
-      ap (λ es. slice_get es j) first_are ∙ get_range f 1 k j inside ∙ ap (λ i. Some (f i)) (let here : 1 + j ≡ j + 1 = omega arith in here)
-
-  pub first_past : k ≤ j → Finds (filter allowed (map f (range_with_len 1 4))) j (Err (j - k))
-  first_past past = let long : length (filter allowed (map f (range_with_len 1 4))) ≡ k = ap length first_are ∙ length_range f 1 k in omega (arith, long, past)

@@ -1,43 +1,31 @@
 -- The letters of a system, and the events that are about one.
-use Rattle.std.proofs.Common.{◌≡◌, ◌<◌, ◌^◌, arith, refl, sym, ◌∙◌, ap, subst, ℕ, Bool, true, false, cond, List, [], ◌∷◌, ◌++◌, length, append-nil, ◌≤◌}
+use Rattle.std.proofs.Common.{◌≡◌, ◌<◌, ◌^◌, arith, refl, sym, ◌∙◌, ap, subst, ℕ, Bool, true, false, cond, List, [], ◌∷◌, ◌++◌, length, ◌≤◌}
 use Rattle.std.specs.Prelude.{◌&&◌, Option, Some, None, IfSome, IsSome, is_some}
-use Rattle.std.proofs.lemmas.Bool.{and_parts, false≢true}
+use Rattle.std.proofs.lemmas.Bool.{false≢true}
 use Rattle.da_lang.specs.declared.event.Action.{Action}
 use Rattle.da_lang.specs.declared.event.Action.TheVariants.{Again, Lost}
 use Rattle.da_lang.specs.declared.event.Event.TheVariants as event
-use Rattle.da_lang.specs.declared.program.Class.{Class}
 use Rattle.da_lang.specs.declared.program.Program.{Program}
 use Rattle.da_lang.specs.declared.ty.ChannelKind.{ChannelKind}
-use Rattle.da_lang.specs.Shaped.{IsEntry, IsProcess}
-use Rattle.da_lang.specs.Steps.{Deliver, Stepped, class_step, proc_step, step_in}
-use Rattle.da_lang.specs.World.{World, at_number, class_of, Phase, New, Waiting, Ended, Faulted}
+use Rattle.da_lang.specs.Shaped.{IsEntry}
+use Rattle.da_lang.specs.Steps.{Deliver, Step, Stepped}
+use Rattle.da_lang.specs.World.{World, at_number}
 use Rattle.da_types.proofs.sound.AcceptedLaws.{is_sound}
 use Rattle.da_machine.proofs.Fronts.{same_front, whole_front}
 use Rattle.da_system.specs.declared.system.System.{System}
-use Rattle.da_system.specs.Channels.{Letter, channel, may_arrive, may_lose, may_repeat, with_letter, without_letter}
+use Rattle.da_system.specs.Channels.{Channels, Letter, channel, may_arrive, may_lose, may_repeat, with_letter, without_letter}
 use Rattle.da_system.specs.Queues.{HasPlace, IsAmong}
 use Rattle.da_system.specs.Queues as queues
 use Rattle.da_system.specs.SoundState.{IsLetter, IsSoundState, IsSquare}
-use Rattle.da_system.specs.State.{HasBegun, HasStepped, StandFrom, Stands, program_of, waits_at, waits_in}
+use Rattle.da_system.specs.State.{HasBegun, HasStepped, StandFrom, Stands, program_of}
 use Rattle.da_system.specs.SystemStep.{AfterEvent, SystemState, arrive, copy_letter, deliver, drop_letter, lose, process_step, repeat, step_of, stepped}
 use Rattle.da_system.proofs.AcceptedStates.{stays_shaped}
 use Rattle.da_system.proofs.MadeLemmas.{sound_after}
-use Rattle.da_system.proofs.PlaceLemmas.{numbered_within, within_numbers}
+use Rattle.da_system.proofs.PlaceLemmas.{within_numbers}
 use Rattle.da_system.proofs.SoundLaws.{letters_in}
-use Rattle.da_system.proofs.StandLemmas.{stands_on, world_there}
+use Rattle.da_system.proofs.StandLemmas.{none_at, stands_on, world_there}
 use Rattle.da_system.proofs.SystemLaws.{letter_there}
-use Rattle.da_system.proofs.WorldLemmas.{all_numbered}
-
--- a message arrives exactly at a process that waits
-module _ (program : Program) (w : World) (message : Letter) (p : ℕ) where
-  at_phase : (class : Class) (phase : Phase) → is_some (class_step program class w (Deliver message.message p message.time) phase) ≡ waits_in phase
-  at_phase class New = refl
-  at_phase class Waiting = refl
-  at_phase class Ended = refl
-  at_phase class Faulted = refl
-
-  arrives_at : (class : Class) → class_of program w.data'.me ≡ Some class → is_some (proc_step program w (Deliver message.message p message.time)) ≡ waits_in w.phase
-  arrives_at class is = ap (λ (o : Option Class). is_some (step_in program w (Deliver message.message p message.time) o)) is ∙ at_phase class w.phase
+use Rattle.da_system.proofs.WorldLemmas.{all_numbered, numbered_none}
 
 pub stepped_some : (s : SystemState) (p : ℕ) (step : Option Stepped) → is_some (stepped s p step) ≡ is_some step
 stepped_some s p None = refl
@@ -67,6 +55,20 @@ module _ (system : System) (s : SystemState) (stands : Stands system s) where
     cond_none true o none = none
     cond_none false o none = refl
 
+    pub none_arrives : may_arrive s.kind i ≡ false → deliver program s p q i ≡ None
+    none_arrives never = ap (λ b. cond b (arrive program s p q i found) None) never
+
+    pub no_letter_arrives : found ≡ None → deliver program s p q i ≡ None
+    no_letter_arrives none = cond_none (may_arrive s.kind i) _ (ap (arrive program s p q i) none)
+
+    -- nothing arrives where nothing is under way
+    pub none_under_way : length (channel s.channels p q) ≡ 0 → deliver program s p q i ≡ None
+    none_under_way empty = no_letter_arrives (none_of (channel s.channels p q) empty)
+      where
+        none_of : (letters : List Letter) → length letters ≡ 0 → at_number letters i ≡ None
+        none_of [] empty = numbered_none i
+        none_of (l ∷ ls) empty = absurd (omega (arith, empty))
+
     pub none_lost : may_lose s.kind ≡ false → lose s p q i ≡ None
     none_lost never = ap (λ b. cond b (drop_letter s p q i found) None) never
 
@@ -81,25 +83,6 @@ module _ (system : System) (s : SystemState) (stands : Stands system s) where
 
     -- WHERE IT IS ALLOWED
 
-    arrive_some : (l : Letter) (world : Option World) → at_number s.worlds q ≡ world
-        → is_some (step_of program (record s { channels = without_letter s.channels p q i }) q world (Deliver l.message p l.time)) ≡ waits_at world
-    arrive_some l None is = refl
-    arrive_some l (Some w) is =
-        let me : w.data'.me ≡ q = stands.sound.numbers q w is in
-        let within = numbered_within s.worlds q w is in
-        let is_there : IsProcess program w.data'.me = subst (IsProcess program) (sym me) (within.0, subst (λ n. q ≤ n) stands.sound.each within.1) in
-        let (class, known) = (is_sound program stands.compiled.accepted).placed w.data'.me is_there in
-        stepped_some (record s { channels = without_letter s.channels p q i }) q (proc_step program w (Deliver l.message p l.time)) ∙ arrives_at program w l p class known
-
-    deliver_some : (waits may : Bool) (o : Option Letter) → ((l : Letter) → is_some (arrive program s p q i (Some l)) ≡ waits)
-        → is_some (cond may (arrive program s p q i o) None) ≡ (waits && may && is_some o)
-    deliver_some true true None each = refl
-    deliver_some true true (Some l) each = each l
-    deliver_some true false o each = refl
-    deliver_some false true None each = refl
-    deliver_some false true (Some l) each = each l
-    deliver_some false false o each = refl
-
     lose_some : (may : Bool) (o : Option Letter) → is_some (cond may (drop_letter s p q i o) None) ≡ (may && is_some o)
     lose_some true None = refl
     lose_some true (Some l) = refl
@@ -110,9 +93,6 @@ module _ (system : System) (s : SystemState) (stands : Stands system s) where
     repeat_some true (Some l) = refl
     repeat_some false o = refl
 
-    pub delivers_as : is_some (deliver program s p q i) ≡ (waits_at (at_number s.worlds q) && may_arrive s.kind i && is_some found)
-    delivers_as = deliver_some (waits_at (at_number s.worlds q)) (may_arrive s.kind i) found (λ l. arrive_some l (at_number s.worlds q) refl)
-
     pub loses_as : is_some (lose s p q i) ≡ (may_lose s.kind && is_some found)
     loses_as = lose_some (may_lose s.kind) found
 
@@ -121,21 +101,24 @@ module _ (system : System) (s : SystemState) (stands : Stands system s) where
 
     -- WHAT THERE IS where it may arrive
 
+    receiver_there : (channels : Channels) (world : Option World) (step : Step) → is_some (step_of program (record s { channels = channels }) q world step) ≡ true → is_some world ≡ true
+    receiver_there channels None step some = some
+    receiver_there channels (Some w) step some = refl
+
+    delivery_parts : (may : Bool) (o : Option Letter) → is_some (cond may (arrive program s p q i o) None) ≡ true → ((may ≡ true) × (is_some o ≡ true)) × (is_some (at_number s.worlds q) ≡ true)
+    delivery_parts true None some = absurd (false≢true some)
+    delivery_parts true (Some l) some = ((refl, refl), receiver_there (without_letter s.channels p q i) (at_number s.worlds q) (Deliver l.message p l.time) some)
+    delivery_parts false o some = absurd (false≢true some)
+
     module _ (some : IsSome (deliver program s p q i)) where
-      parts : ((waits_at (at_number s.worlds q) ≡ true) × (may_arrive s.kind i ≡ true)) × (is_some found ≡ true)
-      parts =
-          let both = and_parts (waits_at (at_number s.worlds q) && may_arrive s.kind i) (is_some found) (sym delivers_as ∙ some) in
-          (and_parts (waits_at (at_number s.worlds q)) (may_arrive s.kind i) both.0, both.1)
+      parts : ((may_arrive s.kind i ≡ true) × (is_some found ≡ true)) × (is_some (at_number s.worlds q) ≡ true)
+      parts = delivery_parts (may_arrive s.kind i) found some
 
       pub may_come : may_arrive s.kind i ≡ true
-      may_come = parts.0.1
-
-      waiting_there : (world : Option World) → waits_at world ≡ true → is_some world ≡ true
-      waiting_there None waits = waits
-      waiting_there (Some w) waits = refl
+      may_come = parts.0.0
 
       pub core_there : is_some (at_number system.cores.items q) ≡ true
-      core_there = sym (world_there program system.cores.items s.worlds q stands.cores) ∙ waiting_there (at_number s.worlds q) parts.0.0
+      core_there = sym (world_there program system.cores.items s.worlds q stands.cores) ∙ parts.1
 
       -- there is the letter, and both processes
       whose : (o : Option Letter) → found ≡ o → is_some o ≡ true → HasPlace (queues.count_of system.channels) p q i
@@ -148,10 +131,10 @@ module _ (system : System) (s : SystemState) (stands : Stands system s) where
           ((from.0, subst (λ n. p ≤ n) all from.1), (to.0, subst (λ n. q ≤ n) all to.1), (within_numbers (channel s.channels p q) i (ap is_some is)).0)
 
       pub both_there : HasPlace (queues.count_of system.channels) p q i
-      both_there = whose found refl parts.1
+      both_there = whose found refl parts.0.1
 
       pub letter_found : found ≡ None → ⊥
-      letter_found none = false≢true (sym (ap is_some none) ∙ parts.1)
+      letter_found none = false≢true (sym (ap is_some none) ∙ parts.0.1)
 
       pub few_senders : p < 2 ^ 16
       few_senders = omega (arith, both_there.0.1, stands.count, (is_sound program stands.compiled.accepted).few)
@@ -170,6 +153,12 @@ module _ (system : System) (s : SystemState) (stands : Stands system s) where
       pub arrives_is : may_arrive s.kind i ≡ true
           → deliver program s p q i ≡ process_step program (record s { channels = without_letter s.channels p q i }) q (Deliver letter.message p letter.time)
       arrives_is may = ap (λ b. cond b (arrive program s p q i found) None) may ∙ ap (arrive program s p q i) there
+
+      -- and may not where there is no receiver
+      pub no_receiver : at_number system.cores.items q ≡ None → deliver program s p q i ≡ None
+      no_receiver none =
+          cond_none (may_arrive s.kind i) _
+          (ap (arrive program s p q i) there ∙ ap (λ (o : Option World). step_of program (record s { channels = without_letter s.channels p q i }) q o (Deliver letter.message p letter.time)) (none_at program system.cores.items s.worlds q stands.cores none))
 
       pub arrives_sound : (after : AfterEvent) → deliver program s p q i ≡ Some after → IsSoundState program after.state
       arrives_sound after is = sound_after system s stands (event.Deliver p q i) after is

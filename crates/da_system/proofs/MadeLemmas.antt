@@ -53,7 +53,7 @@ not_less (x ∷ xs) ys = let rest : length xs ≤ length (xs ++ ys) = not_less x
 -- each event that is allowed leads to a sound state
 pub sound_after : (system : System) (s : SystemState) → Stands system s → (e : Event) (after : AfterEvent) → sys_step (program_of system) s e ≡ Some after → IsSoundState (program_of system) after.state
 sound_after system s stands e after is =
-    (subst (λ (o : Option AfterEvent). IfSome o (LeadsOn (program_of system) e)) is (sound_steps (program_of system) stands.compiled.accepted s e stands.sound)).sound
+    (subst (λ (o : Option AfterEvent). IfSome o (LeadsOn (program_of system) s e)) is (sound_steps (program_of system) stands.compiled.accepted s e stands.sound)).sound
 
 pub move_sound : (system : System) (s : SystemState) → Stands system s → (p k : ℕ) (after : AfterEvent) → process_step (program_of system) s p (move_step k) ≡ Some after → IsSoundState (program_of system) after.state
 move_sound system s stands p zero after is = sound_after system s stands (event.Move p) after is

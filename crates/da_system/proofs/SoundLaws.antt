@@ -11,7 +11,7 @@ use Rattle.da_lang.specs.declared.event.Event.TheVariants as event
 use Rattle.da_lang.specs.declared.program.Program.{Program}
 use Rattle.da_values.specs.Value.{val_of}
 use Rattle.da_lang.specs.Shaped.{IsEntry, IsProcess, Shaped}
-use Rattle.da_lang.specs.Steps.{Go, Take, Deliver, Step, Stepped, proc_step}
+use Rattle.da_lang.specs.Steps.{Go, Take, TimeOut, Deliver, Step, Stepped, proc_step}
 use Rattle.da_lang.specs.World.{Data, World, at_number, opening}
 use Rattle.da_system.specs.Channels.{Channels, Letter, after_action, after_actions, channel, may_arrive, may_lose, may_repeat, no_letters, or_empty, put_numbered, with_channel, without_letter, without_numbered}
 use Rattle.da_system.specs.SoundState.{AllLetters, IsLetter, IsSoundState, IsSquare}
@@ -229,6 +229,7 @@ module _ (program : Program) (law : StaysShaped program) where
   pub step_sound : (s : SystemState) (e : Event) → IsSoundState program s → Keeps (sys_step program s e)
   step_sound s (event.Move p) sound = process_sound s p Go sound tt
   step_sound s (event.Take p k) sound = process_sound s p (Take k) sound tt
+  step_sound s (event.Timeout p) sound = process_sound s p TimeOut sound tt
   step_sound s (event.Deliver p q i) sound = if_sound (may_arrive s.kind i) _ (arrive_sound s p q i (at_number (channel s.channels p q) i) refl sound)
   step_sound s (event.Lose p q i) sound = if_sound (may_lose s.kind) _ (drop_sound s p q i (at_number (channel s.channels p q) i) sound)
   step_sound s (event.Repeat p q i) sound = if_sound (may_repeat s.kind) _ (copy_sound s p q i (at_number (channel s.channels p q) i) refl sound)

@@ -6,7 +6,7 @@ use Rattle.da_lang.specs.declared.event.Action.{Action}
 use Rattle.da_lang.specs.declared.event.Action.TheVariants.{Kept}
 use Rattle.da_lang.specs.declared.event.Event.TheVariants as event
 use Rattle.da_lang.specs.declared.program.Program.{Program}
-use Rattle.da_lang.specs.Steps.{Step, Take, move_step, proc_step}
+use Rattle.da_lang.specs.Steps.{Deliver, Step, Take, proc_step}
 use Rattle.da_lang.specs.World.{Data, World, at_number, class_of}
 use Rattle.da_types.proofs.sound.AcceptedLaws.{is_sound}
 use Rattle.da_machine.specs.RunsTo.{IsFront}
@@ -15,10 +15,11 @@ use Rattle.da_core.specs.StandsFor as process
 use Rattle.da_core.specs.Told.{answers_of, kept_of}
 use Rattle.da_machine.proofs.Fronts.{same_front}
 use Rattle.da_system.specs.declared.system.System.{System}
+use Rattle.da_system.specs.Channels.{Channels, Letter, channel, may_arrive, without_letter}
 use Rattle.da_system.specs.State.{HasBegun, HasStepped, Stands, StandsAt, program_of}
-use Rattle.da_system.specs.SystemStep.{SystemState, process_step, show, stat, step_of, stepped, sys_step, told}
+use Rattle.da_system.specs.SystemStep.{SystemState, deliver, process_step, show, stat, step_of, stepped, sys_step, told}
 use Rattle.da_system.proofs.AcceptedStates.{never_steps}
-use Rattle.da_system.proofs.LetterLemmas.{stepped_some}
+use Rattle.da_system.proofs.LetterLemmas.{arrives_is, stepped_some}
 use Rattle.da_system.proofs.StandLemmas.{core_at, none_at, within, world_there}
 
 module _ (system : System) (s : SystemState) (stands : Stands system s) where
@@ -45,16 +46,24 @@ module _ (system : System) (s : SystemState) (stands : Stands system s) where
   pub no_take : (p : ℕ) → sys_step program s (event.Take p 0) ≡ None
   no_take p = take_none p (at_number s.worlds p)
 
-  -- a move is allowed exactly where its core says so
-  pub may_as : (p k : ℕ) (core : Core) → at_number cores p ≡ Some core → (b : Bool) → process.Whichever core (λ w. IsTrue b ↔ IsSome (proc_step (process.program_of core) w (move_step k)))
-      → (IsTrue b ↔ IsSome (process_step program s p (move_step k)))
-  may_as p k core there b may =
+  -- a step is allowed exactly where its core says so, whatever is in the channels
+  pub may_as : (base : Channels) (p : ℕ) (step : Step) (core : Core) → at_number cores p ≡ Some core → (b : Bool) → process.Whichever core (λ w. IsTrue b ↔ IsSome (proc_step (process.program_of core) w step))
+      → (IsTrue b ↔ IsSome (process_step program (record s { channels = base }) p step))
+  may_as base p step core there b may =
       let (w, at, its) = core_at program cores s.worlds p core stands.cores there in
       let both = may w its.stands in
       let same =
       ap is_some
-      (ap (λ (o : Option World). step_of program s p o (move_step k)) at ∙ ap (λ (q : Program). stepped s p (proc_step q w (move_step k))) (sym its.same))
-      ∙ stepped_some s p (proc_step (process.program_of core) w (move_step k)) in
+      (ap (λ (o : Option World). step_of program (record s { channels = base }) p o step) at ∙ ap (λ (q : Program). stepped (record s { channels = base }) p (proc_step q w step)) (sym its.same))
+      ∙ stepped_some (record s { channels = base }) p (proc_step (process.program_of core) w step) in
+      (λ yes. same ∙ both.0 yes, λ some. both.1 (sym same ∙ some))
+
+  -- and so is a delivery, where the kind allows it
+  pub takes_as : (p q i : ℕ) (letter : Letter) (core : Core) → at_number cores q ≡ Some core → at_number (channel s.channels p q) i ≡ Some letter → may_arrive s.kind i ≡ true → (b : Bool)
+      → process.Whichever core (λ w. IsTrue b ↔ IsSome (proc_step (process.program_of core) w (Deliver letter.message p letter.time))) → (IsTrue b ↔ IsSome (deliver program s p q i))
+  takes_as p q i letter core there found may b takes =
+      let both = may_as (without_letter s.channels p q i) q (Deliver letter.message p letter.time) core there b takes in
+      let same = ap is_some (arrives_is system s stands p q i letter found may) in
       (λ yes. same ∙ both.0 yes, λ some. both.1 (sym same ∙ some))
 
   -- WHAT IS TOLD

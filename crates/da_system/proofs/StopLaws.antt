@@ -1,6 +1,6 @@
 -- A run ends by `stop` exactly where an event is not allowed: no step tells of a stop.
 use Rattle.std.specs.Prelude.{◌≡◌, ℕ, zero, suc, ◌+◌, ◌-◌, Bool, true, false, cond, nat_le, nat_lt, List, [], ◌∷◌, ◌++◌, map, length, Option, Some, None, Ok, Err, IfSome}
-use Rattle.std.specs.List.{AllByRecursion}
+use Rattle.std.specs.List.{AllByRecursion, list_any}
 use Rattle.std.proofs.Common.{◌∙◌, ap, sym, subst, arith, append_assoc}
 use Rattle.da_values.specs.declared.val.Val.{Val}
 use Rattle.da_values.specs.Views.{truth_of}
@@ -21,10 +21,11 @@ use Rattle.da_lang.specs.declared.program.RExpr.{RExpr}
 use Rattle.da_lang.specs.declared.query.Query.{Query}
 use Rattle.da_lang.specs.Arithmetic.{Outcome}
 use Rattle.da_lang.specs.Evaluation.{Outcomes, eval, eval_all}
+use Rattle.da_lang.specs.Labels.{open_handlers, takes}
 use Rattle.da_lang.specs.Matching.{Row, matched_entry}
 use Rattle.da_lang.specs.Queries.{holds, shown_set}
 use Rattle.da_lang.specs.Runs.{Halt, AtYield, UsedUp, Faults, Ran, go_after, max_turns, run, run_to_yield, stopped, yields}
-use Rattle.da_lang.specs.Steps.{Deliver, Go, Step, Stepped, Take, after_halt, class_step, closing, first_tasks, go_waiting, handle, past_await, past_label, proc_step, received_at, step_in, take_alternative, take_waiting, try_handler}
+use Rattle.da_lang.specs.Steps.{Deliver, Go, Step, Stepped, Take, TimeOut, after_halt, class_step, closing, first_tasks, go_waiting, handle, past_await, past_label, past_timeout, proc_step, received_at, step_in, take_alternative, take_waiting, time_out_waiting, try_handler}
 use Rattle.da_lang.specs.Turns.{AfterTurn as Turned, bind_all, bind_found, choose, do_all, enter, kind_of, kind_turn, later, line_of, loop_turn, max_packet, packet_len, quiet, recipients, send_if, sending, turn, with_outcome, with_outcomes, with_value}
 use Rattle.da_lang.specs.World.{Data, Do, Loop, New, Phase, Prepare, Task, Waiting, World, class_of, at_number}
 use Rattle.da_lang.proofs.RunBounds.{by_truth, go_after_has}
@@ -92,8 +93,8 @@ module _ (class : Class) (line : ℕ) (d : Data) (todo : List Task) where
   kind_tells itself (While e body) = value_tells e _ (λ v. tt)
   kind_tells itself (For s e body) = value_tells e _ (λ v. tt)
   kind_tells itself (Call args body) = enter_tells _ _ body
-  kind_tells itself (Await alts) = tt
-  kind_tells itself Label = tt
+  kind_tells itself (Await alts timeout label) = tt
+  kind_tells itself (Label l) = tt
   kind_tells itself Pass = tt
 
   loop_tells : (s : ℕ) (left : List Val) (body : List Item) → Tells (loop_turn class line d todo s left body)
@@ -154,7 +155,7 @@ ran_tells me ran tells = no_stop_then ran.actions (closing me ran.halt) tells (c
 
 module _ (class : Class) (d : Data) where
   label_quiet : (todo : List Task) (kind : ItemKind-F ItemKind Alt Item RBranch) → Quiet (past_label class d todo kind)
-  label_quiet todo Label = (tt, ran_tells d.me (run_to_yield class 1 d todo) (to_yield_tells class 1 d todo))
+  label_quiet todo (Label l) = (tt, ran_tells d.me (run_to_yield class 1 d todo) (to_yield_tells class 1 d todo))
   label_quiet todo _ = tt
 
   go_quiet : (todo : List Task) → Quiet (go_waiting class d todo)
@@ -174,7 +175,7 @@ module _ (class : Class) (d : Data) where
       (λ is. tt)
 
   await_quiet : (todo : List Task) (k : ℕ) (kind : ItemKind-F ItemKind Alt Item RBranch) → Quiet (past_await class d todo k kind)
-  await_quiet todo k (Await alts) = alternative_quiet todo k (at_number alts k)
+  await_quiet todo k (Await alts timeout label) = alternative_quiet todo k (at_number alts k)
   await_quiet todo k _ = tt
 
   take_quiet : (k : ℕ) (todo : List Task) → Quiet (take_waiting class d k todo)
@@ -183,15 +184,29 @@ module _ (class : Class) (d : Data) where
   take_quiet k (Loop s left body line ∷ rest) = tt
   take_quiet k (Prepare call ∷ rest) = tt
 
+  timeout_quiet : (todo : List Task) (kind : ItemKind-F ItemKind Alt Item RBranch) → Quiet (past_timeout class d todo kind)
+  timeout_quiet todo (Await alts (Some body) label) =
+      by_truth Quiet (list_any (λ alt. holds d (out-Alt alt).cond []) alts) _ _ (λ is. tt)
+      (λ is. (tt, ran_tells d.me (run_to_yield class 1 d (do_all body todo)) (to_yield_tells class 1 d (do_all body todo))))
+  timeout_quiet todo _ = tt
+
+  time_out_quiet : (todo : List Task) → Quiet (time_out_waiting class d todo)
+  time_out_quiet [] = tt
+  time_out_quiet (Do i ∷ rest) = timeout_quiet rest (kind_of i)
+  time_out_quiet (Loop s left body line ∷ rest) = tt
+  time_out_quiet (Prepare call ∷ rest) = tt
+
 class_quiet : (program : Program) (class : Class) (w : World) (s : Step) (phase : Phase) → Quiet (class_step program class w s phase)
 class_quiet program class w Go New =
     let tasks : List Task = first_tasks program class w.data'.me in
     (tt, ran_tells w.data'.me (run_to_yield class 0 w.data' tasks) (to_yield_tells class 0 w.data' tasks))
 class_quiet program class w Go Waiting = go_quiet class w.data' w.todo
 class_quiet program class w (Take k) Waiting = take_quiet class w.data' k w.todo
+class_quiet program class w TimeOut Waiting = time_out_quiet class w.data' w.todo
 class_quiet program class w (Deliver m p time) Waiting =
     let d : Data = received_at m p time w.data' in
-    (tt, ran_tells w.data'.me (handle class m p class.handlers 0 d) (handle_tells class m p class.handlers 0 d))
+    let hs : List Handler = open_handlers class w.todo in
+    by_truth Quiet (takes class w m p) _ _ (λ is. (tt, ran_tells w.data'.me (handle class m p hs 0 d) (handle_tells class m p hs 0 d))) (λ is. tt)
 class_quiet program class w _ _ = tt
 
 in_quiet : (program : Program) (w : World) (s : Step) (class : Option Class) → Quiet (step_in program w s class)
@@ -241,6 +256,7 @@ answers_of_tell p (Some class) d = answers_tell p class.queries d (numbers_to (l
 pub step_stops : (program : Program) (s : SystemState) (e : Event) → NoneStops (sys_step program s e)
 step_stops program s (event.Move p) = process_stops program s p Go
 step_stops program s (event.Take p k) = process_stops program s p (Take k)
+step_stops program s (event.Timeout p) = process_stops program s p TimeOut
 step_stops program s (event.Deliver p q i) = by_truth NoneStops (may_arrive s.kind i) _ _ (λ is. arrive_stops program s p q i (at_number (channel s.channels p q) i)) (λ is. tt)
 step_stops program s (event.Lose p q i) = by_truth NoneStops (may_lose s.kind) _ _ (λ is. drop_stops s p q i (at_number (channel s.channels p q) i)) (λ is. tt)
 step_stops program s (event.Repeat p q i) = by_truth NoneStops (may_repeat s.kind) _ _ (λ is. copy_stops s p q (at_number (channel s.channels p q) i)) (λ is. tt)

@@ -35,10 +35,10 @@ abbrev kept_note : ℕ → Value
 kept_note n = literal.Tuple (val.Text (codes "note") ∷ num n ∷ [])
 
 abbrev label : Item
-label = roll-Item (record { line = 4; kind = it.Label })
+label = roll-Item (record { line = 4; kind = it.Label 1 })
 
 -- `some ('note', n) in received`
-abbrev class : Class
+abbrev pub class : Class
 class = record {
   name = codes "P";
   slots = [];

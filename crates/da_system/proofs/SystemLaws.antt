@@ -10,7 +10,7 @@ use Rattle.da_lang.specs.declared.event.Action.TheVariants.{Sent}
 use Rattle.da_lang.specs.declared.event.Event.{Event}
 use Rattle.da_lang.specs.declared.event.Event.TheVariants as event
 use Rattle.da_lang.specs.declared.program.Program.{Program}
-use Rattle.da_lang.specs.Steps.{Go, Take, Step, Stepped, proc_step}
+use Rattle.da_lang.specs.Steps.{Go, Take, TimeOut, Step, Stepped, proc_step}
 use Rattle.da_lang.specs.World.{Data, World, at_number, opening}
 use Rattle.da_system.specs.Channels.{Channels, Letter, after_action, after_actions, channel, may_arrive, may_lose, may_repeat, no_letters, or_empty, put_numbered, with_channel}
 use Rattle.da_system.specs.SoundState.{IsSquare}
@@ -110,6 +110,7 @@ if_keeps false step keeps = tt
 pub step_whole : (program : Program) (s : SystemState) (e : Event) → IsWhole s → Keeps (sys_step program s e)
 step_whole program s (event.Move p) whole = process_keeps program s p Go whole
 step_whole program s (event.Take p k) whole = process_keeps program s p (Take k) whole
+step_whole program s (event.Timeout p) whole = process_keeps program s p TimeOut whole
 step_whole program s (event.Deliver p q i) whole = if_keeps (may_arrive s.kind i) _ (arrive_keeps program s p q i (at_number (channel s.channels p q) i) whole)
 step_whole program s (event.Lose p q i) whole = if_keeps (may_lose s.kind) _ (drop_keeps s p q i (at_number (channel s.channels p q) i) whole)
 step_whole program s (event.Repeat p q i) whole = if_keeps (may_repeat s.kind) _ (copy_keeps s p q (at_number (channel s.channels p q) i) whole)

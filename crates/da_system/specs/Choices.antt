@@ -1,8 +1,8 @@
--- The events that may be picked in a state, in their order: first the moves, and then the deliveries.
-use Rattle.std.specs.Prelude.{ℕ, Bool, List, ◌∷◌, ◌++◌, map, length, Option, Some, None, is_some}
+-- The events that may be picked in a state, in their order: first the moves and timeouts, and then the deliveries.
+use Rattle.std.specs.Prelude.{ℕ, Bool, List, [], ◌∷◌, ◌++◌, map, length, Option, Some, None, is_some}
 use Rattle.std.specs.List.{filter, flat_map}
 use Rattle.da_lang.specs.declared.event.Event.{Event}
-use Rattle.da_lang.specs.declared.event.Event.TheVariants.{Move, Take, Deliver}
+use Rattle.da_lang.specs.declared.event.Event.TheVariants.{Move, Take, Timeout, Deliver}
 use Rattle.da_lang.specs.declared.program.Alt.{Alt}
 use Rattle.da_lang.specs.declared.program.Item.{Item}
 use Rattle.da_lang.specs.declared.program.ItemKind.{ItemKind}
@@ -16,7 +16,7 @@ use Rattle.da_system.specs.SystemStep.{SystemState, sys_step}
 
 -- how many alternatives a process may have to take: those of the `await` at which it waits
 abbrev pub alternatives_in : ItemKind-F ItemKind Alt Item RBranch → ℕ
-alternatives_in (Await alts) = length alts
+alternatives_in (Await alts timeout label) = length alts
 alternatives_in _ = 0
 
 abbrev pub alternatives : Phase → List Task → ℕ
@@ -31,9 +31,9 @@ alternatives_at (Some w) = alternatives w.phase w.todo
 abbrev pub processes : SystemState → List ℕ
 processes s = numbers_to (length s.worlds)
 
--- the moves of process p: the one from the opening or a label, and then one for each alternative
+-- the moves of process p: the one from the opening or a label, then one for each alternative, and then the timeout
 abbrev pub moves_of : SystemState → ℕ → List Event
-moves_of s p = Move p ∷ map (Take p) (numbers_to (alternatives_at (at_number s.worlds p)))
+moves_of s p = Move p ∷ map (Take p) (numbers_to (alternatives_at (at_number s.worlds p))) ++ Timeout p ∷ []
 
 -- the deliveries of the first four messages from process p to q, and those from p to each process
 abbrev pub deliveries_to : ℕ → ℕ → List Event

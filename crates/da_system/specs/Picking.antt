@@ -1,7 +1,6 @@
 -- How a system in code finds the events that may be picked.
-use Rattle.std.specs.Prelude.{◌≡◌, ℕ, zero, suc, ◌+◌, ◌<◌, ◌≤◌, List, length, slice_get, Option, Some, Result, Ok, Err}
+use Rattle.std.specs.Prelude.{◌≡◌, ℕ, ◌+◌, ◌<◌, ◌≤◌, List, length, slice_get, Some, Result, Ok, Err}
 use Rattle.da_lang.specs.declared.event.Event.{Event}
-use Rattle.da_lang.specs.declared.event.Event.TheVariants.{Move, Take}
 use Rattle.da_core.specs.declared.place.Place.{Place}
 use Rattle.da_core.specs.declared.place.Place.TheVariants.{Await}
 use Rattle.da_system.specs.declared.system.System.{System}
@@ -27,8 +26,3 @@ IsWithin most j (Err past) = j ≤ past + most
 abbrev pub alternatives_of : Place → ℕ
 alternatives_of (Await count) = count
 alternatives_of _ = 0
-
--- the event of a move by its number: 0 is the move from the opening or a label
-abbrev pub move_event : ℕ → ℕ → Event
-move_event p zero = Move p
-move_event p (suc k) = Take p (suc k)

@@ -1,15 +1,16 @@
 -- What holds of the state of a system in every run of a program whose worlds stay shaped.
-use Rattle.std.specs.Prelude.{◌≡◌, ℕ, ◌^◌, ◌<◌, true, List, ◌∷◌, length, Some, IfSome}
+use Rattle.std.specs.Prelude.{◌≡◌, ℕ, ◌+◌, ◌^◌, ◌<◌, true, List, ◌∷◌, length, Some, IfSome}
 use Rattle.std.specs.List.{AllByRecursion}
 use Rattle.da_values.specs.Proper.{IsValue}
 use Rattle.da_lang.specs.declared.event.Action.{Action}
 use Rattle.da_lang.specs.declared.event.Action.TheVariants.{Took}
 use Rattle.da_lang.specs.declared.event.Event.{Event}
-use Rattle.da_lang.specs.declared.event.Event.TheVariants.{Move, Take}
+use Rattle.da_lang.specs.declared.event.Event.TheVariants.{Move, Take, Timeout}
 use Rattle.da_lang.specs.declared.program.Program.{Program}
 use Rattle.da_lang.specs.Shaped.{Shaped, well_typed}
 use Rattle.da_lang.specs.World.{World, at_number}
 use Rattle.da_system.specs.Channels.{Channels, Letter}
+use Rattle.da_system.specs.Choices.{alternatives_at}
 use Rattle.da_system.specs.FlatChannels.{StandFlat}
 use Rattle.da_system.specs.SystemStep.{AfterEvent, SystemState, sys_step}
 
@@ -38,16 +39,17 @@ pub record IsSoundState (program : Program) (s : SystemState) : Type 0 where
   pub flat : StandFlat program s.channels
   pub letters : AllLetters program s.channels
 
--- a move tells of itself first
-abbrev pub TellsMove : Event → List Action → Type 0
-TellsMove (Move p) actions = (rest : List Action) × (actions ≡ Took p 0 ∷ rest)
-TellsMove (Take p k) actions = (rest : List Action) × (actions ≡ Took p k ∷ rest)
-TellsMove _ actions = Unit {0}
+-- a move tells of itself first, and so does a timeout, by the number behind that of the last alternative
+abbrev pub TellsMove : SystemState → Event → List Action → Type 0
+TellsMove s (Move p) actions = (rest : List Action) × (actions ≡ Took p 0 ∷ rest)
+TellsMove s (Take p k) actions = (rest : List Action) × (actions ≡ Took p k ∷ rest)
+TellsMove s (Timeout p) actions = (rest : List Action) × (actions ≡ Took p (alternatives_at (at_number s.worlds p) + 1) ∷ rest)
+TellsMove s _ actions = Unit {0}
 
 -- where the event is allowed it leads from this state to a sound one
-pub record LeadsOn (program : Program) (e : Event) (after : AfterEvent) : Type 0 where
+pub record LeadsOn (program : Program) (s : SystemState) (e : Event) (after : AfterEvent) : Type 0 where
   pub sound : IsSoundState program after.state
-  pub tells : TellsMove e after.actions
+  pub tells : TellsMove s e after.actions
 
 abbrev pub StaysSound : Program → SystemState → Event → Type 0
-StaysSound program s e = IsSoundState program s → IfSome (sys_step program s e) (LeadsOn program e)
+StaysSound program s e = IsSoundState program s → IfSome (sys_step program s e) (LeadsOn program s e)

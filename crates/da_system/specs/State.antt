@@ -2,7 +2,7 @@
 use Rattle.std.specs.Prelude.{◌≡◌, ◌↔◌, ℕ, ◌+◌, Bool, true, false, List, [], ◌∷◌, ◌++◌, length, Option, Some, None, Result, Ok, Err}
 use Rattle.da_lang.specs.declared.event.Action.{Action}
 use Rattle.da_lang.specs.declared.program.Program.{Program}
-use Rattle.da_lang.specs.World.{Phase, Waiting, World}
+use Rattle.da_lang.specs.World.{World}
 use Rattle.da_machine.specs.RunsTo.{IsFront}
 use Rattle.da_core.specs.declared.place.StepFault.{StepFault}
 use Rattle.da_core.specs.declared.place.StepFault.TheVariants.{Forbidden, Memory, Spent}
@@ -86,13 +86,3 @@ pub record HasPosted (system : System) (actions : List Action) (left : System) :
   pub cores : left.cores.items ≡ system.cores.items
   pub count : queues.count_of left.channels ≡ queues.count_of system.channels
   pub channels : queues.Each system.channels (λ channels. queues.StandsFor left.channels (after_actions channels actions))
-
--- a process in this phase waits at a label or an `await`
-abbrev pub waits_in : Phase → Bool
-waits_in Waiting = true
-waits_in _ = false
-
--- the process of this world, if it is there, waits
-abbrev pub waits_at : Option World → Bool
-waits_at None = false
-waits_at (Some w) = waits_in w.phase

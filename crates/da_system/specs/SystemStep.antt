@@ -6,7 +6,7 @@ use Rattle.da_lang.specs.declared.event.Event.{Event}
 use Rattle.da_lang.specs.declared.event.Event.TheVariants as event
 use Rattle.da_lang.specs.declared.program.Program.{Program}
 use Rattle.da_lang.specs.declared.ty.ChannelKind.{ChannelKind}
-use Rattle.da_lang.specs.Steps.{Step, Go, Take, Deliver, Stepped, proc_step}
+use Rattle.da_lang.specs.Steps.{Step, Go, Take, TimeOut, Deliver, Stepped, proc_step}
 use Rattle.da_lang.specs.World.{Data, World, class_of, at_number, opening}
 use Rattle.da_core.specs.Told.{answers_of, kept_of, numbers_to}
 use Rattle.da_system.specs.Channels.{Channels, Letter, after_actions, channel, may_arrive, may_lose, may_repeat, no_letters, put_numbered, with_letter, without_letter}
@@ -31,7 +31,7 @@ start program = record {
   channels = no_letters (length program.procs);
 }
 
--- MOVES AND DELIVERIES
+-- MOVES, TIMEOUTS AND DELIVERIES
 
 -- process p has made the step: it has another world, and what it sent is in the channels
 abbrev pub stepped : SystemState → ℕ → Option Stepped → Option AfterEvent
@@ -94,6 +94,7 @@ stat program s p = told s (at_number s.worlds p) (λ d. Kept p (kept_of (class_o
 abbrev pub sys_step : Program → SystemState → Event → Option AfterEvent
 sys_step program s (event.Move p) = process_step program s p Go
 sys_step program s (event.Take p k) = process_step program s p (Take k)
+sys_step program s (event.Timeout p) = process_step program s p TimeOut
 sys_step program s (event.Deliver p q i) = deliver program s p q i
 sys_step program s (event.Lose p q i) = lose s p q i
 sys_step program s (event.Repeat p q i) = repeat s p q i

@@ -1,24 +1,25 @@
 //! The events that may be picked in the state of a system.
 //!
-//! To find one of them, and to count them, the processes are walked for their moves and then the pairs of processes for
-//! the messages between them.
+//! To find one of them, and to count them, the processes are walked for their moves and timeouts, and then the pairs of
+//! processes for the messages between them.
 ghost use Rattle.da_lang.specs.World.{at_number};
-ghost use Rattle.da_system.specs.Channels.{may_arrive as may_arrive_lem};
 ghost use Rattle.da_system.specs.Choices.{alternatives_at as alternatives_at_lem, choices, deliveries_from, deliveries_to, is_allowed, moves_of, processes};
-ghost use Rattle.da_system.specs.Picking.{Finds, HasChoice, IsWithin, alternatives_of as alternatives_lem, move_event as move_event_lem};
+ghost use Rattle.da_system.specs.Picking.{Finds, HasChoice, IsWithin, alternatives_of as alternatives_lem};
 ghost use Rattle.da_system.specs.State.{Whichever, is_spent, program_of};
-ghost use Rattle.da_system.specs.SystemStep.{deliver, sys_step};
+ghost use Rattle.da_system.specs.SystemStep.{sys_step};
 ghost use Rattle.std.specs.List.{filter, flat_map};
-ghost use Rattle.std.specs.Prelude.{◌≡◌, ◌↔◌, ◌+◌, ◌<◌, ◌≤◌, ◌^◌, ◌∷◌, ℕ, [], if◌then◌else◌, Some, IsSome, length, slice_get, true};
+ghost use Rattle.std.specs.Prelude.{◌≡◌, ◌+◌, ◌^◌, ◌∷◌, [], Some, IsSome, length, slice_get, true};
 
-use crate::channels::may_arrive;
 use crate::system::System;
 use da_core::Place;
-use da_lang::{ChannelKind, Event};
+use da_lang::Event;
+
+/// How many messages of a channel may be picked, at most: the first ones.
+const PICKED: u32 = 4;
 
 impl System<'_> {
-    /// How many events may be picked: the moves of the processes that are allowed, and the deliveries that are allowed of
-    /// one of the first four messages of a channel. On a spent system there are none. It takes no memory.
+    /// How many events may be picked: the moves and timeouts of the processes that are allowed, and the deliveries that are
+    /// allowed of one of the first four messages of a channel. On a spent system there are none. It takes no memory.
     pub fn choices(&self) -> usize
         ensures spent { is_spent self.now ≡ true → result ≡ 0 }
         ensures number { Whichever self.now (λ s.
@@ -34,7 +35,8 @@ impl System<'_> {
     }
 
     /// Event `j` of those that may be picked, counted from 0: first the moves by the numbers of their processes and
-    /// alternatives, and then the deliveries by the numbers of their senders, recipients and messages. It takes no memory.
+    /// alternatives, with the timeout of a process behind them, and then the deliveries by the numbers of their senders,
+    /// recipients and messages. It takes no memory.
     pub fn choice(&self, j: usize) -> Event
         requires { HasChoice self.now j }
         ensures event { Whichever self.now (λ s.
@@ -59,7 +61,7 @@ impl System<'_> {
         }
     }
 
-    // The same among the moves.
+    // The same among the moves and timeouts.
     fn find_move(&self, j: usize) -> Result<Event, usize>
         ensures found { Whichever self.now (λ s.
             Finds (filter (is_allowed (program_of self.now) s) (flat_map (moves_of s) (processes s))) j result) }
@@ -75,38 +77,23 @@ impl System<'_> {
         Err(left)
     }
 
-    // The same among the moves of process `p`.
+    // The same among the moves of process `p`, with its timeout.
     fn find_move_of(&self, p: u32, j: usize) -> Result<Event, usize>
         ensures found { Whichever self.now (λ s.
             Finds (filter (is_allowed (program_of self.now) s) (moves_of s p)) j result) }
-        ensures few { IsWithin (2 ^ 32) j result }
+        ensures few { IsWithin (2 ^ 32 + 1) j result }
     {
-        let mut left = match self.find_one_move(p, 0, j) {
+        let mut left = match self.find_one(Event::Move { p }, j) {
             Ok(event) => return Ok(event),
             Err(past) => past,
         };
         for place in 0..self.alternatives(p) {
-            match self.find_one_move(p, place + 1, left) {
+            match self.find_one(Event::Take { p, k: place + 1 }, left) {
                 Ok(event) => return Ok(event),
                 Err(past) => left = past,
             }
         }
-        Err(left)
-    }
-
-    // The same where the only move is that of process `p` by this number.
-    fn find_one_move(&self, p: u32, k: u32, j: usize) -> Result<Event, usize>
-        ensures found { Whichever self.now (λ s.
-            Finds (filter (is_allowed (program_of self.now) s) (move_event_lem p k ∷ [])) j result) }
-        ensures few { IsWithin 1 j result }
-    {
-        if !self.may_move(p, k) {
-            return Err(j);
-        }
-        match j.checked_sub(1) {
-            Some(past) => Err(past),
-            None => Ok(move_event(p, k)),
-        }
+        self.find_one(Event::Timeout { p }, left)
     }
 
     // The same among the deliveries.
@@ -147,28 +134,32 @@ impl System<'_> {
             Finds (filter (is_allowed (program_of self.now) s) (deliveries_to p q)) j result) }
         ensures few { IsWithin 4 j result }
     {
-        let count = self.arriving(p, q);
-        if j < count {
-            Ok(Event::Deliver {
-                p,
-                q,
-                i: j as u32 + 1,
-            })
-        } else {
-            Err(j - count)
+        if self.under_way(p, q) == 0 {
+            return Err(j);
         }
+        let mut left = j;
+        for place in 0..PICKED {
+            match self.find_one(Event::Deliver { p, q, i: place + 1 }, left) {
+                Ok(event) => return Ok(event),
+                Err(past) => left = past,
+            }
+        }
+        Err(left)
     }
 
-    // How many of the first four messages from process `p` to process `q` may arrive: those of the least numbers.
-    fn arriving(&self, p: u32, q: u32) -> usize
-        ensures few { result ≤ 4 }
-        ensures allowed { Whichever self.now (λ s. (i : ℕ) → 0 < i → i ≤ 4
-            → IsSome (deliver (program_of self.now) s p q i) ↔ (i ≤ result)) }
+    // The same where this is the only event.
+    fn find_one(&self, e: Event, j: usize) -> Result<Event, usize>
+        ensures found { Whichever self.now (λ s.
+            Finds (filter (is_allowed (program_of self.now) s) (e ∷ [])) j result) }
+        ensures few { IsWithin 1 j result }
     {
-        if !self.waits(q) {
-            return 0;
+        if !self.may_step(&e) {
+            return Err(j);
         }
-        self.channels.under_way(p, q).min(most_picked(self.kind()))
+        match j.checked_sub(1) {
+            Some(past) => Err(past),
+            None => Ok(e),
+        }
     }
 
     // How many alternatives process `p` may have to take: those of the `await` at which it waits.
@@ -189,23 +180,5 @@ fn alternatives_at(place: Place) -> u32
     match place {
         Place::Await(count) => count,
         Place::New | Place::Label | Place::Ended | Place::Faulted => 0,
-    }
-}
-
-// How many messages of a channel of this kind may be picked, however many stand there.
-fn most_picked(kind: ChannelKind) -> usize
-    ensures { result ≡ (if may_arrive_lem kind 2 then 4 else 1) }
-{
-    if may_arrive(kind, 2) { 4 } else { 1 }
-}
-
-// The event of a move by its number.
-fn move_event(p: u32, k: u32) -> Event
-    ensures { result ≡ move_event_lem p k }
-{
-    if k == 0 {
-        Event::Move { p }
-    } else {
-        Event::Take { p, k }
     }
 }

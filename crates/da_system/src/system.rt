@@ -1,18 +1,17 @@
 //! The processes of a program, and their steps.
 ghost use Rattle.da_core.specs.Compiled.{IsCompiled, program_of as compiled_program};
-ghost use Rattle.da_core.specs.Made.{phase_at};
 ghost use Rattle.da_lang.specs.Accepted.{IsAccepted};
-ghost use Rattle.da_lang.specs.Steps.{move_step};
+ghost use Rattle.da_lang.specs.Steps.{TimeOut, move_step};
 ghost use Rattle.da_lang.specs.World.{at_number};
 ghost use Rattle.da_system.specs.Channels.{channel};
 ghost use Rattle.da_system.specs.Queues.{AreSent, count_of};
 ghost use Rattle.da_system.specs.SoundState.{IsSoundState, StaysSound};
-ghost use Rattle.da_system.specs.State.{Answers, HasBegun, HasPosted, HasStepped, IsReady, StandAlike, Stands, Whichever, is_spent, program_of, waits_at, waits_in as waits_lem};
+ghost use Rattle.da_system.specs.State.{Answers, HasBegun, HasPosted, HasStepped, IsReady, StandAlike, Stands, Whichever, is_spent, program_of};
 ghost use Rattle.da_system.specs.SystemStep.{deliver, lose, process_step, repeat, show, start, stat, sys_step};
 ghost use Rattle.std.specs.Prelude.{◌≡◌, ◌↔◌, ◌+◌, ◌<◌, ◌≤◌, MatchOption, None, IfErr, IfOk, IsErrOf, IsSome, IsTrue, OnOk, drop, false, is_some, length, option_copied, true};
 
 use crate::channels::{Channels, may_arrive, may_lose, may_repeat};
-use da_core::{Compiled, Core, Place, StepFault};
+use da_core::{Compiled, Core, StepFault};
 use da_lang::{Action, ChannelKind, Event};
 use da_values::{List, NoMemory};
 use std::alloc::Global;
@@ -99,17 +98,25 @@ impl<'c> System<'c> {
         }
         self.carry_out(e, out)
     }
+
+    /// How many messages are under way from process `p` to process `q`. It takes no memory.
+    pub fn under_way(&self, p: u32, q: u32) -> usize
+        ensures { Whichever self.now (λ s. result ≡ length (channel s.channels p q)) }
+    {
+        self.channels.under_way(p, q)
+    }
 }
 
 impl System<'_> {
     // Whether the event is allowed, where the system is not spent.
-    fn may_step(&self, e: &Event) -> bool
+    pub(crate) fn may_step(&self, e: &Event) -> bool
         ensures { Whichever self.now (λ s.
             IsTrue result ↔ IsSome (sys_step (program_of self.now) s e.now)) }
     {
         match e {
             Event::Move { p } => self.may_move(*p, 0),
             Event::Take { p, k } => *k > 0 && self.may_move(*p, *k),
+            Event::Timeout { p } => self.may_time_out(*p),
             Event::Deliver { p, q, i } => self.may_deliver(*p, *q, *i),
             Event::Lose { p, q, i } => self.can_lose(*p, *q, *i),
             Event::Repeat { p, q, i } => self.can_repeat(*p, *q, *i),
@@ -129,6 +136,7 @@ impl System<'_> {
         match e {
             Event::Move { p } => self.make_move(*p, 0, out),
             Event::Take { p, k } => self.take(*p, *k, out),
+            Event::Timeout { p } => self.time_out(*p, out),
             Event::Deliver { p, q, i } => self.deliver(*p, *q, *i, out),
             Event::Lose { p, q, i } => self.lose(*p, *q, *i, out),
             Event::Repeat { p, q, i } => self.repeat(*p, *q, *i, out),
@@ -166,12 +174,23 @@ impl System<'_> {
     }
 
     // Whether process `p` may make the move of number `k`.
-    pub(crate) fn may_move(&self, p: u32, k: u32) -> bool
+    fn may_move(&self, p: u32, k: u32) -> bool
         ensures { Whichever self.now (λ s.
             IsTrue result ↔ IsSome (process_step (program_of self.now) s p (move_step k))) }
     {
         match self.core(p) {
             Some(core) => core.can_move(k),
+            None => false,
+        }
+    }
+
+    // Whether the time may run out at the `await` where process `p` waits.
+    fn may_time_out(&self, p: u32) -> bool
+        ensures { Whichever self.now (λ s.
+            IsTrue result ↔ IsSome (process_step (program_of self.now) s p TimeOut)) }
+    {
+        match self.core(p) {
+            Some(core) => core.can_timeout(),
             None => false,
         }
     }
@@ -200,6 +219,30 @@ impl System<'_> {
         }
     }
 
+    // The timeout of process `p`.
+    fn time_out(&mut self, p: u32, out: &mut List<Action>) -> Result<(), StepFault>
+        requires ready { IsReady self.old }
+        requires unspent { is_spent self.old ≡ false }
+        ensures program { program_of self.new ≡ program_of self.old }
+        ensures answers { Answers (λ s. process_step (program_of self.old) s p TimeOut)
+            self.old result self.new out.old out.new }
+    {
+        let Some(place) = self.place_of(p) else {
+            return Err(StepFault::Forbidden);
+        };
+        let told = out.len();
+        let core = &mut self.cores[place];
+        match core.make_timeout(out) {
+            Ok(_) => self.post(told, out),
+            Err(StepFault::Memory) => {
+                self.spent = true;
+                Err(StepFault::Memory)
+            }
+            Err(StepFault::Forbidden) => Err(StepFault::Forbidden),
+            Err(StepFault::Spent) => Err(StepFault::Spent),
+        }
+    }
+
     // The messages that the actions behind the first `told` ones send go into their channels.
     fn post(&mut self, told: usize, out: &List<Action>) -> Result<(), StepFault>
         requires told { told ≤ length out.now }
@@ -217,7 +260,7 @@ impl System<'_> {
     }
 
     // The kind of the channels.
-    pub(crate) fn kind(&self) -> ChannelKind
+    fn kind(&self) -> ChannelKind
         ensures { result ≡ (program_of self.now).kind }
     {
         self.compiled.program().kind
@@ -230,22 +273,21 @@ impl System<'_> {
         self.channels.letter(p, q, i).is_some()
     }
 
-    // Whether process `q` waits at a label or an `await`.
-    pub(crate) fn waits(&self, q: u32) -> bool
-        ensures { Whichever self.now (λ s. result ≡ waits_at (at_number s.worlds q)) }
-    {
-        match self.core(q) {
-            Some(core) => is_waiting(core.place()),
-            None => false,
-        }
-    }
-
-    // Whether message `i` of the channel from `p` to `q` may arrive.
+    // Whether message `i` of the channel from `p` to `q` may arrive: its receiver waits and takes it.
     fn may_deliver(&self, p: u32, q: u32, i: u32) -> bool
         ensures { Whichever self.now (λ s.
             IsTrue result ↔ IsSome (deliver (program_of self.now) s p q i)) }
     {
-        self.waits(q) && may_arrive(self.kind(), i) && self.has_letter(p, q, i)
+        if !may_arrive(self.kind(), i) {
+            return false;
+        }
+        let Some(letter) = self.channels.letter(p, q, i) else {
+            return false;
+        };
+        match self.core(q) {
+            Some(core) => core.can_take(p as u16, &letter.value),
+            None => false,
+        }
     }
 
     // Whether message `i` of the channel from `p` to `q` may be lost.
@@ -407,14 +449,4 @@ fn fields_are_whole(system: &System<'_>) {
         channels: _,
         spent: _,
     } = system;
-}
-
-// Whether a process that stands there waits at a label or an `await`.
-fn is_waiting(place: Place) -> bool
-    ensures { result ≡ waits_lem (phase_at place) }
-{
-    match place {
-        Place::Label | Place::Await(_) => true,
-        Place::New | Place::Ended | Place::Faulted => false,
-    }
 }

@@ -1,5 +1,5 @@
 -- The lines that break a rule, by the forms of statements.
-use Rattle.std.specs.Prelude.{◌≡◌, refl, ℕ, ◌&&◌, true, is_some, List, [], ◌∷◌, ◌++◌, map, flat_map, Option}
+use Rattle.std.specs.Prelude.{◌≡◌, refl, ℕ, ◌&&◌, true, is_some, List, [], ◌∷◌, ◌++◌, map, flat_map, Option, Some, None, option_map, unwrap_or}
 use Rattle.std.proofs.Common.{◌∙◌, ap, sym}
 use Rattle.std.proofs.lemmas.Grind.{flat_map-append}
 use Rattle.da_lang.specs.declared.program.Alt.{Alt, out-Alt, roll-out-Alt}
@@ -63,11 +63,11 @@ module _ (messages : List MessageDecl) (queries : List Query) (slots : Slots) wh
   pub rule-Call : (args : List BindArg) (body : List Item) → (broken (it.Call args body)).rule ≡ fits_params messages queries slots args
   rule-Call args body = ap (λ (b : Breaks). b.rule) (kind_broken-Call messages queries slots args body)
 
-  pub rule-Await : (alts : List Alt) → (broken (it.Await alts)).rule ≡ true
-  rule-Await alts = ap (λ (b : Breaks). b.rule) (kind_broken-Await messages queries slots alts)
+  pub rule-Await : (alts : List Alt) (timeout : Option (List Item)) (label : Option ℕ) → (broken (it.Await alts timeout label)).rule ≡ true
+  rule-Await alts timeout label = ap (λ (b : Breaks). b.rule) (kind_broken-Await messages queries slots alts timeout label)
 
-  pub rule-Label : (broken it.Label).rule ≡ true
-  rule-Label = ap (λ (b : Breaks). b.rule) (kind_broken-Label messages queries slots)
+  pub rule-Label : (l : ℕ) → (broken (it.Label l)).rule ≡ true
+  rule-Label l = ap (λ (b : Breaks). b.rule) (kind_broken-Label messages queries slots l)
 
   pub rule-Pass : (broken it.Pass).rule ≡ true
   rule-Pass = ap (λ (b : Breaks). b.rule) (kind_broken-Pass messages queries slots)
@@ -104,11 +104,23 @@ module _ (messages : List MessageDecl) (queries : List Query) (slots : Slots) wh
   pub blocks-Call : (told : Option ℕ) (args : List BindArg) (body : List Item) → telling told (broken (it.Call args body)).blocks ≡ telling told (flat_map item_lines body)
   blocks-Call told args body = ap (λ (b : Breaks). telling told b.blocks) (kind_broken-Call messages queries slots args body) ∙ ap (telling told) (all_each item_lines body)
 
-  pub blocks-Await : (told : Option ℕ) (alts : List Alt) → telling told (broken (it.Await alts)).blocks ≡ telling told (flat_map (alt_broken messages queries slots) alts)
-  blocks-Await told alts = ap (λ (b : Breaks). telling told b.blocks) (kind_broken-Await messages queries slots alts) ∙ ap (telling told) (all_each (alt_broken messages queries slots) alts)
+  -- the lines in the block of a timeout, if there is one
+  timeout_lines : (timeout : Option (List Item)) → all (unwrap_or (option_map (map item_lines) timeout) []) ≡ flat_map item_lines (unwrap_or timeout [])
+  timeout_lines None = refl
+  timeout_lines (Some body) = all_each item_lines body
 
-  pub blocks-Label : (told : Option ℕ) → telling told (broken it.Label).blocks ≡ told
-  blocks-Label told = ap (λ (b : Breaks). telling told b.blocks) (kind_broken-Label messages queries slots) ∙ telling_none told
+  pub blocks-Await : (told : Option ℕ) (alts : List Alt) (timeout : Option (List Item)) (label : Option ℕ)
+      → telling told (broken (it.Await alts timeout label)).blocks ≡ telling (telling told (flat_map (alt_broken messages queries slots) alts)) (flat_map item_lines (unwrap_or timeout []))
+  blocks-Await told alts timeout label =
+      let others = unwrap_or (option_map (map item_lines) timeout) [] in
+      ap (λ (b : Breaks). telling told b.blocks) (kind_broken-Await messages queries slots alts timeout label)
+      ∙ ap (telling told) (all-append (map (alt_broken messages queries slots) alts) others)
+      ∙ telling-append told (all (map (alt_broken messages queries slots) alts)) (all others)
+      ∙ ap (λ lines. telling (telling told lines) (all others)) (all_each (alt_broken messages queries slots) alts)
+      ∙ ap (telling (telling told (flat_map (alt_broken messages queries slots) alts))) (timeout_lines timeout)
+
+  pub blocks-Label : (told : Option ℕ) (l : ℕ) → telling told (broken (it.Label l)).blocks ≡ told
+  blocks-Label told l = ap (λ (b : Breaks). telling told b.blocks) (kind_broken-Label messages queries slots l) ∙ telling_none told
 
   pub blocks-Pass : (told : Option ℕ) → telling told (broken it.Pass).blocks ≡ told
   blocks-Pass told = ap (λ (b : Breaks). telling told b.blocks) (kind_broken-Pass messages queries slots) ∙ telling_none told
@@ -140,6 +152,6 @@ module _ (messages : List MessageDecl) (queries : List Query) (slots : Slots) wh
 
 pub ruleset rule_rules = (rule-Assign, rule-Add, rule-Del, rule-Send, rule-Output, rule-If, rule-While, rule-For, rule-Call, rule-Await, rule-Label, rule-Pass)
 
-pub ruleset block_rules = (blocks-Assign, blocks-Add, blocks-Del, blocks-Send, blocks-Output, blocks-If, blocks-While, blocks-For, blocks-Call, blocks-Await, blocks-Label, blocks-Pass)
+pub ruleset block_rules = (telling_none, blocks-Assign, blocks-Add, blocks-Del, blocks-Send, blocks-Output, blocks-If, blocks-While, blocks-For, blocks-Call, blocks-Await, blocks-Label, blocks-Pass)
 
 pub ruleset item_rules = (item_told, branch_told, alt_told)

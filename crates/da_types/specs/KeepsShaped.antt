@@ -17,7 +17,7 @@ use Rattle.da_lang.specs.declared.ty.Ty.TheVariants as t
 use Rattle.da_lang.specs.ExprTypes.{ExprType}
 use Rattle.da_lang.specs.Runs.{AtYield, kind_yields, run_to_yield}
 use Rattle.da_lang.specs.Shaped.{HasType, IsEntry, IsOf, IsProcess, IsTask, Shaped, ShapedData, ShapedTasks, Within, well_typed}
-use Rattle.da_lang.specs.Steps.{Step, Go, Take, Deliver, Stepped, proc_step}
+use Rattle.da_lang.specs.Steps.{Step, Go, Take, TimeOut, Deliver, Stepped, proc_step}
 use Rattle.da_lang.specs.Turns.{do_all, kind_of, max_packet, packet_len, turn}
 use Rattle.da_lang.specs.World.{Data, Task, World, class_of, opening}
 
@@ -83,6 +83,7 @@ pub record StepsShaped (p : Program) (me : ℕ) (s : Stepped) : Type 0 where
 abbrev pub MayStep : Program → Step → Type 0
 MayStep p Go = Unit {0}
 MayStep p (Take k) = Unit {0}
+MayStep p TimeOut = Unit {0}
 MayStep p (Deliver m sender time) = IsEntry p (record { message = m; peer = sender; time = time })
 
 -- What is shown of each accepted program.

@@ -31,19 +31,19 @@ Bound = Option ℕ × List ℕ
 
 abbrev pub bound_by : ItemKind-F ItemKind Alt Item RBranch → List Bound
 bound_by (ItemKind-F.If branches other) = map (λ b. ((out-RBranch b).found, (out-RBranch b).binds)) branches
-bound_by (ItemKind-F.Await alts) = map (λ a. ((out-Alt a).found, (out-Alt a).binds)) alts
+bound_by (ItemKind-F.Await alts timeout label) = map (λ a. ((out-Alt a).found, (out-Alt a).binds)) alts
 bound_by _ = []
 
 -- the slots that are bound at once
 abbrev pub slots_bound_by : ItemKind-F ItemKind Alt Item RBranch → List (List ℕ)
 slots_bound_by (ItemKind-F.If branches other) = map (λ b. (out-RBranch b).binds) branches
-slots_bound_by (ItemKind-F.Await alts) = map (λ a. (out-Alt a).binds) alts
+slots_bound_by (ItemKind-F.Await alts timeout label) = map (λ a. (out-Alt a).binds) alts
 slots_bound_by (ItemKind-F.Call args body) = map slot_of_arg args ∷ []
 slots_bound_by _ = []
 
 -- the conditions that a statement waits for
 abbrev pub awaited : ItemKind-F ItemKind Alt Item RBranch → List Cond
-awaited (ItemKind-F.Await alts) = map (λ a. (out-Alt a).cond) alts
+awaited (ItemKind-F.Await alts timeout label) = map (λ a. (out-Alt a).cond) alts
 awaited _ = []
 
 -- the query of this number is a `some`

@@ -282,7 +282,7 @@ QueryHas p c d q v = (ty : Ty) × (query_type (known p.messages c.queries c.slot
 -- condition of each alternative of an `await`. It is the one that they have where other values stand in for missing ones.
 pub record AllHaveValues (p : Program) (c : Class) (d : Data) : Type 0 where
   pub queries : (n : ℕ) (q : Query) → at_number c.queries n ≡ Some q → QueryHas p c d q (query_value c.queries n d)
-  pub conditions : (i : Item) (alts : List Alt) (a : Alt) → IsItemOf c i → kind_of i ≡ Await alts → Has alts a → strict_holds d (out-Alt a).cond [] ≡ Some (holds d (out-Alt a).cond [])
+  pub conditions : (i : Item) (alts : List Alt) (timeout : Option (List Item)) (label : Option ℕ) (a : Alt) → IsItemOf c i → kind_of i ≡ Await alts timeout label → Has alts a → strict_holds d (out-Alt a).cond [] ≡ Some (holds d (out-Alt a).cond [])
 
 -- What is shown of each typed program: all of a class have values, whatever a process of it knows that is shaped.
 abbrev pub NothingIsMissing : Program → Type 0

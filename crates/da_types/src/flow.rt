@@ -187,13 +187,19 @@ fn kind_types(
             items_types(alloc, messages, queries, body.as_slice(), slots)
         }
         ItemKind::Call(_, body) => items_types(alloc, messages, queries, body.as_slice(), slots),
-        ItemKind::Await(alts) => alts_types(alloc, messages, queries, alts.as_slice(), slots),
+        ItemKind::Await { alts, timeout, .. } => {
+            alts_types(alloc, messages, queries, alts.as_slice(), slots)?;
+            match timeout {
+                None => Ok(()),
+                Some(body) => items_types(alloc, messages, queries, body.as_slice(), slots),
+            }
+        }
         ItemKind::Assign(_, _)
         | ItemKind::Add(_, _)
         | ItemKind::Del(_, _)
         | ItemKind::Send(_, _)
         | ItemKind::Output(_)
-        | ItemKind::Label
+        | ItemKind::Label(_)
         | ItemKind::Pass => Ok(()),
     }
 }

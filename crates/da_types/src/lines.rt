@@ -68,13 +68,19 @@ fn tell_blocks(
         ItemKind::While(_, body) => tell_items(alloc, known, queries, body.as_slice(), least),
         ItemKind::For(_, _, body) => tell_items(alloc, known, queries, body.as_slice(), least),
         ItemKind::Call(_, body) => tell_items(alloc, known, queries, body.as_slice(), least),
-        ItemKind::Await(alts) => tell_alts(alloc, known, queries, alts.as_slice(), least),
+        ItemKind::Await { alts, timeout, .. } => {
+            tell_alts(alloc, known, queries, alts.as_slice(), least)?;
+            match timeout {
+                None => Ok(()),
+                Some(body) => tell_items(alloc, known, queries, body.as_slice(), least),
+            }
+        }
         ItemKind::Assign(_, _)
         | ItemKind::Add(_, _)
         | ItemKind::Del(_, _)
         | ItemKind::Send(_, _)
         | ItemKind::Output(_)
-        | ItemKind::Label
+        | ItemKind::Label(_)
         | ItemKind::Pass => Ok(()),
     }
 }

@@ -33,7 +33,9 @@ pub fn keeps_rule(
         ItemKind::While(x, _) => is_truth(alloc, known, queries, x.get()),
         ItemKind::For(slot, x, _) => takes_elements(alloc, known, queries, *slot, x.get()),
         ItemKind::Call(args, _) => fits_params(alloc, known, queries, args.as_slice()),
-        ItemKind::If(_, _) | ItemKind::Await(_) | ItemKind::Label | ItemKind::Pass => Ok(true),
+        ItemKind::If(_, _) | ItemKind::Await { .. } | ItemKind::Label(_) | ItemKind::Pass => Ok(
+            true,
+        ),
     }
 }
 

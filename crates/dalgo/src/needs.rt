@@ -10,8 +10,11 @@ pub fn needs_of(line: &[u8]) -> &'static str {
             "move P K: process P waits at an await, and its alternative K is true"
         }
         b"move" => "move P: process P has not started, or waits at a label",
+        b"timeout" => {
+            "timeout P: process P waits at an 'await' with a timeout block, and none of its conditions is true"
+        }
         b"deliver" => {
-            "deliver P Q I: the channel from P to Q holds a message I, in a fifo channel the first one, and process Q waits"
+            "deliver P Q I: the channel from P to Q holds a message I, in a fifo channel the first one, and process Q takes it where it waits"
         }
         b"lose" => "lose P Q I: the channel from P to Q holds a message I, and is unreliable",
         b"repeat" => {

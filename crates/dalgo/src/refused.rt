@@ -201,7 +201,6 @@ fn why_of_tokens(kind: RefusedKind) -> Option<Why> {
 
 fn name_of(kind: RefusedKind) -> Option<ScopeKind> {
     match kind {
-        RefusedKind::NotYet => Some(ScopeKind::NotYet),
         RefusedKind::Unknown => Some(ScopeKind::Unknown),
         RefusedKind::Twice => Some(ScopeKind::Twice),
         RefusedKind::Shadow => Some(ScopeKind::Shadow),

@@ -10,7 +10,7 @@ use std::{io, rt};
 use text_hints::Phrase;
 
 const LINES: &str = "\
-lines: move P, move P K, deliver P Q I, lose P Q I, repeat P Q I, show P, stat P, with single spaces; or # and a remark";
+lines: move P, move P K, timeout P, deliver P Q I, lose P Q I, repeat P Q I, show P, stat P, with single spaces; or # and a remark";
 
 /// Tells which line of a schedule is none.
 pub fn tell_bad_line<R: rt::Files + AllocGlobal + Eprint>(

@@ -15,7 +15,6 @@ pub fn cut_word(kind: LexKind) -> &'static str {
 /// The word for a rule of names.
 pub fn name_word(kind: ScopeKind) -> &'static str {
     match kind {
-        ScopeKind::NotYet => "notyet",
         ScopeKind::Unknown => "unknown",
         ScopeKind::Twice => "twice",
         ScopeKind::Shadow => "shadow",

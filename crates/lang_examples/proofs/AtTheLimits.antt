@@ -120,25 +120,25 @@ call i = roll-Item (record { line = 6; kind = it.Call [] (i ∷ []) })
 
 -- a statement that needs no slot and no query becomes this
 abbrev Means : Copy → Stmt → Item → Type 0
-Means copy s i = (scope : Scope Meaning) → stating copy s scope no_tables ≡ record { item = i; scope = scope; tables = no_tables }
+Means copy s i = (scope : Scope Meaning) → stating copy s None scope no_tables ≡ record { item = i; label = None; scope = scope; tables = no_tables }
 
 nest_means : (copy : Copy) (s : Stmt) (i : Item) → Means copy s i → (n : ℕ) → Means copy (nest s n) (nested i n)
 nest_means copy s i means zero scope = means scope
 nest_means copy s i means (suc n) scope =
-    ap (λ (made : Stating). made scope no_tables) (stating-While copy (ex.Truth true) (nest s n ∷ []) 6) ∙ simp meaning (rw (nest_means copy s i means n scope) refl)
+    ap (λ (made : Stating). made None scope no_tables) (stating-While copy (ex.Truth true) (nest s n ∷ []) 6) ∙ simp meaning (rw (nest_means copy s i means n scope) refl)
 
 pass_means : (copy : Copy) → Means copy (stmt.Pass 6) pass
-pass_means copy scope = ap (λ (made : Stating). made scope no_tables) (stating-Pass copy 6)
+pass_means copy scope = ap (λ (made : Stating). made None scope no_tables) (stating-Pass copy 6)
 
 abbrev copied : Copy → ClassTree → Scope Meaning → Option Body → Behind
-copied inner c scope method = let kind = copy_of inner c method [] no_tables in record { item = item_at 6 kind.0; scope = scope; tables = kind.1 }
+copied inner c scope method = let kind = copy_of inner c method [] no_tables in record { item = item_at 6 kind.0; label = None; scope = scope; tables = kind.1 }
 
 call_means : (c : ClassTree) (most : ℕ) (name : List ℕ) (s : Stmt) (i : Item) → method_of c name ≡ Some (record { place = InMethod name; params = []; stmts = s ∷ []; line = 7 }) → Means (copies most c) s i → Means (copies (suc most) c) (calls name) (call i)
 unfolding copies
 call_means c most name s i is means scope =
-    ap (λ (made : Stating). made scope no_tables) (stating-Call (copies (suc most) c) name [] 6)
+    ap (λ (made : Stating). made None scope no_tables) (stating-Call (copies (suc most) c) name [] 6)
     ∙ ap (copied (copies most c) c scope) is
-    ∙ ap (λ (first : Behind). record { item = item_at 6 (it.Call [] (first.item ∷ [])); scope = scope; tables = first.tables }) (means (class_slots c))
+    ∙ ap (λ (first : Behind). record { item = item_at 6 (it.Call [] (first.item ∷ [])); label = None; scope = scope; tables = first.tables }) (means (class_slots c))
 
 abbrev chain : ℕ → ClassTree
 chain n = record (class_of []) {

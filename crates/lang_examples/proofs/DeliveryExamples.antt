@@ -1,5 +1,5 @@
 -- Messages that arrive at process 2, which waits: handlers that match, that do not, and that fail.
-use Rattle.std.specs.Prelude.{◌≡◌, refl, ℕ, pos, List, [], ◌∷◌, Option, Some, None, codes}
+use Rattle.std.specs.Prelude.{◌≡◌, refl, ℕ, pos, true, List, [], ◌∷◌, Option, Some, None, codes}
 use Rattle.std.proofs.Common.{◌∙◌, ap, arith}
 use Rattle.da_values.specs.declared.val.Val.{Val}
 use Rattle.da_values.specs.declared.val.Val.TheVariants as val
@@ -21,12 +21,14 @@ use Rattle.da_lang.specs.declared.query.Term.TheVariants as term
 use Rattle.da_lang.specs.declared.tree.ArithOp.TheVariants.{Plus}
 use Rattle.da_lang.specs.declared.ty.ChannelKind.TheVariants.{UnorderedUnreliable}
 use Rattle.da_lang.proofs.HandlerLaws.{handle_late, handle_none, handle_passes, handle_runs}
+use Rattle.da_lang.proofs.MoveLaws.{step_delivers}
 use Rattle.da_lang.proofs.RunLaws.{run_fails, run_goes, run_to_yield_end}
+use Rattle.da_lang.specs.Labels.{takes}
 use Rattle.da_lang.specs.Runs.{Ran, Faults, UsedUp, behind, max_turns, run_to_yield, stopped}
 use Rattle.da_lang.specs.Steps.{Deliver, Stepped, handle, handled, proc_step}
 use Rattle.da_lang.specs.Turns.{last_time, max_packet}
-use Rattle.da_lang.specs.World.{Entry, Data, Task, Do, put_slot, Waiting, Faulted}
-use Rattle.da_lang.proofs.Computing.{early, turning}
+use Rattle.da_lang.specs.World.{Entry, Data, Task, Do, World, put_slot, Waiting, Faulted}
+use Rattle.da_lang.proofs.Computing.{early, taking, turning}
 
 abbrev num : ℕ → Val
 num n = val.Int (pos n)
@@ -52,10 +54,10 @@ counts = on 15 (it.Assign 3 (ex.Chain (ex.Slot 3) (roll-ChainPart (record { op =
 
 -- `receive ('go', n) from who`, and behind it `receive ('go', =x)`, which prints x
 abbrev at_go : Handler
-at_go = record { message = Tuple (Const (literal.Text (codes "go")) ∷ Bind ∷ []); from = Bind; binds = 1 ∷ 2 ∷ []; body = replies ∷ counts ∷ []; line = 13 }
+at_go = record { message = Tuple (Const (literal.Text (codes "go")) ∷ Bind ∷ []); from = Bind; at = []; binds = 1 ∷ 2 ∷ []; body = replies ∷ counts ∷ []; line = 13 }
 
 abbrev at_x : Handler
-at_x = record { message = Tuple (Const (literal.Text (codes "go")) ∷ Equal (term.Slot 3) ∷ []); from = Any; binds = []; body = on 17 (it.Output (ex.Slot 3)) ∷ []; line = 16 }
+at_x = record { message = Tuple (Const (literal.Text (codes "go")) ∷ Equal (term.Slot 3) ∷ []); from = Any; at = []; binds = []; body = on 17 (it.Output (ex.Slot 3)) ∷ []; line = 16 }
 
 abbrev class : Class
 class = record { name = []; slots = []; params = []; setup = []; run = []; handlers = at_go ∷ at_x ∷ []; queries = []; line = 1 }
@@ -64,7 +66,7 @@ abbrev program : Program
 program = record { kind = UnorderedUnreliable; messages = []; classes = class ∷ []; procs = record { class = 0; setup = None } ∷ record { class = 0; setup = None } ∷ [] }
 
 abbrev todo : List Task
-todo = Do (on 9 it.Label) ∷ []
+todo = Do (on 9 (it.Label 1)) ∷ []
 
 -- the process at the time 1, with x; and when the message m of process 1 with the time 1 has come
 abbrev before : ℕ → Data
@@ -90,9 +92,12 @@ steps x m = proc_step program (record { data' = before x; todo = todo; phase = W
 
 -- THE STEP IS WHAT THE HANDLERS DO
 
-step_is : (x : ℕ) (m : Val) (ran : Ran) → handle class m 1 (at_go ∷ at_x ∷ []) 0 (came m x) ≡ ran → steps x m ≡ Some (handled todo 2 m 1 1 ran)
+abbrev waits : ℕ → World
+waits x = record { data' = before x; todo = todo; phase = Waiting }
+
+step_is : (x : ℕ) (m : Val) (ran : Ran) → takes class (waits x) m 1 ≡ true → handle class m 1 (at_go ∷ at_x ∷ []) 0 (came m x) ≡ ran → steps x m ≡ Some (handled todo 2 m 1 1 ran)
 unfolding last_time
-step_is x m ran is = ap (λ found. Some (handled todo 2 m 1 1 found)) is
+step_is x m ran taken is = step_delivers program class (waits x) refl m 1 1 refl taken ∙ ap (λ found. Some (handled todo 2 m 1 1 found)) is
 
 -- a message that no handler matches costs two turns
 other : Val
@@ -101,7 +106,7 @@ other = val.Tuple (val.Text (codes "no") ∷ num 1 ∷ [])
 unmatched : (x : ℕ) → steps x other ≡ Some (record { world = record { data' = came other x; todo = todo; phase = Waiting }; actions = Got 2 1 1 (value_of other) ∷ [] })
 unfolding other
 unmatched x =
-    step_is x other _
+    step_is x other _ (simp taking)
     (handle_passes class other 1 at_go (at_x ∷ []) 0 (came other x) (early 0 (omega arith)) (simp turning)
     ∙ handle_passes class other 1 at_x [] 1 (came other x) (early 1 (omega arith)) (simp turning)
     ∙ handle_none class other 1 2 (came other x))
@@ -125,7 +130,7 @@ second_body =
 
 both_match : steps 0 go ≡ Some (record { world = record { data' = put_slot (replied 0) 3 (num 1); todo = todo; phase = Waiting }; actions = Got 2 1 1 (value_of go) ∷ Sent 2 1 3 (literal.Tuple (val.Text (codes "ok") ∷ num 1 ∷ [])) ∷ Out 2 (literal.Int (pos 1)) ∷ [] })
 both_match =
-    step_is 0 go _
+    step_is 0 go _ (simp taking)
     (handle_runs class go 1 at_go (at_x ∷ []) 0 (came go 0) (num 1 ∷ val.Proc 1 ∷ []) _ (early 0 (omega arith)) (simp turning) first_body
     ∙ ap (behind reply) (handle_runs class go 1 at_x [] 3 (put_slot (replied 0) 3 (num 1)) [] _ (early 3 (omega arith)) (simp turning) second_body))
 
@@ -137,7 +142,7 @@ failing_body =
     ∙ ap (behind reply) (run_fails class 2 (replied greatest) (replied greatest) (Do counts) [] [] [] Overflow 15 (early 2 (omega arith)) (simp turning) (simp turning))
 
 fails : steps greatest go ≡ Some (record { world = record { data' = replied greatest; todo = todo; phase = Faulted }; actions = Got 2 1 1 (value_of go) ∷ Sent 2 1 3 (literal.Tuple (val.Text (codes "ok") ∷ num 1 ∷ [])) ∷ Fault 2 Overflow 15 ∷ [] })
-fails = step_is greatest go _ (handle_runs class go 1 at_go (at_x ∷ []) 0 (came go greatest) (num 1 ∷ val.Proc 1 ∷ []) _ (early 0 (omega arith)) (simp turning) failing_body)
+fails = step_is greatest go _ (simp taking) (handle_runs class go 1 at_go (at_x ∷ []) 0 (came go greatest) (num 1 ∷ val.Proc 1 ∷ []) _ (early 0 (omega arith)) (simp turning) failing_body)
 
 -- a handler that can no longer be tried
 no_turn_left : (d : Data) → handle class go 1 (at_x ∷ []) max_turns d ≡ stopped d [] max_turns (Faults TooLong 16)

@@ -21,15 +21,15 @@ use Rattle.da_lang.specs.Runs.{UsedUp, max_turns, run_to_yield, stopped}
 use Rattle.da_lang.specs.Steps.{Go, Deliver, handled, moved, proc_step}
 use Rattle.da_lang.specs.Turns.{last_time}
 use Rattle.da_lang.specs.World.{Data, Task, Do, World, Waiting, Ended, Faulted}
-use Rattle.da_lang.proofs.Computing.{stepping, turning}
+use Rattle.da_lang.proofs.Computing.{stepping, taking, turning}
 use Rattle.lang_examples.proofs.CountExample.{begin, begins, here, leaves, round, round_item, rounds}
 
 -- two handlers for every message: the first counts x down, the second does nothing
 abbrev counts : Handler
-counts = record { message = Any; from = Any; binds = []; body = round_item ∷ []; line = 8 }
+counts = record { message = Any; from = Any; at = []; binds = []; body = round_item ∷ []; line = 8 }
 
 abbrev passes : Handler
-passes = record { message = Any; from = Any; binds = []; body = roll-Item (record { line = 10; kind = it.Pass }) ∷ []; line = 9 }
+passes = record { message = Any; from = Any; at = []; binds = []; body = roll-Item (record { line = 10; kind = it.Pass }) ∷ []; line = 9 }
 
 abbrev class : Class
 class = record { name = []; slots = []; params = []; setup = []; run = []; handlers = counts ∷ passes ∷ []; queries = []; line = 1 }
@@ -41,7 +41,7 @@ abbrev start : Data
 start = record { me = 1; slots = []; sent = []; received = []; clock = 0 }
 
 abbrev label : Item
-label = roll-Item (record { line = 3; kind = it.Label })
+label = roll-Item (record { line = 3; kind = it.Label 1 })
 
 abbrev at_label : ℕ → List Task → World
 at_label x todo = record { data' = here start x; todo = Do label ∷ todo; phase = Waiting }
@@ -51,7 +51,7 @@ at_label x todo = record { data' = here start x; todo = Do label ∷ todo; phase
 in_time : proc_step program (at_label 499999 (round ∷ [])) Go ≡ Some (record { world = record { data' = here start 0; todo = []; phase = Ended }; actions = Took 1 0 ∷ End 1 ∷ [] })
 unfolding max_turns
 in_time =
-    step_at_label program class (at_label 499999 (round ∷ [])) refl label (round ∷ []) refl refl (simp stepping)
+    step_at_label program class (at_label 499999 (round ∷ [])) refl label (round ∷ []) 1 refl refl (simp stepping)
     ∙ ap (λ ran. Some (moved 1 0 ran))
     (rounds class start 0 499999 1 (omega arith) (omega arith)
     ∙ run_goes class 999999 (here start 0) (here start 0) round [] [] [] (omega arith) (simp turning) (leaves class start)
@@ -61,7 +61,7 @@ in_time =
 too_long : proc_step program (at_label 0 (begin 499999 ∷ round ∷ [])) Go ≡ Some (record { world = record { data' = here start 0; todo = round ∷ []; phase = Faulted }; actions = Took 1 0 ∷ Fault 1 TooLong 5 ∷ [] })
 unfolding max_turns
 too_long =
-    step_at_label program class (at_label 0 (begin 499999 ∷ round ∷ [])) refl label (begin 499999 ∷ round ∷ []) refl refl (simp stepping)
+    step_at_label program class (at_label 0 (begin 499999 ∷ round ∷ [])) refl label (begin 499999 ∷ round ∷ []) 1 refl refl (simp stepping)
     ∙ ap (λ ran. Some (moved 1 0 ran))
     (run_goes class 1 (here start 0) (here start 499999) (begin 499999) (round ∷ []) (round ∷ []) [] (omega arith) (simp turning) (begins class start 499999 (round ∷ []))
     ∙ rounds class start 0 499999 2 (omega arith) (omega arith)
@@ -88,7 +88,7 @@ all_turns =
 second_too_late : proc_step program (waits 499999) (Deliver one 1 1) ≡ Some (record { world = record { data' = here came 0; todo = Do label ∷ []; phase = Faulted }; actions = Got 1 1 1 (value_of one) ∷ Fault 1 TooLong 9 ∷ [] })
 unfolding max_turns last_time
 second_too_late =
-    step_delivers program class (waits 499999) refl one 1 1 refl
+    step_delivers program class (waits 499999) refl one 1 1 refl (simp taking)
     ∙ ap (λ ran. Some (handled (Do label ∷ []) 1 one 1 1 ran))
     (handle_runs class one 1 counts (passes ∷ []) 0 (here came 499999) [] _ (omega arith) (simp turning) all_turns
     ∙ handle_late class one 1 passes [] 1000000 (here came 0) (omega arith))
@@ -110,7 +110,7 @@ last_two =
 second_in_time : proc_step program (waits 499998) (Deliver one 1 1) ≡ Some (record { world = record { data' = here came 0; todo = Do label ∷ []; phase = Waiting }; actions = Got 1 1 1 (value_of one) ∷ [] })
 unfolding max_turns last_time
 second_in_time =
-    step_delivers program class (waits 499998) refl one 1 1 refl
+    step_delivers program class (waits 499998) refl one 1 1 refl (simp taking)
     ∙ ap (λ ran. Some (handled (Do label ∷ []) 1 one 1 1 ran))
     (handle_runs class one 1 counts (passes ∷ []) 0 (here came 499998) [] _ (omega arith) (simp turning) two_turns_left
     ∙ handle_runs class one 1 passes [] 999998 (here came 0) [] _ (omega arith) (simp turning) last_two

@@ -172,15 +172,15 @@ third_body inner = simp (resolving, each, ifs) refl
 abbrev called : RExpr → ℕ → List Item × Tables → ItemKind × Tables
 called v s items = (it.Call (record { slot = s; value = v } ∷ []) items.0, items.1)
 
-first_call : (v : RExpr) → copies 5 tree (codes "g") (v ∷ []) first ≡ called v 4 (copy 4 2, with_copy first 4)
+first_call : (v : RExpr) → (copies 5 tree).call (codes "g") (v ∷ []) first ≡ called v 4 (copy 4 2, with_copy first 4)
 unfolding copies
 first_call v = ap (called v 4) (first_body (copies 4 tree))
 
-second_call : (v : RExpr) → copies 5 tree (codes "g") (v ∷ []) second ≡ called v 10 (copy 10 6, with_copy second 10)
+second_call : (v : RExpr) → (copies 5 tree).call (codes "g") (v ∷ []) second ≡ called v 10 (copy 10 6, with_copy second 10)
 unfolding copies
 second_call v = ap (called v 10) (second_body (copies 4 tree))
 
-third_call : (v : RExpr) → copies 5 tree (codes "g") (v ∷ []) third ≡ called v 17 (copy 17 9, with_copy third 17)
+third_call : (v : RExpr) → (copies 5 tree).call (codes "g") (v ∷ []) third ≡ called v 17 (copy 17 9, with_copy third 17)
 unfolding copies
 third_call v = ap (called v 17) (third_body (copies 4 tree))
 
@@ -189,7 +189,7 @@ third_call v = ap (called v 17) (third_body (copies 4 tree))
 abbrev run_of_all : List Item
 run_of_all =
     at 14 (it.For 3 (re.Ask 1) (call 15 (re.Slot 3) 4 2 ∷ []))
-    ∷ at 16 (it.Await (roll-Alt (record { cond = co.Quant false all_of_s None; found = Some 5; binds = 9 ∷ []; body = []; line = 16 }) ∷ []))
+    ∷ at 16 (it.Await (roll-Alt (record { cond = co.Quant false all_of_s None; found = Some 5; binds = 9 ∷ []; body = []; line = 16 }) ∷ []) None None)
     ∷ call 17 (re.Slot 9) 10 6 ∷ []
 
 run_is : body_with (copies 5 tree) stmts_of_run scope (record { slots = vars; queries = [] }) ≡ (run_of_all, with_copy second 10)
@@ -199,6 +199,7 @@ abbrev handler_of_all : Handler
 handler_of_all = record {
   message = pa.Tuple (pa.Const (kept.Text (codes "m")) ∷ pa.Bind ∷ pa.Any ∷ []);
   from = pa.Bind;
+  at = [];
   binds = 15 ∷ 16 ∷ [];
   body = call 3 (re.Slot 15) 17 9 ∷ [];
   line = 2;

@@ -3,7 +3,9 @@ mod CountExample
 mod DeliveryExamples
 mod EdgeExamples
 mod EvaluationExamples
+mod GateExample
 mod InliningExample
+mod LabelExamples
 mod LimitExamples
 mod LiveExamples
 mod LoopExamples
@@ -14,6 +16,7 @@ mod QueryExamples
 mod ResolutionExamples
 mod RunExamples
 mod StepExamples
+mod TakesExamples
 mod TurnExamples
 mod TypedExamples
 mod TypingExamples

@@ -40,7 +40,7 @@ waits queries b = record {
   handlers = [];
   queries = queries;
   line = 1;
-  run = roll-Item (record { line = 2; kind = kind.Await (roll-Alt (record { cond = b; found = None; binds = []; body = []; line = 2 }) ∷ []) }) ∷ [];
+  run = roll-Item (record { line = 2; kind = kind.Await (roll-Alt (record { cond = b; found = None; binds = []; body = []; line = 2 }) ∷ []) None None }) ∷ [];
 }
 
 abbrev of_empty : Class

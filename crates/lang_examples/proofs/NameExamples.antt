@@ -44,15 +44,44 @@ nothing_refused : name_fault (tree_of (member.Var (codes "x") ty.Int 2 ∷ run (
 unfolding name_refusals leads_within yields_within
 nothing_refused = simp finding refl
 
--- a `timeout` behind an alternative, at its line
-not_yet : name_fault (tree_of (run (stmt.Await (roll-Branch (record { cond = ex.Truth true; body = stmt.Pass 7 ∷ []; line = 6 }) ∷ []) (Some (roll-TimeoutTree (record { body = stmt.Pass 9 ∷ []; line = 8 }))) 6 ∷ []) ∷ []) []) ≡ told refusal.NotYet 8
+-- a `timeout` behind an alternative
+timeout : name_fault (tree_of (run (stmt.Await (roll-Branch (record { cond = ex.Truth true; body = stmt.Pass 7 ∷ []; line = 6 }) ∷ []) (Some (roll-TimeoutTree (record { body = stmt.Pass 9 ∷ []; line = 8 }))) 6 ∷ []) ∷ []) []) ≡ None
 unfolding name_refusals leads_within yields_within
-not_yet = simp finding refl
+timeout = simp finding refl
 
--- a `receive` with `at`
-not_yet_at : name_fault (tree_of (run (stmt.Pass 6 ∷ []) ∷ member.Receive pattern.Wild None (codes "l" ∷ []) (stmt.Pass 8 ∷ []) 7 ∷ []) []) ≡ told refusal.NotYet 7
+-- a `receive` at a label of `run`; at none that is there; at one that is named twice
+abbrev at_labels : List (List ℕ) → Tree
+at_labels labels = tree_of (run (stmt.Label (codes "l") 6 ∷ []) ∷ member.Receive pattern.Wild None labels (stmt.Pass 8 ∷ []) 7 ∷ []) []
+
+at_label : name_fault (at_labels (codes "l" ∷ [])) ≡ None
 unfolding name_refusals leads_within yields_within
-not_yet_at = simp finding refl
+at_label = simp finding refl
+
+at_no_label : name_fault (at_labels (codes "l" ∷ codes "m" ∷ [])) ≡ told refusal.Unknown 7
+unfolding name_refusals leads_within yields_within
+at_no_label = simp finding refl
+
+at_label_twice : name_fault (at_labels (codes "l" ∷ codes "l" ∷ [])) ≡ told refusal.Twice 7
+unfolding name_refusals leads_within yields_within
+at_label_twice = simp finding refl
+
+-- where a name is no label and another one is named twice, the first is told
+at_both : name_fault (at_labels (codes "l" ∷ codes "l" ∷ codes "m" ∷ [])) ≡ told refusal.Unknown 7
+unfolding name_refusals leads_within yields_within
+at_both = simp finding refl
+
+-- a label of a method that nothing calls is one of the class, and a method's name is none
+abbrev at_other : List ℕ → Tree
+at_other label =
+    tree_of (member.Receive pattern.Wild None (label ∷ []) (stmt.Pass 8 ∷ []) 7 ∷ member.Method (codes "f") [] (stmt.Label (codes "l") 10 ∷ []) 9 ∷ run (stmt.Pass 6 ∷ []) ∷ []) []
+
+at_uncalled : name_fault (at_other (codes "l")) ≡ None
+unfolding name_refusals leads_within yields_within
+at_uncalled = simp finding refl
+
+at_method : name_fault (at_other (codes "f")) ≡ told refusal.Unknown 7
+unfolding name_refusals leads_within yields_within
+at_method = simp finding refl
 
 -- a name that is nowhere declared
 unknown : name_fault (tree_of (run (stmt.Output (ex.Name (codes "x")) 6 ∷ []) ∷ []) []) ≡ told refusal.Unknown 6

@@ -29,12 +29,13 @@ use Rattle.da_lang.specs.declared.tree.ArithOp.TheVariants.{Plus}
 use Rattle.da_lang.specs.declared.tree.CmpOp.TheVariants.{Gt}
 use Rattle.da_lang.specs.declared.ty.ChannelKind.TheVariants.{UnorderedUnreliable}
 use Rattle.da_lang.proofs.HandlerLaws.{handle_none, handle_passes, handle_runs}
+use Rattle.da_lang.proofs.MoveLaws.{step_delivers}
 use Rattle.da_lang.proofs.RunLaws.{run_goes, run_to_yield_end, run_to_yield_yield}
 use Rattle.da_lang.specs.Runs.{behind}
 use Rattle.da_lang.specs.Steps.{Go, Take, Deliver, handled, moved, proc_step}
 use Rattle.da_lang.specs.Turns.{last_time, max_packet}
-use Rattle.da_lang.specs.World.{Entry, Data, Task, Do, Prepare, put_slot, New, Waiting, Ended}
-use Rattle.da_lang.proofs.Computing.{early, stepping}
+use Rattle.da_lang.specs.World.{Entry, Data, Task, Do, Prepare, World, put_slot, New, Waiting, Ended}
+use Rattle.da_lang.proofs.Computing.{early, stepping, taking}
 
 abbrev num : ℕ → Val
 num n = val.Int (pos n)
@@ -70,7 +71,7 @@ abbrev over_5 : Cond
 over_5 = cond.Cmp Gt (operand.Term (term.Part 1)) (operand.Term (term.Const (literal.Int (pos 5))))
 
 abbrev awaits : Item
-awaits = on 9 (it.Await (roll-Alt (record { cond = cond.Quant false pongs (Some over_5); found = Some 1; binds = 3 ∷ []; body = []; line = 9 }) ∷ []))
+awaits = on 9 (it.Await (roll-Alt (record { cond = cond.Quant false pongs (Some over_5); found = Some 1; binds = 3 ∷ []; body = []; line = 9 }) ∷ []) None None)
 
 abbrev prints : Item
 prints = on 10 (it.Output (ex.Slot 3))
@@ -79,7 +80,7 @@ abbrev replies : Item
 replies = on 12 (it.Send (ex.Tuple (text (codes "pong") ∷ ex.Chain (ex.Slot 4) (roll-ChainPart (record { op = Plus; operand = ex.Const (literal.Int (pos 1)) }) ∷ []) ∷ [])) (ex.Slot 5))
 
 abbrev at_ping : Handler
-at_ping = record { message = Tuple (Const (literal.Text (codes "ping")) ∷ Bind ∷ []); from = Bind; binds = 4 ∷ 5 ∷ []; body = replies ∷ []; line = 11 }
+at_ping = record { message = Tuple (Const (literal.Text (codes "ping")) ∷ Bind ∷ []); from = Bind; at = []; binds = 4 ∷ 5 ∷ []; body = replies ∷ []; line = 11 }
 
 abbrev class : Class
 class = record { name = codes "P"; slots = []; params = 2 ∷ []; setup = keeps ∷ []; run = sends ∷ awaits ∷ prints ∷ []; handlers = at_ping ∷ []; queries = query.Quant false pongs (Some over_5) ∷ []; line = 3 }
@@ -110,6 +111,9 @@ has_sent = record knows { sent = entry ping 2 1 ∷ []; clock = 1 }
 abbrev to_wait : List Task
 to_wait = Do awaits ∷ Do prints ∷ []
 
+abbrev waits : Data → World
+waits d = record { data' = d; todo = to_wait; phase = Waiting }
+
 abbrev told : List Action
 told = Sent 1 2 1 (literal.Tuple (val.Text (codes "ping") ∷ num 5 ∷ [])) ∷ []
 
@@ -133,7 +137,8 @@ has_pong = record has_sent { received = entry pong 2 3 ∷ []; clock = 4 }
 gets_pong : proc_step program (record { data' = has_sent; todo = to_wait; phase = Waiting }) (Deliver pong 2 3) ≡ Some (record { world = record { data' = has_pong; todo = to_wait; phase = Waiting }; actions = Got 1 2 3 (literal.Tuple (val.Text (codes "pong") ∷ num 6 ∷ [])) ∷ [] })
 unfolding last_time
 gets_pong =
-    ap (λ ran. Some (handled to_wait 1 pong 2 3 ran))
+    step_delivers program class (waits has_sent) refl pong 2 3 refl (simp taking)
+    ∙ ap (λ ran. Some (handled to_wait 1 pong 2 3 ran))
     (handle_passes class pong 2 at_ping [] 0 has_pong (early 0 (omega arith)) (simp stepping) ∙ handle_none class pong 2 1 has_pong)
     ∙ simp stepping
 
@@ -167,7 +172,8 @@ reply = Sent 2 1 3 (literal.Tuple (val.Text (codes "pong") ∷ num 6 ∷ [])) �
 gets_ping : proc_step program (record { data' = second; todo = to_wait; phase = Waiting }) (Deliver ping 1 1) ≡ Some (record { world = record { data' = has_replied; todo = to_wait; phase = Waiting }; actions = Got 2 1 1 (literal.Tuple (val.Text (codes "ping") ∷ num 5 ∷ [])) ∷ reply })
 unfolding last_time max_packet
 gets_ping =
-    ap (λ ran. Some (handled to_wait 2 ping 1 1 ran))
+    step_delivers program class (waits second) refl ping 1 1 refl (simp taking)
+    ∙ ap (λ ran. Some (handled to_wait 2 ping 1 1 ran))
     (handle_runs class ping 1 at_ping [] 0 has_ping (num 5 ∷ val.Proc 1 ∷ []) _ (early 0 (omega arith)) (simp stepping)
     (run_goes class 1 bound has_replied (Do replies) [] [] reply (early 1 (omega arith)) (simp stepping) (simp stepping)
     ∙ ap (behind reply) (run_to_yield_end class 2 has_replied)))

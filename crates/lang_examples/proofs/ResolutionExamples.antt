@@ -113,11 +113,12 @@ ping_class types = record {
   params = 2 ∷ [];
   setup = at 6 (it.Assign 1 (re.Slot 2)) ∷ [];
   run = at 8 (it.Send (re.Tuple (re.Const (kept.Text (codes "ping")) ∷ re.Const (kept.Int (pos 5)) ∷ [])) (re.Slot 1))
-      ∷ at 9 (it.Await (roll-Alt (record { cond = co.Quant false pongs (Some over_five); found = Some 1; binds = 3 ∷ []; body = []; line = 9 }) ∷ []))
+      ∷ at 9 (it.Await (roll-Alt (record { cond = co.Quant false pongs (Some over_five); found = Some 1; binds = 3 ∷ []; body = []; line = 9 }) ∷ []) None None)
       ∷ at 10 (it.Output (re.Slot 3)) ∷ [];
   handlers = record {
     message = pa.Tuple (pa.Const (kept.Text (codes "ping")) ∷ pa.Bind ∷ []);
     from = pa.Bind;
+    at = [];
     binds = 4 ∷ 5 ∷ [];
     body = at 12 (it.Send (re.Tuple (re.Const (kept.Text (codes "pong")) ∷ re.Chain (re.Slot 4) (roll-ChainPart (record { op = op.Plus; operand = re.Const (kept.Int (pos 1)) }) ∷ []) ∷ [])) (re.Slot 5)) ∷ [];
     line = 11;

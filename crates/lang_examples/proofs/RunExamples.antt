@@ -46,8 +46,8 @@ zero_divisor = ex.Chain (int 1) (roll-ChainPart (record { op = Div; operand = in
 prints : run_to_yield class 0 here (on 3 (it.Output (int 7)) ∷ []) ≡ record { data' = here; todo = []; actions = Out 1 (literal.Int (pos 7)) ∷ []; turns = 1; halt = UsedUp }
 prints = run_goes class 0 here here (on 3 (it.Output (int 7))) [] [] (Out 1 (literal.Int (pos 7)) ∷ []) (early 0 (omega arith)) (simp turning) (simp turning) ∙ ap (behind (Out 1 (literal.Int (pos 7)) ∷ [])) (run_to_yield_end class 1 here)
 
-waits : (rest : List Task) → run_to_yield class 5 here (on 3 it.Pass ∷ on 4 it.Label ∷ rest) ≡ stopped here (on 4 it.Label ∷ rest) 6 AtYield
-waits rest = run_goes class 5 here here (on 3 it.Pass) (on 4 it.Label ∷ rest) (on 4 it.Label ∷ rest) [] (early 5 (omega arith)) (simp turning) (simp turning) ∙ run_to_yield_yield class 6 here (on 4 it.Label) rest (simp turning)
+waits : (rest : List Task) → run_to_yield class 5 here (on 3 it.Pass ∷ on 4 (it.Label 1) ∷ rest) ≡ stopped here (on 4 (it.Label 1) ∷ rest) 6 AtYield
+waits rest = run_goes class 5 here here (on 3 it.Pass) (on 4 (it.Label 1) ∷ rest) (on 4 (it.Label 1) ∷ rest) [] (early 5 (omega arith)) (simp turning) (simp turning) ∙ run_to_yield_yield class 6 here (on 4 (it.Label 1)) rest (simp turning)
 
 -- what was done before a fault stands
 faults : (rest : List Task) → run_to_yield class 0 here (on 3 (it.Assign 1 (int 8)) ∷ on 4 (it.Output zero_divisor) ∷ rest) ≡ stopped (put_slot here 1 (num 8)) rest 2 (Faults Divide 4)
@@ -59,8 +59,8 @@ faults rest =
 late : (rest : List Task) → run_to_yield class max_turns here (on 3 (it.Output zero_divisor) ∷ rest) ≡ stopped here (on 3 (it.Output zero_divisor) ∷ rest) max_turns (Faults TooLong 3)
 late rest = run_to_yield_late class max_turns here (on 3 (it.Output zero_divisor)) rest (omega arith) (simp turning)
 
-in_time : (rest : List Task) → run_to_yield class max_turns here (on 3 it.Label ∷ rest) ≡ stopped here (on 3 it.Label ∷ rest) max_turns AtYield
-in_time rest = run_to_yield_yield class max_turns here (on 3 it.Label) rest (simp turning)
+in_time : (rest : List Task) → run_to_yield class max_turns here (on 3 (it.Label 1) ∷ rest) ≡ stopped here (on 3 (it.Label 1) ∷ rest) max_turns AtYield
+in_time rest = run_to_yield_yield class max_turns here (on 3 (it.Label 1)) rest (simp turning)
 
 -- `while true:` on line 3, and `pass` on line 4: two turns for each time round
 abbrev forever : Task

@@ -51,17 +51,17 @@ alt b = way b 7
 
 -- an `await` with a true and a false alternative, and one with three
 abbrev two_ways : Item
-two_ways = on 4 (it.Await (alt true ∷ alt false ∷ []))
+two_ways = on 4 (it.Await (alt true ∷ alt false ∷ []) None None)
 
 abbrev three_ways : Item
-three_ways = on 4 (it.Await (way true 7 ∷ way false 8 ∷ way true 9 ∷ []))
+three_ways = on 4 (it.Await (way true 7 ∷ way false 8 ∷ way true 9 ∷ []) None None)
 
 -- `('ping', k)` from `who`: both are bound, and k goes back to the sender
 abbrev answers : Handler
-answers = record { message = Tuple (Const (literal.Text (codes "ping")) ∷ Bind ∷ []); from = Bind; binds = 1 ∷ 2 ∷ []; body = on 9 (it.Output (ex.Slot 1)) ∷ []; line = 8 }
+answers = record { message = Tuple (Const (literal.Text (codes "ping")) ∷ Bind ∷ []); from = Bind; at = []; binds = 1 ∷ 2 ∷ []; body = on 9 (it.Output (ex.Slot 1)) ∷ []; line = 8 }
 
 abbrev class : Class
-class = record { name = []; slots = []; params = []; setup = []; run = on 3 it.Label ∷ two_ways ∷ []; handlers = answers ∷ []; queries = []; line = 1 }
+class = record { name = []; slots = []; params = []; setup = []; run = on 3 (it.Label 1) ∷ two_ways ∷ []; handlers = answers ∷ []; queries = []; line = 1 }
 
 abbrev program : Program
 program = record { kind = UnorderedUnreliable; messages = []; classes = class ∷ []; procs = record { class = 0; setup = None } ∷ [] }
@@ -80,8 +80,8 @@ ping = val.Tuple (val.Text (codes "ping") ∷ num 6 ∷ [])
 
 -- A NEW PROCESS begins, and the run stops at the label; nothing else is allowed
 
-begins : steps (at New []) Go ≡ Some (record { world = at Waiting (Do (on 3 it.Label) ∷ Do two_ways ∷ []); actions = Took 1 0 ∷ [] })
-begins = ap (λ ran. Some (moved 1 0 ran)) (run_to_yield_yield class 0 here (Do (on 3 it.Label)) (Do two_ways ∷ []) (simp stepping))
+begins : steps (at New []) Go ≡ Some (record { world = at Waiting (Do (on 3 (it.Label 1)) ∷ Do two_ways ∷ []); actions = Took 1 0 ∷ [] })
+begins = ap (λ ran. Some (moved 1 0 ran)) (run_to_yield_yield class 0 here (Do (on 3 (it.Label 1))) (Do two_ways ∷ []) (simp stepping))
 
 new_takes_none : steps (at New []) (Take 1) ≡ None
 new_takes_none = refl
@@ -91,10 +91,10 @@ new_gets_none = refl
 
 -- AT A LABEL it goes on, here to the `await`
 
-goes_on : steps (at Waiting (Do (on 3 it.Label) ∷ Do two_ways ∷ [])) Go ≡ Some (record { world = at Waiting (Do two_ways ∷ []); actions = Took 1 0 ∷ [] })
+goes_on : steps (at Waiting (Do (on 3 (it.Label 1)) ∷ Do two_ways ∷ [])) Go ≡ Some (record { world = at Waiting (Do two_ways ∷ []); actions = Took 1 0 ∷ [] })
 goes_on = simp stepping (ap (λ ran. Some (moved 1 0 ran)) (run_to_yield_yield class 1 here (Do two_ways) [] (simp stepping)))
 
-label_takes_none : steps (at Waiting (Do (on 3 it.Label) ∷ [])) (Take 1) ≡ None
+label_takes_none : steps (at Waiting (Do (on 3 (it.Label 1)) ∷ [])) (Take 1) ≡ None
 label_takes_none = simp stepping
 
 -- AT AN `await` it takes what is there and true
@@ -162,7 +162,7 @@ abbrev one_in : List RGen
 one_in = record { source = source.Slot 2; message = Bind; peer = Any } ∷ []
 
 abbrev binding : Item
-binding = on 6 (it.Await (roll-Alt (record { cond = cond.Quant false one_in None; found = Some 1; binds = 3 ∷ []; body = on 6 (it.Output (ex.Slot 3)) ∷ []; line = 6 }) ∷ []))
+binding = on 6 (it.Await (roll-Alt (record { cond = cond.Quant false one_in None; found = Some 1; binds = 3 ∷ []; body = on 6 (it.Output (ex.Slot 3)) ∷ []; line = 6 }) ∷ []) None None)
 
 abbrev class2 : Class
 class2 = record { name = []; slots = []; params = 1 ∷ []; setup = []; run = binding ∷ []; handlers = []; queries = query.Quant false one_in None ∷ []; line = 1 }

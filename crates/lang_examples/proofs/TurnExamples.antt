@@ -1,6 +1,6 @@
 -- Each row of the table of statements, on line 9 of process 3 at the time 5. Its slots are 7, {1, 2}, the processes 1 and
 -- 2, true, and 0.
-use Rattle.std.specs.Prelude.{◌≡◌, refl, ℕ, pos, nat_le, Bool, true, false, List, [], ◌∷◌, Some, None}
+use Rattle.std.specs.Prelude.{◌≡◌, refl, ℕ, pos, nat_le, Bool, true, false, List, [], ◌∷◌, Option, Some, None}
 use Rattle.da_values.specs.declared.val.Val.{Val}
 use Rattle.da_values.specs.declared.val.Val.TheVariants as val
 use Rattle.da_values.specs.declared.value.Value.TheVariants as literal
@@ -49,7 +49,7 @@ abbrev too_large : RExpr
 too_large = ex.Chain (int 9223372036854775807) (roll-ChainPart (record { op = Plus; operand = int 1 }) ∷ [])
 
 abbrev body : List Item
-body = on it.Pass ∷ on it.Label ∷ []
+body = on it.Pass ∷ on (it.Label 1) ∷ []
 
 -- `some x in s` over slot 2
 abbrev one_in : Query
@@ -68,7 +68,7 @@ module _ (todo : List Task) where
 
   -- SETUP
 
-  setup_binds : turn class (Prepare (record { args = ex.Slot 5 ∷ ex.Slot 1 ∷ []; line = 20 })) here todo ≡ quiet (put_slot (put_slot here 1 (num 0)) 5 (num 7)) (Do (on it.Pass) ∷ Do (on it.Label) ∷ todo)
+  setup_binds : turn class (Prepare (record { args = ex.Slot 5 ∷ ex.Slot 1 ∷ []; line = 20 })) here todo ≡ quiet (put_slot (put_slot here 1 (num 0)) 5 (num 7)) (Do (on it.Pass) ∷ Do (on (it.Label 1)) ∷ todo)
   setup_binds = simp turning
 
   setup_fails : turn class (Prepare (record { args = ex.Slot 5 ∷ zero_divisor ∷ []; line = 20 })) here todo ≡ fails Divide 20
@@ -136,13 +136,13 @@ module _ (todo : List Task) where
   abbrev branch : RExpr → List Item → RBranch
   branch e items = roll-RBranch (record { cond = e; found = None; binds = []; body = items; line = 10 })
 
-  first_branch : takes (it.If (branch (truth true) body ∷ branch zero_divisor [] ∷ []) []) ≡ quiet here (Do (on it.Pass) ∷ Do (on it.Label) ∷ todo)
+  first_branch : takes (it.If (branch (truth true) body ∷ branch zero_divisor [] ∷ []) []) ≡ quiet here (Do (on it.Pass) ∷ Do (on (it.Label 1)) ∷ todo)
   first_branch = simp turning
 
-  second_branch : takes (it.If (branch (truth false) [] ∷ branch (ex.Slot 4) body ∷ []) []) ≡ quiet here (Do (on it.Pass) ∷ Do (on it.Label) ∷ todo)
+  second_branch : takes (it.If (branch (truth false) [] ∷ branch (ex.Slot 4) body ∷ []) []) ≡ quiet here (Do (on it.Pass) ∷ Do (on (it.Label 1)) ∷ todo)
   second_branch = simp turning
 
-  else_block : takes (it.If (branch (truth false) [] ∷ []) body) ≡ quiet here (Do (on it.Pass) ∷ Do (on it.Label) ∷ todo)
+  else_block : takes (it.If (branch (truth false) [] ∷ []) body) ≡ quiet here (Do (on it.Pass) ∷ Do (on (it.Label 1)) ∷ todo)
   else_block = simp turning
 
   no_block : takes (it.If (branch (truth false) body ∷ []) []) ≡ quiet here todo
@@ -153,12 +153,12 @@ module _ (todo : List Task) where
   branch_fails = simp turning
 
   -- the least row of the query is bound to slot 1
-  least_row : takes (it.If (roll-RBranch (record { cond = ex.Ask 1; found = Some 1; binds = 1 ∷ []; body = body; line = 10 }) ∷ []) []) ≡ quiet (put_slot here 1 (num 1)) (Do (on it.Pass) ∷ Do (on it.Label) ∷ todo)
+  least_row : takes (it.If (roll-RBranch (record { cond = ex.Ask 1; found = Some 1; binds = 1 ∷ []; body = body; line = 10 }) ∷ []) []) ≡ quiet (put_slot here 1 (num 1)) (Do (on it.Pass) ∷ Do (on (it.Label 1)) ∷ todo)
   least_row = simp turning
 
   -- LOOPS
 
-  goes_round : takes (it.While (ex.Slot 4) body) ≡ quiet here (Do (on it.Pass) ∷ Do (on it.Label) ∷ Do (on (it.While (ex.Slot 4) body)) ∷ todo)
+  goes_round : takes (it.While (ex.Slot 4) body) ≡ quiet here (Do (on it.Pass) ∷ Do (on (it.Label 1)) ∷ Do (on (it.While (ex.Slot 4) body)) ∷ todo)
   goes_round = simp turning
 
   leaves : takes (it.While (truth false) body) ≡ quiet here todo
@@ -173,7 +173,7 @@ module _ (todo : List Task) where
   for_fails : takes (it.For 1 zero_divisor body) ≡ fails Divide 9
   for_fails = simp turning
 
-  next_element : turn class (Loop 1 (num 1 ∷ num 2 ∷ []) body 9) here todo ≡ quiet (put_slot here 1 (num 1)) (Do (on it.Pass) ∷ Do (on it.Label) ∷ Loop 1 (num 2 ∷ []) body 9 ∷ todo)
+  next_element : turn class (Loop 1 (num 1 ∷ num 2 ∷ []) body 9) here todo ≡ quiet (put_slot here 1 (num 1)) (Do (on it.Pass) ∷ Do (on (it.Label 1)) ∷ Loop 1 (num 2 ∷ []) body 9 ∷ todo)
   next_element = refl
 
   no_element : turn class (Loop 1 [] body 9) here todo ≡ quiet here todo
@@ -182,7 +182,7 @@ module _ (todo : List Task) where
   -- CALLS, `pass`, AND YIELD POINTS
 
   -- all arguments are evaluated before the first parameter is bound
-  calls : takes (it.Call (record { slot = 1; value = ex.Slot 5 } ∷ record { slot = 5; value = ex.Slot 1 } ∷ []) body) ≡ quiet (put_slot (put_slot here 1 (num 0)) 5 (num 7)) (Do (on it.Pass) ∷ Do (on it.Label) ∷ todo)
+  calls : takes (it.Call (record { slot = 1; value = ex.Slot 5 } ∷ record { slot = 5; value = ex.Slot 1 } ∷ []) body) ≡ quiet (put_slot (put_slot here 1 (num 0)) 5 (num 7)) (Do (on it.Pass) ∷ Do (on (it.Label 1)) ∷ todo)
   calls = simp turning
 
   call_fails : takes (it.Call (record { slot = 1; value = int 8 } ∷ record { slot = 5; value = zero_divisor } ∷ []) body) ≡ fails Divide 9
@@ -191,11 +191,11 @@ module _ (todo : List Task) where
   passes : takes it.Pass ≡ quiet here todo
   passes = simp turning
 
-label_yields : yields (Do (on it.Label)) ≡ true
+label_yields : yields (Do (on (it.Label 1))) ≡ true
 label_yields = simp turning
 
-await_yields : (alts : List Alt) → yields (Do (on (it.Await alts))) ≡ true
-await_yields alts = simp turning
+await_yields : (alts : List Alt) (timeout : Option (List Item)) (label : Option ℕ) → yields (Do (on (it.Await alts timeout label))) ≡ true
+await_yields alts timeout label = simp turning
 
 pass_does_not : yields (Do (on it.Pass)) ≡ false
 pass_does_not = simp turning

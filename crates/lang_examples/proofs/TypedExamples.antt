@@ -108,6 +108,7 @@ broken types =
     (record {
       message = pa.Tuple (pa.Const (kept.Text (codes "ping")) ∷ pa.Bind ∷ []);
       from = pa.Any;
+      at = [];
       binds = 2 ∷ [];
       body = at 5 (it.Output (added (re.Slot 2) (re.Const (kept.Bool true)))) ∷ at 6 (it.Output (re.Slot 2)) ∷ [];
       line = 4;

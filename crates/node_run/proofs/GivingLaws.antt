@@ -13,7 +13,7 @@ use Rattle.sched_text.specs.ActionText.{action_text}
 use Rattle.node_run.specs.Faults.{link_fault, sink_fault}
 use Rattle.node_run.specs.Gifts.{CutText, GainsSome, IsCutShort, MayLeave, due}
 use Rattle.node_run.specs.NodeRun.{gift_of, gifts}
-use Rattle.node_run.proofs.RunLaws.{gains_then}
+use Rattle.node_run.proofs.TalkLaws.{gains_then}
 
 -- the packets before that of an action were given, and its own was not
 pub gave_some : (before mid after : Option (List LinkEntry)) (actions : List Action) (i : ℕ) (action : Action) → i < length actions → action ≡ get_or actions i action

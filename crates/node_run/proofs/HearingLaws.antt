@@ -1,8 +1,8 @@
 -- What may be given behind an event, and what a node does at any answer.
-use Rattle.std.specs.Prelude.{◌≡◌, refl, ℕ, zero, suc, ◌+◌, ◌<◌, ◌≤◌, ◌⊎◌, ◌↔◌, nat_le, nat_lt, Bool, true, false, ◌&&◌, List, [], ◌∷◌, ◌++◌, length, Option, Some, None, IsSome, is_some, Result, Ok, Err, IfErr, OnOk}
+use Rattle.std.specs.Prelude.{◌≡◌, refl, ℕ, ◌+◌, ◌<◌, ◌≤◌, ◌⊎◌, ◌↔◌, nat_le, nat_lt, Bool, true, false, ◌&&◌, List, [], ◌∷◌, ◌++◌, length, Option, Some, None, IsSome, is_some, Result, Ok, Err, IfErr, OnErr, OnOk}
 use Rattle.std.specs.List.{All}
 use Rattle.std.proofs.Common.{◌∙◌, ap, sym, subst, subst₂, arith, inl, inr, ltb-true, ltb-false, leb-true, leb-false}
-use Rattle.std.proofs.lemmas.Bool.{true≢false, false≢true, and_parts}
+use Rattle.std.proofs.lemmas.Bool.{true≢false, false≢true, and_from, and_parts, le-leb, lt-leb}
 use Rattle.std.proofs.lemmas.List.Elements.{All-head, All-tail}
 use Rattle.std.proofs.lemmas.Result.{IfErr-weaker}
 use Rattle.da_values.specs.declared.val.Val.{Val}
@@ -12,9 +12,10 @@ use Rattle.da_values.specs.Value.{val_of}
 use Rattle.da_lang.specs.declared.event.Action.{Action}
 use Rattle.da_lang.specs.declared.event.Action.TheVariants.{Sent}
 use Rattle.da_lang.specs.declared.program.Program.{Program}
+use Rattle.da_lang.specs.declared.ty.ChannelKind.{ChannelKind}
 use Rattle.da_lang.specs.Accepted.{IsAccepted}
 use Rattle.da_lang.specs.Shaped.{IsProcess, Shaped, has_processes, is_declared, well_typed}
-use Rattle.da_lang.specs.Steps.{Step, Stepped, move_step, proc_step}
+use Rattle.da_lang.specs.Steps.{Step, TimeOut, Stepped, move_step, proc_step}
 use Rattle.da_lang.specs.Turns.{max_packet}
 use Rattle.da_lang.specs.World.{World, Waiting, opening}
 use Rattle.da_outside.specs.declared.link.LinkAnswer.{LinkAnswer}
@@ -28,9 +29,10 @@ use Rattle.da_types.proofs.sound.AcceptedShaped.{keeps_shaped}
 use Rattle.da_core.specs.declared.place.Stopped.{Stopped}
 use Rattle.da_core.specs.declared.place.Stopped.TheVariants as stopped
 use Rattle.da_core.specs.declared.process.Core.{Core}
-use Rattle.da_core.specs.Arrivals.{MayArrive, arrival}
+use Rattle.da_core.specs.Arrivals.{MayArrive}
 use Rattle.da_core.specs.Made.{HasMade, phase_of}
 use Rattle.da_core.specs.StandsFor as process
+use Rattle.msg_codec.specs.declared.packet.Packet.{Packet}
 use Rattle.msg_codec.specs.Packets.{IsPacket}
 use Rattle.msg_codec.proofs.Decided.{packet_once, packet_or_none}
 use Rattle.msg_codec.proofs.SizeLaws.{packet_size}
@@ -39,11 +41,13 @@ use Rattle.node_run.specs.declared.hearing.Running.{Running}
 use Rattle.node_run.specs.declared.outcome.NodeOutcome.{NodeOutcome}
 use Rattle.node_run.specs.declared.outcome.NodeOutcome.TheVariants.{Memory}
 use Rattle.node_run.specs.Gifts.{IsCutShort, IsGift, MayGive, MayGiveAll, due}
-use Rattle.node_run.specs.Hearing.{HasActed, IsListening, StandsAs, WasCutActing, WasCutBeginning}
-use Rattle.node_run.specs.NodeRun.{Hears, delivers, drops, moves, idles, IsMessage, Node, after_drop, after_event, after_idle_turn, gifts, move_of}
+use Rattle.node_run.specs.Hearing.{HasActed, IsListening, IsQuiet, IsStanding, MayAllArrive, StandsAs, WasCutActing, WasCutBeginning, held_in, held_of}
+use Rattle.node_run.specs.HeldPackets.{Held, held_with}
+use Rattle.node_run.specs.NodeRun.{Hears, comes_in, drops, steps, idles, IsMessage, Node, after_datagram, after_idle_turn, after_step, gifts, idle_turns_to_timeout, may_time_out, move_of, step_of}
 use Rattle.node_run.proofs.FewParts.{few_parts}
-use Rattle.node_run.proofs.MoveLaws.{each_delivery_allowed, own_move_allowed, start_allowed}
-use Rattle.node_run.proofs.RunLaws.{gains_nothing}
+use Rattle.node_run.proofs.HeldLaws.{some_of}
+use Rattle.node_run.proofs.MoveLaws.{IsOwn, moves, late, own_move_allowed, own_one, start_allowed, step_by, step_else}
+use Rattle.node_run.proofs.TalkLaws.{gains_nothing}
 
 -- WHAT MAY BE GIVEN
 
@@ -73,7 +77,7 @@ module _ (p : Program) (accepted : IsAccepted p) (me : ℕ) where
 
 -- WHAT A CALL LEAVES
 
-both_ok : {T E P Q R : Type 0} (r : Result T E) → OnOk r P → OnOk r Q → (P → Q → R) → OnOk r R
+pub both_ok : {T E P Q R : Type 0} (r : Result T E) → OnOk r P → OnOk r Q → (P → Q → R) → OnOk r R
 both_ok (Ok x) p q go = go p q
 both_ok (Err y) p q go = tt
 
@@ -87,30 +91,30 @@ nothing_given actions told taken = record {
 
 -- MESSAGES
 
--- these bytes are delivered
+-- these bytes are a message for a node
 abbrev pub MessageIn : Program → List ℕ → Type 0
-MessageIn p bytes = (m : Val) × (sender : ℕ) × (time : ℕ) × IsMessage p bytes m sender time
+MessageIn p bytes = (x : Held) × IsMessage p bytes x
 
 -- they are dropped
 abbrev pub NoMessage : Program → List ℕ → Type 0
-NoMessage p bytes = (m : Val) (sender time : ℕ) → IsMessage p bytes m sender time → ⊥
+NoMessage p bytes = (x : Held) → IsMessage p bytes x → ⊥
 
 -- bytes that are no packet are no message
 pub no_packet : (p : Program) (bytes : List ℕ) → ((sender time : ℕ) (v : Val) → IsPacket sender time v bytes → ⊥) → NoMessage p bytes
-no_packet p bytes none m sender time is = none sender time m is.packet
+no_packet p bytes none x is = none x.sender x.time x.message is.packet
 
 module _ (p : Program) (bytes : List ℕ) (sender time : ℕ) (v : Val) (packet : IsPacket sender time v bytes) where
   -- and neither is a packet from no process of the program or of other types
   pub other_packet : (IsProcess p sender × (well_typed p v ≡ true) → ⊥) → NoMessage p bytes
-  other_packet never m from at is =
+  other_packet never x is =
       let once = packet_once packet is.packet in
       never (subst (IsProcess p) (sym once.0) is.from, subst (λ x. well_typed p x ≡ true) (sym once.2) is.typed)
 
-  pub this_packet : IsProcess p sender × (well_typed p v ≡ true) → IsMessage p bytes v sender time
+  pub this_packet : IsProcess p sender × (well_typed p v ≡ true) → IsMessage p bytes (record { message = v; sender = sender; time = time })
   this_packet both = record { packet = packet; from = both.0; typed = both.1 }
 
   packet_by : (some within typed : Bool) → nat_lt 0 sender ≡ some → nat_le sender (length p.procs) ≡ within → well_typed p v ≡ typed → NoMessage p bytes ⊎ MessageIn p bytes
-  packet_by true true true some within typed = inr (v, sender, time, this_packet ((ltb-true 0 sender some, leb-true sender (length p.procs) within), typed))
+  packet_by true true true some within typed = inr (_, this_packet ((ltb-true 0 sender some, leb-true sender (length p.procs) within), typed))
   packet_by false _ _ some within typed = inl (other_packet (λ both. let first : 0 < sender = both.0.0 in let none : sender ≤ 0 = ltb-false 0 sender some in omega arith))
   packet_by true false _ some within typed = inl (other_packet (λ both. let last : sender ≤ length p.procs = both.0.1 in let far : length p.procs < sender = leb-false sender (length p.procs) within in omega arith))
   packet_by true true false some within typed = inl (other_packet (λ both. true≢false (sym both.1 ∙ typed)))
@@ -119,10 +123,10 @@ module _ (p : Program) (bytes : List ℕ) (sender time : ℕ) (v : Val) (packet 
   message_at = packet_by (nat_lt 0 sender) (nat_le sender (length p.procs)) (well_typed p v) refl refl refl
 
 -- a test of the packet has failed
-pub not_delivered : (p : Program) (bytes : List ℕ) (sender time : ℕ) (v : Val) (passes : Bool) → IsPacket sender time v bytes → ((passes ≡ true) ↔ (IsProcess p sender × (well_typed p v ≡ true))) → passes ≡ false → NoMessage p bytes
-not_delivered p bytes sender time v passes packet exactly fails = other_packet p bytes sender time v packet (λ both. true≢false (sym (exactly.1 both) ∙ fails))
+pub not_held : (p : Program) (bytes : List ℕ) (sender time : ℕ) (v : Val) (passes : Bool) → IsPacket sender time v bytes → ((passes ≡ true) ↔ (IsProcess p sender × (well_typed p v ≡ true))) → passes ≡ false → NoMessage p bytes
+not_held p bytes sender time v passes packet exactly fails = other_packet p bytes sender time v packet (λ both. true≢false (sym (exactly.1 both) ∙ fails))
 
--- whether bytes are delivered is decided
+-- whether bytes are a message is decided
 pub message_or_none : (p : Program) (bytes : List ℕ) → NoMessage p bytes ⊎ MessageIn p bytes
 message_or_none p bytes = go (packet_or_none bytes)
   where
@@ -132,32 +136,35 @@ message_or_none p bytes = go (packet_or_none bytes)
 
 -- WHAT A NODE THAT WAITS DOES
 
-some_of : (o : Option Stepped) → IsSome o → (after : Stepped) × (o ≡ Some after)
-some_of None some = absurd (false≢true some)
-some_of (Some after) some = (after, refl)
-
 -- it does something at this answer
 pub record HearsSome (program : Program) (node : Node) (answer : LinkAnswer) : Type 0 where
   pub actions : List Action
   pub then' : Node
   pub hears : Hears program node answer actions then'
 
-module _ (core : Core) (node : Node) (stands : process.StandsFor core node.process) (waits : node.process.phase ≡ Waiting) where
-  at_datagram : (bytes : List ℕ) → NoMessage (process.program_of core) bytes ⊎ MessageIn (process.program_of core) bytes → HearsSome (process.program_of core) node (Datagram bytes)
-  at_datagram bytes (inl none) = record { actions = []; then' = after_drop node; hears = drops bytes none }
-  at_datagram bytes (inr found) =
-      let next = some_of _ (each_delivery_allowed core node.process stands waits found.0 found.1 found.2) in
-      record { actions = next.0.actions; then' = after_event node next.0.world; hears = delivers bytes found.0 found.1 found.2 next.0 found.3 next.1 }
+at_datagram : (program : Program) (node : Node) (bytes : List ℕ) → NoMessage program bytes ⊎ MessageIn program bytes → HearsSome program node (Datagram bytes)
+at_datagram program node bytes (inl none) = record { actions = []; then' = after_datagram node node.held; hears = drops bytes none }
+at_datagram program node bytes (inr (x, is)) = record { actions = []; then' = after_datagram node (held_with program.kind node.held x); hears = comes_in bytes x is }
 
-  at_nothing : (move : Option ℕ) → move_of node.process ≡ move → HearsSome (process.program_of core) node Nothing
-  at_nothing None is = record { actions = []; then' = after_idle_turn node; hears = idles is }
-  at_nothing (Some k) is =
-      let next = some_of _ (own_move_allowed core node.process stands waits k is) in
-      record { actions = next.0.actions; then' = after_event node next.0.world; hears = moves k next.0 is next.1 }
+-- what is asked of a step that it takes where nothing comes is that it is allowed
+pub own_allowed : (core : Core) (node : Node) (stands : process.StandsFor core node.process) → node.process.phase ≡ Waiting → (step : Step) → step_of (process.program_of core) node ≡ Some step
+    → is_some (proc_step (process.program_of core) node.process step) ≡ true
+own_allowed core node stands waits step is = by_own step (own_one (process.program_of core) node step is)
+  where
+    by_own : (step : Step) → IsOwn (process.program_of core) node step → is_some (proc_step (process.program_of core) node.process step) ≡ true
+    by_own _ (moves k move) = own_move_allowed core node.process stands waits k move
+    by_own _ (late none test) = (and_parts (nat_le idle_turns_to_timeout node.idle) (is_some (proc_step (process.program_of core) node.process TimeOut)) test).1
 
-  pub hears_some : (answer : LinkAnswer) → HearsSome (process.program_of core) node answer
-  hears_some (Datagram bytes) = at_datagram bytes (message_or_none (process.program_of core) bytes)
-  hears_some Nothing = at_nothing (move_of node.process) refl
+at_nothing : (core : Core) (node : Node) (stands : process.StandsFor core node.process) → node.process.phase ≡ Waiting → (step : Option Step) → step_of (process.program_of core) node ≡ step
+    → HearsSome (process.program_of core) node Nothing
+at_nothing core node stands waits None is = record { actions = []; then' = after_idle_turn node; hears = idles is }
+at_nothing core node stands waits (Some step) is =
+    let (after, leads) = some_of _ (own_allowed core node stands waits step is) in
+    record { actions = after.actions; then' = after_step node after.world; hears = steps step after is leads }
+
+pub hears_some : (core : Core) (node : Node) (stands : process.StandsFor core node.process) → node.process.phase ≡ Waiting → (answer : LinkAnswer) → HearsSome (process.program_of core) node answer
+hears_some core node stands waits (Datagram bytes) = at_datagram (process.program_of core) node bytes (message_or_none (process.program_of core) bytes)
+hears_some core node stands waits Nothing = at_nothing core node stands waits (step_of (process.program_of core) node) refl
 
 -- what it sent in a step may be given
 module _ (core : Core) (w : World) (stands : process.StandsFor core w) (step : Step) (after : Stepped) (may : MayStep (process.program_of core) step) (leads : proc_step (process.program_of core) w step ≡ Some after) where
@@ -171,126 +178,186 @@ module _ (core : Core) (w : World) (stands : process.StandsFor core w) (step : S
 pub waits_so : (program : Program) (running : Running) (node : Node) → StandsAs program running node → running.stopped ≡ stopped.AtYield → node.process.phase ≡ Waiting
 waits_so program running node stood is = sym stood.stopped ∙ ap phase_of is
 
--- its core made the step, of which these are the actions, and it stands so behind it
-pub record HasStepped (running next : Running) (step : Step) (actions : List Action) : Type 0 where
-  pub made : process.Whichever running.core (λ w. HasMade running.core w step next.core next.stopped [] actions)
-  pub same : process.program_of next.core ≡ process.program_of running.core
-  pub idle : next.idle ≡ 0
+-- its core made the step, of which these are the actions
+pub record HasStepped (running : Running) (core : Core) (answer : Stopped) (step : Step) (actions : List Action) : Type 0 where
+  pub made : process.Whichever running.core (λ w. HasMade running.core w step core answer [] actions)
+  pub same : process.program_of core ≡ process.program_of running.core
 
 pub has_stepped : (running : Running) (step : Step) (core : Core) (answer : Stopped) (old out actions : List Action) → old ≡ [] → actions ≡ out → process.program_of core ≡ process.program_of running.core
-    → process.Whichever running.core (λ w. HasMade running.core w step core answer old out) → HasStepped running (record { core = core; stopped = answer; idle = 0 }) step actions
+    → process.Whichever running.core (λ w. HasMade running.core w step core answer old out) → HasStepped running core answer step actions
 has_stepped running step core answer old out actions none shown same made = record {
   made = λ w stands. subst₂ (λ old out. HasMade running.core w step core answer old out) none (sym shown) (made w stands);
   same = same;
-  idle = refl;
 }
 
 -- what it sent may be given
-pub step_given : (running next : Running) (step : Step) (actions : List Action) → HasStepped running next step actions → IsListening (process.program_of running.core) running → MayStep (process.program_of running.core) step
-    → (count : ℕ) → count ≡ length (process.program_of running.core).procs → MayGiveAll count actions
-step_given running next step actions stepped listening may count bound =
-    let stands = listening.stands.stands in
-    let has = stepped.made listening.node.process stands in
-    subst₂ MayGiveAll (sym bound) (sym has.added) (gifts_allowed running.core listening.node.process stands step has.after may has.leads)
+pub step_given : (running : Running) (core : Core) (answer : Stopped) (step : Step) (actions : List Action) → HasStepped running core answer step actions → IsStanding (process.program_of running.core) running
+    → MayStep (process.program_of running.core) step → (count : ℕ) → count ≡ length (process.program_of running.core).procs → MayGiveAll count actions
+step_given running core answer step actions stepped (node, stood) may count bound =
+    let has = stepped.made node.process stood.stands in
+    subst₂ MayGiveAll (sym bound) (sym has.added) (gifts_allowed running.core node.process stood.stands step has.after may has.leads)
 
--- it has done what the rules say where the step is what this answer asks for
-module _ (running next : Running) (step : Step) (actions : List Action) (stepped : HasStepped running next step actions) (node : Node) (stood : StandsAs (process.program_of running.core) running node) where
-  abbrev its : HasMade running.core node.process step next.core next.stopped [] actions
+-- behind a step that it takes where nothing comes
+abbrev pub stepped_on : Running → Core → Stopped → Running
+stepped_on running core answer = record { core = core; stopped = answer; held = running.held; idle = 0 }
+
+-- it has done what the rules say where the step is the one that it takes where nothing comes
+module _ (running : Running) (core : Core) (answer : Stopped) (step : Step) (actions : List Action) (stepped : HasStepped running core answer step actions) (node : Node)
+    (stood : StandsAs (process.program_of running.core) running node) (own : step_of (process.program_of running.core) node ≡ Some step) where
+  abbrev its : HasMade running.core node.process step core answer [] actions
   its = stepped.made node.process stood.stands
 
-  module _ (answer : LinkAnswer) (hears : Hears (process.program_of running.core) node answer its.after.actions (after_event node its.after.world)) (told_before told_after : Option (List LinkEntry)) (before after : Option (List ℕ)) where
-    step_acted : Gains told_before told_after (gifts actions) → Appends before after (action_text actions) → HasActed (process.program_of running.core) node answer next told_before told_after before after
+  abbrev heard : Hears (process.program_of running.core) node Nothing its.after.actions (after_step node its.after.world)
+  heard = steps step its.after own its.leads
+
+  module _ (told_before told_after : Option (List LinkEntry)) (before after : Option (List ℕ)) where
+    step_acted : Gains told_before told_after (gifts actions) → Appends before after (action_text actions) → HasActed (process.program_of running.core) node Nothing (stepped_on running core answer) told_before told_after before after
     step_acted gave written = record {
       actions = its.after.actions;
-      then' = after_event node its.after.world;
-      hears = hears;
-      stands = record { stands = its.stands; same = stepped.same; stopped = its.stopped; idle = stepped.idle };
+      then' = after_step node its.after.world;
+      hears = heard;
+      stands = record {
+        stands = its.stands;
+        same = stepped.same;
+        stopped = its.stopped;
+        held = stood.held;
+        arrive = stood.arrive;
+        idle = refl;
+      };
       gave = subst (λ l. Gains told_before told_after (gifts l)) its.added gave;
       written = subst (λ l. Appends before after (action_text l)) its.added written;
     }
 
-    step_cut : (fault : NodeOutcome) → IsCutShort fault actions told_before told_after before after → WasCutActing fault (process.program_of running.core) node answer told_before told_after before after
+    step_cut : (fault : NodeOutcome) → IsCutShort fault actions told_before told_after before after → WasCutActing fault (process.program_of running.core) node Nothing told_before told_after before after
     step_cut fault cut = record {
       actions = its.after.actions;
-      then' = after_event node its.after.world;
-      hears = hears;
+      then' = after_step node its.after.world;
+      hears = heard;
       cut = subst (λ l. IsCutShort fault l told_before told_after before after) its.added cut;
     }
 
 -- what was told of it has this result
-module _ {T : Type 0} (told_before told_after : Option (List LinkEntry)) (before after : Option (List ℕ)) (result : Result T NodeOutcome) where
-  -- the delivery of a message
-  module _ (running next : Running) (m : Value) (sender time : ℕ) (actions : List Action) (arrives : MayArrive (process.program_of running.core) m sender time) (stepped : HasStepped running next (arrival m sender time) actions) where
-    delivers_so : (bytes : List ℕ) → IsPacket sender time (val_of m) bytes → (node : Node) (stood : StandsAs (process.program_of running.core) running node)
-        → let has = stepped.made node.process stood.stands in Hears (process.program_of running.core) node (Datagram bytes) has.after.actions (after_event node has.after.world)
-    delivers_so bytes packet node stood =
-        delivers bytes (val_of m) sender time _ (record { packet = packet; from = arrives.peer; typed = arrives.typed }) (stepped.made node.process stood.stands).leads
+module _ {T : Type 0} (told_before told_after : Option (List LinkEntry)) (before after : Option (List ℕ)) (result : Result T NodeOutcome) (running : Running) (core : Core) (answer : Stopped) (step : Step)
+    (actions : List Action) (own : (node : Node) → StandsAs (process.program_of running.core) running node → step_of (process.program_of running.core) node ≡ Some step)
+    (stepped : HasStepped running core answer step actions) where
+  pub own_acted : OnOk result (Gains told_before told_after (gifts actions)) → OnOk result (Appends before after (action_text actions))
+      → OnOk result ((node : Node) → StandsAs (process.program_of running.core) running node → HasActed (process.program_of running.core) node Nothing (stepped_on running core answer) told_before told_after before after)
+  own_acted gave written = both_ok result gave written (λ gave written node stood.
+      step_acted running core answer step actions stepped node stood (own node stood) told_before told_after before after gave written)
 
-    pub delivery_acted : OnOk result (Gains told_before told_after (gifts actions)) → OnOk result (Appends before after (action_text actions))
-        → OnOk result ((bytes : List ℕ) → IsPacket sender time (val_of m) bytes → (node : Node) → StandsAs (process.program_of running.core) running node
-        → HasActed (process.program_of running.core) node (Datagram bytes) next told_before told_after before after)
-    delivery_acted gave written = both_ok result gave written (λ gave written bytes packet node stood.
-        step_acted running next (arrival m sender time) actions stepped node stood (Datagram bytes) (delivers_so bytes packet node stood) told_before told_after before after gave written)
+  pub own_cut : IfErr result (λ fault. IsCutShort fault actions told_before told_after before after)
+      → IfErr result (λ fault. (node : Node) → StandsAs (process.program_of running.core) running node → WasCutActing fault (process.program_of running.core) node Nothing told_before told_after before after)
+  own_cut cut = IfErr-weaker result _ _ (λ fault cut node stood.
+      step_cut running core answer step actions stepped node stood (own node stood) told_before told_after before after fault cut) cut
 
-    pub delivery_cut : IfErr result (λ fault. IsCutShort fault actions told_before told_after before after)
-        → IfErr result (λ fault. (bytes : List ℕ) → IsPacket sender time (val_of m) bytes → (node : Node) → StandsAs (process.program_of running.core) running node
-        → WasCutActing fault (process.program_of running.core) node (Datagram bytes) told_before told_after before after)
-    delivery_cut cut = IfErr-weaker result _ _ (λ fault cut bytes packet node stood.
-        step_cut running next (arrival m sender time) actions stepped node stood (Datagram bytes) (delivers_so bytes packet node stood) told_before told_after before after fault cut) cut
+-- a step is the one that it takes: its move
+module _ (running : Running) (waits : running.stopped ≡ stopped.AtYield) where
+  pub move_own : (k : ℕ) → process.Whichever running.core (λ w. w.phase ≡ Waiting → Some k ≡ move_of w)
+      → (node : Node) → StandsAs (process.program_of running.core) running node → step_of (process.program_of running.core) node ≡ Some (move_step k)
+  move_own k chosen node stood =
+      step_by (process.program_of running.core) node k (sym (chosen node.process stood.stands (waits_so (process.program_of running.core) running node stood waits)))
 
-  -- the move that it makes
-  module _ (running next : Running) (k : ℕ) (actions : List Action) (waits : running.stopped ≡ stopped.AtYield) (chosen : process.Whichever running.core (λ w. w.phase ≡ Waiting → Some k ≡ move_of w))
-      (stepped : HasStepped running next (move_step k) actions) where
-    moves_so : (node : Node) (stood : StandsAs (process.program_of running.core) running node)
-        → let has = stepped.made node.process stood.stands in Hears (process.program_of running.core) node Nothing has.after.actions (after_event node has.after.world)
-    moves_so node stood =
-        moves k _ (sym (chosen node.process stood.stands (waits_so (process.program_of running.core) running node stood waits))) (stepped.made node.process stood.stands).leads
+  -- or, where it has none, the timeout, by how many turns were idle and whether it is allowed
+  quiet_so : IsQuiet running → (node : Node) → StandsAs (process.program_of running.core) running node → move_of node.process ≡ None
+  quiet_so quiet node stood = quiet node.process stood.stands (waits_so (process.program_of running.core) running node stood waits)
 
-    pub move_acted : OnOk result (Gains told_before told_after (gifts actions)) → OnOk result (Appends before after (action_text actions))
-        → OnOk result ((node : Node) → StandsAs (process.program_of running.core) running node → HasActed (process.program_of running.core) node Nothing next told_before told_after before after)
-    move_acted gave written = both_ok result gave written (λ gave written node stood.
-        step_acted running next (move_step k) actions stepped node stood Nothing (moves_so node stood) told_before told_after before after gave written)
+  pub late_own : IsQuiet running → (allowed : Bool) → 999 ≤ running.idle → allowed ≡ true
+      → process.Whichever running.core (λ w. (allowed ≡ true) ↔ IsSome (proc_step (process.program_of running.core) w TimeOut))
+      → (node : Node) → StandsAs (process.program_of running.core) running node → step_of (process.program_of running.core) node ≡ Some TimeOut
+  late_own quiet allowed past is exactly node stood =
+      let far : nat_le idle_turns_to_timeout node.idle ≡ true = le-leb idle_turns_to_timeout node.idle (omega (arith, past, stood.idle)) in
+      let may : may_time_out (process.program_of running.core) node ≡ true = and_from (nat_le idle_turns_to_timeout node.idle) _ far ((exactly node.process stood.stands).0 is) in
+      step_else (process.program_of running.core) node true (quiet_so quiet node stood) may
 
-    pub move_cut : IfErr result (λ fault. IsCutShort fault actions told_before told_after before after)
-        → IfErr result (λ fault. (node : Node) → StandsAs (process.program_of running.core) running node → WasCutActing fault (process.program_of running.core) node Nothing told_before told_after before after)
-    move_cut cut = IfErr-weaker result _ _ (λ fault cut node stood.
-        step_cut running next (move_step k) actions stepped node stood Nothing (moves_so node stood) told_before told_after before after fault cut) cut
+  -- or none
+  pub none_early : IsQuiet running → running.idle < 999 → (node : Node) → StandsAs (process.program_of running.core) running node → step_of (process.program_of running.core) node ≡ None
+  none_early quiet early node stood =
+      let test : nat_le idle_turns_to_timeout node.idle ≡ false = lt-leb idle_turns_to_timeout node.idle (omega (arith, early, stood.idle)) in
+      step_else (process.program_of running.core) node false (quiet_so quiet node stood) (ap (λ b. b && is_some (proc_step (process.program_of running.core) node.process TimeOut)) test)
 
--- any move may be made, as far as messages go
-pub move_may : (program : Program) (k : ℕ) → MayStep program (move_step k)
-move_may program zero = tt
-move_may program (suc k) = tt
+  pub none_allowed : IsQuiet running → (allowed : Bool) → allowed ≡ false → process.Whichever running.core (λ w. (allowed ≡ true) ↔ IsSome (proc_step (process.program_of running.core) w TimeOut))
+      → (node : Node) → StandsAs (process.program_of running.core) running node → step_of (process.program_of running.core) node ≡ None
+  none_allowed quiet allowed not exactly node stood =
+      step_else (process.program_of running.core) node false (quiet_so quiet node stood)
+      (and_false (nat_le idle_turns_to_timeout node.idle) _ (λ some. false≢true (sym not ∙ (exactly node.process stood.stands).1 some)))
+    where
+      and_false : (a b : Bool) → (b ≡ true → ⊥) → (a && b) ≡ false
+      and_false a true never = absurd (never refl)
+      and_false true false never = refl
+      and_false false false never = refl
 
--- the move that it makes is allowed
-pub not_forbidden : (running : Running) → IsListening (process.program_of running.core) running → (k : ℕ) → process.Whichever running.core (λ w. w.phase ≡ Waiting → Some k ≡ move_of w)
-    → process.Whichever running.core (λ w. proc_step (process.program_of running.core) w (move_step k) ≡ None) → ⊥
-not_forbidden running listening k chosen none =
-    let w = listening.node.process in
+-- a step that it takes is allowed
+pub not_forbidden : (running : Running) → IsListening (process.program_of running.core) running → (step : Step)
+    → ((node : Node) → StandsAs (process.program_of running.core) running node → step_of (process.program_of running.core) node ≡ Some step)
+    → process.Whichever running.core (λ w. proc_step (process.program_of running.core) w step ≡ None) → ⊥
+not_forbidden running listening step own none =
+    let node = listening.node in
     let stands = listening.stands.stands in
-    let waits = waits_so (process.program_of running.core) running listening.node listening.stands listening.waits in
-    false≢true (sym (ap is_some (none w stands)) ∙ own_move_allowed running.core w stands waits k (sym (chosen w stands waits)))
+    let waits = waits_so (process.program_of running.core) running node listening.stands listening.waits in
+    false≢true (sym (ap is_some (none node.process stands)) ∙ own_allowed running.core node stands waits step (own node listening.stands))
 
--- a datagram that is dropped, and an idle turn
+-- a datagram that is held or dropped, and an idle turn
 module _ (program : Program) (running : Running) (node : Node) (stood : StandsAs program running node) (told : Option (List LinkEntry)) (taken : Option (List ℕ)) where
-  pub drop_acted : (bytes : List ℕ) → NoMessage program bytes → HasActed program node (Datagram bytes) (record { core = running.core; stopped = running.stopped; idle = 0 }) told told taken taken
+  pub drop_acted : (bytes : List ℕ) → NoMessage program bytes → HasActed program node (Datagram bytes) (record { core = running.core; stopped = running.stopped; held = running.held; idle = 0 }) told told taken taken
   drop_acted bytes none = record {
     actions = [];
-    then' = after_drop node;
+    then' = after_datagram node node.held;
     hears = drops bytes none;
-    stands = record { stands = stood.stands; same = stood.same; stopped = stood.stopped; idle = refl };
+    stands = record { stands = stood.stands; same = stood.same; stopped = stood.stopped; held = stood.held; arrive = stood.arrive; idle = refl };
     gave = gains_nothing told;
     written = appends_none taken;
   }
 
-  pub idle_acted : (idle : ℕ) → idle ≡ running.idle + 1 → move_of node.process ≡ None → HasActed program node Nothing (record { core = running.core; stopped = running.stopped; idle = idle }) told told taken taken
+  pub hold_acted : (bytes : List ℕ) (packet : Packet) (held : List Packet) → IsMessage program bytes (held_of packet) → held_in held ≡ held_with program.kind (held_in running.held) (held_of packet) → MayAllArrive program held
+      → HasActed program node (Datagram bytes) (record { core = running.core; stopped = running.stopped; held = held; idle = 0 }) told told taken taken
+  hold_acted bytes packet held is same all = record {
+    actions = [];
+    then' = after_datagram node (held_with program.kind node.held (held_of packet));
+    hears = comes_in bytes (held_of packet) is;
+    stands = record {
+      stands = stood.stands;
+      same = stood.same;
+      stopped = stood.stopped;
+      held = same ∙ ap (λ l. held_with program.kind l (held_of packet)) stood.held;
+      arrive = all;
+      idle = refl;
+    };
+    gave = gains_nothing told;
+    written = appends_none taken;
+  }
+
+  pub idle_acted : (idle : ℕ) → idle ≡ running.idle + 1 → step_of program node ≡ None
+      → HasActed program node Nothing (record { core = running.core; stopped = running.stopped; held = running.held; idle = idle }) told told taken taken
   idle_acted idle more none = record {
     actions = [];
     then' = after_idle_turn node;
     hears = idles none;
-    stands = record { stands = stood.stands; same = stood.same; stopped = stood.stopped; idle = more ∙ ap (λ n. n + 1) stood.idle };
+    stands = record { stands = stood.stands; same = stood.same; stopped = stood.stopped; held = stood.held; arrive = stood.arrive; idle = more ∙ ap (λ n. n + 1) stood.idle };
     gave = gains_nothing told;
     written = appends_none taken;
   }
+
+-- a packet that is a message, which was held with this result
+module _ (program : Program) (running : Running) (bytes : List ℕ) (packet : Packet) (kind : ChannelKind) (same : kind ≡ program.kind) (passes : Bool) (is : IsPacket packet.sender packet.clock (val_of packet.value) bytes)
+    (exactly : (passes ≡ true) ↔ (IsProcess program packet.sender × (well_typed program (val_of packet.value) ≡ true))) (passed : passes ≡ true) (held : List Packet) where
+  message_is : IsMessage program bytes (held_of packet)
+  message_is = this_packet program bytes packet.sender packet.clock (val_of packet.value) is (exactly.0 passed)
+
+  message_arrives : MayArrive program packet.value packet.sender packet.clock
+  message_arrives = record { proper = is.proper; typed = message_is.typed; peer = message_is.from }
+
+  pub held_acted : {T E : Type 0} (result : Result T E) → OnOk result (held_in held ≡ held_with kind (held_in running.held) (held_of packet))
+      → OnOk result ((p : Program) → MayAllArrive p running.held → MayArrive p packet.value packet.sender packet.clock → MayAllArrive p held)
+      → OnOk result ((told : Option (List LinkEntry)) (taken : Option (List ℕ)) (node : Node) → StandsAs program running node
+      → HasActed program node (Datagram bytes) (record { core = running.core; stopped = running.stopped; held = held; idle = 0 }) told told taken taken)
+  held_acted result holds all = both_ok result holds all (λ holds all told taken node stood.
+      hold_acted program running node stood told taken bytes packet held message_is (holds ∙ ap (λ k. held_with k (held_in running.held) (held_of packet)) same)
+      (all program stood.arrive message_arrives))
+
+-- whatever the error
+pub any_err : {T E P : Type 0} (r : Result T E) → P → OnErr r P
+any_err (Ok x) p = tt
+any_err (Err y) p = p
 
 -- where memory is refused before anything is given
 module _ (program : Program) (running : Running) (node : Node) (stood : StandsAs program running node) (told : Option (List LinkEntry)) (taken : Option (List ℕ)) where

@@ -1,8 +1,11 @@
+pub mod DeliveryLaws
 pub mod EndLaws
 pub mod FewParts
 pub mod GivingLaws
 pub mod HearingLaws
+pub mod HeldLaws
 pub mod MoveLaws
 pub mod OneRun
 pub mod PacketLaws
 pub mod RunLaws
+pub mod TalkLaws

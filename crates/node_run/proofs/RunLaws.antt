@@ -1,176 +1,29 @@
--- The laws of the run of a node, answer by answer, and of where it is cut short.
-use Rattle.std.proofs.Common.{◌≡◌, refl, sym, ◌∙◌, ap, subst, ℕ, ◌+◌, ◌-◌, ◌≤◌, ◌<◌, List, [], ◌∷◌, ◌++◌, length, take, drop, take-append-drop, arith, append-nil, append_assoc, length-append, Bool, true, false}
-use Rattle.std.specs.Prelude.{Option, Some, None, nat_le, if◌then◌else◌}
-use Rattle.std.proofs.lemmas.Bool.{le-leb, leb-false, lt-leb}
-use Rattle.std.proofs.lemmas.Grind.{flat_map-append}
-use Rattle.std.proofs.Math.Seq.{take-append-add, take-append_seam, take-length, take-nil}
+-- The laws of the run of a node, round by round, and of where it is cut short.
+use Rattle.std.proofs.Common.{◌≡◌, refl, sym, ◌∙◌, ap, subst, ℕ, zero, suc, ◌+◌, ◌≤◌, ◌<◌, List, [], ◌∷◌, ◌++◌, length, arith, append-nil, append_assoc, length-append, Bool, true, false}
+use Rattle.std.specs.Prelude.{Option, Some, None, ◌&&◌, nat_le, if◌then◌else◌}
+use Rattle.std.proofs.lemmas.Bool.{leb-false}
 use Rattle.da_lang.specs.declared.event.Action.{Action}
-use Rattle.da_lang.specs.declared.event.Action.TheVariants.{Sent}
 use Rattle.da_lang.specs.declared.program.Program.{Program}
+use Rattle.da_lang.specs.declared.ty.ChannelKind.{ChannelKind}
 use Rattle.da_lang.specs.Steps.{Go, Stepped, proc_step}
 use Rattle.da_lang.specs.World as world
-use Rattle.da_lang.specs.World.{Phase, opening}
+use Rattle.da_lang.specs.World.{Phase, World, opening}
 use Rattle.da_outside.specs.declared.link.LinkAnswer.{LinkAnswer}
 use Rattle.da_outside.specs.declared.link.LinkEntry.{LinkEntry}
-use Rattle.da_outside.specs.declared.link.LinkEntry.TheVariants.{Answered}
 use Rattle.da_outside.specs.Link.{Gains}
-use Rattle.da_outside.specs.Outside.{Appends, AppendsFront}
+use Rattle.da_outside.specs.Outside.{Appends}
 use Rattle.da_outside.proofs.OutsideLemmas.{appends_none, appends_then}
-use Rattle.sched_text.specs.ActionText.{action_line, action_text}
+use Rattle.sched_text.specs.ActionText.{action_text}
 use Rattle.node_run.specs.declared.outcome.NodeOutcome.{NodeOutcome}
 use Rattle.node_run.specs.declared.outcome.NodeOutcome.TheVariants as outcome
 use Rattle.node_run.specs.Gifts.{CutText, IsCutShort, MayLeave, due}
-use Rattle.node_run.specs.NodeCall.{HasEnded, HasCome, HasRun, WasCut, WroteAll, WroteToLast, all_but_last, answer_in, answers_in, given_rounds}
-use Rattle.node_run.specs.NodeRun.{Node, NodeEnd, Done, Faulted, Idle, Spent, AsksAgain, Hears, delivers, drops, moves, idles, HearsAll, none, next, NodeRun, Round, actions_of, answer_round, end_in, end_of, gift_of, gifts, start_round, talk_of, text_of}
-
--- WHAT A LINK TELLS AND A SINK TAKES
-
--- one call after another
-pub gains_then : (a b c : Option (List LinkEntry)) (xs ys : List LinkEntry) → Gains a b xs → Gains b c ys → Gains a c (xs ++ ys)
-gains_then a b None xs ys first then' = tt
-gains_then a None (Some now) xs ys first then' = absurd (let clash : Some now ≡ None = then' in cc)
-gains_then None (Some mid) (Some now) xs ys first then' = absurd (let clash : Some mid ≡ None = first in cc)
-gains_then (Some told) (Some mid) (Some now) xs ys first then' =
-    let mid_is : mid ≡ told ++ xs = (let same : Some mid ≡ Some (told ++ xs) = first in cc) in
-    then' ∙ ap (λ l. Some (l ++ ys)) mid_is ∙ ap Some (append_assoc told xs ys)
-
-pub gains_nothing : (a : Option (List LinkEntry)) → Gains a a []
-gains_nothing None = tt
-gains_nothing (Some told) = ap Some (sym (append-nil told))
+use Rattle.node_run.specs.HeldPackets.{Held, held_with, is_unreliable, most_held}
+use Rattle.node_run.specs.NodeCall.{HasEnded, HasRun, WasCut, WroteAll, WroteFront, WroteGiven, answers_in}
+use Rattle.node_run.specs.NodeRun.{Node, NodeEnd, Done, Faulted, Idle, Spent, AsksAgain, Hears, comes_in, drops, steps, idles, GoesOn, stays, delivers, hears, NodeRun, Round, after_delivery, end_in, end_of, event_round, first_node, gifts, next_held, talk_of, text_of}
+use Rattle.node_run.proofs.HeldLaws.{found_one}
+use Rattle.node_run.proofs.TalkLaws.{WroteUpTo, all_up_to, answers_then, cut_later, gains_then, no_answer, no_answer_given, talk_then, text_one, text_then}
 
 -- ROUNDS ONE AFTER THE OTHER
-
-text_then : (xs ys : List Round) → text_of (xs ++ ys) ≡ text_of xs ++ text_of ys
-text_then xs ys = ap action_text (flat_map-append (λ (round : Round). round.actions) xs ys) ∙ flat_map-append action_line (actions_of xs) (actions_of ys)
-
-talk_then : (xs ys : List Round) → talk_of (xs ++ ys) ≡ talk_of xs ++ talk_of ys
-talk_then xs ys = flat_map-append (λ (round : Round). round.talk) xs ys
-
-answers_then : (xs ys : List LinkEntry) → answers_in (xs ++ ys) ≡ answers_in xs ++ answers_in ys
-answers_then xs ys = flat_map-append answer_in xs ys
-
-text_one : (round : Round) → text_of (round ∷ []) ≡ action_text round.actions
-text_one round = ap action_text (append-nil round.actions)
-
--- what is given is no answer
-gift_answers : (a : Action) → answers_in (gift_of a) ≡ []
-gift_answers (Sent p q t v) = refl
-gift_answers _ = refl
-
-no_answer : (actions : List Action) → answers_in (gifts actions) ≡ []
-no_answer [] = refl
-no_answer (a ∷ actions) = answers_then (gift_of a) (gifts actions) ∙ ap (λ l. l ++ answers_in (gifts actions)) (gift_answers a) ∙ no_answer actions
-
-front_nil : {A : Type 0} (xs ys : List A) → xs ++ ys ≡ [] → xs ≡ []
-front_nil [] ys is = refl
-front_nil (x ∷ xs) ys is = absurd (let clash : x ∷ (xs ++ ys) ≡ [] = is in cc)
-
-no_answer_given : (actions : List Action) (given left : List LinkEntry) → gifts actions ≡ given ++ left → answers_in given ≡ []
-no_answer_given actions given left whole = front_nil (answers_in given) (answers_in left) (sym (answers_then given left) ∙ ap answers_in (sym whole) ∙ no_answer actions)
-
--- THE ROUNDS WHOSE PACKETS WERE ALL GIVEN
-
-given_next : (told more : ℕ) (round : Round) (rounds : List Round) → told ≡ length round.talk + more → given_rounds told (round ∷ rounds) ≡ round ∷ given_rounds more rounds
-given_next told more round rounds is =
-    let test : nat_le (length round.talk) told ≡ true = le-leb (length round.talk) told (omega arith) in
-    let rest : told - length round.talk ≡ more = omega arith in
-    ap (λ b. if b then round ∷ given_rounds (told - length round.talk) rounds else []) test ∙ ap (λ n. round ∷ given_rounds n rounds) rest
-
-given_none : (told : ℕ) (round : Round) (rounds : List Round) → told < length round.talk → given_rounds told (round ∷ rounds) ≡ []
-given_none told round rounds few =
-    let test : nat_le (length round.talk) told ≡ false = lt-leb (length round.talk) told few in
-    ap (λ b. if b then round ∷ given_rounds (told - length round.talk) rounds else []) test
-
-given_all : (rounds : List Round) → given_rounds (length (talk_of rounds)) rounds ≡ rounds
-given_all [] = refl
-given_all (round ∷ rounds) =
-    given_next (length (talk_of (round ∷ rounds))) (length (talk_of rounds)) round rounds (length-append round.talk (talk_of rounds)) ∙ ap (λ l. round ∷ l) (given_all rounds)
-
-given_more : (rounds more : List Round) (n : ℕ) → given_rounds (length (talk_of rounds) + n) (rounds ++ more) ≡ rounds ++ given_rounds n more
-given_more [] more n = let same : 0 + n ≡ n = omega arith in ap (λ k. given_rounds k more) same
-given_more (round ∷ rounds) more n =
-    let size : length (talk_of (round ∷ rounds)) + n ≡ length round.talk + (length (talk_of rounds) + n) = omega (arith, length-append round.talk (talk_of rounds)) in
-    given_next (length (talk_of (round ∷ rounds)) + n) (length (talk_of rounds) + n) round (rounds ++ more) size ∙ ap (λ l. round ∷ l) (given_more rounds more n)
-
--- the last round is among them where nothing of its talk is left
-last_given : (rounds : List Round) (round : Round) (given : List LinkEntry) → round.talk ≡ given ++ []
-    → given_rounds (length (talk_of rounds ++ given)) (rounds ++ round ∷ []) ≡ rounds ++ round ∷ []
-last_given rounds round given whole =
-    let size : length given ≡ length round.talk + 0 = omega (arith, ap length whole, length-append given []) in
-    ap (λ n. given_rounds n (rounds ++ round ∷ [])) (length-append (talk_of rounds) given)
-    ∙ given_more rounds (round ∷ []) (length given)
-    ∙ ap (λ l. rounds ++ l) (given_next (length given) 0 round [] size)
-
-last_not_given : (rounds : List Round) (round : Round) (given left : List LinkEntry) (entry : LinkEntry) → round.talk ≡ given ++ entry ∷ left
-    → given_rounds (length (talk_of rounds ++ given)) (rounds ++ round ∷ []) ≡ rounds
-last_not_given rounds round given left entry whole =
-    let size : length given < length round.talk = omega (arith, ap length whole, length-append given (entry ∷ left)) in
-    ap (λ n. given_rounds n (rounds ++ round ∷ [])) (length-append (talk_of rounds) given)
-    ∙ given_more rounds (round ∷ []) (length given)
-    ∙ ap (λ l. rounds ++ l) (given_none (length given) round [] size)
-    ∙ append-nil rounds
-
--- WHAT WAS WRITTEN OF ROUNDS, by what cut them short
-abbrev pub WroteUpTo : NodeOutcome → Option (List ℕ) → Option (List ℕ) → List Round → Type 0
-WroteUpTo outcome.LinkFault before after rounds = WroteAll before after rounds
-WroteUpTo outcome.WriteFault before after rounds = WroteToLast before after rounds
-WroteUpTo outcome.Memory before after rounds = WroteToLast before after rounds
-WroteUpTo _ before after rounds = ⊥
-
-text_size : (rounds : List Round) (n : ℕ) → length (text_of (take n rounds)) ≤ length (text_of rounds)
-text_size rounds n =
-    omega (arith, ap length (sym (text_then (take n rounds) (drop n rounds)) ∙ ap text_of (take-append-drop n rounds)), length-append (text_of (take n rounds)) (text_of (drop n rounds)))
-
-before_last : (rounds : List Round) (round : Round) → all_but_last (rounds ++ round ∷ []) ≡ rounds
-before_last rounds round =
-    let size : length (rounds ++ round ∷ []) - 1 ≡ length rounds = omega (arith, length-append rounds (round ∷ [])) in
-    ap (λ n. take n (rounds ++ round ∷ [])) size ∙ take-append_seam rounds (round ∷ [])
-
-text_last : (rounds : List Round) (round : Round) → text_of (rounds ++ round ∷ []) ≡ text_of rounds ++ action_text round.actions
-text_last rounds round = text_then rounds (round ∷ []) ∙ ap (λ text. text_of rounds ++ text) (text_one round)
-
--- all lines of these rounds, where no more was written
-to_all : (before mid after : Option (List ℕ)) (rounds : List Round) → Appends before mid (text_of rounds) → AppendsFront mid after [] → WroteToLast before after rounds
-to_all before mid after rounds written empty = record {
-  size = length (text_of rounds);
-  written = subst (Appends before after) (append-nil (text_of rounds) ∙ sym (take-length (text_of rounds))) (appends_then before mid after (text_of rounds) [] written (no_more empty));
-  reaches = text_size rounds (length rounds - 1);
-}
-  where
-    no_more : AppendsFront mid after [] → Appends mid after []
-    no_more (n, front) = subst (Appends mid after) (take-nil n) front
-
--- and a front of those of one more
-to_last : (before mid after : Option (List ℕ)) (rounds : List Round) (round : Round) → Appends before mid (text_of rounds) → AppendsFront mid after (action_text round.actions) → WroteToLast before after (rounds ++ round ∷ [])
-to_last before mid after rounds round written (n, front) = record {
-  size = length (text_of rounds) + n;
-  written = subst (Appends before after) (sym (ap (take (length (text_of rounds) + n)) (text_last rounds round) ∙ take-append-add (text_of rounds) (action_text round.actions) n))
-      (appends_then before mid after (text_of rounds) (take n (action_text round.actions)) written front);
-  reaches = omega (arith, ap (λ l. length (text_of l)) (before_last rounds round));
-}
-
-all_up_to : (how : NodeOutcome) (before mid after : Option (List ℕ)) (rounds : List Round) → Appends before mid (text_of rounds) → CutText how mid after [] → WroteUpTo how before after rounds
-all_up_to outcome.LinkFault before mid after rounds written empty = subst (Appends before after) (append-nil (text_of rounds)) (appends_then before mid after (text_of rounds) [] written empty)
-all_up_to outcome.WriteFault before mid after rounds written empty = to_all before mid after rounds written empty
-all_up_to outcome.Memory before mid after rounds written empty = to_all before mid after rounds written empty
-all_up_to _ before mid after rounds written empty = absurd empty
-
-last_up_to : (how : NodeOutcome) (before mid after : Option (List ℕ)) (rounds : List Round) (round : Round) → Appends before mid (text_of rounds) → CutText how mid after (action_text round.actions) → WroteUpTo how before after (rounds ++ round ∷ [])
-last_up_to outcome.LinkFault before mid after rounds round written more =
-    subst (Appends before after) (sym (text_last rounds round)) (appends_then before mid after (text_of rounds) (action_text round.actions) written more)
-last_up_to outcome.WriteFault before mid after rounds round written more = to_last before mid after rounds round written more
-last_up_to outcome.Memory before mid after rounds round written more = to_last before mid after rounds round written more
-last_up_to _ before mid after rounds round written more = absurd more
-
--- behind earlier rounds one that was cut short
-cut_later : (how : NodeOutcome) (before mid after : Option (List ℕ)) (rounds : List Round) (round : Round) (given left : List LinkEntry) → round.talk ≡ given ++ left → Appends before mid (text_of rounds)
-    → CutText how mid after (due left (action_text round.actions)) → WroteUpTo how before after (given_rounds (length (talk_of rounds ++ given)) (rounds ++ round ∷ []))
-cut_later how before mid after rounds round given [] whole written cut =
-    subst (WroteUpTo how before after) (sym (last_given rounds round given whole)) (last_up_to how before mid after rounds round written cut)
-cut_later how before mid after rounds round given (entry ∷ left) whole written cut =
-    subst (WroteUpTo how before after) (sym (last_not_given rounds round given left entry whole)) (all_up_to how before mid after rounds written cut)
-
--- ANSWERS ONE AFTER THE OTHER
 
 -- an answer is heard only where fewer were taken than may be
 asks_few : (idle turns : ℕ) (node : Node) → end_of idle turns node ≡ AsksAgain → node.taken < turns
@@ -187,52 +40,89 @@ asks_few idle turns node asks = by_phase node.process.phase asks
     by_phase world.New asks = by_tests (nat_le idle node.idle) (nat_le turns node.taken) refl asks
     by_phase world.Waiting asks = by_tests (nat_le idle node.idle) (nat_le turns node.taken) refl asks
 
+-- what an answer leaves: one more was taken, and one packet more is held at most
 pub one_taken : {program : Program} {node then' : Node} {answer : LinkAnswer} {actions : List Action} → Hears program node answer actions then' → then'.taken ≡ node.taken + 1
-one_taken (delivers bytes message sender time after is steps) = refl
+one_taken (comes_in bytes x is) = refl
 one_taken (drops bytes nothing) = refl
-one_taken (moves k after is steps) = refl
+one_taken (steps step after is leads) = refl
 one_taken (idles nothing) = refl
 
+one_more : (kind : ChannelKind) (held : List Held) (x : Held) → length (held_with kind held x) ≤ length held + 1
+one_more kind held x = by_test (is_unreliable kind && nat_le most_held (length held))
+  where
+    by_test : (b : Bool) → length (if b then held else held ++ x ∷ []) ≤ length held + 1
+    by_test true = omega arith
+    by_test false = omega (arith, length-append held (x ∷ []))
+
+pub one_held : {program : Program} {node then' : Node} {answer : LinkAnswer} {actions : List Action} → Hears program node answer actions then' → length then'.held ≤ length node.held + 1
+one_held {program} {node} (comes_in bytes x is) = one_more program.kind node.held x
+one_held (drops bytes nothing) = omega arith
+one_held (steps step after is leads) = omega arith
+one_held (idles nothing) = omega arith
+
 module _ {program : Program} {idle turns : ℕ} where
-  hears_on : {node mid last : Node} {answers : List LinkAnswer} {answer : LinkAnswer} {rounds : List Round} {actions : List Action} → HearsAll program idle turns node answers rounds mid
-      → end_of idle turns mid ≡ AsksAgain → Hears program mid answer actions last → HearsAll program idle turns node (answers ++ answer ∷ []) (rounds ++ answer_round answer actions ∷ []) last
-  hears_on (none node) asks hears = next _ _ _ _ _ _ _ asks hears (none _)
-  hears_on (next node then' mid first answers actions rounds asks_first hears_first more) asks hears = next _ _ _ _ _ _ _ asks_first hears_first (hears_on more asks hears)
+  pub goes_then : {a b c : Node} {xs ys : List LinkAnswer} {rs ss : List Round} → GoesOn program idle turns a xs rs b → GoesOn program idle turns b ys ss c
+      → GoesOn program idle turns a (xs ++ ys) (rs ++ ss) c
+  goes_then (stays a) more = more
+  goes_then (delivers a b x held after answers rounds found leads goes) more = delivers a _ x held after _ _ found leads (goes_then goes more)
+  goes_then (hears a then' b answer answers actions rounds none asks heard goes) more = hears a then' _ answer _ actions _ none asks heard (goes_then goes more)
 
-  all_taken : {node last : Node} {answers : List LinkAnswer} {rounds : List Round} → HearsAll program idle turns node answers rounds last → last.taken ≡ node.taken + length answers
-  all_taken (none node) = omega arith
-  all_taken (next node then' last answer answers actions rounds asks hears more) = omega (arith, one_taken hears, all_taken more)
+  all_taken : {node last : Node} {answers : List LinkAnswer} {rounds : List Round} → GoesOn program idle turns node answers rounds last → last.taken ≡ node.taken + length answers
+  all_taken (stays node) = omega arith
+  all_taken (delivers node last x held after answers rounds found leads goes) = all_taken goes
+  all_taken (hears node then' last answer answers actions rounds none asks heard goes) = omega (arith, one_taken heard, all_taken goes)
 
-  within : {node last : Node} {answers : List LinkAnswer} {rounds : List Round} → HearsAll program idle turns node answers rounds last → node.taken ≤ turns → last.taken ≤ turns
-  within (none node) few = few
-  within (next node then' last answer answers actions rounds asks hears more) few = within more (omega (arith, one_taken hears, asks_few idle turns node asks))
+  within : {node last : Node} {answers : List LinkAnswer} {rounds : List Round} → GoesOn program idle turns node answers rounds last → node.taken ≤ turns → last.taken ≤ turns
+  within (stays node) few = few
+  within (delivers node last x held after answers rounds found leads goes) few = within goes few
+  within (hears node then' last answer answers actions rounds none asks heard goes) few = within goes (omega (arith, one_taken heard, asks_few idle turns node asks))
 
--- WHERE A NODE WAS CUT SHORT, and ends so
-
--- a sink that failed leaves nothing to be given
-abbrev pub LeavesNone : NodeOutcome → List LinkEntry → Type 0
-LeavesNone outcome.WriteFault left = left ≡ []
-LeavesNone _ left = Unit {0}
-
-none_left : (how : NodeOutcome) → LeavesNone how []
-none_left outcome.WriteFault = refl
-none_left _ = tt
-
-leaves_none : (how : NodeOutcome) (left : List LinkEntry) → MayLeave how left → LeavesNone how left
-leaves_none outcome.WriteFault left may = may
-leaves_none _ left may = tt
-
-pub record IsCut (how : NodeOutcome) (program : Program) (me idle turns : ℕ) (told_before told_after : Option (List LinkEntry)) (before after : Option (List ℕ)) : Type 0 where
-  pub talk : List LinkEntry
+-- A NODE GOES ON WITHOUT AN ANSWER, until no held packet is left that may be delivered
+pub record Settles (program : Program) (idle turns : ℕ) (node : Node) : Type 0 where
   pub rounds : List Round
-  pub end : NodeEnd
-  pub untold : List LinkEntry
-  pub told : Gains told_before told_after talk
-  pub run : NodeRun program me idle turns (answers_in talk) rounds end
-  pub few : length (answers_in talk) ≤ turns
-  pub front : talk_of rounds ≡ talk ++ untold
-  pub left : LeavesNone how untold
-  pub written : WroteUpTo how before after (given_rounds (length talk) rounds)
+  pub last : Node
+  pub goes : GoesOn program idle turns node [] rounds last
+  pub rests : next_held program last ≡ None
+
+-- by what is delivered next; how it goes on behind that is handed in
+settles_by : (program : Program) (idle turns : ℕ) (node : Node) (next : Option (Held × List Held)) → next_held program node ≡ next
+    → ((held : List Held) (process : World) → length node.held ≡ suc (length held) → Settles program idle turns (after_delivery node held process)) → Settles program idle turns node
+settles_by program idle turns node None is others = record { rounds = []; last = node; goes = stays node; rests = is }
+settles_by program idle turns node (Some (x, held)) is others =
+    let found = found_one program node.process [] node.held x held is in
+    let rest = others held found.after.world (omega (arith, found.size)) in
+    record {
+      rounds = event_round found.after.actions ∷ rest.rounds;
+      last = rest.last;
+      goes = delivers node rest.last x held found.after [] rest.rounds is found.leads rest.goes;
+      rests = rest.rests;
+    }
+
+settles_in : (program : Program) (idle turns n : ℕ) (node : Node) → length node.held ≤ n → Settles program idle turns node
+settles_in program idle turns zero node few = settles_by program idle turns node (next_held program node) refl (λ held process size. absurd (omega (arith, few, size)))
+settles_in program idle turns (suc n) node few =
+    settles_by program idle turns node (next_held program node) refl
+    (λ held process size. settles_in program idle turns n (after_delivery node held process) (omega (arith, few, size)))
+
+pub settles : (program : Program) (idle turns : ℕ) (node : Node) → Settles program idle turns node
+settles program idle turns node = settles_in program idle turns (length node.held) node (omega arith)
+
+-- THE RUN SO FAR
+
+-- The run of process `me` has come to this node: the link told its talk so far, and a sink gained its text so far.
+pub record CameTo (program : Program) (me idle turns : ℕ) (told_before told_now : Option (List LinkEntry)) (before now : Option (List ℕ)) (node : Node) : Type 0 where
+  pub started : Stepped
+  pub start : proc_step program (opening program me) Go ≡ Some started
+  pub later : List Round
+  pub answers : List LinkAnswer
+  pub goes : GoesOn program idle turns (first_node started.world) answers later node
+  pub answers_are : answers_in (talk_of (event_round started.actions ∷ later)) ≡ answers
+  pub told : Gains told_before told_now (talk_of (event_round started.actions ∷ later))
+  pub written : Appends before now (text_of (event_round started.actions ∷ later))
+
+-- what cuts a node short, by what ends it so
+abbrev pub IsCut : NodeOutcome → Program → ℕ → ℕ → ℕ → Option (List LinkEntry) → Option (List LinkEntry) → Option (List ℕ) → Option (List ℕ) → Type 0
+IsCut how program me idle turns told_before told_after before after = WasCut program me idle turns told_before told_after before after (WroteUpTo how)
 
 module _ {program : Program} {me idle turns : ℕ} {told_before told_after : Option (List LinkEntry)} {before after : Option (List ℕ)} where
   -- what ends by the rules was not cut short
@@ -246,205 +136,171 @@ module _ {program : Program} {me idle turns : ℕ} {told_before told_after : Opt
   cut_not_ended outcome.Memory cut ended = ended
 
   pub cut_by_link : (how : NodeOutcome) → IsCut how program me idle turns told_before told_after before after → how ≡ outcome.LinkFault → WasCut program me idle turns told_before told_after before after WroteAll
-  cut_by_link how cut is = of (subst (λ h. IsCut h program me idle turns told_before told_after before after) is cut)
-    where
-      of : IsCut outcome.LinkFault program me idle turns told_before told_after before after → WasCut program me idle turns told_before told_after before after WroteAll
-      of cut = record { talk = cut.talk; rounds = cut.rounds; end = cut.end; untold = cut.untold; told = cut.told; run = cut.run; few = cut.few; front = cut.front; written = cut.written }
+  cut_by_link how cut is = subst (λ h. WasCut program me idle turns told_before told_after before after (WroteUpTo h)) is cut
 
-  pub cut_by_memory : (how : NodeOutcome) → IsCut how program me idle turns told_before told_after before after → how ≡ outcome.Memory → WasCut program me idle turns told_before told_after before after WroteToLast
-  cut_by_memory how cut is = of (subst (λ h. IsCut h program me idle turns told_before told_after before after) is cut)
-    where
-      of : IsCut outcome.Memory program me idle turns told_before told_after before after → WasCut program me idle turns told_before told_after before after WroteToLast
-      of cut = record { talk = cut.talk; rounds = cut.rounds; end = cut.end; untold = cut.untold; told = cut.told; run = cut.run; few = cut.few; front = cut.front; written = cut.written }
+  pub cut_by_write : (how : NodeOutcome) → IsCut how program me idle turns told_before told_after before after → how ≡ outcome.WriteFault → WasCut program me idle turns told_before told_after before after WroteGiven
+  cut_by_write how cut is = subst (λ h. WasCut program me idle turns told_before told_after before after (WroteUpTo h)) is cut
 
-  pub cut_by_write : (how : NodeOutcome) → IsCut how program me idle turns told_before told_after before after → how ≡ outcome.WriteFault → (end : NodeEnd) × HasCome program me idle turns end told_before told_after before after WroteToLast
-  cut_by_write how cut is = of (subst (λ h. IsCut h program me idle turns told_before told_after before after) is cut)
-    where
-      of : IsCut outcome.WriteFault program me idle turns told_before told_after before after → (end : NodeEnd) × HasCome program me idle turns end told_before told_after before after WroteToLast
-      of cut =
-          let whole : cut.talk ≡ talk_of cut.rounds = sym (cut.front ∙ ap (λ l. cut.talk ++ l) cut.left ∙ append-nil cut.talk) in (
-            cut.end,
-            record {
-              talk = cut.talk;
-              rounds = cut.rounds;
-              told = cut.told;
-              run = cut.run;
-              few = cut.few;
-              whole = whole;
-              written = subst (WroteToLast before after) (ap (λ l. given_rounds (length l) cut.rounds) whole ∙ given_all cut.rounds) cut.written;
-            },
-          )
+  pub cut_by_memory : (how : NodeOutcome) → IsCut how program me idle turns told_before told_after before after → how ≡ outcome.Memory → WasCut program me idle turns told_before told_after before after WroteFront
+  cut_by_memory how cut is = subst (λ h. WasCut program me idle turns told_before told_after before after (WroteUpTo h)) is cut
 
--- THE RUN SO FAR
-
--- The run of process `me` has come to this node: the link told its talk so far, and a sink gained its text so far.
-pub record CameTo (program : Program) (me idle turns : ℕ) (told_before told_now : Option (List LinkEntry)) (before now : Option (List ℕ)) (node : Node) : Type 0 where
-  pub started : Stepped
-  pub start : proc_step program (opening program me) Go ≡ Some started
-  pub later : List Round
-  pub answers : List LinkAnswer
-  pub hears : HearsAll program idle turns (record { process = started.world; idle = 0; taken = 0 }) answers later node
-  pub answers_are : answers_in (talk_of (start_round started.actions ∷ later)) ≡ answers
-  pub told : Gains told_before told_now (talk_of (start_round started.actions ∷ later))
-  pub written : Appends before now (text_of (start_round started.actions ∷ later))
+-- THE START
 
 module _ (program : Program) (me idle turns : ℕ) (told_before told_now : Option (List LinkEntry)) (before now : Option (List ℕ)) (started : Stepped) (start : proc_step program (opening program me) Go ≡ Some started) where
   -- the process has started
   pub came_first : Gains told_before told_now (gifts started.actions) → Appends before now (action_text started.actions)
-      → CameTo program me idle turns told_before told_now before now (record { process = started.world; idle = 0; taken = 0 })
+      → CameTo program me idle turns told_before told_now before now (first_node started.world)
   came_first told written = record {
     started = started;
     start = start;
     later = [];
     answers = [];
-    hears = none _;
+    goes = stays _;
     answers_are = ap answers_in (append-nil (gifts started.actions)) ∙ no_answer started.actions;
     told = subst (Gains told_before told_now) (sym (append-nil (gifts started.actions))) told;
-    written = subst (Appends before now) (sym (text_one (start_round started.actions))) written;
+    written = subst (Appends before now) (sym (text_one (event_round started.actions))) written;
   }
 
   -- its start was cut short
   pub cut_first : (how : NodeOutcome) → IsCutShort how started.actions told_before told_now before now → IsCut how program me idle turns told_before told_now before now
   cut_first how cut =
       let silent : answers_in cut.gained.given ≡ [] = no_answer_given started.actions cut.gained.given cut.gained.left cut.gained.whole in
-      let first : Node = record { process = started.world; idle = 0; taken = 0 } in
+      let rest = settles program idle turns (first_node started.world) in
       record {
         talk = cut.gained.given;
-        rounds = start_round started.actions ∷ [];
-        end = end_of idle turns first;
-        untold = cut.gained.left;
+        rounds = event_round started.actions ∷ rest.rounds;
+        end = end_of idle turns rest.last;
+        untold = cut.gained.left ++ talk_of rest.rounds;
         told = cut.gained.told;
         run = record {
           started = started;
           start = start;
-          later = [];
-          last = first;
-          hears = subst (λ answers. HearsAll program idle turns first answers [] first) (sym silent) (none first);
+          later = rest.rounds;
+          last = rest.last;
+          goes = subst (λ answers. GoesOn program idle turns (first_node started.world) answers rest.rounds rest.last) (sym silent) rest.goes;
+          rests = rest.rests;
           rounds_are = refl;
           end_is = refl;
         };
         few = omega (arith, ap length silent);
-        front = append-nil (gifts started.actions) ∙ cut.gained.whole;
-        left = leaves_none how cut.gained.left cut.left;
-        written = cut_later how before before now [] (start_round started.actions) cut.gained.given cut.gained.left cut.gained.whole (appends_none before) cut.written;
+        front = ap (λ l. l ++ talk_of rest.rounds) cut.gained.whole ∙ append_assoc cut.gained.given cut.gained.left (talk_of rest.rounds);
+        written = cut_later how before before now [] rest.rounds (event_round started.actions) cut.gained.given cut.gained.left cut.gained.whole cut.left (appends_none before) cut.written;
       }
+
+-- A ROUND
 
 module _ (program : Program) (me idle turns : ℕ) (told_before told_now : Option (List LinkEntry)) (before now : Option (List ℕ)) (node : Node) (came : CameTo program me idle turns told_before told_now before now node) where
   abbrev first : Node
-  first = record { process = came.started.world; idle = 0; taken = 0 }
+  first = first_node came.started.world
 
   abbrev so_far : List Round
-  so_far = start_round came.started.actions ∷ came.later
+  so_far = event_round came.started.actions ∷ came.later
 
-  pub taken_is : node.taken ≡ length came.answers
-  taken_is = omega (arith, all_taken came.hears)
-
-  pub few_taken : length came.answers ≤ turns
-  few_taken = omega (arith, taken_is, within came.hears (omega arith))
+  pub few_taken : node.taken ≤ turns
+  few_taken = within came.goes (omega arith)
 
   few_answers : length (answers_in (talk_of so_far)) ≤ turns
-  few_answers = omega (arith, few_taken, ap length came.answers_are)
+  few_answers = omega (arith, all_taken came.goes, within came.goes (omega arith), ap length came.answers_are)
 
-  run_so_far : (end : NodeEnd) → end ≡ end_of idle turns node → NodeRun program me idle turns (answers_in (talk_of so_far)) so_far end
-  run_so_far end is = record {
+  run_so_far : next_held program node ≡ None → (end : NodeEnd) → end ≡ end_of idle turns node → NodeRun program me idle turns (answers_in (talk_of so_far)) so_far end
+  run_so_far rests end is = record {
     started = came.started;
     start = came.start;
     later = came.later;
     last = node;
-    hears = subst (λ answers. HearsAll program idle turns first answers came.later node) (sym came.answers_are) came.hears;
+    goes = subst (λ answers. GoesOn program idle turns first answers came.later node) (sym came.answers_are) came.goes;
+    rests = rests;
     rounds_are = refl;
     end_is = is;
   }
 
   -- the rules end the run here
-  pub came_ends : (end : NodeEnd) → end ≡ end_of idle turns node → HasRun program me idle turns end told_before told_now before now
-  came_ends end is = record {
+  pub came_ends : next_held program node ≡ None → (end : NodeEnd) → end ≡ end_of idle turns node → HasRun program me idle turns end told_before told_now before now
+  came_ends rests end is = record {
     talk = talk_of so_far;
     rounds = so_far;
     told = came.told;
-    run = run_so_far end is;
+    run = run_so_far rests end is;
     few = few_answers;
     whole = refl;
     written = came.written;
   }
 
   -- it was cut short before the next answer
-  pub cut_unanswered : (how : NodeOutcome) (told_after : Option (List LinkEntry)) (after : Option (List ℕ)) → Gains told_now told_after [] → CutText how now after []
+  pub cut_unanswered : next_held program node ≡ None → (how : NodeOutcome) (told_after : Option (List LinkEntry)) (after : Option (List ℕ)) → Gains told_now told_after [] → CutText how now after []
       → IsCut how program me idle turns told_before told_after before after
-  cut_unanswered how told_after after told written = record {
+  cut_unanswered rests how told_after after told written = record {
     talk = talk_of so_far;
     rounds = so_far;
     end = end_of idle turns node;
     untold = [];
     told = subst (Gains told_before told_after) (append-nil (talk_of so_far)) (gains_then told_before told_now told_after (talk_of so_far) [] came.told told);
-    run = run_so_far (end_of idle turns node) refl;
+    run = run_so_far rests (end_of idle turns node) refl;
     few = few_answers;
     front = sym (append-nil (talk_of so_far));
-    left = none_left how;
-    written = subst (WroteUpTo how before after) (sym (given_all so_far)) (all_up_to how before now after so_far came.written written);
+    written = all_up_to how before now after so_far came.written written;
   }
 
-  -- THE NEXT ANSWER
-
-  module _ (asks : end_of idle turns node ≡ AsksAgain) (answer : LinkAnswer) (actions : List Action) (then' : Node) (hears : Hears program node answer actions then') (told_mid : Option (List LinkEntry)) (answered : Gains told_now told_mid (Answered answer ∷ []))
-      (told_after : Option (List LinkEntry)) (after : Option (List ℕ)) where
+  -- the node goes on by one round more, over these answers
+  module _ (answers : List LinkAnswer) (round : Round) (then' : Node) (goes : GoesOn program idle turns node answers (round ∷ []) then') (told_after : Option (List LinkEntry)) (after : Option (List ℕ)) where
     abbrev more : List Round
-    more = came.later ++ answer_round answer actions ∷ []
+    more = came.later ++ round ∷ []
 
-    abbrev all : List Round
-    all = start_round came.started.actions ∷ more
+    goes_so : GoesOn program idle turns first (came.answers ++ answers) more then'
+    goes_so = goes_then came.goes goes
 
-    told_so : (given : List LinkEntry) → Gains told_mid told_after given → Gains told_before told_after (talk_of so_far ++ Answered answer ∷ given)
-    told_so given gave = gains_then told_before told_now told_after (talk_of so_far) (Answered answer ∷ given) came.told (gains_then told_now told_mid told_after (Answered answer ∷ []) given answered gave)
+    answers_so : (given : List LinkEntry) → answers_in given ≡ answers → answers_in (talk_of so_far ++ given) ≡ came.answers ++ answers
+    answers_so given is = answers_then (talk_of so_far) given ∙ ap (λ l. answers_in (talk_of so_far) ++ l) is ∙ ap (λ l. l ++ answers) came.answers_are
 
-    answers_so : (given : List LinkEntry) → answers_in given ≡ [] → answers_in (talk_of so_far ++ Answered answer ∷ given) ≡ came.answers ++ answer ∷ []
-    answers_so given silent =
-        answers_then (talk_of so_far) (Answered answer ∷ given)
-        ∙ ap (λ l. answers_in (talk_of so_far) ++ (answer ∷ l)) silent
-        ∙ ap (λ l. l ++ answer ∷ []) came.answers_are
+    talk_all : talk_of (so_far ++ round ∷ []) ≡ talk_of so_far ++ round.talk
+    talk_all = talk_then so_far (round ∷ []) ∙ ap (λ l. talk_of so_far ++ l) (append-nil round.talk)
 
-    talk_all : talk_of all ≡ talk_of so_far ++ Answered answer ∷ gifts actions
-    talk_all = talk_then so_far (answer_round answer actions ∷ []) ∙ ap (λ l. talk_of so_far ++ l) (append-nil (Answered answer ∷ gifts actions))
+    told_so : (given : List LinkEntry) → Gains told_now told_after given → Gains told_before told_after (talk_of so_far ++ given)
+    told_so given gave = gains_then told_before told_now told_after (talk_of so_far) given came.told gave
 
-    -- the node has heard it
-    pub came_on : Gains told_mid told_after (gifts actions) → Appends now after (action_text actions) → CameTo program me idle turns told_before told_after before after then'
-    came_on gave written = record {
+    -- it has done so
+    pub came_on : answers_in round.talk ≡ answers → Gains told_now told_after round.talk → Appends now after (action_text round.actions) → CameTo program me idle turns told_before told_after before after then'
+    came_on is gave written = record {
       started = came.started;
       start = came.start;
       later = more;
-      answers = came.answers ++ answer ∷ [];
-      hears = hears_on came.hears asks hears;
-      answers_are = ap answers_in talk_all ∙ answers_so (gifts actions) (no_answer actions);
-      told = subst (Gains told_before told_after) (sym talk_all) (told_so (gifts actions) gave);
-      written = subst (Appends before after) (sym (text_then so_far (answer_round answer actions ∷ []) ∙ ap (λ l. text_of so_far ++ l) (text_one (answer_round answer actions))))
-          (appends_then before now after (text_of so_far) (action_text actions) came.written written);
+      answers = came.answers ++ answers;
+      goes = goes_so;
+      answers_are = ap answers_in talk_all ∙ answers_so round.talk is;
+      told = subst (Gains told_before told_after) (sym talk_all) (told_so round.talk gave);
+      written = subst (Appends before after) (sym (text_then so_far (round ∷ []) ∙ ap (λ l. text_of so_far ++ l) (text_one round)))
+          (appends_then before now after (text_of so_far) (action_text round.actions) came.written written);
     }
 
     -- that was cut short
-    pub cut_behind : (how : NodeOutcome) → IsCutShort how actions told_mid told_after now after → IsCut how program me idle turns told_before told_after before after
-    cut_behind how cut =
-        let given = cut.gained.given in
-        let left = cut.gained.left in
-        let whole : Answered answer ∷ gifts actions ≡ (Answered answer ∷ given) ++ left = ap (λ l. Answered answer ∷ l) cut.gained.whole in
-        let answers_are = answers_so given (no_answer_given actions given left cut.gained.whole) in
-        let heard = hears_on came.hears asks hears in
+    pub cut_on : (how : NodeOutcome) (given left : List LinkEntry) → round.talk ≡ given ++ left → answers_in given ≡ answers → Gains told_now told_after given → MayLeave how left
+        → CutText how now after (due left (action_text round.actions)) → IsCut how program me idle turns told_before told_after before after
+    cut_on how given left whole is gave may written =
+        let rest = settles program idle turns then' in
+        let answers_are = answers_so given is in
+        let run : GoesOn program idle turns first ((came.answers ++ answers) ++ []) (more ++ rest.rounds) rest.last = goes_then goes_so rest.goes in
+        let rounds_are : more ++ rest.rounds ≡ came.later ++ round ∷ rest.rounds = append_assoc came.later (round ∷ []) rest.rounds in
         record {
-          talk = talk_of so_far ++ Answered answer ∷ given;
-          rounds = all;
-          end = end_of idle turns then';
-          untold = left;
-          told = told_so given cut.gained.told;
+          talk = talk_of so_far ++ given;
+          rounds = so_far ++ round ∷ rest.rounds;
+          end = end_of idle turns rest.last;
+          untold = left ++ talk_of rest.rounds;
+          told = told_so given gave;
           run = record {
             started = came.started;
             start = came.start;
-            later = more;
-            last = then';
-            hears = subst (λ answers. HearsAll program idle turns first answers more then') (sym answers_are) heard;
+            later = came.later ++ round ∷ rest.rounds;
+            last = rest.last;
+            goes = subst (λ l. GoesOn program idle turns first l (came.later ++ round ∷ rest.rounds) rest.last) (append-nil (came.answers ++ answers) ∙ sym answers_are)
+                (subst (λ l. GoesOn program idle turns first ((came.answers ++ answers) ++ []) l rest.last) rounds_are run);
+            rests = rest.rests;
             rounds_are = refl;
             end_is = refl;
           };
-          few = omega (arith, ap length answers_are, all_taken heard, within heard (omega arith));
-          front = talk_all ∙ ap (λ l. talk_of so_far ++ l) whole ∙ sym (append_assoc (talk_of so_far) (Answered answer ∷ given) left);
-          left = leaves_none how left cut.left;
-          written = cut_later how before now after so_far (answer_round answer actions) (Answered answer ∷ given) left whole came.written cut.written;
+          few = omega (arith, ap length answers_are, all_taken goes_so, within goes_so (omega arith));
+          front = talk_then so_far (round ∷ rest.rounds)
+              ∙ ap (λ l. talk_of so_far ++ (l ++ talk_of rest.rounds)) whole
+              ∙ ap (λ l. talk_of so_far ++ l) (append_assoc given left (talk_of rest.rounds))
+              ∙ sym (append_assoc (talk_of so_far) given (left ++ talk_of rest.rounds));
+          written = cut_later how before now after so_far rest.rounds round given left whole may came.written written;
         }

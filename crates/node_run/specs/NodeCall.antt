@@ -1,5 +1,5 @@
 -- What a call that runs a node leaves: what its link has told since, and what was written.
-use Rattle.std.specs.Prelude.{◌≡◌, ℕ, ◌-◌, ◌≤◌, nat_le, if◌then◌else◌, List, [], ◌∷◌, ◌++◌, length, take, Option}
+use Rattle.std.specs.Prelude.{◌≡◌, ℕ, ◌-◌, ◌≤◌, nat_le, nat_lt, if◌then◌else◌, List, [], ◌∷◌, ◌++◌, length, take, Option}
 use Rattle.std.specs.List.{All, flat_map}
 use Rattle.da_values.specs.declared.val.Val.{Val}
 use Rattle.da_lang.specs.declared.program.Program.{Program}
@@ -21,49 +21,52 @@ answer_in _ = []
 abbrev pub answers_in : List LinkEntry → List LinkAnswer
 answers_in = flat_map answer_in
 
--- THE LINES
+-- THE LINES, of rounds of whose talk so many entries were told
 
--- the lines of these rounds were written
-abbrev pub WroteAll : Option (List ℕ) → Option (List ℕ) → List Round → Type 0
-WroteAll before after rounds = Appends before after (text_of rounds)
+-- the rounds before the first whose packets were not all given
+abbrev pub given_rounds : ℕ → List Round → List Round
+given_rounds told [] = []
+given_rounds told (round ∷ rounds) =
+    if nat_le (length round.talk) told then round ∷ given_rounds (told - length round.talk) rounds else []
 
-abbrev pub all_but_last : List Round → List Round
-all_but_last rounds = take (length rounds - 1) rounds
+-- those of them behind which more was told
+abbrev pub passed_rounds : ℕ → List Round → List Round
+passed_rounds told [] = []
+passed_rounds told (round ∷ rounds) =
+    if nat_lt (length round.talk) told then round ∷ passed_rounds (told - length round.talk) rounds else []
 
--- a front of them was written, in which nothing is missing but of the last round
-pub record WroteToLast (before after : Option (List ℕ)) (rounds : List Round) : Type 0 where
+-- the lines were written of the rounds whose packets were all given
+abbrev pub WroteAll : ℕ → Option (List ℕ) → Option (List ℕ) → List Round → Type 0
+WroteAll told before after rounds = Appends before after (text_of (given_rounds told rounds))
+
+-- a front of them was written, in which nothing is missing of a round behind which more was told
+pub record WroteFront (told : ℕ) (before after : Option (List ℕ)) (rounds : List Round) : Type 0 where
   pub size : ℕ
-  pub written : Appends before after (take size (text_of rounds))
-  pub reaches : length (text_of (all_but_last rounds)) ≤ size
+  pub written : Appends before after (take size (text_of (given_rounds told rounds)))
+  pub reaches : length (text_of (passed_rounds told rounds)) ≤ size
+
+-- the same, where no other round was begun: what was told is their talk
+pub record WroteGiven (told : ℕ) (before after : Option (List ℕ)) (rounds : List Round) : Type 0 where
+  pub front : WroteFront told before after rounds
+  pub whole : length (talk_of (given_rounds told rounds)) ≡ told
 
 -- HOW FAR IT RAN
 
 -- The rules led to this end, after so many answers at most: the link told the talk of the run over the answers that it gave,
--- and so much was written of its lines.
-pub record HasCome (program : Program) (me idle turns : ℕ) (end : NodeEnd) (told_before told_after : Option (List LinkEntry)) (before after : Option (List ℕ))
-    (Wrote : Option (List ℕ) → Option (List ℕ) → List Round → Type 0) : Type 0 where
+-- and its lines were written.
+pub record HasRun (program : Program) (me idle turns : ℕ) (end : NodeEnd) (told_before told_after : Option (List LinkEntry)) (before after : Option (List ℕ)) : Type 0 where
   pub talk : List LinkEntry
   pub rounds : List Round
   pub told : Gains told_before told_after talk
   pub run : NodeRun program me idle turns (answers_in talk) rounds end
   pub few : length (answers_in talk) ≤ turns
   pub whole : talk ≡ talk_of rounds
-  pub written : Wrote before after rounds
-
--- the same, with all lines
-abbrev pub HasRun : Program → ℕ → ℕ → ℕ → NodeEnd → Option (List LinkEntry) → Option (List LinkEntry) → Option (List ℕ) → Option (List ℕ) → Type 0
-HasRun program me idle turns end told_before told_after before after = HasCome program me idle turns end told_before told_after before after WroteAll
-
--- where so many entries were told: the rounds before the first whose packets were not all given
-abbrev pub given_rounds : ℕ → List Round → List Round
-given_rounds told [] = []
-given_rounds told (round ∷ rounds) =
-    if nat_le (length round.talk) told then round ∷ given_rounds (told - length round.talk) rounds else []
+  pub written : Appends before after (text_of rounds)
 
 -- A node was cut short: the link told a front of the talk of the run over the answers that it gave. So much was written of the
--- lines of the rounds whose packets were all given.
+-- lines of its rounds.
 pub record WasCut (program : Program) (me idle turns : ℕ) (told_before told_after : Option (List LinkEntry)) (before after : Option (List ℕ))
-    (Wrote : Option (List ℕ) → Option (List ℕ) → List Round → Type 0) : Type 0 where
+    (Wrote : ℕ → Option (List ℕ) → Option (List ℕ) → List Round → Type 0) : Type 0 where
   pub talk : List LinkEntry
   pub rounds : List Round
   pub end : NodeEnd
@@ -72,7 +75,7 @@ pub record WasCut (program : Program) (me idle turns : ℕ) (told_before told_af
   pub run : NodeRun program me idle turns (answers_in talk) rounds end
   pub few : length (answers_in talk) ≤ turns
   pub front : talk_of rounds ≡ talk ++ untold
-  pub written : Wrote before after (given_rounds (length talk) rounds)
+  pub written : Wrote (length talk) before after rounds
 
 -- WHAT THE LINK WAS GIVEN
 

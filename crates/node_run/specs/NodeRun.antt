@@ -1,7 +1,6 @@
 -- The run of a node: one process of a program over the answers of its link.
-use Rattle.std.specs.Prelude.{◌≡◌, ℕ, suc, ◌+◌, nat_le, true, if◌then◌else◌, List, [], ◌∷◌, Option, Some, None}
+use Rattle.std.specs.Prelude.{◌≡◌, ℕ, suc, ◌+◌, nat_le, Bool, true, ◌&&◌, if◌then◌else◌, List, [], ◌∷◌, Option, Some, None, is_some}
 use Rattle.std.specs.List.{flat_map}
-use Rattle.da_values.specs.declared.val.Val.{Val}
 use Rattle.da_values.specs.Value.{val_of}
 use Rattle.da_lang.specs.declared.event.Action.{Action}
 use Rattle.da_lang.specs.declared.event.Action.TheVariants.{Sent}
@@ -14,7 +13,7 @@ use Rattle.da_lang.specs.declared.program.Program.{Program}
 use Rattle.da_lang.specs.declared.program.RBranch.{RBranch}
 use Rattle.da_lang.specs.Queries.{holds}
 use Rattle.da_lang.specs.Shaped.{IsProcess, well_typed}
-use Rattle.da_lang.specs.Steps.{Go, Deliver, Stepped, move_step, proc_step}
+use Rattle.da_lang.specs.Steps.{Step, Go, TimeOut, Stepped, move_step, proc_step}
 use Rattle.da_lang.specs.Turns.{kind_of}
 use Rattle.da_lang.specs.World as world
 use Rattle.da_lang.specs.World.{Data, Phase, Task, Do, World, opening}
@@ -24,6 +23,7 @@ use Rattle.da_outside.specs.declared.link.LinkEntry.{LinkEntry}
 use Rattle.da_outside.specs.declared.link.LinkEntry.TheVariants.{Answered, Gave}
 use Rattle.msg_codec.specs.Packets.{IsPacket, packet_bytes}
 use Rattle.sched_text.specs.ActionText.{action_text}
+use Rattle.node_run.specs.HeldPackets.{Held, arrival_of, find_held, held_with}
 
 -- WHAT THE LINK IS GIVEN AND WHAT IT BRINGS
 
@@ -35,14 +35,14 @@ gift_of _ = []
 abbrev pub gifts : List Action → List LinkEntry
 gifts = flat_map gift_of
 
--- a datagram that is delivered: the packet of a declared message of its types, from a process of the program, in which all
--- processes are processes of the program
-pub record IsMessage (program : Program) (bytes : List ℕ) (message : Val) (sender time : ℕ) : Type 0 where
-  pub packet : IsPacket sender time message bytes
-  pub from : IsProcess program sender
-  pub typed : well_typed program message ≡ true
+-- a datagram that is a message for the node: the packet of a declared message of its types, from a process of the program, in
+-- which all processes are processes of the program
+pub record IsMessage (program : Program) (bytes : List ℕ) (x : Held) : Type 0 where
+  pub packet : IsPacket x.sender x.time x.message bytes
+  pub from : IsProcess program x.sender
+  pub typed : well_typed program x.message ≡ true
 
--- WHAT A PROCESS DOES WHERE NOTHING COMES
+-- WHAT A NODE DOES WHERE NOTHING COMES
 
 -- the number of the first of these alternatives whose condition holds, where they are numbered from k on
 abbrev pub first_true : Data → ℕ → List Alt → Option ℕ
@@ -51,8 +51,8 @@ first_true d k (alt ∷ alts) = if holds d (out-Alt alt).cond [] then Some k els
 
 -- at a label it goes on, and at an `await` it takes the least alternative that is true
 abbrev pub move_at : Data → ItemKind-F ItemKind Alt Item RBranch → Option ℕ
-move_at d Label = Some 0
-move_at d (Await alts) = first_true d 1 alts
+move_at d (Label l) = Some 0
+move_at d (Await alts timeout label) = first_true d 1 alts
 move_at d _ = None
 
 abbrev pub move_before : Data → List Task → Option ℕ
@@ -63,34 +63,59 @@ move_before d _ = None
 abbrev pub move_of : World → Option ℕ
 move_of w = move_before w.data' w.todo
 
--- THE RULES
-
--- a node: its process, how many answers up to now were idle turns in a row, and how many were taken at all
+-- A node: its process, the packets that it holds, how many answers up to now were idle turns in a row, and how many were taken
+-- at all.
 pub record Node : Type 0 where
   pub process : World
+  pub held : List Held
   pub idle : ℕ
   pub taken : ℕ
 
-abbrev pub after_event : Node → World → Node
-after_event node process = record { process = process; idle = 0; taken = node.taken + 1 }
+-- behind so many idle turns the time runs out
+abbrev pub idle_turns_to_timeout : ℕ
+idle_turns_to_timeout = 999
 
--- a datagram that is dropped is an answer and no idle turn
-abbrev pub after_drop : Node → Node
-after_drop node = after_event node node.process
+-- the time runs out at an `await` that has a block for that and no true alternative
+abbrev pub may_time_out : Program → Node → Bool
+may_time_out program node = nat_le idle_turns_to_timeout node.idle && is_some (proc_step program node.process TimeOut)
+
+abbrev pub step_for : Option ℕ → Bool → Option Step
+step_for (Some k) late = Some (move_step k)
+step_for None late = if late then Some TimeOut else None
+
+-- its move, or else the timeout, or none
+abbrev pub step_of : Program → Node → Option Step
+step_of program node = step_for (move_of node.process) (may_time_out program node)
+
+-- THE RULES
+
+-- with these packets behind an answer that was a datagram, which is no idle turn
+abbrev pub after_datagram : Node → List Held → Node
+after_datagram node held = record { process = node.process; held = held; idle = 0; taken = node.taken + 1 }
+
+abbrev pub after_step : Node → World → Node
+after_step node process = record { process = process; held = node.held; idle = 0; taken = node.taken + 1 }
 
 abbrev pub after_idle_turn : Node → Node
-after_idle_turn node = record { process = node.process; idle = node.idle + 1; taken = node.taken + 1 }
+after_idle_turn node = record { process = node.process; held = node.held; idle = node.idle + 1; taken = node.taken + 1 }
+
+-- a delivery uses no answer
+abbrev pub after_delivery : Node → List Held → World → Node
+after_delivery node held process = record { process = process; held = held; idle = node.idle; taken = node.taken }
+
+-- the held packet that is delivered next, and what is held behind it
+abbrev pub next_held : Program → Node → Option (Held × List Held)
+next_held program node = find_held program node.process [] node.held
 
 -- what a node does at an answer, and what it is behind it
 pub data Hears (program : Program) (node : Node) : LinkAnswer → List Action → Node → Type 0 where
-  delivers : (bytes : List ℕ) (message : Val) (sender time : ℕ) (after : Stepped) → IsMessage program bytes message sender time
-      → proc_step program node.process (Deliver message sender time) ≡ Some after
-      → Hears program node (Datagram bytes) after.actions (after_event node after.world)
-  drops : (bytes : List ℕ) → ((message : Val) (sender time : ℕ) → IsMessage program bytes message sender time → ⊥)
-      → Hears program node (Datagram bytes) [] (after_drop node)
-  moves : (k : ℕ) (after : Stepped) → move_of node.process ≡ Some k → proc_step program node.process (move_step k) ≡ Some after
-      → Hears program node Nothing after.actions (after_event node after.world)
-  idles : move_of node.process ≡ None → Hears program node Nothing [] (after_idle_turn node)
+  comes_in : (bytes : List ℕ) (x : Held) → IsMessage program bytes x
+      → Hears program node (Datagram bytes) [] (after_datagram node (held_with program.kind node.held x))
+  drops : (bytes : List ℕ) → ((x : Held) → IsMessage program bytes x → ⊥)
+      → Hears program node (Datagram bytes) [] (after_datagram node node.held)
+  steps : (step : Step) (after : Stepped) → step_of program node ≡ Some step → proc_step program node.process step ≡ Some after
+      → Hears program node Nothing after.actions (after_step node after.world)
+  idles : step_of program node ≡ None → Hears program node Nothing [] (after_idle_turn node)
 
 -- where the rules have come to: the process has ended, a fault has ended it, the last answers were so many idle turns, so
 -- many answers were taken, or the link is asked again
@@ -111,33 +136,45 @@ end_of idle turns node = end_in idle turns node node.process.phase
 
 -- THE RUN
 
--- the start of the process, or one answer: the actions, and what the link tells meanwhile, which is the answer and then the
--- packets of what was sent
+-- the start of the process, a delivery, or one answer: the actions, and what the link tells meanwhile, which is the answer, if
+-- there is one, and then the packets of what was sent
 pub record Round : Type 0 where
   pub actions : List Action
   pub talk : List LinkEntry
 
-abbrev pub start_round : List Action → Round
-start_round actions = record { actions = actions; talk = gifts actions }
+abbrev pub event_round : List Action → Round
+event_round actions = record { actions = actions; talk = gifts actions }
 
 abbrev pub answer_round : LinkAnswer → List Action → Round
 answer_round answer actions = record { actions = actions; talk = Answered answer ∷ gifts actions }
 
--- the node hears these answers one after the other, each where the rules ask for one
-pub data HearsAll (program : Program) (idle turns : ℕ) : Node → List LinkAnswer → List Round → Node → Type 0 where
-  none : (node : Node) → HearsAll program idle turns node [] [] node
-  next : (node then' last : Node) (answer : LinkAnswer) (answers : List LinkAnswer) (actions : List Action) (rounds : List Round)
-      → end_of idle turns node ≡ AsksAgain → Hears program node answer actions then' → HearsAll program idle turns then' answers rounds last
-      → HearsAll program idle turns node (answer ∷ answers) (answer_round answer actions ∷ rounds) last
+-- The node goes on over these answers. A held packet is delivered where one may be; only where none may, an answer is heard,
+-- where the rules ask for one.
+pub data GoesOn (program : Program) (idle turns : ℕ) : Node → List LinkAnswer → List Round → Node → Type 0 where
+  stays : (node : Node) → GoesOn program idle turns node [] [] node
+  delivers : (node last : Node) (x : Held) (held : List Held) (after : Stepped) (answers : List LinkAnswer) (rounds : List Round)
+      → next_held program node ≡ Some (x, held) → proc_step program node.process (arrival_of x) ≡ Some after
+      → GoesOn program idle turns (after_delivery node held after.world) answers rounds last
+      → GoesOn program idle turns node answers (event_round after.actions ∷ rounds) last
+  hears : (node then' last : Node) (answer : LinkAnswer) (answers : List LinkAnswer) (actions : List Action) (rounds : List Round)
+      → next_held program node ≡ None → end_of idle turns node ≡ AsksAgain
+      → Hears program node answer actions then' → GoesOn program idle turns then' answers rounds last
+      → GoesOn program idle turns node (answer ∷ answers) (answer_round answer actions ∷ rounds) last
 
--- The run of process `me` over these answers, all of which it asks for: the process starts, and then the node hears them.
+-- a process that has started
+abbrev pub first_node : World → Node
+first_node process = record { process = process; held = []; idle = 0; taken = 0 }
+
+-- The run of process `me` over these answers, all of which it asks for: the process starts, and then the node goes on until no
+-- answer and no held packet is left that may be delivered.
 pub record NodeRun (program : Program) (me idle turns : ℕ) (answers : List LinkAnswer) (rounds : List Round) (end : NodeEnd) : Type 0 where
   pub started : Stepped
   pub start : proc_step program (opening program me) Go ≡ Some started
   pub later : List Round
   pub last : Node
-  pub hears : HearsAll program idle turns (record { process = started.world; idle = 0; taken = 0 }) answers later last
-  pub rounds_are : rounds ≡ start_round started.actions ∷ later
+  pub goes : GoesOn program idle turns (first_node started.world) answers later last
+  pub rests : next_held program last ≡ None
+  pub rounds_are : rounds ≡ event_round started.actions ∷ later
   pub end_is : end ≡ end_of idle turns last
 
 -- the actions of a run with their lines, and its talk: the answers and gifts in the order of the rules

@@ -3,6 +3,7 @@
 
 mod giving;
 mod hearing;
+mod holding;
 mod moving;
 mod outcome;
 mod run;

@@ -1,22 +1,23 @@
-//! The run of a node, answer by answer.
+//! The run of a node, round by round.
 ghost use Rattle.da_core.specs.Compiled.{IsCompiled, program_of};
 ghost use Rattle.da_lang.specs.Shaped.{IsProcess};
 ghost use Rattle.da_outside.specs.Outside.{HasCause};
 ghost use Rattle.node_run.specs.Hearing.{end_at as end_lem};
-ghost use Rattle.node_run.specs.NodeCall.{GivesPackets, HasCome, HasEnded, HasRun, WasCut, WroteAll, WroteToLast, end_for};
-ghost use Rattle.node_run.specs.NodeRun.{NodeEnd};
+ghost use Rattle.node_run.specs.NodeCall.{GivesPackets, HasEnded, HasRun, WasCut, WroteAll, WroteFront, WroteGiven, end_for};
 ghost use Rattle.std.specs.Prelude.{◌≡◌, ◌≤◌, length};
 
 use crate::hearing::{begin, hear};
+use crate::holding::deliver_next;
 use crate::outcome::NodeOutcome;
 use da_core::{Compiled, Stopped};
 use da_outside::{DATAGRAM_MAX, Link, Sink};
 use std::alloc::Global;
 
 /// Runs process `me` of a program as a node, and writes the lines of its actions. The process starts; then the link is asked
-/// again and again, and the process does what the answer tells: it takes in the message of a packet, or makes its move where
-/// nothing comes. Behind each event the packets of what it sent are given, and then its lines are written. It ends where the
-/// process has ended, where the last `idle` answers were idle turns, or where `turns` answers were taken.
+/// again and again. The message of a packet is held until the process takes it where it waits. Where nothing comes the process
+/// makes its move, or the time runs out behind 999 idle turns. Behind each event the packets of what it sent are given, and then
+/// its lines are written. It ends where the process has ended, where the last `idle` answers were idle turns, or where `turns`
+/// answers were taken.
 ///
 /// The link is bound to as many processes as the program has, and `idle` and `turns` are at least 1.
 pub fn node<L: Link, K: Sink>(
@@ -37,13 +38,12 @@ pub fn node<L: Link, K: Sink>(
     // Where the rules end it: the link told the talk of the run over the answers that it gave, and the sink gained its lines.
     ensures ran { HasEnded result → HasRun (program_of c.now) me idle turns (end_for result) (L.told link.old) (L.told link.new) (K.taken sink.old) (K.taken sink.new) }
 
-    // Where the sink failed: the link told the talk of the run up to there, and no line is missing but of the last event.
-    ensures write { result ≡ NodeOutcome.WriteFault → (end : NodeEnd) × HasCome (program_of c.now) me idle turns end (L.told link.old) (L.told link.new) (K.taken sink.old) (K.taken sink.new) WroteToLast }
-
-    // Where the link failed or memory was refused: the link told a front of the talk of the run over these answers. The lines of
-    // the events whose packets were all given were written; for want of memory some of the last of them may be missing.
+    // Where the link or the sink failed or memory was refused: the link told a front of the talk of the run over these answers.
+    // Where the link failed the lines were written of the rounds whose packets were all given. Else some of them may be missing,
+    // but none of a round behind which the link told more; where the sink failed, the packets of each round that was begun were given.
     ensures link { result ≡ NodeOutcome.LinkFault → WasCut (program_of c.now) me idle turns (L.told link.old) (L.told link.new) (K.taken sink.old) (K.taken sink.new) WroteAll }
-    ensures memory { result ≡ NodeOutcome.Memory → WasCut (program_of c.now) me idle turns (L.told link.old) (L.told link.new) (K.taken sink.old) (K.taken sink.new) WroteToLast }
+    ensures write { result ≡ NodeOutcome.WriteFault → WasCut (program_of c.now) me idle turns (L.told link.old) (L.told link.new) (K.taken sink.old) (K.taken sink.new) WroteGiven }
+    ensures memory { result ≡ NodeOutcome.Memory → WasCut (program_of c.now) me idle turns (L.told link.old) (L.told link.new) (K.taken sink.old) (K.taken sink.new) WroteFront }
 
     // However it ended, the link was given nothing but packets of messages that this process sent.
     ensures packets { GivesPackets me (L.told link.old) (L.told link.new) }
@@ -58,18 +58,23 @@ pub fn node<L: Link, K: Sink>(
         Err(outcome) => return outcome,
     };
     let mut buffer = [0u8; DATAGRAM_MAX];
-    'answers: for _taken in 0..turns {
+    let mut taken = 0;
+    'rounds: loop {
+        match deliver_next(alloc, c, &mut running, link, sink) {
+            Ok(true) => continue 'rounds,
+            Ok(false) => {}
+            Err(outcome) => return outcome,
+        }
         if let Some(end) = end_at(running.stopped, running.idle, idle) {
             return end;
         }
+        if taken == turns {
+            return NodeOutcome::Spent;
+        }
         match hear(alloc, c, &mut running, &mut buffer, link, sink) {
-            Ok(()) => {}
+            Ok(()) => taken += 1,
             Err(outcome) => return outcome,
         }
-    }
-    match end_at(running.stopped, running.idle, idle) {
-        Some(end) => end,
-        None => NodeOutcome::Spent,
     }
 }
 

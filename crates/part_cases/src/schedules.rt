@@ -111,6 +111,7 @@ fn event_of(words: &str) -> Result<Event, RowFault> {
     match told.name {
         "Move" => Ok(Event::Move { p }),
         "Take" => Ok(Event::Take { p, k: q }),
+        "Timeout" => Ok(Event::Timeout { p }),
         "Deliver" => Ok(Event::Deliver { p, q, i }),
         "Lose" => Ok(Event::Lose { p, q, i }),
         "Repeat" => Ok(Event::Repeat { p, q, i }),

@@ -1,5 +1,5 @@
 -- The generators of the conditions that are met in statements are those of the statements.
-use Rattle.std.specs.Prelude.{◌≡◌, ℕ, List, [], ◌∷◌, ◌++◌, map, Option, refl}
+use Rattle.std.specs.Prelude.{◌≡◌, ℕ, List, [], ◌∷◌, ◌++◌, map, Option, Some, None, unwrap_or, refl}
 use Rattle.std.specs.List.{AllByRecursion, flat_map}
 use Rattle.std.proofs.Common.{ap, sym, ◌∙◌, append_assoc}
 use Rattle.da_lang.specs.declared.program.Alt.{Alt, roll-Alt}
@@ -79,6 +79,20 @@ if_gens branches otherwise one two =
     ∙ ap (λ z. flat_map branch_gens branches ++ z) (body_gens otherwise two)
     ∙ sym (gens-If branches otherwise)
 
+await_parts : (alts : List Alt) (block : List Item) → AllByRecursion OfAlt alts → AllByRecursion OfItem block → met_gens (joined (map alt_met alts) ++ joined (map item_met block)) ≡ flat_map alt_gens alts ++ flat_map item_gens block
+await_parts alts block one two =
+    met_gens-append (joined (map alt_met alts)) (joined (map item_met block))
+    ∙ ap (λ z. z ++ met_gens (joined (map item_met block))) (parts_gens alt_met alt_gens alts one)
+    ∙ ap (λ z. flat_map alt_gens alts ++ z) (body_gens block two)
+
+await_case : (alts : List Alt) (timeout : Option (List Item)) (label : Option ℕ) → AllByRecursion OfAlt alts → AllByRecursion OfItem (unwrap_or timeout []) → OfKind (kind.Await alts timeout label)
+await_case alts None label one two =
+    kind_is (kind.Await alts None label) (ItemKind-F.Await alts None label) (kind.rolls-Await alts None label)
+    ∙ await_parts alts [] one two ∙ sym (gens-Await alts None label)
+await_case alts (Some block) label one two =
+    kind_is (kind.Await alts (Some block) label) (ItemKind-F.Await alts (Some block) label) (kind.rolls-Await alts (Some block) label)
+    ∙ await_parts alts block one two ∙ sym (gens-Await alts (Some block) label)
+
 alt_case : (b : Cond) (found : Option ℕ) (binds : List ℕ) (body : List Item) (line : ℕ) → AllByRecursion OfItem body → OfAlt (roll-Alt (record { cond = b; found = found; binds = binds; body = body; line = line }))
 alt_case b found binds body line each =
     ap met_gens (fold-roll-Alt (List Met) (List Met) (List Met) (List Met) kind_met_step alt_met_step item_met_step branch_met_step (record { cond = b; found = found; binds = binds; body = body; line = line }))
@@ -111,8 +125,8 @@ cases = record {
   while = λ e body each. kind_is (kind.While e body) (ItemKind-F.While e body) (kind.rolls-While e body) ∙ body_gens body each ∙ sym (gens-While e body);
   for = λ s e body each. kind_is (kind.For s e body) (ItemKind-F.For s e body) (kind.rolls-For s e body) ∙ body_gens body each ∙ sym (gens-For s e body);
   call = λ args body each. kind_is (kind.Call args body) (ItemKind-F.Call args body) (kind.rolls-Call args body) ∙ body_gens body each ∙ sym (gens-Call args body);
-  await = λ alts each. kind_is (kind.Await alts) (ItemKind-F.Await alts) (kind.rolls-Await alts) ∙ parts_gens alt_met alt_gens alts each ∙ sym (gens-Await alts);
-  label = kind_is kind.Label ItemKind-F.Label kind.rolls-Label ∙ sym gens-Label;
+  await = await_case;
+  label = λ l. kind_is (kind.Label l) (ItemKind-F.Label l) (kind.rolls-Label l) ∙ sym (gens-Label l);
   pass = kind_is kind.Pass ItemKind-F.Pass kind.rolls-Pass ∙ sym gens-Pass;
   alt = alt_case;
   item = item_case;

@@ -1,6 +1,6 @@
 -- Where code halts since there are too many nodes, the plan that it was to make has too many: one lemma for each way out
 -- of a function that puts queries, flags and statements into a plan.
-use Rattle.std.specs.Prelude.{◌≡◌, ◌<◌, ◌-◌, ◌+◌, ℕ, Bool, true, false, List, [], ◌∷◌, flat_map, length, get_or, Option, Result, Ok, Err, IsErrAnd, refl}
+use Rattle.std.specs.Prelude.{◌≡◌, ◌<◌, ◌-◌, ◌+◌, ℕ, Bool, true, false, List, [], ◌∷◌, flat_map, length, get_or, Option, unwrap_or, Result, Ok, Err, IsErrAnd, refl}
 use Rattle.std.proofs.Common.{ap, sym, subst, ◌∙◌, drop}
 use Rattle.da_lang.specs.declared.program.Alt.{Alt}
 use Rattle.da_lang.specs.declared.program.BindArg.{BindArg}
@@ -31,7 +31,7 @@ use Rattle.quant_norm.proofs.GrowthLaws.{norm_grows, test_grows, denied_grows, g
 use Rattle.quant_norm.proofs.MetAt.{item_met-is, made_with-both, with_met-made}
 use Rattle.quant_norm.proofs.PlaceLaws.{Grown, grown_itself, grown_on}
 use Rattle.quant_norm.proofs.PlanSteps.{End, EndAt}
-use Rattle.quant_norm.proofs.QuerySteps.{each_asked, some_asked, comp_asked, asked_further, met_further, class_made, if_put, while_put, for_put, call_put, branch_put, alt_put}
+use Rattle.quant_norm.proofs.QuerySteps.{each_asked, some_asked, comp_asked, asked_further, met_further, class_made, if_put, while_put, for_put, call_put, await_put, branch_put, alt_put}
 
 -- a halt that is handed on
 pub plan_halted : {A : Type 0} (whole : Plan) (made : A → Plan) (r : Result A Halt) (h : Halt) → IsErrAnd r (λ e. e ≡ h) → (h ≡ Full → Over whole.nodes) → MakesPlan whole made r
@@ -124,6 +124,13 @@ if_over k branches read otherwise plan qs form r over =
     let middle : Made = made_with (flat_map branch_met read) (plan, qs) in
     let end : Made = made_with (flat_map item_met otherwise) middle in
     over_rest (made_with (kind_met k) (plan, qs)) middle end (if_put k branches read otherwise otherwise plan qs middle end form r refl refl refl) (made_grows (flat_map item_met otherwise) middle) over
+
+pub await_over : (k : ItemKind) (alts read : List Alt) (timeout : Option (List Item)) (label : Option ℕ) (plan : Plan) (qs : List Query) → k ≡ kind.Await alts timeout label → read ≡ alts → Over (made_with (flat_map alt_met read) (plan, qs)).0.nodes → OverKind k plan qs
+await_over k alts read timeout label plan qs form r over =
+    let body : List Item = unwrap_or timeout [] in
+    let middle : Made = made_with (flat_map alt_met read) (plan, qs) in
+    let end : Made = made_with (flat_map item_met body) middle in
+    over_rest (made_with (kind_met k) (plan, qs)) middle end (await_put k alts read timeout body label plan qs middle end form r refl refl refl) (made_grows (flat_map item_met body) middle) over
 
 pub while_over : (k : ItemKind) (e : RExpr) (body : List Item) (count : ℕ) (plan : Plan) (qs : List Query) → k ≡ kind.While e body → count ≡ asks e → Over (with_asked count qs plan).0.nodes → OverKind k plan qs
 while_over k e body count plan qs form n over =

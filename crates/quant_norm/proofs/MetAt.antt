@@ -1,5 +1,5 @@
 -- What is met in statements, one equation for each form, and the plan that is made with it.
-use Rattle.std.specs.Prelude.{◌≡◌, ℕ, ◌+◌, List, [], ◌∷◌, ◌++◌, map, flat_map, sum, refl}
+use Rattle.std.specs.Prelude.{◌≡◌, ℕ, ◌+◌, List, [], ◌∷◌, ◌++◌, map, flat_map, sum, Option, Some, None, unwrap_or, refl}
 use Rattle.std.specs.List.{sum_by}
 use Rattle.std.proofs.Common.{ap, sym, ◌∙◌}
 use Rattle.std.proofs.lemmas.List.Sums.{sum-map}
@@ -60,11 +60,17 @@ met-Call args body =
     ∙ ap (λ z. Asked (sum (map (λ a. asks a.value) args)) ∷ z) (joined-map item_met body)
     ∙ ap (λ n. Asked n ∷ flat_map item_met body) (sum-map (λ a. asks a.value) args)
 
-pub met-Await : (alts : List Alt) → kind_met (kind.Await alts) ≡ flat_map alt_met alts
-met-Await alts = ap kind_met (sym (kind.rolls-Await alts)) ∙ layer (ItemKind-F.Await alts) ∙ joined-map alt_met alts
+pub met-Await : (alts : List Alt) (timeout : Option (List Item)) (label : Option ℕ) → kind_met (kind.Await alts timeout label) ≡ flat_map alt_met alts ++ flat_map item_met (unwrap_or timeout [])
+met-Await alts None label =
+    ap kind_met (sym (kind.rolls-Await alts None label)) ∙ layer (ItemKind-F.Await alts None label) ∙ ap (λ z. z ++ []) (joined-map alt_met alts)
+met-Await alts (Some block) label =
+    ap kind_met (sym (kind.rolls-Await alts (Some block) label))
+    ∙ layer (ItemKind-F.Await alts (Some block) label)
+    ∙ ap (λ z. z ++ joined (map item_met block)) (joined-map alt_met alts)
+    ∙ ap (λ z. flat_map alt_met alts ++ z) (joined-map item_met block)
 
-pub met-Label : kind_met kind.Label ≡ []
-met-Label = ap kind_met (sym kind.rolls-Label) ∙ layer ItemKind-F.Label
+pub met-Label : (l : ℕ) → kind_met (kind.Label l) ≡ []
+met-Label l = ap kind_met (sym (kind.rolls-Label l)) ∙ layer (ItemKind-F.Label l)
 
 pub met-Pass : kind_met kind.Pass ≡ []
 met-Pass = ap kind_met (sym kind.rolls-Pass) ∙ layer ItemKind-F.Pass

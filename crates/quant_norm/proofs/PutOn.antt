@@ -1,6 +1,6 @@
 -- Functions that end in a call which puts queries and flags into a plan: what the call is to put is what the function is
 -- to put.
-use Rattle.std.specs.Prelude.{◌≡◌, ◌+◌, ℕ, List, [], ◌∷◌, flat_map, Result, Ok, Err, refl}
+use Rattle.std.specs.Prelude.{◌≡◌, ◌+◌, ℕ, List, [], ◌∷◌, flat_map, Option, Some, None, unwrap_or, Result, Ok, Err, refl}
 use Rattle.std.proofs.Common.{ap, sym, ◌∙◌}
 use Rattle.da_lang.specs.declared.program.Alt.{Alt}
 use Rattle.da_lang.specs.declared.program.BindArg.{BindArg}
@@ -71,8 +71,14 @@ module _ {A : Type 0} (k : ItemKind) where
       let end : Made = made_with (flat_map item_met read) middle in
       puts_as (made_with (kind_met k) (plan, qs)) end made r (call_put k args args_read body read (args_ask args_read) plan qs middle end form ra rb refl put refl)
 
-  pub await_ends : (alts read : List Alt) (plan : Plan) (qs : List Query) (made : A → Made) (r : Result A Halt) → k ≡ kind.Await alts → read ≡ alts → Puts (made_with (flat_map alt_met read) (plan, qs)) made r → Puts (made_with (kind_met k) (plan, qs)) made r
-  await_ends alts read plan qs made r form same = puts_as (made_with (kind_met k) (plan, qs)) (made_with (flat_map alt_met read) (plan, qs)) made r (await_put k alts read plan qs (made_with (flat_map alt_met read) (plan, qs)) form same refl)
+  pub await_ends : (alts alts_read : List Alt) (timeout : Option (List Item)) (body read : List Item) (label : Option ℕ) (plan : Plan) (qs : List Query) (middle : Made) (made : A → Made) (r : Result A Halt) → k ≡ kind.Await alts timeout label → alts_read ≡ alts → timeout ≡ Some body → read ≡ body
+      → made_with (flat_map alt_met alts_read) (plan, qs) ≡ middle → Puts (made_with (flat_map item_met read) middle) made r → Puts (made_with (kind_met k) (plan, qs)) made r
+  await_ends alts alts_read timeout body read label plan qs middle made r form ra some rb one =
+      let end : Made = made_with (flat_map item_met read) middle in
+      puts_as (made_with (kind_met k) (plan, qs)) end made r (await_put k alts alts_read timeout read label plan qs middle end form ra (ap (λ t. unwrap_or t []) some ∙ sym rb) one refl)
+
+pub await_alone : (k : ItemKind) (alts read : List Alt) (timeout : Option (List Item)) (label : Option ℕ) (plan : Plan) (qs : List Query) (end : Made) → k ≡ kind.Await alts timeout label → read ≡ alts → timeout ≡ None → made_with (flat_map alt_met read) (plan, qs) ≡ end → made_with (kind_met k) (plan, qs) ≡ end
+await_alone k alts read timeout label plan qs end form same none one = await_put k alts read timeout [] label plan qs end end form same (ap (λ t. unwrap_or t []) none) one refl
 
 -- a block behind an expression
 pub block_ends : {A : Type 0} (e : RExpr) (body : List Item) (plan : Plan) (qs : List Query) (middle : Made) (made : A → Made) (r : Result A Halt) → with_asked (asks e) qs plan ≡ middle → Puts (made_with (flat_map item_met body) middle) made r → Puts (made_with (block_met e body) (plan, qs)) made r

@@ -1,5 +1,5 @@
 -- What the functions that put queries, flags and statements into a plan do, in the words of the definitions.
-use Rattle.std.specs.Prelude.{◌≡◌, ◌⊎◌, ◌<◌, ◌≤◌, ◌+◌, ◌-◌, ℕ, zero, suc, Bool, true, false, List, [], ◌∷◌, ◌++◌, flat_map, length, get_or, Option, refl}
+use Rattle.std.specs.Prelude.{◌≡◌, ◌⊎◌, ◌<◌, ◌≤◌, ◌+◌, ◌-◌, ℕ, zero, suc, Bool, true, false, List, [], ◌∷◌, ◌++◌, flat_map, length, get_or, Option, unwrap_or, refl}
 use Rattle.std.proofs.Common.{ap, sym, ◌∙◌, inl, inr, arith, drop, length-drop}
 use Rattle.std.proofs.Math.ListN.{drop_of_length-le}
 use Rattle.da_lang.specs.declared.program.Alt.{Alt}
@@ -191,11 +191,14 @@ call_put k args args_read body read count plan qs middle end form ra r n put res
     asked_then (kind_met k) (flat_map item_met read) (args_ask args_read) count plan qs middle end
     (ap kind_met (form ∙ ap (λ z. kind.Call z body) (sym ra) ∙ ap (kind.Call args_read) (sym r)) ∙ met-Call args_read read) n put rest
 
-pub await_put : (k : ItemKind) (alts read : List Alt) (plan : Plan) (qs : List Query) (end : Made) → k ≡ kind.Await alts → read ≡ alts → made_with (flat_map alt_met read) (plan, qs) ≡ end → Puts k plan qs end
-await_put k alts read plan qs end form r put = ap (λ z. made_with z (plan, qs)) (ap kind_met (form ∙ ap kind.Await (sym r)) ∙ met-Await read) ∙ put
+pub await_put : (k : ItemKind) (alts read : List Alt) (timeout : Option (List Item)) (block : List Item) (label : Option ℕ) (plan : Plan) (qs : List Query) (middle end : Made) → k ≡ kind.Await alts timeout label → read ≡ alts → unwrap_or timeout [] ≡ block → made_with (flat_map alt_met read) (plan, qs) ≡ middle
+    → made_with (flat_map item_met block) middle ≡ end → Puts k plan qs end
+await_put k alts read timeout block label plan qs middle end form r b first second =
+    met_both (kind_met k) (flat_map alt_met read) (flat_map item_met block) (plan, qs) middle end
+    (ap kind_met (form ∙ ap (λ z. kind.Await z timeout label) (sym r)) ∙ met-Await read timeout label ∙ ap (λ z. flat_map alt_met read ++ flat_map item_met z) b) first second
 
-pub label_put : (k : ItemKind) (plan : Plan) (qs : List Query) → k ≡ kind.Label → ◌≡◌ {A = Made} (made_with (kind_met k) (plan, qs)) (plan, qs)
-label_put k plan qs form = ap (λ z. made_with z (plan, qs)) (ap kind_met form ∙ met-Label)
+pub label_put : (k : ItemKind) (l : ℕ) (plan : Plan) (qs : List Query) → k ≡ kind.Label l → ◌≡◌ {A = Made} (made_with (kind_met k) (plan, qs)) (plan, qs)
+label_put k l plan qs form = ap (λ z. made_with z (plan, qs)) (ap kind_met form ∙ met-Label l)
 
 pub pass_put : (k : ItemKind) (plan : Plan) (qs : List Query) → k ≡ kind.Pass → ◌≡◌ {A = Made} (made_with (kind_met k) (plan, qs)) (plan, qs)
 pass_put k plan qs form = ap (λ z. made_with z (plan, qs)) (ap kind_met form ∙ met-Pass)

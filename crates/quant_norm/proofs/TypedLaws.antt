@@ -1,5 +1,5 @@
 -- In a typed program each class keeps the rules of types: its queries have types, and so do the conditions of its `await`s.
-use Rattle.std.specs.Prelude.{◌≡◌, ℕ, Bool, true, false, List, [], ◌∷◌, ◌++◌, map, Option, is_some, refl}
+use Rattle.std.specs.Prelude.{◌≡◌, ℕ, Bool, true, false, List, [], ◌∷◌, ◌++◌, map, Option, Some, None, is_some, unwrap_or, refl}
 use Rattle.std.specs.List.{AllByRecursion, flat_map}
 use Rattle.std.proofs.Common.{ap, sym, subst, ◌∙◌, inl, inr}
 use Rattle.std.proofs.lemmas.Bool.{and_parts}
@@ -101,6 +101,23 @@ module _ (messages : List MessageDecl) (queries : List Query) (slots : Slots) wh
       (parts_fine branch_met (branch_broken messages queries slots) branches one (no_left (all lines) (all (map broken otherwise)) none))
       (body_fine otherwise two (no_right (all lines) (all (map broken otherwise)) none)))
 
+  await_parts : (alts : List Alt) (block : List Item) → AllByRecursion OfAlt alts → AllByRecursion OfItem block → all (map (alt_broken messages queries slots) alts ++ map broken block) ≡ []
+      → Fine (joined (map alt_met alts) ++ joined (map item_met block))
+  await_parts alts block one two e =
+      let lines : List (List ℕ) = map (alt_broken messages queries slots) alts in
+      let none : all lines ++ all (map broken block) ≡ [] = sym (flat_map-append (λ part. part) lines (map broken block)) ∙ e in
+      fine_both (joined (map alt_met alts)) (joined (map item_met block))
+      (parts_fine alt_met (alt_broken messages queries slots) alts one (no_left (all lines) (all (map broken block)) none))
+      (body_fine block two (no_right (all lines) (all (map broken block)) none))
+
+  await_case : (alts : List Alt) (timeout : Option (List Item)) (label : Option ℕ) → AllByRecursion OfAlt alts → AllByRecursion OfItem (unwrap_or timeout []) → OfKind (kind.Await alts timeout label)
+  await_case alts None label one two e =
+      fine_as (kind.Await alts None label) (ItemKind-F.Await alts None label) (kind.rolls-Await alts None label)
+      (await_parts alts [] one two (blocks_as _ _ (kind_broken-Await messages queries slots alts None label) e))
+  await_case alts (Some block) label one two e =
+      fine_as (kind.Await alts (Some block) label) (ItemKind-F.Await alts (Some block) label) (kind.rolls-Await alts (Some block) label)
+      (await_parts alts block one two (blocks_as _ _ (kind_broken-Await messages queries slots alts (Some block) label) e))
+
   alt_case : (b : Cond) (found : Option ℕ) (binds : List ℕ) (body : List Item) (line : ℕ) → AllByRecursion OfItem body → OfAlt (roll-Alt (record { cond = b; found = found; binds = binds; body = body; line = line }))
   alt_case b found binds body line each e =
       let none = sym (alt_broken-of messages queries slots b found binds body line) ∙ e in
@@ -138,8 +155,8 @@ module _ (messages : List MessageDecl) (queries : List Query) (slots : Slots) wh
     while = λ x body each e. fine_as (kind.While x body) (ItemKind-F.While x body) (kind.rolls-While x body) (body_fine body each (blocks_as _ _ (kind_broken-While messages queries slots x body) e));
     for = λ s x body each e. fine_as (kind.For s x body) (ItemKind-F.For s x body) (kind.rolls-For s x body) (body_fine body each (blocks_as _ _ (kind_broken-For messages queries slots s x body) e));
     call = λ args body each e. fine_as (kind.Call args body) (ItemKind-F.Call args body) (kind.rolls-Call args body) (body_fine body each (blocks_as _ _ (kind_broken-Call messages queries slots args body) e));
-    await = λ alts each e. fine_as (kind.Await alts) (ItemKind-F.Await alts) (kind.rolls-Await alts) (parts_fine alt_met (alt_broken messages queries slots) alts each (blocks_as _ _ (kind_broken-Await messages queries slots alts) e));
-    label = λ e. fine_as kind.Label ItemKind-F.Label kind.rolls-Label (λ b h. absurd h);
+    await = await_case;
+    label = λ l e. fine_as (kind.Label l) (ItemKind-F.Label l) (kind.rolls-Label l) (λ b h. absurd h);
     pass = λ e. fine_as kind.Pass ItemKind-F.Pass kind.rolls-Pass (λ b h. absurd h);
     alt = alt_case;
     item = item_case;

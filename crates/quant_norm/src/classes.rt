@@ -149,8 +149,14 @@ fn put_kind(
             let middle = put_args(alloc, args.as_slice(), queries, taken, plan)?;
             put_items(alloc, body.as_slice(), queries, middle, plan)
         }
-        ItemKind::Await(alts) => put_alts(alloc, alts.as_slice(), queries, taken, plan),
-        ItemKind::Label => Ok(taken),
+        ItemKind::Await { alts, timeout, .. } => {
+            let middle = put_alts(alloc, alts.as_slice(), queries, taken, plan)?;
+            match timeout {
+                None => Ok(middle),
+                Some(body) => put_items(alloc, body.as_slice(), queries, middle, plan),
+            }
+        }
+        ItemKind::Label(_) => Ok(taken),
         ItemKind::Pass => Ok(taken),
     }
 }

@@ -1,5 +1,5 @@
 -- The plan of a class: its numbered queries and the conditions of its `await`s, in the order of the inlined text.
-use Rattle.std.specs.Prelude.{ℕ, zero, suc, ◌+◌, if◌then◌else◌, List, [], ◌∷◌, ◌++◌, map, flat_map, sum}
+use Rattle.std.specs.Prelude.{ℕ, zero, suc, ◌+◌, if◌then◌else◌, List, [], ◌∷◌, ◌++◌, map, flat_map, sum, unwrap_or}
 use Rattle.da_lang.specs.declared.program.Class.{Class}
 use Rattle.da_lang.specs.declared.program.Item.{Item}
 use Rattle.da_lang.specs.declared.program.ItemKind.TheOpen.{ItemKind-F, Item-F, RBranch-F, Alt-F}
@@ -83,8 +83,8 @@ kind_met_step (ItemKind-F.If branches otherwise) = joined branches ++ joined oth
 kind_met_step (ItemKind-F.While e body) = Asked (asks e) ∷ joined body
 kind_met_step (ItemKind-F.For s e body) = Asked (asks e) ∷ joined body
 kind_met_step (ItemKind-F.Call args body) = Asked (sum (map (λ a. asks a.value) args)) ∷ joined body
-kind_met_step (ItemKind-F.Await alts) = joined alts
-kind_met_step ItemKind-F.Label = []
+kind_met_step (ItemKind-F.Await alts timeout label) = joined alts ++ joined (unwrap_or timeout [])
+kind_met_step (ItemKind-F.Label l) = []
 kind_met_step ItemKind-F.Pass = []
 
 abbrev pub branch_met_step : RBranch-F (List Met) (List Met) (List Met) (List Met) → List Met

@@ -17,7 +17,7 @@ use std::{fs, rt};
 use stresses::stress_reply;
 
 /// The files of cases, in the order of the answers.
-const FILES: [&str; 25] = [
+const FILES: [&str; 27] = [
     "operators",
     "statements",
     "turns",
@@ -42,6 +42,8 @@ const FILES: [&str; 25] = [
     "clocks",
     "sends",
     "links",
+    "gates",
+    "held",
     "stresses",
 ];
 

@@ -72,6 +72,10 @@ fn tell_event(run: &Behind<'_>, event: &Event, out: &mut Phrase) {
             out.number(u64::from(*k));
             out.put(b" is true");
         }
+        Event::Timeout { p } => {
+            put_process(run, *p, out);
+            out.put(b": no alternative is true, and the time runs out");
+        }
         Event::Deliver { p, q, i } => put_message(run, *p, *q, *i, out),
         Event::Lose { p, q, i } => {
             put_message(run, *p, *q, *i, out);

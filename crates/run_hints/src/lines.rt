@@ -3,8 +3,9 @@ use std::alloc::Global;
 use text_hints::{Nearest, Phrase};
 
 /// The events, each with the numbers behind its word.
-const EVENTS: [(&[u8], &[u8]); 6] = [
+const EVENTS: [(&[u8], &[u8]); 7] = [
     (b"move", b"move P, or move P K"),
+    (b"timeout", b"timeout P"),
     (b"deliver", b"deliver P Q I"),
     (b"lose", b"lose P Q I"),
     (b"repeat", b"repeat P Q I"),
@@ -97,7 +98,7 @@ fn tell_word(alloc: Global, word: &[u8], out: &mut Phrase) {
 fn takes(word: &[u8], count: usize) -> bool {
     match word {
         b"move" => count == 1 || count == 2,
-        b"show" | b"stat" => count == 1,
+        b"timeout" | b"show" | b"stat" => count == 1,
         _ => count == 3,
     }
 }

@@ -1,5 +1,5 @@
 //! What a run has come to: where its processes stand, and what is under way.
-use crate::marked::told_line;
+use crate::marked::{Told, told_in};
 use da_lang::{Action, Event, FaultKind};
 use da_values::{Buf, List, write_value};
 use std::alloc::Global;
@@ -18,11 +18,13 @@ pub enum Standing {
     Faulted(FaultKind, u32),
 }
 
-/// A process, and the last line that it told.
+/// A process, and the line where it waits, which it has told. Where that is a label with an `await` directly behind it, it has
+/// told the line of this one too, and that is 0 otherwise.
 #[derive(Clone, Copy, Debug)]
 pub struct Process {
     pub standing: Standing,
     pub line: u32,
+    behind: u32,
 }
 
 /// A message that is under way: its text, and the time of its sending.
@@ -52,6 +54,7 @@ impl State {
             let _ = processes.push(Process {
                 standing: Standing::New,
                 line: 0,
+                behind: 0,
             });
             for _other in 0..count {
                 let _ = channels.push(VecDeque::new(alloc));
@@ -136,7 +139,11 @@ impl State {
             Event::Deliver { p, q, i } => self.remove(*p, *q, *i),
             Event::Lose { p, q, i } => self.remove(*p, *q, *i),
             Event::Repeat { p, q, i } => self.repeat(*p, *q, *i),
-            Event::Move { .. } | Event::Take { .. } | Event::Show { .. } | Event::Stat { .. } => {}
+            Event::Move { .. }
+            | Event::Take { .. }
+            | Event::Timeout { .. }
+            | Event::Show { .. }
+            | Event::Stat { .. } => {}
         }
         for action in actions {
             self.act(action);
@@ -172,7 +179,7 @@ impl State {
 
     fn act(&mut self, action: &Action) {
         match action {
-            Action::Took { p, .. } => self.stand(*p, Standing::Waits),
+            Action::Took { p, .. } => self.go_on(*p),
             Action::End { p } => self.stand(*p, Standing::Ended),
             Action::Fault { p, kind, line } => self.stand(*p, Standing::Faulted(*kind, *line)),
             Action::Sent { p, q, t, v } => {
@@ -182,23 +189,46 @@ impl State {
                 self.add(u32::from(*p), u32::from(*q), letter);
             }
             Action::Out { p, .. } => {
-                if let Some(line) = told_line(action) {
-                    self.tell(*p, line);
+                if let Some(told) = told_in(action) {
+                    self.tell(*p, told);
                 }
             }
             _ => {}
         }
     }
 
-    fn stand(&mut self, p: u16, standing: Standing) {
-        if let Some(Process { line, .. }) = self.process(u32::from(p)) {
-            self.put(p, Process { standing, line });
+    // A process goes on from where it stood. Behind a label it comes to the `await` that is told with it, if there is one.
+    fn go_on(&mut self, p: u16) {
+        if let Some(Process { line, behind, .. }) = self.process(u32::from(p)) {
+            let next = Process {
+                standing: Standing::Waits,
+                line: if behind == 0 { line } else { behind },
+                behind: 0,
+            };
+            self.put(p, next);
         }
     }
 
-    fn tell(&mut self, p: u16, line: u32) {
+    fn stand(&mut self, p: u16, standing: Standing) {
+        if let Some(process) = self.process(u32::from(p)) {
+            self.put(
+                p,
+                Process {
+                    standing,
+                    ..process
+                },
+            );
+        }
+    }
+
+    fn tell(&mut self, p: u16, told: Told) {
         if let Some(Process { standing, .. }) = self.process(u32::from(p)) {
-            self.put(p, Process { standing, line });
+            let next = Process {
+                standing,
+                line: told.line,
+                behind: told.behind,
+            };
+            self.put(p, next);
         }
     }
 

@@ -5,7 +5,7 @@ use crate::marked::{Marked, line_without, mark_program};
 use crate::program::{compiled_of, tree_of};
 use crate::run::{Behind, run_events};
 use crate::state::{Process, Standing};
-use crate::waits::alternatives_on;
+use crate::waits::await_on;
 use da_core::Compiled;
 use da_lang::{ChannelKind, Event, FaultKind, Tree};
 use da_values::{Buf, List};
@@ -109,13 +109,14 @@ fn tell_event(view: View<'_, '_>, event: Event, out: &mut Phrase) {
     match event {
         Event::Move { p } => tell_mover(view, p, out),
         Event::Take { p, .. } => tell_process(view, p, out),
+        Event::Timeout { p } => tell_timeout(view, p, out),
         Event::Show { p } => tell_process(view, p, out),
         Event::Stat { p } => tell_process(view, p, out),
         Event::Deliver { p, q, i } => {
             if tell_missing(view, p, out) {
                 return;
             }
-            tell_recipient(view, q, out);
+            tell_recipient(view, p, q, i, out);
             if i != 1 && is_fifo(view.kind) {
                 out.put(b"the channels are fifo: only message 1 of a channel is delivered\n");
             }
@@ -146,22 +147,66 @@ fn tell_mover(view: View<'_, '_>, p: u32, out: &mut Phrase) {
         if matches!(process.standing, Standing::Waits) {
             out.put(b"an await is left by 'move ");
             out.number(u64::from(p));
-            out.put(b" K', with the number K of an alternative that is true\n");
+            out.put(b" K', with the number K of an alternative that is true");
+            if times_out(view, process) == Some(true) {
+                out.put(b", or by 'timeout ");
+                out.number(u64::from(p));
+                out.put(b"' where none is");
+            }
+            out.put(b"\n");
         }
     }
 }
 
-// Where a process stands that is to take a message, unless it waits.
-fn tell_recipient(view: View<'_, '_>, q: u32, out: &mut Phrase) {
+// Why the time does not run out for a process.
+fn tell_timeout(view: View<'_, '_>, p: u32, out: &mut Phrase) {
+    tell_process(view, p, out);
+    let Some(process) = view.run.state.process(p) else {
+        return;
+    };
+    if !matches!(process.standing, Standing::Waits) {
+        return;
+    }
+    if view.run.system.enabled(&Event::Move { p }) {
+        out.put(b"the time runs out at an await that has a timeout block, and not at a label\n");
+        return;
+    }
+    out.put(match times_out(view, process) {
+        Some(true) => b"its time runs out only where no alternative is true\n".as_slice(),
+        Some(false) => b"this await has no timeout block, so its time does not run out\n",
+        None =>
+            b"the time of an await runs out where it has a timeout block and no alternative is true\n",
+    });
+}
+
+// Whether the `await` at which a process waits has a block for a timeout, or `None` where its line is not known.
+fn times_out(view: View<'_, '_>, process: Process) -> Option<bool> {
+    let found = await_on(view.tree, process.line)?;
+    Some(found.times_out)
+}
+
+// Where a process stands that is to take a message, unless it waits and would take it.
+fn tell_recipient(view: View<'_, '_>, p: u32, q: u32, i: u32, out: &mut Phrase) {
     match view.run.state.process(q) {
         Some(
             Process {
                 standing: Standing::Waits,
                 ..
             },
-        ) => {}
+        ) => tell_closed(view, p, q, i, out),
         _ => tell_process(view, q, out),
     }
+}
+
+// That a process which waits does not take a message that is there, where only this can be why it does not arrive.
+fn tell_closed(view: View<'_, '_>, p: u32, q: u32, i: u32, out: &mut Phrase) {
+    if i as usize > view.run.state.held(p, q) || i != 1 && is_fifo(view.kind) {
+        return;
+    }
+    tell_process(view, q, out);
+    out.put(b"it does not take message ");
+    out.number(u64::from(i));
+    out.put(b" there: each handler that may match it has 'at' and names other labels\n");
 }
 
 fn is_fifo(kind: ChannelKind) -> bool {
@@ -244,12 +289,15 @@ fn tell_waiting(view: View<'_, '_>, p: u32, process: Process, out: &mut Phrase) 
         out.put(b"' goes on\n");
         return;
     }
-    tell_alternatives(view, p, process.line, out);
+    let many = match await_on(view.tree, process.line) {
+        Some(found) => found.alternatives,
+        None => 1,
+    };
+    tell_alternatives(view, p, many, out);
 }
 
-// Which alternatives of an `await` are true.
-fn tell_alternatives(view: View<'_, '_>, p: u32, line: u32, out: &mut Phrase) {
-    let many = alternatives_on(view.tree, line).unwrap_or(1);
+// Which of so many alternatives of an `await` are true.
+fn tell_alternatives(view: View<'_, '_>, p: u32, many: usize, out: &mut Phrase) {
     let mut count = 0u32;
     for k in 1..ALTERNATIVES {
         if view.run.system.enabled(&Event::Take { p, k }) {
@@ -355,6 +403,7 @@ fn tell_allowed(view: View<'_, '_>, out: &mut Phrase) {
         for k in 1..ALTERNATIVES {
             offer(view, Event::Take { p, k }, &mut list, out);
         }
+        offer(view, Event::Timeout { p }, &mut list, out);
     }
     for kind in 0..3u32 {
         for place in 0..count {

@@ -4,7 +4,7 @@ use Rattle.std.proofs.lemmas.List.Sums.{AllPass-from_list_all}
 use Rattle.std.specs.List.{All, list_all}
 use Rattle.std.specs.Prelude.{◌==◌, not, Option, Some, None, IfNone, codes, slice_index_or}
 use Rattle.da_lang.specs.declared.event.Event.{Event}
-use Rattle.da_lang.specs.declared.event.Event.TheVariants.{Move, Take, Deliver, Lose, Repeat, Show, Stat}
+use Rattle.da_lang.specs.declared.event.Event.TheVariants.{Move, Take, Timeout, Deliver, Lose, Repeat, Show, Stat}
 use Rattle.sched_text.specs.EventText.{HasNames, IsNamed, event_numbers, event_text, event_word, spaced}
 use Rattle.sched_text.specs.Reading.{AreNumbers, Stops, event_named}
 use Rattle.sched_text.specs.ScheduleText.{IsLineOf, IsSkipped}
@@ -13,6 +13,7 @@ use Rattle.sched_text.proofs.WordLemmas.{IsWord, one_cut, one_list, stops_spaced
 named_again : (e : Event) → event_named (event_word e) (event_numbers e) ≡ Some e
 named_again (Move p) = refl
 named_again (Take p k) = refl
+named_again (Timeout p) = refl
 named_again (Deliver p q i) = refl
 named_again (Lose p q i) = refl
 named_again (Repeat p q i) = refl
@@ -34,6 +35,7 @@ plain word tested = λ k d inside same.
 pub word_is_plain : (e : Event) → IsWord (event_word e)
 word_is_plain (Move p) = plain (codes "move") refl
 word_is_plain (Take p k) = plain (codes "move") refl
+word_is_plain (Timeout p) = plain (codes "timeout") refl
 word_is_plain (Deliver p q i) = plain (codes "deliver") refl
 word_is_plain (Lose p q i) = plain (codes "lose") refl
 word_is_plain (Repeat p q i) = plain (codes "repeat") refl
@@ -56,6 +58,7 @@ not_skipped e line one skipped = begins e (subst IsSkipped one.is skipped)
     begins : (e : Event) → IsSkipped (event_text e) → ⊥
     begins (Move p) same = omega (arith, same)
     begins (Take p k) same = omega (arith, same)
+    begins (Timeout p) same = omega (arith, same)
     begins (Deliver p q i) same = omega (arith, same)
     begins (Lose p q i) same = omega (arith, same)
     begins (Repeat p q i) same = omega (arith, same)
@@ -66,6 +69,7 @@ not_skipped e line one skipped = begins e (subst IsSkipped one.is skipped)
 pub numbers_of : (e : Event) → HasNames e → AreNumbers (event_numbers e)
 numbers_of (Move p) names = record { named = names; some = omega arith; few = omega arith }
 numbers_of (Take p k) names = record { named = names; some = omega arith; few = omega arith }
+numbers_of (Timeout p) names = record { named = names; some = omega arith; few = omega arith }
 numbers_of (Deliver p q i) names = record { named = names; some = omega arith; few = omega arith }
 numbers_of (Lose p q i) names = record { named = names; some = omega arith; few = omega arith }
 numbers_of (Repeat p q i) names = record { named = names; some = omega arith; few = omega arith }

@@ -10,7 +10,7 @@ use Rattle.std.specs.Prelude.{◌==◌, if◌then◌else◌, codes, decimal, nat
 use Rattle.std.specs.Str.Lines.{lines, strip_carriage_return}
 use Rattle.std.specs.Str.Parse.{AllDigits}
 use Rattle.da_lang.specs.declared.event.Event.{Event}
-use Rattle.da_lang.specs.declared.event.Event.TheVariants.{Move, Take, Deliver, Lose, Repeat, Show, Stat}
+use Rattle.da_lang.specs.declared.event.Event.TheVariants.{Move, Take, Timeout, Deliver, Lose, Repeat, Show, Stat}
 use Rattle.sched_text.specs.EventText.{HasNames, IsNamed, event_line, event_numbers, event_text, event_word, spaced}
 use Rattle.sched_text.specs.ScheduleText.{SpellsLines, SpellsSchedule, event, none, schedule_limit}
 use Rattle.sched_text.proofs.LineLemmas.{line_first}
@@ -28,6 +28,7 @@ plain bytes tested = λ k d inside. at_least (slice_index_or bytes k d) (AllPass
 word_plain : (e : Event) → IsPlain (event_word e)
 word_plain (Move p) = plain (codes "move") refl
 word_plain (Take p k) = plain (codes "move") refl
+word_plain (Timeout p) = plain (codes "timeout") refl
 word_plain (Deliver p q i) = plain (codes "deliver") refl
 word_plain (Lose p q i) = plain (codes "lose") refl
 word_plain (Repeat p q i) = plain (codes "repeat") refl
@@ -91,6 +92,7 @@ spaced_short (n ∷ ns) named =
 word_short : (e : Event) → (length (event_word e) ≤ 7) × (length (event_numbers e) ≤ 3)
 word_short (Move p) = (omega arith, omega arith)
 word_short (Take p k) = (omega arith, omega arith)
+word_short (Timeout p) = (omega arith, omega arith)
 word_short (Deliver p q i) = (omega arith, omega arith)
 word_short (Lose p q i) = (omega arith, omega arith)
 word_short (Repeat p q i) = (omega arith, omega arith)

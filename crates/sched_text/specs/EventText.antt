@@ -2,12 +2,13 @@
 use Rattle.std.specs.Prelude.{ℕ, ◌≤◌, List, [], ◌∷◌, ◌++◌, codes, decimal}
 use Rattle.std.specs.List.{All, flat_map}
 use Rattle.da_lang.specs.declared.event.Event.{Event}
-use Rattle.da_lang.specs.declared.event.Event.TheVariants.{Move, Take, Deliver, Lose, Repeat, Show, Stat}
+use Rattle.da_lang.specs.declared.event.Event.TheVariants.{Move, Take, Timeout, Deliver, Lose, Repeat, Show, Stat}
 
 -- the word that a line of this event begins with, and the numbers that follow it
 abbrev pub event_word : Event → List ℕ
 event_word (Move p) = codes "move"
 event_word (Take p k) = codes "move"
+event_word (Timeout p) = codes "timeout"
 event_word (Deliver p q i) = codes "deliver"
 event_word (Lose p q i) = codes "lose"
 event_word (Repeat p q i) = codes "repeat"
@@ -17,6 +18,7 @@ event_word (Stat p) = codes "stat"
 abbrev pub event_numbers : Event → List ℕ
 event_numbers (Move p) = p ∷ []
 event_numbers (Take p k) = p ∷ k ∷ []
+event_numbers (Timeout p) = p ∷ []
 event_numbers (Deliver p q i) = p ∷ q ∷ i ∷ []
 event_numbers (Lose p q i) = p ∷ q ∷ i ∷ []
 event_numbers (Repeat p q i) = p ∷ q ∷ i ∷ []

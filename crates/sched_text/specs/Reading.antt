@@ -3,7 +3,7 @@ use Rattle.std.specs.Prelude.{◌≡◌, ℕ, ◌≤◌, if◌then◌else◌, Li
 use Rattle.std.specs.List.{All}
 use Rattle.std.specs.Str.{bytes_eq}
 use Rattle.da_lang.specs.declared.event.Event.{Event}
-use Rattle.da_lang.specs.declared.event.Event.TheVariants.{Move, Take, Deliver, Lose, Repeat, Show, Stat}
+use Rattle.da_lang.specs.declared.event.Event.TheVariants.{Move, Take, Timeout, Deliver, Lose, Repeat, Show, Stat}
 use Rattle.sched_text.specs.declared.words.Numbers.{Numbers}
 use Rattle.sched_text.specs.declared.words.Numbers.TheVariants.{One, Two, Three}
 use Rattle.sched_text.specs.declared.schedule.SchedFault.{SchedFault}
@@ -31,6 +31,7 @@ pub record AreNumbers (ns : List ℕ) : Type 0 where
 abbrev pub one_named : List ℕ → ℕ → Option Event
 one_named word p =
     if bytes_eq word (codes "move") then Some (Move p)
+    else if bytes_eq word (codes "timeout") then Some (Timeout p)
     else if bytes_eq word (codes "show") then Some (Show p)
     else if bytes_eq word (codes "stat") then Some (Stat p) else None
 

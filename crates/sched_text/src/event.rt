@@ -24,6 +24,7 @@ fn put_event(event: &Event, out: &mut Buf) -> Result<(), NoMemory>
     match event {
         Event::Move { p } => put_line(b"move", &[*p], out),
         Event::Take { p, k } => put_line(b"move", &[*p, *k], out),
+        Event::Timeout { p } => put_line(b"timeout", &[*p], out),
         Event::Deliver { p, q, i } => put_line(b"deliver", &[*p, *q, *i], out),
         Event::Lose { p, q, i } => put_line(b"lose", &[*p, *q, *i], out),
         Event::Repeat { p, q, i } => put_line(b"repeat", &[*p, *q, *i], out),

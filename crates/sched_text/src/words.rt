@@ -63,6 +63,8 @@ fn event_at(word: &[u8], p: u32) -> Option<Event>
 {
     if word == b"move".as_slice() {
         Some(Event::Move { p })
+    } else if word == b"timeout".as_slice() {
+        Some(Event::Timeout { p })
     } else if word == b"show".as_slice() {
         Some(Event::Show { p })
     } else if word == b"stat".as_slice() {

@@ -1,36 +1,22 @@
 -- The events that are allowed: the moves among those that may be picked, and then what may be done with the messages of each
--- channel, from the first on as long as it is allowed.
-use Rattle.std.proofs.Common.{◌≡◌, refl, sym, ◌∙◌, ap, subst, ℕ, zero, suc, ◌+◌, ◌<◌, ◌≤◌, inl, inr, Bool, true, false, cond, List, [], ◌∷◌, ◌++◌, length, length-append, map, arith, add-one, append-nil, append_assoc, leb}
-use Rattle.std.specs.Prelude.{◌&&◌, ◌==◌, ◌↔◌, ◌⊎◌, Option, Some, None, IsSome, IsTrue, is_some, slice_get}
+-- channel.
+use Rattle.std.proofs.Common.{◌≡◌, refl, sym, ◌∙◌, ap, subst, ℕ, zero, suc, ◌+◌, ◌≤◌, Bool, true, false, cond, List, [], ◌∷◌, ◌++◌, length, length-append, map, arith, append-nil, append_assoc}
+use Rattle.std.specs.Prelude.{◌↔◌, Some, IsTrue, is_some, slice_get}
 use Rattle.std.specs.List.{AllByRecursion, filter, flat_map, range_with_len}
-use Rattle.std.proofs.lemmas.Bool.{and_parts, false_from_ne_true, false≢true}
-use Rattle.std.proofs.lemmas.Bool.Decides.{leb_tells, nat_tests}
+use Rattle.std.proofs.lemmas.Bool.{false_from_ne_true, false≢true}
 use Rattle.std.proofs.lemmas.Grind.{flat_map-append}
 use Rattle.std.proofs.lemmas.List.Elements.{filter-append}
 use Rattle.da_lang.specs.declared.event.Event.{Event}
 use Rattle.da_lang.specs.declared.event.Event.TheVariants as event
 use Rattle.da_lang.specs.declared.program.Program.{Program}
-use Rattle.da_lang.specs.declared.ty.ChannelKind.{ChannelKind}
 use Rattle.da_lang.specs.World.{at_number}
 use Rattle.da_core.specs.Told.{numbers_to}
-use Rattle.da_system.specs.declared.system.System.{System}
-use Rattle.da_system.specs.Channels.{Letter, channel, is_fifo, may_arrive, may_lose, may_repeat}
-use Rattle.da_system.specs.Choices.{choices, deliveries_from, deliveries_to, is_allowed, moves_of, processes}
-use Rattle.da_system.specs.State.{Stands, program_of, waits_at}
+use Rattle.da_system.specs.Channels.{channel}
+use Rattle.da_system.specs.Choices.{alternatives_at, choices, deliveries_from, deliveries_to, is_allowed, moves_of, processes}
 use Rattle.da_system.specs.SystemStep.{SystemState}
-use Rattle.da_system.proofs.FindLemmas.{AllowsFirst, filter_first}
-use Rattle.da_system.proofs.LetterLemmas.{delivers_as, loses_as, repeats_as}
-use Rattle.da_system.proofs.PlaceLemmas.{within_numbers}
+use Rattle.da_system.proofs.FindLemmas.{single_pieces}
 use Rattle.schedule_walk.specs.declared.allowed.Deed.{Deed}
-use Rattle.schedule_walk.specs.declared.allowed.Deed.TheVariants.{Deliver, Lose, Repeat}
-use Rattle.schedule_walk.specs.Allowed.{allowed, candidates, deed_event, deeds, deeds_from, deeds_to, is_move, moves}
-
-within_or_not : (m n : ℕ) → (m ≤ n) ⊎ (n < m)
-within_or_not m n = of (leb_tells m n)
-  where
-    of : ((leb m n ≡ true) × (m ≤ n)) ⊎ ((leb m n ≡ false) × (n < m)) → (m ≤ n) ⊎ (n < m)
-    of (inl a) = inl a.1
-    of (inr b) = inr b.1
+use Rattle.schedule_walk.specs.Allowed.{deed_event, deeds_to, is_move, moves}
 
 -- what is not enabled is not allowed
 pub not_allowed : (b allowed : Bool) → (IsTrue b ↔ (allowed ≡ true)) → b ≡ false → allowed ≡ false
@@ -73,118 +59,26 @@ adds_four test ms ds ls rs a b c d first second third fourth =
 
 -- THE MESSAGES OF A CHANNEL
 
-at_there : {A : Type 0} (letters : List A) (i : ℕ) → 0 < i → i ≤ length letters → is_some (at_number letters i) ≡ true
-at_there letters zero some few = absurd (omega (arith, some))
-at_there [] (suc k) some few = absurd (omega (arith, few))
-at_there (x ∷ xs) (suc zero) some few = refl
-at_there (x ∷ xs) (suc (suc k)) some few = at_there xs (suc k) (omega arith) (omega (arith, few))
+module _ (test : Event → Bool) (e : Event) (old : List Event) where
+  pub one_added : (new : List Event) → test e ≡ true → new ≡ old ++ e ∷ [] → new ≡ old ++ filter test (e ∷ [])
+  one_added new is added = added ∙ ap (λ b. old ++ cond b (e ∷ []) []) (sym is)
 
--- with a message each one before it may arrive
-arrives_before : (kind : ChannelKind) (i j : ℕ) → 0 < j → j ≤ i → may_arrive kind i ≡ true → may_arrive kind j ≡ true
-arrives_before kind i j some before may = of (is_fifo kind) may
-  where
-    first : (n : ℕ) → (n == 1) ≡ true → n ≡ 1
-    first n is = grind (arith, nat_tests)
+  pub none_added : test e ≡ false → old ≡ old ++ filter test (e ∷ [])
+  none_added is = sym (append-nil old) ∙ ap (λ b. old ++ cond b (e ∷ []) []) (sym is)
 
-    of : (fifo : Bool) → cond fifo (i == 1) true ≡ true → cond fifo (j == 1) true ≡ true
-    of true may = let one : i ≡ 1 = first i may in let same : j ≡ 1 = omega (arith, one, some, before) in subst (λ n. (n == 1) ≡ true) (sym same) refl
-    of false may = refl
+-- one piece for each message
+abbrev pub one_deed : Deed → ℕ → ℕ → ℕ → List Event
+one_deed deed p q i = deed_event deed p q i ∷ []
 
-both_hold : (a b : Bool) → a ≡ true → b ≡ true → (a && b) ≡ true
-both_hold true true one other = refl
-both_hold true false one other = absurd (false≢true other)
-both_hold false b one other = absurd (false≢true one)
+pub deed_added : (test : Event → Bool) (deed : Deed) (p q place : ℕ) (e : Event) (old mid new : List Event) → AddsUpTo test (one_deed deed p q) place old mid → e ≡ deed_event deed p q (place + 1) → new ≡ mid ++ filter test (e ∷ [])
+    → AddsUpTo test (one_deed deed p q) (place + 1) old new
+deed_added test deed p q place e old mid new before is added = adds_on test (one_deed deed p q) place old mid new before (added ∙ ap (λ x. mid ++ filter test (x ∷ [])) is)
 
-module _ (system : System) (s : SystemState) (stands : Stands system s) (deed : Deed) (p q : ℕ) where
-  abbrev program : Program
-  program = program_of system
-
-  abbrev letters : List Letter
-  letters = channel s.channels p q
-
-  abbrev passes : ℕ → Bool
-  passes i = is_allowed program s (deed_event deed p q i)
-
-  -- what is allowed with a message: that it is there, and what the kind and the recipient allow
-  parts_of : (d : Deed) (i : ℕ) → is_allowed program s (deed_event d p q i) ≡ true → is_some (at_number letters i) ≡ true
-  parts_of Deliver i is = (and_parts (waits_at (at_number s.worlds q) && may_arrive s.kind i) (is_some (at_number letters i)) (sym (delivers_as system s stands p q i) ∙ is)).1
-  parts_of Lose i is = (and_parts (may_lose s.kind) (is_some (at_number letters i)) (sym (loses_as system s stands p q i) ∙ is)).1
-  parts_of Repeat i is = (and_parts (may_repeat s.kind) (is_some (at_number letters i)) (sym (repeats_as system s stands p q i) ∙ is)).1
-
-  earlier : (d : Deed) (i j : ℕ) → 0 < j → j ≤ i → is_allowed program s (deed_event d p q i) ≡ true → is_allowed program s (deed_event d p q j) ≡ true
-  earlier d i j some before is = at d is
-    where
-      there : is_some (at_number letters j) ≡ true
-      there = at_there letters j some (let inside = within_numbers letters i (parts_of d i is) in omega (arith, before, inside.1))
-
-      at : (d : Deed) → is_allowed program s (deed_event d p q i) ≡ true → is_allowed program s (deed_event d p q j) ≡ true
-      at Deliver is =
-          let both = and_parts (waits_at (at_number s.worlds q) && may_arrive s.kind i) (is_some (at_number letters i)) (sym (delivers_as system s stands p q i) ∙ is) in
-          let ways = and_parts (waits_at (at_number s.worlds q)) (may_arrive s.kind i) both.0 in
-          delivers_as system s stands p q j
-          ∙ both_hold (waits_at (at_number s.worlds q) && may_arrive s.kind j) (is_some (at_number letters j))
-          (both_hold (waits_at (at_number s.worlds q)) (may_arrive s.kind j) ways.0 (arrives_before s.kind i j some before ways.1)) there
-      at Lose is =
-          let both = and_parts (may_lose s.kind) (is_some (at_number letters i)) (sym (loses_as system s stands p q i) ∙ is) in
-          loses_as system s stands p q j ∙ both_hold (may_lose s.kind) (is_some (at_number letters j)) both.0 there
-      at Repeat is =
-          let both = and_parts (may_repeat s.kind) (is_some (at_number letters i)) (sym (repeats_as system s stands p q i) ∙ is) in
-          repeats_as system s stands p q j ∙ both_hold (may_repeat s.kind) (is_some (at_number letters j)) both.0 there
-
-  -- it was allowed with each of the first so many messages
-  abbrev pub AllowsUpTo : ℕ → Type 0
-  AllowsUpTo place = (i : ℕ) → 0 < i → i ≤ place → passes i ≡ true
-
-  -- so many were added
-  pub record Added (place : ℕ) (old new : List Event) : Type 0 where
-    pub allows : AllowsUpTo place
-    pub added : new ≡ old ++ map (deed_event deed p q) (numbers_to place)
-
-  pub added_none : (old : List Event) → Added 0 old old
-  added_none old = record { allows = λ i some few. absurd (omega (arith, some, few)); added = sym (append-nil old) }
-
-  map_last : (f : ℕ → Event) (ns : List ℕ) (n : ℕ) → map f (ns ++ n ∷ []) ≡ map f ns ++ f n ∷ []
-  map_last f [] n = refl
-  map_last f (m ∷ ms) n = ap (λ es. f m ∷ es) (map_last f ms n)
-
-  pub added_on : (place : ℕ) (old mid new : List Event) (e : Event) → Added place old mid → e ≡ deed_event deed p q (place + 1) → is_allowed program s e ≡ true → new ≡ mid ++ e ∷ [] → Added (place + 1) old new
-  added_on place old mid new e before e_is allowed more = record {
-    allows = λ i some few. by i some few (within_or_not i place);
-    added = more ∙ ap (λ es. es ++ e ∷ []) before.added ∙ append_assoc old (map (deed_event deed p q) (numbers_to place)) (e ∷ [])
-        ∙ ap (λ x. old ++ (map (deed_event deed p q) (numbers_to place) ++ x ∷ [])) e_is
-        ∙ ap (λ es. old ++ es) (sym (ap (map (deed_event deed p q)) (numbers_last place) ∙ map_last (deed_event deed p q) (numbers_to place) (place + 1)));
-  }
-    where
-      last : passes (place + 1) ≡ true
-      last = subst (λ x. is_allowed program s x ≡ true) e_is allowed
-
-      by : (i : ℕ) → 0 < i → i ≤ place + 1 → (i ≤ place) ⊎ (place < i) → passes i ≡ true
-      by i some few (inl inside) = before.allows i some inside
-      by i some few (inr beyond) = subst (λ n. passes n ≡ true) (let same : place + 1 ≡ i = omega (arith, few, beyond) in same) last
-
-  -- the next one is not allowed, or not there
-  pub added_all : (place : ℕ) (old new : List Event) (e : Event) → Added place old new → e ≡ deed_event deed p q (place + 1) → is_allowed program s e ≡ false → new ≡ old ++ filter (is_allowed program s) (deeds_to deed s p q)
-  added_all place old new e before e_is never = before.added ∙ ap (λ es. old ++ es) (sym (filter_first (is_allowed program s) (deed_event deed p q) 1 (length letters) place within first))
-    where
-      out : passes (place + 1) ≡ true → ⊥
-      out is = false≢true (sym never ∙ subst (λ x. is_allowed program s x ≡ true) (sym e_is) is)
-
-      reached : (n : ℕ) → n ≡ place → n ≤ length letters
-      reached zero is = omega arith
-      reached (suc n) is = (within_numbers letters (suc n) (parts_of deed (suc n) (before.allows (suc n) (omega arith) (omega (arith, is))))).1
-
-      within : place ≤ length letters
-      within = reached place refl
-
-      first : AllowsFirst (is_allowed program s) (deed_event deed p q) 1 (length letters) place
-      first i from to = (
-        λ is. by (within_or_not i place) is,
-        λ inside. before.allows i (omega (arith, from)) (omega (arith, inside)),
-      )
-        where
-          by : (i ≤ place) ⊎ (place < i) → passes i ≡ true → i < 1 + place
-          by (inl inside) is = omega (arith, inside)
-          by (inr beyond) is = absurd (out (earlier deed i (place + 1) (omega arith) (omega (arith, beyond)) is))
+pub deeds_added : (test : Event → Bool) (deed : Deed) (s : SystemState) (p q place count : ℕ) (old new : List Event) → place ≡ count → count ≡ length (channel s.channels p q) → AddsUpTo test (one_deed deed p q) place old new
+    → new ≡ old ++ filter test (deeds_to deed s p q)
+deeds_added test deed s p q place count old new same counted added =
+    adds_all test (one_deed deed p q) place (length (channel s.channels p q)) old new (same ∙ counted) added
+    ∙ ap (λ es. old ++ filter test es) (single_pieces (deed_event deed p q) (numbers_to (length (channel s.channels p q))))
 
 -- THE MOVES, which are the first of the events that may be picked
 
@@ -216,7 +110,10 @@ module _ (P : Event → Type 0) where
       of false others = others
 
 moves_are : (s : SystemState) → AllMoves (moves s)
-moves_are s = all_flat (λ e. is_move e ≡ true) (moves_of s) (λ p. (refl, all_map (λ e. is_move e ≡ true) (event.Take p) (λ k. refl) _)) (processes s)
+moves_are s =
+    all_flat (λ e. is_move e ≡ true) (moves_of s)
+    (λ p. all_append (λ e. is_move e ≡ true) (event.Move p ∷ map (event.Take p) (numbers_to (alternatives_at (at_number s.worlds p)))) (event.Timeout p ∷ [])
+    (refl, all_map (λ e. is_move e ≡ true) (event.Take p) (λ k. refl) (numbers_to (alternatives_at (at_number s.worlds p)))) (refl, tt)) (processes s)
 
 deliveries_are_not : (s : SystemState) → NoMoves (flat_map (deliveries_from s) (processes s))
 deliveries_are_not s =

@@ -1,5 +1,5 @@
--- All events that are allowed in a state but for `show` and `stat`, in their order: the moves, and then what may be done with
--- the messages that are under way.
+-- All events that are allowed in a state but for `show` and `stat`, in their order: the moves and timeouts, and then what may be
+-- done with the messages that are under way.
 use Rattle.std.specs.Prelude.{ℕ, Bool, true, false, List, ◌++◌, length, map}
 use Rattle.std.specs.List.{filter, flat_map}
 use Rattle.da_core.specs.Told.{numbers_to}
@@ -31,15 +31,16 @@ deeds deed s = flat_map (deeds_from deed s) (processes s)
 abbrev pub moves : SystemState → List Event
 moves s = flat_map (moves_of s) (processes s)
 
--- THE EVENTS THAT ARE ALLOWED: moves, deliveries, losses, repetitions
+-- THE EVENTS THAT ARE ALLOWED: moves and timeouts, deliveries, losses, repetitions
 abbrev pub candidates : SystemState → List Event
 candidates s = moves s ++ deeds Deliver s ++ deeds Lose s ++ deeds Repeat s
 
 abbrev pub allowed : Program → SystemState → List Event
 allowed program s = filter (is_allowed program s) (candidates s)
 
--- whether an event is a move
+-- whether an event is a move or a timeout
 abbrev pub is_move : Event → Bool
 is_move (event.Move p) = true
 is_move (event.Take p k) = true
+is_move (event.Timeout p) = true
 is_move _ = false

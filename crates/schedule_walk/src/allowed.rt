@@ -3,15 +3,15 @@ ghost use Rattle.da_system.specs.Choices.{is_allowed};
 ghost use Rattle.da_system.specs.State.{IsReady, Whichever, program_of};
 ghost use Rattle.schedule_walk.specs.Allowed.{allowed, deed_event, deeds, deeds_from, deeds_to, is_move as is_move_lem, moves};
 ghost use Rattle.std.specs.List.{filter};
-ghost use Rattle.std.specs.Prelude.{◌≡◌, ◌++◌, ◌<◌, ◌^◌, IfOk, OnOk, length};
+ghost use Rattle.std.specs.Prelude.{◌≡◌, ◌++◌, ◌∷◌, [], IfOk, OnOk, length};
 
 use da_lang::Event;
 use da_system::System;
 use da_values::{List, NoMemory};
 use std::alloc::Global;
 
-/// One more than the greatest number of a message that is looked at.
-const MESSAGES: u32 = 999_999_999;
+/// The messages of a channel that are looked at, at most.
+const MESSAGES: usize = 999_999_999;
 
 /// What may be done with a message that is under way.
 #[derive(Clone, Copy, Debug)]
@@ -35,8 +35,8 @@ impl Deed {
 }
 
 /// All events that are allowed in the state of a system of so many processes but for `show` and `stat`: the moves by the
-/// numbers of their processes and alternatives, and then the deliveries, the losses and the repetitions, each by the numbers of
-/// their senders, recipients and messages.
+/// numbers of their processes and alternatives, with the timeout of a process behind them, and then the deliveries, the losses
+/// and the repetitions, each by the numbers of their senders, recipients and messages.
 pub fn allowed_events(
     alloc: Global,
     system: &System,
@@ -54,7 +54,7 @@ pub fn allowed_events(
     Ok(events)
 }
 
-// Adds the moves that are allowed. They are the first of the events that may be picked.
+// Adds the moves and timeouts that are allowed. They are the first of the events that may be picked.
 fn add_moves(system: &System, out: &mut List<Event>) -> Result<(), NoMemory>
     requires { IsReady system.now }
     ensures { OnOk result (Whichever system.now (λ s. out.new ≡ out.old ++ filter (is_allowed (program_of system.now) s) (moves s))) }
@@ -69,11 +69,14 @@ fn add_moves(system: &System, out: &mut List<Event>) -> Result<(), NoMemory>
     Ok(())
 }
 
-// Whether an event is a move.
+// Whether an event is a move or a timeout.
 fn is_move(event: &Event) -> bool
     ensures { result ≡ is_move_lem event.now }
 {
-    matches!(event, Event::Move { .. } | Event::Take { .. })
+    matches!(
+        event,
+        Event::Move { .. } | Event::Take { .. } | Event::Timeout { .. }
+    )
 }
 
 // Adds what may be done in this way with the messages of all channels.
@@ -119,12 +122,23 @@ fn add_deeds_to(
 ) -> Result<(), NoMemory>
     ensures { OnOk result (Whichever system.now (λ s. out.new ≡ out.old ++ filter (is_allowed (program_of system.now) s) (deeds_to deed s p q))) }
 {
-    for place in 0..MESSAGES {
-        let event = deed.event(p, q, place + 1);
-        if !system.enabled(&event) {
-            return Ok(());
-        }
-        out.push(event)?;
+    let count = system.under_way(p, q);
+    if count > MESSAGES {
+        return Err(NoMemory);
     }
-    Err(NoMemory)
+    for place in 0..count {
+        add_one(system, deed.event(p, q, place as u32 + 1), out)?;
+    }
+    Ok(())
+}
+
+// The same with one message.
+fn add_one(system: &System, event: Event, out: &mut List<Event>) -> Result<(), NoMemory>
+    ensures { OnOk result (Whichever system.now (λ s. out.new ≡ out.old ++ filter (is_allowed (program_of system.now) s) (event ∷ []))) }
+{
+    if !system.enabled(&event) {
+        return Ok(());
+    }
+    out.push(event)?;
+    Ok(())
 }

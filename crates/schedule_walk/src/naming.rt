@@ -38,6 +38,7 @@ fn has_names(event: &Event) -> bool
     match event {
         Event::Move { p } => is_named(*p),
         Event::Take { p, k } => is_named(*p) && is_named(*k),
+        Event::Timeout { p } => is_named(*p),
         Event::Deliver { p, q, i } => is_named(*p) && is_named(*q) && is_named(*i),
         Event::Lose { p, q, i } => is_named(*p) && is_named(*q) && is_named(*i),
         Event::Repeat { p, q, i } => is_named(*p) && is_named(*q) && is_named(*i),

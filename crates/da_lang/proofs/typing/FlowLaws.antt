@@ -1,9 +1,10 @@
 -- What is known of the types of slots stays known where the other types are filled in, and nothing changes where all are
 -- known.
-use Rattle.std.specs.Prelude.{◌≡◌, refl, ℕ, zero, suc, true, List, [], ◌∷◌, ◌++◌, map, length, Option, Some, None, is_some}
+use Rattle.std.specs.Prelude.{◌≡◌, refl, ℕ, zero, suc, true, List, [], ◌∷◌, ◌++◌, map, length, Option, Some, None, option_map, unwrap_or, is_some}
 use Rattle.std.specs.List.{AllByRecursion, list_all}
 use Rattle.std.proofs.Common.{◌∙◌, ap, sym, subst}
 use Rattle.std.proofs.lemmas.Bool.{false≢true, and_parts}
+use Rattle.da_lang.specs.declared.program.Alt.{Alt}
 use Rattle.da_lang.specs.declared.program.Class.{Class}
 use Rattle.da_lang.specs.declared.program.Handler.{Handler}
 use Rattle.da_lang.specs.declared.program.Item.{Item}
@@ -55,6 +56,11 @@ module _ (R : Slots → Slots → Type 0) (same : (s : Slots) → R s s) (both :
     bound_goes : (found : Option ℕ) (binds : List ℕ) (body : List Item) → AllByRecursion (λ x. Goes (flows x)) body → (s : Slots) → R s (in_turn (map flows body) (with_row_types binds (found_row messages queries found s) s))
     bound_goes found binds body each s = let t = with_row_types binds (found_row messages queries found s) s in both s t (in_turn (map flows body) t) (row_goes binds (found_row messages queries found s) s) (all_go flows body each t)
 
+    await_goes : (alts : List Alt) (timeout : Option (List Item)) → AllByRecursion (λ a. Goes (alt_flow messages queries a)) alts → AllByRecursion (λ x. Goes (flows x)) (unwrap_or timeout [])
+        → Goes (in_turn (map (alt_flow messages queries) alts ++ unwrap_or (option_map (map flows) timeout) []))
+    await_goes alts None each others = two_go (map (alt_flow messages queries) alts) [] (all_go (alt_flow messages queries) alts each) same
+    await_goes alts (Some body) each others = two_go (map (alt_flow messages queries) alts) (map flows body) (all_go (alt_flow messages queries) alts each) (all_go flows body others)
+
     abbrev item_cases : ItemCases
     item_cases = record {
       Of_kind = λ k. Goes (flow k);
@@ -70,8 +76,9 @@ module _ (R : Slots → Slots → Type 0) (same : (s : Slots) → R s s) (both :
       while = λ x body each s. subst (R s) (sym (kind_flow_at-While messages queries x body s)) (all_go flows body each s);
       for = λ slot x body each s. subst (R s) (sym (kind_flow_at-For messages queries slot x body s)) (let ty = given (typed messages queries s x).type_ element_of in both s (with_type slot ty s) (in_turn (map flows body) (with_type slot ty s)) (one slot ty s) (all_go flows body each (with_type slot ty s)));
       call = λ args body each s. subst (R s) (sym (kind_flow_at-Call messages queries args body s)) (all_go flows body each s);
-      await = λ alts each s. subst (R s) (sym (kind_flow_at-Await messages queries alts s)) (all_go (alt_flow messages queries) alts each s);
-      label = λ s. subst (R s) (sym (kind_flow_at-Label messages queries s)) (same s);
+      await = λ alts timeout label each others s.
+          subst (R s) (sym (kind_flow_at-Await messages queries alts timeout label s)) (await_goes alts timeout each others s);
+      label = λ l s. subst (R s) (sym (kind_flow_at-Label messages queries l s)) (same s);
       pass = λ s. subst (R s) (sym (kind_flow_at-Pass messages queries s)) (same s);
       alt = λ cond found binds body line each s. subst (R s) (sym (alt_flow_at-of messages queries cond found binds body line s)) (bound_goes found binds body each s);
       item = λ line kind goes s. subst (R s) (sym (item_types_at-of messages queries line kind s)) (goes s);

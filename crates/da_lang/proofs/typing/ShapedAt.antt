@@ -1,5 +1,5 @@
 -- The processes in a value, one layer at a time; which messages are declared; the blocks of statements.
-use Rattle.std.specs.Prelude.{refl, ℕ, ℤ, Bool, List, [], ◌∷◌, ◌++◌, map, Option, Some, None, find, bytes_eq}
+use Rattle.std.specs.Prelude.{refl, ℕ, ℤ, Bool, List, [], ◌∷◌, ◌++◌, map, Option, Some, None, option_to_list, find, bytes_eq}
 use Rattle.std.proofs.Common.{◌≡◌, ◌∙◌, ap, sym}
 use Rattle.da_values.specs.declared.val.Val.{Val, roll-Val}
 use Rattle.da_values.specs.declared.val.Val.TheVariants as val
@@ -71,7 +71,7 @@ blocks_of-For line slot x body = rw it.outs-For refl
 pub blocks_of-Call : (line : ℕ) (args : List BindArg) (body : List Item) → blocks_of (item_at line (it.Call args body)) ≡ body ∷ []
 blocks_of-Call line args body = rw it.outs-Call refl
 
-pub blocks_of-Await : (line : ℕ) (alts : List Alt) → blocks_of (item_at line (it.Await alts)) ≡ map (λ a. (out-Alt a).body) alts
-blocks_of-Await line alts = rw it.outs-Await refl
+pub blocks_of-Await : (line : ℕ) (alts : List Alt) (timeout : Option (List Item)) (label : Option ℕ) → blocks_of (item_at line (it.Await alts timeout label)) ≡ map (λ a. (out-Alt a).body) alts ++ option_to_list timeout
+blocks_of-Await line alts timeout label = rw it.outs-Await refl
 
 pub ruleset finding_blocks = (blocks_of-If, blocks_of-While, blocks_of-For, blocks_of-Call, blocks_of-Await)

@@ -1,5 +1,5 @@
 -- The types of slots, and the lines that break a rule of types, one layer at a time.
-use Rattle.std.specs.Prelude.{ℕ, List, map, Option}
+use Rattle.std.specs.Prelude.{ℕ, List, map, Option, Some, None, option_map, unwrap_or}
 use Rattle.std.proofs.Common.{◌≡◌, ◌∙◌, ap, sym}
 use Rattle.da_lang.specs.declared.program.Alt.{Alt, roll-Alt}
 use Rattle.da_lang.specs.declared.program.BindArg.{BindArg}
@@ -73,17 +73,18 @@ kind_flow-Call messages queries args body = ap ((kind_flow messages queries)) (s
 pub kind_flow_at-Call : (messages : List MessageDecl) (queries : List Query) (args : List BindArg) (body : List Item) (slots : Slots) → (kind_flow messages queries) (it.Call args body) slots ≡ (kind_types messages queries) (ItemKind-F.Call args (map (item_types messages queries) body)) slots
 kind_flow_at-Call messages queries args body slots = ap (λ (f : Slots → Slots). f slots) (kind_flow-Call messages queries args body)
 
-pub kind_flow-Await : (messages : List MessageDecl) (queries : List Query) (alts : List Alt) → (kind_flow messages queries) (it.Await alts) ≡ (kind_types messages queries) (ItemKind-F.Await (map (alt_flow messages queries) alts))
-kind_flow-Await messages queries alts = ap ((kind_flow messages queries)) (sym (it.rolls-Await alts)) ∙ kind_flow_layer messages queries (ItemKind-F.Await alts)
+pub kind_flow-Await : (messages : List MessageDecl) (queries : List Query) (alts : List Alt) (timeout : Option (List Item)) (label : Option ℕ) → (kind_flow messages queries) (it.Await alts timeout label) ≡ (kind_types messages queries) (ItemKind-F.Await (map (alt_flow messages queries) alts) (option_map (map (item_types messages queries)) timeout) label)
+kind_flow-Await messages queries alts None label = ap ((kind_flow messages queries)) (sym (it.rolls-Await alts None label)) ∙ kind_flow_layer messages queries (ItemKind-F.Await alts None label)
+kind_flow-Await messages queries alts (Some body) label = ap ((kind_flow messages queries)) (sym (it.rolls-Await alts (Some body) label)) ∙ kind_flow_layer messages queries (ItemKind-F.Await alts (Some body) label)
 
-pub kind_flow_at-Await : (messages : List MessageDecl) (queries : List Query) (alts : List Alt) (slots : Slots) → (kind_flow messages queries) (it.Await alts) slots ≡ (kind_types messages queries) (ItemKind-F.Await (map (alt_flow messages queries) alts)) slots
-kind_flow_at-Await messages queries alts slots = ap (λ (f : Slots → Slots). f slots) (kind_flow-Await messages queries alts)
+pub kind_flow_at-Await : (messages : List MessageDecl) (queries : List Query) (alts : List Alt) (timeout : Option (List Item)) (label : Option ℕ) (slots : Slots) → (kind_flow messages queries) (it.Await alts timeout label) slots ≡ (kind_types messages queries) (ItemKind-F.Await (map (alt_flow messages queries) alts) (option_map (map (item_types messages queries)) timeout) label) slots
+kind_flow_at-Await messages queries alts timeout label slots = ap (λ (f : Slots → Slots). f slots) (kind_flow-Await messages queries alts timeout label)
 
-pub kind_flow-Label : (messages : List MessageDecl) (queries : List Query) → (kind_flow messages queries) it.Label ≡ (kind_types messages queries) ItemKind-F.Label
-kind_flow-Label messages queries = ap ((kind_flow messages queries)) (sym it.rolls-Label) ∙ kind_flow_layer messages queries ItemKind-F.Label
+pub kind_flow-Label : (messages : List MessageDecl) (queries : List Query) (l : ℕ) → (kind_flow messages queries) (it.Label l) ≡ (kind_types messages queries) (ItemKind-F.Label l)
+kind_flow-Label messages queries l = ap ((kind_flow messages queries)) (sym (it.rolls-Label l)) ∙ kind_flow_layer messages queries (ItemKind-F.Label l)
 
-pub kind_flow_at-Label : (messages : List MessageDecl) (queries : List Query) (slots : Slots) → (kind_flow messages queries) it.Label slots ≡ (kind_types messages queries) ItemKind-F.Label slots
-kind_flow_at-Label messages queries slots = ap (λ (f : Slots → Slots). f slots) (kind_flow-Label messages queries)
+pub kind_flow_at-Label : (messages : List MessageDecl) (queries : List Query) (l : ℕ) (slots : Slots) → (kind_flow messages queries) (it.Label l) slots ≡ (kind_types messages queries) (ItemKind-F.Label l) slots
+kind_flow_at-Label messages queries l slots = ap (λ (f : Slots → Slots). f slots) (kind_flow-Label messages queries l)
 
 pub kind_flow-Pass : (messages : List MessageDecl) (queries : List Query) → (kind_flow messages queries) it.Pass ≡ (kind_types messages queries) ItemKind-F.Pass
 kind_flow-Pass messages queries = ap ((kind_flow messages queries)) (sym it.rolls-Pass) ∙ kind_flow_layer messages queries ItemKind-F.Pass
@@ -145,11 +146,12 @@ kind_broken-For messages queries slots slot x body = ap ((kind_broken messages q
 pub kind_broken-Call : (messages : List MessageDecl) (queries : List Query) (slots : Slots) (args : List BindArg) (body : List Item) → (kind_broken messages queries slots) (it.Call args body) ≡ (kind_breaks messages queries slots) (ItemKind-F.Call args (map (item_breaks messages queries slots) body))
 kind_broken-Call messages queries slots args body = ap ((kind_broken messages queries slots)) (sym (it.rolls-Call args body)) ∙ kind_broken_layer messages queries slots (ItemKind-F.Call args body)
 
-pub kind_broken-Await : (messages : List MessageDecl) (queries : List Query) (slots : Slots) (alts : List Alt) → (kind_broken messages queries slots) (it.Await alts) ≡ (kind_breaks messages queries slots) (ItemKind-F.Await (map (alt_broken messages queries slots) alts))
-kind_broken-Await messages queries slots alts = ap ((kind_broken messages queries slots)) (sym (it.rolls-Await alts)) ∙ kind_broken_layer messages queries slots (ItemKind-F.Await alts)
+pub kind_broken-Await : (messages : List MessageDecl) (queries : List Query) (slots : Slots) (alts : List Alt) (timeout : Option (List Item)) (label : Option ℕ) → (kind_broken messages queries slots) (it.Await alts timeout label) ≡ (kind_breaks messages queries slots) (ItemKind-F.Await (map (alt_broken messages queries slots) alts) (option_map (map (item_breaks messages queries slots)) timeout) label)
+kind_broken-Await messages queries slots alts None label = ap ((kind_broken messages queries slots)) (sym (it.rolls-Await alts None label)) ∙ kind_broken_layer messages queries slots (ItemKind-F.Await alts None label)
+kind_broken-Await messages queries slots alts (Some body) label = ap ((kind_broken messages queries slots)) (sym (it.rolls-Await alts (Some body) label)) ∙ kind_broken_layer messages queries slots (ItemKind-F.Await alts (Some body) label)
 
-pub kind_broken-Label : (messages : List MessageDecl) (queries : List Query) (slots : Slots) → (kind_broken messages queries slots) it.Label ≡ (kind_breaks messages queries slots) ItemKind-F.Label
-kind_broken-Label messages queries slots = ap ((kind_broken messages queries slots)) (sym it.rolls-Label) ∙ kind_broken_layer messages queries slots ItemKind-F.Label
+pub kind_broken-Label : (messages : List MessageDecl) (queries : List Query) (slots : Slots) (l : ℕ) → (kind_broken messages queries slots) (it.Label l) ≡ (kind_breaks messages queries slots) (ItemKind-F.Label l)
+kind_broken-Label messages queries slots l = ap ((kind_broken messages queries slots)) (sym (it.rolls-Label l)) ∙ kind_broken_layer messages queries slots (ItemKind-F.Label l)
 
 pub kind_broken-Pass : (messages : List MessageDecl) (queries : List Query) (slots : Slots) → (kind_broken messages queries slots) it.Pass ≡ (kind_breaks messages queries slots) ItemKind-F.Pass
 kind_broken-Pass messages queries slots = ap ((kind_broken messages queries slots)) (sym it.rolls-Pass) ∙ kind_broken_layer messages queries slots ItemKind-F.Pass

@@ -46,8 +46,8 @@ same_exprs (kind.If branches other) = refl
 same_exprs (kind.While e body) = refl
 same_exprs (kind.For s e body) = refl
 same_exprs (kind.Call args body) = refl
-same_exprs (kind.Await alts) = refl
-same_exprs kind.Label = refl
+same_exprs (kind.Await alts timeout label) = refl
+same_exprs (kind.Label label) = refl
 same_exprs kind.Pass = refl
 
 as_many : (args : List BindArg) → length (map value_of_arg args) ≡ length (map slot_of_arg args)

@@ -1,5 +1,5 @@
 -- Each statement that keeps the rules of types gives types to the slots and the queries that it brings.
-use Rattle.std.specs.Prelude.{◌≡◌, refl, ℕ, suc, true, false, ◌&&◌, if◌then◌else◌, List, [], ◌∷◌, ◌++◌, map, length, Option, Some, None, is_some}
+use Rattle.std.specs.Prelude.{◌≡◌, refl, ℕ, suc, true, false, ◌&&◌, if◌then◌else◌, List, [], ◌∷◌, ◌++◌, map, length, Option, Some, None, option_map, unwrap_or, is_some}
 use Rattle.std.specs.List.{AllByRecursion}
 use Rattle.std.proofs.Common.{◌∙◌, ap, sym, subst}
 use Rattle.std.proofs.lemmas.Bool.{false≢true, and_parts}
@@ -16,7 +16,7 @@ use Rattle.da_lang.specs.declared.tree.MessageDecl.{MessageDecl}
 use Rattle.da_lang.specs.declared.tree.PatternTree.{PatternTree}
 use Rattle.da_lang.specs.declared.tree.PeerTree.{PeerTree}
 use Rattle.da_lang.specs.declared.ty.Ty.{Ty}
-use Rattle.da_lang.specs.BodyMeaning.{Becomes, Copy, Guarded, Stating, next, fresh, named_slots, untyped, finds_in, found_number, item_at, block, block_if, each, states, with_expr, with_exprs, bound, as_branch, as_alt, ifs, loop, for_each, await_one, awaits}
+use Rattle.da_lang.specs.BodyMeaning.{Becomes, Copy, Guarded, Stating, next, fresh, named_slots, untyped, finds_in, found_number, item_at, behind_label, block, block_if, each, states, with_expr, with_exprs, bound, as_branch, as_alt, ifs, loop, for_each, await_one, timeout_block, awaits}
 use Rattle.da_lang.specs.ExprMeaning.{Meaning, Tables, meant}
 use Rattle.da_lang.specs.ExprNames.{found_names, found_in}
 use Rattle.da_lang.specs.ExprTypes.{ExprType, typing, truth}
@@ -69,11 +69,14 @@ module _ (messages : List MessageDecl) (queries : List Query) (slots : Slots) wh
   KindFills f = (scope : Scope Meaning) (tables : Tables) → KeptKind (f scope tables).0 → Holds tables → Holds (f scope tables).1
 
   abbrev pub StateFills : Stating → Type 0
-  StateFills f = (scope : Scope Meaning) (tables : Tables) → item_breaks messages queries slots (f scope tables).item ≡ [] → Holds tables → Holds (f scope tables).tables
+  StateFills f = (label : Option ℕ) (scope : Scope Meaning) (tables : Tables) → item_breaks messages queries slots (f label scope tables).item ≡ [] → Holds tables → Holds (f label scope tables).tables
 
   -- a copy of a method with so many arguments
+  abbrev pub CallFills : (List RExpr → Tables → ItemKind × Tables) → ℕ → Type 0
+  CallFills call n = (args : List RExpr) (tables : Tables) → length args ≡ n → KeptKind (call args tables).0 → AllByRecursion FineHere args × (Holds tables → Holds (call args tables).1)
+
   abbrev pub CopyFills : Copy → List ℕ → ℕ → Type 0
-  CopyFills copy name n = (args : List RExpr) (tables : Tables) → length args ≡ n → KeptKind (copy name args tables).0 → AllByRecursion FineHere args × (Holds tables → Holds (copy name args tables).1)
+  CopyFills copy name n = CallFills (copy.call name) n
 
   kept_kind : (line : ℕ) (k : ItemKind) → item_breaks messages queries slots (item_at line k) ≡ [] → KeptKind k
   kept_kind line k e =
@@ -82,7 +85,7 @@ module _ (messages : List MessageDecl) (queries : List Query) (slots : Slots) wh
       record { rule = keeps_rule line b.rule (no_left (unless line b.rule) b.blocks is); blocks = no_right (unless line b.rule) b.blocks is }
 
   pub kind_states : (line : ℕ) (f : Becomes ItemKind) → KindFills f → StateFills (states line f)
-  kind_states line f fills scope tables e d = fills scope tables (kept_kind line (f scope tables).0 e) d
+  kind_states line f fills label scope tables e d = fills scope tables (kept_kind line (f scope tables).0 e) d
 
   -- statements with expressions alone
   pub expr_fill : (make : RExpr → ItemKind) (x : Expr) → ((e : RExpr) → KeptKind (make e) → FineHere e) → KindFills (with_expr make x)
@@ -133,13 +136,16 @@ module _ (messages : List MessageDecl) (queries : List Query) (slots : Slots) wh
       has_one (typing kn queries e) k.rule
 
   -- blocks
-  pub block_fills : (ss : List Stating) → AllByRecursion StateFills ss → PartFills no_breaks (block ss)
-  block_fills [] fills scope tables e d = d
-  block_fills (s ∷ ss) fills scope tables e d =
-      let first = s scope tables in
-      let others = block ss first.scope first.tables in
+  behind_fills : (label : Option ℕ) (ss : List Stating) → AllByRecursion StateFills ss → PartFills no_breaks (behind_label label ss)
+  behind_fills label [] fills scope tables e d = d
+  behind_fills label (s ∷ ss) fills scope tables e d =
+      let first = s label scope tables in
+      let others = behind_label first.label ss first.scope first.tables in
       let front = item_breaks messages queries slots first.item in
-      block_fills ss fills.1 first.scope first.tables (no_right front (no_breaks others.0) e) (fills.0 scope tables (no_left front (no_breaks others.0) e) d)
+      behind_fills first.label ss fills.1 first.scope first.tables (no_right front (no_breaks others.0) e) (fills.0 label scope tables (no_left front (no_breaks others.0) e) d)
+
+  pub block_fills : (ss : List Stating) → AllByRecursion StateFills ss → PartFills no_breaks (block ss)
+  block_fills = behind_fills None
 
   block_if_fills : (other : Option (List Stating)) → Where (AllByRecursion StateFills) other → PartFills no_breaks (block_if other)
   block_if_fills None fills scope tables e d = d
@@ -230,15 +236,26 @@ module _ (messages : List MessageDecl) (queries : List Query) (slots : Slots) wh
       let here : Knows (next over.1) = ap is_some (is_typed_parts (slot_type kn (next over.1)) ty h) in
       bound_fills (name ∷ []) ss fills scope over.1 (here, tt) k.blocks ((expr_fills messages queries slots x).by_typing scope tables (Typed set has) d)
 
-  pub awaits_fills : (alts : List Guarded) → AllByRecursion (λ (g : Guarded). PartFills (alt_broken messages queries slots) g.alt) alts → KindFills (awaits alts)
-  awaits_fills alts fills scope tables kept d =
+  -- the lines in the block of a timeout, if there is one
+  abbrev timeout_lines : Option (List Item) → List (List ℕ)
+  timeout_lines timeout = unwrap_or (option_map (map (item_breaks messages queries slots)) timeout) []
+
+  timeout_fills : (timeout : Option (List Stating)) → Where (AllByRecursion StateFills) timeout → PartFills (λ t. all (timeout_lines t)) (timeout_block timeout)
+  timeout_fills None fills scope tables e d = d
+  timeout_fills (Some ss) fills scope tables e d = block_fills ss fills scope tables e d
+
+  pub awaits_fills : (alts : List Guarded) (timeout : Option (List Stating)) (label : Option ℕ) → AllByRecursion (λ (g : Guarded). PartFills (alt_broken messages queries slots) g.alt) alts
+      → Where (AllByRecursion StateFills) timeout → KindFills (awaits alts timeout label)
+  awaits_fills alts timeout label fills others scope tables kept d =
       let parts = map (λ (g : Guarded). g.alt) alts in
       let all_ = each parts scope tables in
-      let k = subst Kept (kind_broken-Await messages queries slots all_.0) kept in
-      each_fills (alt_broken messages queries slots) parts (mapped_fills (λ (g : Guarded). g.alt) (alt_broken messages queries slots) alts fills) scope tables k.blocks d
+      let last = timeout_block timeout scope all_.1 in
+      let k = subst Kept (kind_broken-Await messages queries slots all_.0 last.0 label) kept in
+      let (front, back) = both_none (map (alt_broken messages queries slots) all_.0) (timeout_lines last.0) k.blocks in
+      timeout_fills timeout others scope all_.1 back (each_fills (alt_broken messages queries slots) parts (mapped_fills (λ (g : Guarded). g.alt) (alt_broken messages queries slots) alts fills) scope tables front d)
 
   pub await_one_fills : (line : ℕ) (x : Expr) → StateFills (await_one line x)
-  await_one_fills line x scope tables e d =
+  await_one_fills line x label scope tables e d =
       let alt = as_alt line x [] scope tables in
-      let k = subst Kept (kind_broken-Await messages queries slots (alt.0 ∷ [])) (kept_kind line (it.Await (alt.0 ∷ [])) e) in
+      let k = subst Kept (kind_broken-Await messages queries slots (alt.0 ∷ []) None label) (kept_kind line (it.Await (alt.0 ∷ []) None label) e) in
       alt_fills line x [] tt scope tables (no_left (alt_broken messages queries slots alt.0) [] k.blocks) d

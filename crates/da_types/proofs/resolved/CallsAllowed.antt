@@ -11,7 +11,8 @@ use Rattle.da_lang.specs.declared.tree.ClassTree.{ClassTree}
 use Rattle.da_lang.specs.Calls.{called, calls_in, deeds_in, leads, leads_within}
 use Rattle.da_lang.specs.ClassParts.{Body, Place, InSetup, InRun, InMethod, InHandler, bodies, body_in, is_method, method_name, method_of, stmts_if}
 use Rattle.da_lang.specs.Deeds.{Deed, Doing, Sends, Outputs, Labels, Calls, Loops, Awaits, TimesOut, Other, deeds}
-use Rattle.da_lang.specs.NameRules.{all_deeds, calls_none, class_refusals, fits_params, leads_back, lines_where, method_names, misfits, recursive_in}
+use Rattle.da_lang.specs.LabelNames.{all_deeds}
+use Rattle.da_lang.specs.NameRules.{calls_none, class_refusals, fits_params, leads_back, lines_where, method_names, misfits, recursive_in}
 use Rattle.da_types.proofs.resolved.ClassesFill.{CallsOk, find_has}
 use Rattle.da_types.proofs.resolved.CopiesFill.{OkWithin}
 use Rattle.da_types.proofs.resolved.StatementsFill.{OkAt, AllOk}
@@ -232,5 +233,5 @@ class_allowed c e =
     let arity = map_none _ _ (no_right _ _ e) in
     let to_recursive = no_left _ _ (no_left _ _ (no_left _ _ (no_left _ _ e))) in
     let recursive = map_none _ _ (no_right _ _ to_recursive) in
-    let unknown = map_none _ _ (no_right _ _ (no_left _ _ (no_left _ _ (no_left _ _ to_recursive)))) in
+    let unknown = map_none _ _ (no_left _ _ (no_left _ _ (no_left _ _ (no_left _ _ to_recursive)))) in
     calls_ok c (allowed c unknown arity recursive)

@@ -15,7 +15,7 @@ use Rattle.da_lang.specs.ExprTypes.{typing}
 use Rattle.da_lang.specs.QueryTypes.{slot_type}
 use Rattle.da_lang.specs.Typing.{Slots, known, fits_slot, fits_params}
 use Rattle.da_lang.proofs.typing.TypingAt.{kind_broken-Call}
-use Rattle.da_types.proofs.resolved.BlocksFill.{Kept, CopyFills}
+use Rattle.da_types.proofs.resolved.BlocksFill.{Kept, CallFills, CopyFills}
 use Rattle.da_types.proofs.resolved.CoveredTables.{typed_done}
 use Rattle.da_types.proofs.resolved.FineExprs.{Fits}
 use Rattle.da_types.proofs.resolved.MeantFills.{FineExpr}
@@ -41,7 +41,7 @@ module _ (messages : List MessageDecl) (queries : List Query) (slots : Slots) wh
       (Fits ty h, args_fine ns args (omega (arith, same)) others)
 
   method_fills : (most : ℕ) (c : ClassTree) (n : ℕ) → ((name : List ℕ) (n : ℕ) → OkWithin most c name n → CopyFills messages queries slots (copies most c) name n) → (m : Option Body) (b : Body) → m ≡ Some b → length b.params ≡ n → AllOk (OkWithin most c) (deeds b.stmts)
-      → CopyFills messages queries slots (λ name args tables. copy_of (copies most c) c m args tables) [] n
+      → CallFills messages queries slots (copy_of (copies most c) c m) n
   method_fills most c n inner None b is many within args tables same kept = absurd (cc)
   method_fills most c n inner (Some m) b is many within args tables same kept =
       let body : m ≡ b = cc in

@@ -1,6 +1,6 @@
 -- What statements become: their constants are values that there are, what they bind is the row of a `some`, and slots that
 -- are bound at once differ.
-use Rattle.std.specs.Prelude.{◌≡◌, refl, ℕ, suc, Bool, true, false, List, [], ◌∷◌, ◌++◌, map, length, Option, Some, None, bytes_eq}
+use Rattle.std.specs.Prelude.{◌≡◌, refl, ℕ, suc, Bool, true, false, List, [], ◌∷◌, ◌++◌, map, length, Option, Some, None, option_to_list, bytes_eq}
 use Rattle.std.specs.List.{AllByRecursion}
 use Rattle.std.proofs.Common.{sym, subst, inl, inr, ⊎_elim, cond}
 use Rattle.da_values.specs.Sets.{Has, Distinct}
@@ -18,7 +18,7 @@ use Rattle.da_lang.specs.declared.program.RExpr.{RExpr}
 use Rattle.da_lang.specs.declared.query.Cond.{Cond}
 use Rattle.da_lang.specs.declared.query.Query.{Query}
 use Rattle.da_lang.specs.declared.tree.Expr.{Expr}
-use Rattle.da_lang.specs.BodyMeaning.{Becomes, Behind, Copy, Stating, next, fresh, named_slots, untyped, found_number, item_at, block, block_if, each, states, with_expr, with_exprs, bound, as_branch, as_alt}
+use Rattle.da_lang.specs.BodyMeaning.{Becomes, Behind, Copy, Stating, next, fresh, named_slots, untyped, found_number, item_at, behind_label, block, block_if, each, states, with_expr, with_exprs, bound, as_branch, as_alt, timeout_block}
 use Rattle.da_lang.specs.ExprMeaning.{Meaning, InSlot, Tables, numbered, meant}
 use Rattle.da_lang.specs.ExprNames.{found_names}
 use Rattle.da_lang.specs.Scopes.{Scope, look}
@@ -88,16 +88,16 @@ module _ (p : Program) (qs : List Query) where
     pub onward : Onward p tables b.tables
 
   abbrev pub StateGood : Stating → Type 0
-  StateGood f = (scope : Scope Meaning) (tables : Tables) → GoodScope p scope → GoodTables p tables → Stated tables (f scope tables)
+  StateGood f = (label : Option ℕ) (scope : Scope Meaning) (tables : Tables) → GoodScope p scope → GoodTables p tables → Stated tables (f label scope tables)
 
   abbrev pub CopyGood : Copy → Type 0
-  CopyGood copy = (name : List ℕ) (args : List RExpr) (tables : Tables) → AllByRecursion (GoodExpr p) args → GoodTables p tables → (Ends (copy name args tables).1 → GoodKind (copy name args tables).0) × Onward p tables (copy name args tables).1
+  CopyGood copy = (name : List ℕ) (args : List RExpr) (tables : Tables) → AllByRecursion (GoodExpr p) args → GoodTables p tables → (Ends (copy.call name args tables).1 → GoodKind (copy.call name args tables).0) × Onward p tables (copy.call name args tables).1
 
   pub kind_item : (line : ℕ) (k : ItemKind) → GoodKind k → GoodItem (item_at line k)
   kind_item line k good = subst (λ (z : Item-F ItemKind Alt Item RBranch). GoodKind z.kind) (sym (out-roll-Item (record { line = line; kind = k }))) good
 
   pub kind_states : (line : ℕ) (f : Becomes ItemKind) → PartGood GoodKind f → StateGood (states line f)
-  kind_states line f good scope tables names d = let found = good scope tables names d in record { item = λ e. kind_item line (f scope tables).0 (found.0 e); scope = names; onward = found.1 }
+  kind_states line f good label scope tables names d = let found = good scope tables names d in record { item = λ e. kind_item line (f scope tables).0 (found.0 e); scope = names; onward = found.1 }
 
   -- names of slots
   pub named_good : (first : ℕ) (names : List (List ℕ)) (scope : Scope Meaning) → GoodScope p scope → GoodScope p (numbered InSlot first names scope)
@@ -148,8 +148,8 @@ module _ (p : Program) (qs : List Query) where
   pub pass_good : GoodKind it.Pass
   pass_good = subst GoodLayer (sym it.outs-Pass) (record { rule = plain ItemKind-F.Pass refl refl refl (λ x h. absurd h); blocks = λ body h. absurd h })
 
-  pub label_good : GoodKind it.Label
-  label_good = subst GoodLayer (sym it.outs-Label) (record { rule = plain ItemKind-F.Label refl refl refl (λ x h. absurd h); blocks = λ body h. absurd h })
+  pub label_good : (l : ℕ) → GoodKind (it.Label l)
+  label_good l = subst GoodLayer (sym (it.outs-Label l)) (record { rule = plain (ItemKind-F.Label l) refl refl refl (λ x h. absurd h); blocks = λ body h. absurd h })
 
   pub while_good : (x : RExpr) (body : List Item) → GoodExpr p x → GoodBlock body → GoodKind (it.While x body)
   while_good x body good each = subst GoodLayer (sym (it.outs-While x body)) (record { rule = plain (ItemKind-F.While x body) refl refl refl (one_expr x good); blocks = one_block body each })
@@ -191,15 +191,19 @@ module _ (p : Program) (qs : List Query) where
     blocks = λ body h. ⊎_elim (of_parts GoodBranch GoodItems (λ b. (out-RBranch b).body) bs each (λ b good. block_items (out-RBranch b).body good.body) body) (one_block other last body) (of_append (map (λ b. (out-RBranch b).body) bs) (other ∷ []) body h);
   })
 
-  pub await_good : (alts : List Alt) → AllByRecursion GoodAlt alts → GoodKind (it.Await alts)
-  await_good alts each = subst GoodLayer (sym (it.outs-Await alts)) (record {
+  timeout_items : (timeout : Option (List Item)) → Where GoodBlock timeout → (body : List Item) → Has (option_to_list timeout) body → GoodItems body
+  timeout_items None good body h = absurd h
+  timeout_items (Some items) good body h = one_block items good body h
+
+  pub await_good : (alts : List Alt) (timeout : Option (List Item)) (label : Option ℕ) → AllByRecursion GoodAlt alts → Where GoodBlock timeout → GoodKind (it.Await alts timeout label)
+  await_good alts timeout label each last = subst GoodLayer (sym (it.outs-Await alts timeout label)) (record {
     rule = record {
       exprs = λ x h. absurd h;
       finds = λ n binds h. of_parts GoodAlt FindsBound (λ a. ((out-Alt a).found, (out-Alt a).binds)) alts each (λ a good. good.finds) (Some n, binds) h n refl;
       distinct = of_parts GoodAlt Distinct (λ a. (out-Alt a).binds) alts each (λ a good. good.distinct);
       waits = of_parts GoodAlt (λ b. AreThere p (cond_notes b)) (λ a. (out-Alt a).cond) alts each (λ a good. good.waits);
     };
-    blocks = of_parts GoodAlt GoodItems (λ a. (out-Alt a).body) alts each (λ a good. block_items (out-Alt a).body good.body);
+    blocks = λ body h. ⊎_elim (of_parts GoodAlt GoodItems (λ a. (out-Alt a).body) alts each (λ a good. block_items (out-Alt a).body good.body) body) (timeout_items timeout last body) (of_append (map (λ a. (out-Alt a).body) alts) (option_to_list timeout) body h);
   })
 
   pub call_good : (args : List BindArg) (body : List Item) → AllByRecursion (λ (a : BindArg). GoodExpr p a.value) args → Distinct (map slot_of_arg args) → GoodBlock body → GoodKind (it.Call args body)
@@ -225,18 +229,25 @@ module _ (p : Program) (qs : List Query) where
       let two = also.of_outside scope first.1 names one.1.good in
       ((λ e. go first.0 second.0 one.0 two.0), onward p tables first.1 second.1 one.1 two.1)
 
-  pub block_good : (ss : List Stating) → AllByRecursion StateGood ss → PartGood GoodBlock (block ss)
-  block_good [] each scope tables names d = ((λ e. tt), stays p tables d)
-  block_good (s ∷ ss) each scope tables names d =
-      let first = s scope tables in
-      let last = (block ss first.scope first.tables).1 in
-      let one = each.0 scope tables names d in
-      let others = block_good ss each.1 first.scope first.tables one.scope one.onward.good in
+  behind_good : (label : Option ℕ) (ss : List Stating) → AllByRecursion StateGood ss → PartGood GoodBlock (behind_label label ss)
+  behind_good label [] each scope tables names d = ((λ e. tt), stays p tables d)
+  behind_good label (s ∷ ss) each scope tables names d =
+      let first = s label scope tables in
+      let last = (behind_label first.label ss first.scope first.tables).1 in
+      let one = each.0 label scope tables names d in
+      let others = behind_good first.label ss each.1 first.scope first.tables one.scope one.onward.good in
       ((λ e. (one.item (ends first.tables last others.1 e), others.0 e)), onward p tables first.tables last one.onward others.1)
+
+  pub block_good : (ss : List Stating) → AllByRecursion StateGood ss → PartGood GoodBlock (block ss)
+  block_good = behind_good None
 
   pub block_if_good : (other : Option (List Stating)) → Where (AllByRecursion StateGood) other → PartGood GoodBlock (block_if other)
   block_if_good None each scope tables names d = ((λ e. tt), stays p tables d)
   block_if_good (Some ss) each scope tables names d = block_good ss each scope tables names d
+
+  pub timeout_good : (timeout : Option (List Stating)) → Where (AllByRecursion StateGood) timeout → PartGood (Where GoodBlock) (timeout_block timeout)
+  timeout_good None each scope tables names d = ((λ e. tt), stays p tables d)
+  timeout_good (Some ss) each scope tables names d = block_good ss each scope tables names d
 
   pub each_good : {A : Type 0} (P : A → Type 0) (parts : List (Becomes A)) → AllByRecursion (PartGood P) parts → PartGood (AllByRecursion P) (each parts)
   each_good P [] all scope tables names d = ((λ e. tt), stays p tables d)

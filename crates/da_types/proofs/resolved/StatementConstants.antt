@@ -1,5 +1,5 @@
 -- Every statement of a tree becomes a good one, where its expressions and the methods that it calls are good.
-use Rattle.std.specs.Prelude.{◌≡◌, refl, ℕ, zero, suc, List, [], ◌∷◌, map, length, zip, Option, Some, None, option_map, Bool, find}
+use Rattle.std.specs.Prelude.{◌≡◌, refl, ℕ, zero, suc, List, [], ◌∷◌, map, length, zip, Option, Some, None, option_map, option_to_list, Bool, find}
 use Rattle.std.specs.List.{AllByRecursion}
 use Rattle.std.proofs.Common.{sym, subst, inl, inr}
 use Rattle.da_lang.specs.declared.program.BindArg.{BindArg}
@@ -13,23 +13,23 @@ use Rattle.da_lang.specs.declared.tree.ClassTree.{ClassTree}
 use Rattle.da_lang.specs.declared.tree.Expr.{Expr}
 use Rattle.da_lang.specs.declared.tree.Stmt.{Stmt}
 use Rattle.da_lang.specs.declared.tree.Stmt.TheVariants as stmt
-use Rattle.da_lang.specs.declared.tree.TimeoutTree.{TimeoutTree}
+use Rattle.da_lang.specs.declared.tree.TimeoutTree.{TimeoutTree, roll-TimeoutTree}
 use Rattle.da_values.specs.Sets.{Has, Distinct}
-use Rattle.da_lang.specs.BodyMeaning.{Becomes, Copy, Guarded, Stating, next, fresh, slot_of, block, block_if, each, states, with_expr, bound, as_alt, ifs, loop, for_each, await_one, awaits, calling, stating, guarding, body_with, bind_arg, with_params, param_slots, class_slots, copy_of, copies}
+use Rattle.da_lang.specs.BodyMeaning.{Becomes, Copy, Guarded, Stating, next, fresh, slot_of, block, block_if, each, states, with_expr, bound, as_alt, ifs, loop, for_each, await_one, timeout_block, awaits, labels, calling, stating, guarding, waiting, body_with, bind_arg, with_params, param_slots, class_slots, copy_of, copies}
 use Rattle.da_lang.specs.ClassParts.{Body, bodies, is_method, method_of, params_if, stmts_if, variables}
-use Rattle.da_lang.specs.Deeds.{Deed, all, all_if, deeds, deeds_of, deeds_of_branch}
+use Rattle.da_lang.specs.Deeds.{Deed, all, all_if, deeds, deeds_of, deeds_of_branch, deeds_of_timeout}
 use Rattle.da_lang.specs.ExprMeaning.{Tables, meant, all_outside}
 use Rattle.da_lang.specs.ExprNames.{found_names}
 use Rattle.da_lang.specs.Scopes.{look}
 use Rattle.da_lang.specs.Turns.{slot_of_arg}
 use Rattle.da_lang.proofs.CondInduction.{Where}
-use Rattle.da_lang.proofs.DeedsAt.{deeds_of-Assign, deeds_of-Add, deeds_of-Del, deeds_of-Send, deeds_of-Output, deeds_of-Call, deeds_of-If, deeds_of-While, deeds_of-For, deeds_of-AwaitOne, deeds_of-Await, deeds_of_branch-of}
-use Rattle.da_lang.proofs.StatingAt.{stating-Assign, stating-Add, stating-Del, stating-Send, stating-Output, stating-Pass, stating-Label, stating-Call, stating-If, stating-While, stating-For, stating-AwaitOne, stating-Await, guarding-of}
+use Rattle.da_lang.proofs.DeedsAt.{deeds_of-Assign, deeds_of-Add, deeds_of-Del, deeds_of-Send, deeds_of-Output, deeds_of-Call, deeds_of-If, deeds_of-While, deeds_of-For, deeds_of-AwaitOne, deeds_of-Await, deeds_of_branch-of, deeds_of_timeout-of}
+use Rattle.da_lang.proofs.StatingAt.{stating-Assign, stating-Add, stating-Del, stating-Send, stating-Output, stating-Pass, stating-Label, stating-Call, stating-If, stating-While, stating-For, stating-AwaitOne, stating-Await, guarding-of, waiting-of}
 use Rattle.da_lang.proofs.StmtInduction.{StmtCases, stmt_induction}
 use Rattle.da_types.proofs.resolved.ClassesFill.{find_has}
 use Rattle.da_types.proofs.resolved.ConstantsFill.{GoodExpr, GoodTables, GoodScope, GoodMeant, Onward, OutsideIs, all_outside_good, onward, stays}
 use Rattle.da_types.proofs.resolved.FoundSome.{range_distinct}
-use Rattle.da_types.proofs.resolved.ItemConstants.{Ends, ends, PartGood, StateGood, CopyGood, GoodKind, GoodBlock, GoodBranch, GoodAlt, all_front, all_back, kind_states, kind_item, named_good, assign_good, add_good, del_good, output_good, send_good, pass_good, label_good, while_good, for_good, if_good, await_good, call_good, expr_part, exprs_part, block_good, block_if_good, each_good, bound_good, branch_good, alt_good}
+use Rattle.da_types.proofs.resolved.ItemConstants.{Ends, ends, PartGood, StateGood, CopyGood, GoodKind, GoodBlock, GoodBranch, GoodAlt, all_front, all_back, kind_states, kind_item, named_good, assign_good, add_good, del_good, output_good, send_good, pass_good, label_good, while_good, for_good, if_good, await_good, call_good, expr_part, exprs_part, block_good, block_if_good, timeout_good, each_good, bound_good, branch_good, alt_good}
 use Rattle.da_types.proofs.resolved.StatementsFill.{deeds-all}
 
 module _ (p : Program) where
@@ -68,6 +68,9 @@ module _ (p : Program) (qs : List Query) where
     abbrev BranchIs : Branch → Type 0
     BranchIs b = GoodDeeds p (deeds_of_branch b) → AsBranch (guarding copy b) × AsAlt (guarding copy b)
 
+    abbrev TimeoutIs : TimeoutTree → Type 0
+    TimeoutIs t = GoodDeeds p (deeds_of_timeout t) → AllByRecursion (StateGood p qs) (waiting copy t)
+
     as_kind : (s : Stmt) (line : ℕ) (becomes : Becomes ItemKind) → stating copy s ≡ states line becomes → PartGood p qs (GoodKind p qs) becomes → StateGood p qs (stating copy s)
     as_kind s line becomes is good = subst (StateGood p qs) (sym is) (kind_states p qs line becomes good)
 
@@ -94,7 +97,7 @@ module _ (p : Program) (qs : List Query) where
         let args = all_outside (map meant xs) scope tables in
         let found = all_outside_good p (map meant xs) (each_outside xs good) scope tables names d in
         let body = copied name args.0 args.1 found.0 found.1.good in
-        (body.0, onward p tables args.1 (copy name args.0 args.1).1 found.1 body.1)
+        (body.0, onward p tables args.1 (copy.call name args.0 args.1).1 found.1 body.1)
 
     ifs_part : (gs : List Guarded) (other : Option (List Stating)) → AllByRecursion AsBranch gs → Where (AllByRecursion (StateGood p qs)) other → PartGood p qs (GoodKind p qs) (ifs gs other)
     ifs_part gs other good last scope tables names d =
@@ -105,11 +108,14 @@ module _ (p : Program) (qs : List Query) where
         let two = block_if_good p qs other last scope firsts.1 names one.1.good in
         ((λ e. if_good p qs firsts.0 others.0 (one.0 (ends p qs firsts.1 others.1 two.1 e)) (two.0 e)), onward p tables firsts.1 others.1 one.1 two.1)
 
-    awaits_part : (gs : List Guarded) → AllByRecursion AsAlt gs → PartGood p qs (GoodKind p qs) (awaits gs)
-    awaits_part gs good scope tables names d =
+    awaits_part : (gs : List Guarded) (timeout : Option (List Stating)) (label : Option ℕ) → AllByRecursion AsAlt gs → Where (AllByRecursion (StateGood p qs)) timeout → PartGood p qs (GoodKind p qs) (awaits gs timeout label)
+    awaits_part gs timeout label good last scope tables names d =
         let parts = map (λ (g : Guarded). g.alt) gs in
+        let alts = each parts scope tables in
         let one = each_good p qs (GoodAlt p qs) parts (mapped (PartGood p qs (GoodAlt p qs)) (λ (g : Guarded). g.alt) gs good) scope tables names d in
-        ((λ e. await_good p qs (each parts scope tables).0 (one.0 e)), one.1)
+        let others = timeout_block timeout scope alts.1 in
+        let two = timeout_good p qs timeout last scope alts.1 names one.1.good in
+        ((λ e. await_good p qs alts.0 others.0 label (one.0 (ends p qs alts.1 others.1 two.1 e)) (two.0 e)), onward p tables alts.1 others.1 one.1 two.1)
 
     loop_part : (x : Expr) (ss : List Stating) → SaysGood p x → AllByRecursion (StateGood p qs) ss → PartGood p qs (GoodKind p qs) (loop x ss)
     loop_part x ss good body scope tables names d =
@@ -128,10 +134,10 @@ module _ (p : Program) (qs : List Query) where
         ((λ e. for_good p qs (next over.1) over.0 items.0 one.0 (two.0 e)), onward p tables over.1 items.1 one.1 two.1)
 
     await_one_good : (line : ℕ) (x : Expr) → SaysGood p x → StateGood p qs (await_one line x)
-    await_one_good line x good scope tables names d =
+    await_one_good line x good label scope tables names d =
         let alt = as_alt line x [] scope tables in
         let one = alt_good p qs line x [] good tt scope tables names d in
-        record { item = λ e. kind_item p qs line (it.Await (alt.0 ∷ [])) (await_good p qs (alt.0 ∷ []) (one.0 e, tt)); scope = named_good p qs (next tables) (found_names x) scope names; onward = one.1 }
+        record { item = λ e. kind_item p qs line (it.Await (alt.0 ∷ []) None label) (await_good p qs (alt.0 ∷ []) None label (one.0 e, tt) tt); scope = named_good p qs (next tables) (found_names x) scope names; onward = one.1 }
 
     if_states : (bs : List Branch) (other : Option (List Stmt)) (line : ℕ) → AllByRecursion BranchIs bs → Where (AllByRecursion StmtGood) other → StmtGood (stmt.If bs other line)
     if_states bs other line good last ds =
@@ -140,10 +146,19 @@ module _ (p : Program) (qs : List Query) where
         let known = subst (GoodDeeds p) (deeds_of-If bs other line) ds in
         as_kind _ line _ (stating-If copy bs other line) (ifs_part (map (guarding copy) bs) (option_map (map (stating copy)) other) (all_guarded bs good (all_front (GoodDeed p) conds others known.1)).0 (other_states other last (all_back (GoodDeed p) conds others known.1)))
 
-    await_states : (bs : List Branch) (over : Option TimeoutTree) (line : ℕ) → AllByRecursion BranchIs bs → StmtGood (stmt.Await bs over line)
-    await_states bs over line good ds =
+    over_states : (over : Option TimeoutTree) → Where TimeoutIs over → GoodDeeds p (all (option_to_list (option_map deeds_of_timeout over))) → Where (AllByRecursion (StateGood p qs)) (option_map (waiting copy) over)
+    over_states None good ds = tt
+    over_states (Some t) good ds = good (all_front (GoodDeed p) (deeds_of_timeout t) [] ds)
+
+    await_states : (bs : List Branch) (over : Option TimeoutTree) (line : ℕ) → AllByRecursion BranchIs bs → Where TimeoutIs over → StmtGood (stmt.Await bs over line)
+    await_states bs over line good behind ds =
         let known = subst (GoodDeeds p) (deeds_of-Await bs over line) ds in
-        as_kind _ line _ (stating-Await copy bs over line) (awaits_part (map (guarding copy) bs) (all_guarded bs good (all_front (GoodDeed p) (all (map deeds_of_branch bs)) _ known.1)).1)
+        let alts = all (map deeds_of_branch bs) in
+        let last = all (option_to_list (option_map deeds_of_timeout over)) in
+        let gs = map (guarding copy) bs in
+        let timeout = option_map (waiting copy) over in
+        subst (StateGood p qs) (sym (stating-Await copy bs over line)) (λ label. kind_states p qs line (awaits gs timeout label)
+        (awaits_part gs timeout label (all_guarded bs good (all_front (GoodDeed p) alts last known.1)).1 (over_states over behind (all_back (GoodDeed p) alts last known.1))) label)
 
     branch_states : (x : Expr) (ss : List Stmt) (line : ℕ) → AllByRecursion StmtGood ss → BranchIs (roll-Branch (record { cond = x; body = ss; line = line }))
     branch_states x ss line good ds =
@@ -151,26 +166,35 @@ module _ (p : Program) (qs : List Query) where
         let body = all_state ss good known.1 in
         subst (λ (g : Guarded). AsBranch g × AsAlt g) (sym (guarding-of copy x ss line)) (branch_good p qs line x (map (stating copy) ss) known.0.0 body, alt_good p qs line x (map (stating copy) ss) known.0.0 body)
 
+    timeout_states : (ss : List Stmt) (line : ℕ) → AllByRecursion StmtGood ss → TimeoutIs (roll-TimeoutTree (record { body = ss; line = line }))
+    timeout_states ss line good ds =
+        let known = subst (GoodDeeds p) (deeds_of_timeout-of ss line) ds in
+        subst (AllByRecursion (StateGood p qs)) (sym (waiting-of copy ss line)) (all_state ss good known.1)
+
+    label_states : (name : List ℕ) (line : ℕ) → StateGood p qs (labels line (copy.number name))
+    label_states name line label scope tables names d =
+        record { item = λ e. kind_item p qs line (it.Label (copy.number name)) (label_good p qs (copy.number name)); scope = names; onward = stays p tables d }
+
     good_cases : StmtCases
     good_cases = record {
       Of_stmt = StmtGood;
       Of_branch = BranchIs;
-      Of_timeout = λ t. Unit {0};
+      Of_timeout = TimeoutIs;
       assign = λ name x line ds. as_kind _ line _ (stating-Assign copy name x line) (changing_part it.Assign name x (λ slot. expr_part p qs (it.Assign slot) x (assign_good p qs slot) (subst (GoodDeeds p) (deeds_of-Assign name x line) ds).0.0));
       add = λ name x line ds. as_kind _ line _ (stating-Add copy name x line) (changing_part it.Add name x (λ slot. expr_part p qs (it.Add slot) x (add_good p qs slot) (subst (GoodDeeds p) (deeds_of-Add name x line) ds).0.0));
       delete = λ name x line ds. as_kind _ line _ (stating-Del copy name x line) (changing_part it.Del name x (λ slot. expr_part p qs (it.Del slot) x (del_good p qs slot) (subst (GoodDeeds p) (deeds_of-Del name x line) ds).0.0));
       send = λ x to line ds. (let known = subst (GoodDeeds p) (deeds_of-Send x to line) ds in as_kind _ line _ (stating-Send copy x to line) (exprs_part p qs it.Send x to (send_good p qs) known.0.0 known.0.1.0));
       output = λ x line ds. as_kind _ line _ (stating-Output copy x line) (expr_part p qs it.Output x (output_good p qs) (subst (GoodDeeds p) (deeds_of-Output x line) ds).0.0);
       pass = λ line ds. as_kind _ line _ (stating-Pass copy line) (λ scope tables names d. ((λ e. pass_good p qs), stays p tables d));
-      label = λ name line ds. as_kind _ line _ (stating-Label copy name line) (λ scope tables names d. ((λ e. label_good p qs), stays p tables d));
+      label = λ name line ds. subst (StateGood p qs) (sym (stating-Label copy name line)) (label_states name line);
       call = λ name xs line ds. as_kind _ line _ (stating-Call copy name xs line) (call_part name xs (subst (GoodDeeds p) (deeds_of-Call name xs line) ds).0);
       conditional = if_states;
       loop = λ x body line good ds. (let known = subst (GoodDeeds p) (deeds_of-While x body line) ds in as_kind _ line _ (stating-While copy x body line) (loop_part x (map (stating copy) body) known.0.0 (all_state body good known.1)));
       each = λ name x body line good ds. (let known = subst (GoodDeeds p) (deeds_of-For name x body line) ds in as_kind _ line _ (stating-For copy name x body line) (for_part name x (map (stating copy) body) known.0.0 (all_state body good known.1)));
       await_one = λ x line ds. subst (StateGood p qs) (sym (stating-AwaitOne copy x line)) (await_one_good line x (subst (GoodDeeds p) (deeds_of-AwaitOne x line) ds).0.0);
-      await = λ bs over line good others. await_states bs over line good;
+      await = await_states;
       branch = branch_states;
-      timeout = λ body line good. tt;
+      timeout = timeout_states;
     }
 
     stmt_good : (s : Stmt) → StmtGood s

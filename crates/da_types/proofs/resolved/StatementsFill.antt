@@ -1,6 +1,6 @@
 -- Statements that keep the rules of types give types to the slots and the queries that they bring, where the copies of the
 -- methods that they call do.
-use Rattle.std.specs.Prelude.{◌≡◌, refl, ℕ, suc, List, [], ◌∷◌, ◌++◌, map, length, Option, Some, None, option_map}
+use Rattle.std.specs.Prelude.{◌≡◌, refl, ℕ, suc, List, [], ◌∷◌, ◌++◌, map, length, Option, Some, None, option_map, option_to_list}
 use Rattle.std.specs.List.{AllByRecursion}
 use Rattle.std.proofs.Common.{◌∙◌, ap, sym, subst}
 use Rattle.da_lang.specs.declared.program.ItemKind.{ItemKind}
@@ -12,15 +12,15 @@ use Rattle.da_lang.specs.declared.tree.Expr.{Expr}
 use Rattle.da_lang.specs.declared.tree.MessageDecl.{MessageDecl}
 use Rattle.da_lang.specs.declared.tree.Stmt.{Stmt}
 use Rattle.da_lang.specs.declared.tree.Stmt.TheVariants as stmt
-use Rattle.da_lang.specs.declared.tree.TimeoutTree.{TimeoutTree}
-use Rattle.da_lang.specs.BodyMeaning.{Copy, Guarded, Stating, Becomes, slot_of, states, with_expr, calling, stating, guarding, body_with}
-use Rattle.da_lang.specs.Deeds.{Deed, Doing, Calls, all, all_if, deeds, deeds_of, deeds_of_branch}
+use Rattle.da_lang.specs.declared.tree.TimeoutTree.{TimeoutTree, roll-TimeoutTree}
+use Rattle.da_lang.specs.BodyMeaning.{Copy, Guarded, Stating, Becomes, slot_of, states, with_expr, calling, awaits, stating, guarding, waiting, body_with}
+use Rattle.da_lang.specs.Deeds.{Deed, Doing, Calls, all, all_if, deeds, deeds_of, deeds_of_branch, deeds_of_timeout}
 use Rattle.da_lang.specs.ExprMeaning.{Meaning, Meant, Tables, meant, all_outside}
 use Rattle.da_lang.specs.Scopes.{Scope, look}
 use Rattle.da_lang.specs.Typing.{Slots, alt_broken, branch_broken}
 use Rattle.da_lang.proofs.CondInduction.{Where}
-use Rattle.da_lang.proofs.DeedsAt.{deeds_of-Call, deeds_of-If, deeds_of-While, deeds_of-For, deeds_of-Await, deeds_of_branch-of}
-use Rattle.da_lang.proofs.StatingAt.{stating-Assign, stating-Add, stating-Del, stating-Send, stating-Output, stating-Pass, stating-Label, stating-Call, stating-If, stating-While, stating-For, stating-AwaitOne, stating-Await, guarding-of}
+use Rattle.da_lang.proofs.DeedsAt.{deeds_of-Call, deeds_of-If, deeds_of-While, deeds_of-For, deeds_of-Await, deeds_of_branch-of, deeds_of_timeout-of}
+use Rattle.da_lang.proofs.StatingAt.{stating-Assign, stating-Add, stating-Del, stating-Send, stating-Output, stating-Pass, stating-Label, stating-Call, stating-If, stating-While, stating-For, stating-AwaitOne, stating-Await, guarding-of, waiting-of}
 use Rattle.da_lang.proofs.StmtInduction.{StmtCases, stmt_induction}
 use Rattle.da_types.proofs.resolved.BlocksFill.{PartFills, KindFills, StateFills, CopyFills, no_breaks, kind_states, expr_fill, exprs_fills, assign_fine, add_fine, del_fine, send_fine, output_fine, block_fills, branch_fills, alt_fills, ifs_fills, loop_fills, for_each_fills, awaits_fills, await_one_fills}
 use Rattle.da_types.proofs.resolved.ExprsFill.{exprs_fill}
@@ -75,6 +75,9 @@ module _ (messages : List MessageDecl) (queries : List Query) (slots : Slots) (c
   abbrev BranchFills : Branch → Type 0
   BranchFills b = AllOk Ok (deeds_of_branch b) → AsBranch (guarding copy b) × AsAlt (guarding copy b)
 
+  abbrev TimeoutFills : TimeoutTree → Type 0
+  TimeoutFills t = AllOk Ok (deeds_of_timeout t) → AllByRecursion States (waiting copy t)
+
   as_kind : (s : Stmt) (line : ℕ) (becomes : Becomes ItemKind) → stating copy s ≡ states line becomes → Kinds becomes → States (stating copy s)
   as_kind s line becomes is fills = subst States (sym is) (kind_states messages queries slots line becomes fills)
 
@@ -110,10 +113,19 @@ module _ (messages : List MessageDecl) (queries : List Query) (slots : Slots) (c
       as_kind _ line _ (stating-If copy bs other line)
       (ifs_fills messages queries slots (map (guarding copy) bs) (option_map (map (stating copy)) other) (all_guarded bs fills (front_ok Ok conds last known.1)).0 (other_states other others (back_ok Ok conds last known.1)))
 
-  await_states : (bs : List Branch) (over : Option TimeoutTree) (line : ℕ) → AllByRecursion BranchFills bs → StmtFills (stmt.Await bs over line)
-  await_states bs over line fills ok =
+  over_states : (over : Option TimeoutTree) → Where TimeoutFills over → AllOk Ok (all (option_to_list (option_map deeds_of_timeout over))) → Where (AllByRecursion States) (option_map (waiting copy) over)
+  over_states None fills ok = tt
+  over_states (Some t) fills ok = fills (front_ok Ok (deeds_of_timeout t) [] ok)
+
+  await_states : (bs : List Branch) (over : Option TimeoutTree) (line : ℕ) → AllByRecursion BranchFills bs → Where TimeoutFills over → StmtFills (stmt.Await bs over line)
+  await_states bs over line fills others ok =
       let known = subst (AllOk Ok) (deeds_of-Await bs over line) ok in
-      as_kind _ line _ (stating-Await copy bs over line) (awaits_fills messages queries slots (map (guarding copy) bs) (all_guarded bs fills (front_ok Ok (all (map deeds_of_branch bs)) _ known.1)).1)
+      let alts = all (map deeds_of_branch bs) in
+      let last = all (option_to_list (option_map deeds_of_timeout over)) in
+      let gs = map (guarding copy) bs in
+      let timeout = option_map (waiting copy) over in
+      subst States (sym (stating-Await copy bs over line)) (λ label. kind_states messages queries slots line (awaits gs timeout label)
+      (awaits_fills messages queries slots gs timeout label (all_guarded bs fills (front_ok Ok alts last known.1)).1 (over_states over others (back_ok Ok alts last known.1))) label)
 
   branch_states : (x : Expr) (ss : List Stmt) (line : ℕ) → AllByRecursion StmtFills ss → BranchFills (roll-Branch (record { cond = x; body = ss; line = line }))
   branch_states x ss line fills ok =
@@ -121,26 +133,31 @@ module _ (messages : List MessageDecl) (queries : List Query) (slots : Slots) (c
       let body = all_state ss fills known.1 in
       subst (λ (g : Guarded). AsBranch g × AsAlt g) (sym (guarding-of copy x ss line)) (branch_fills messages queries slots line x (map (stating copy) ss) body, alt_fills messages queries slots line x (map (stating copy) ss) body)
 
+  timeout_states : (ss : List Stmt) (line : ℕ) → AllByRecursion StmtFills ss → TimeoutFills (roll-TimeoutTree (record { body = ss; line = line }))
+  timeout_states ss line fills ok =
+      let known = subst (AllOk Ok) (deeds_of_timeout-of ss line) ok in
+      subst (AllByRecursion States) (sym (waiting-of copy ss line)) (all_state ss fills known.1)
+
   state_cases : StmtCases
   state_cases = record {
     Of_stmt = StmtFills;
     Of_branch = BranchFills;
-    Of_timeout = λ t. Unit {0};
+    Of_timeout = TimeoutFills;
     assign = λ name x line ok. as_kind _ line _ (stating-Assign copy name x line) (changing_fills it.Assign name x (λ slot. expr_fill messages queries slots (it.Assign slot) x (assign_fine messages queries slots slot)));
     add = λ name x line ok. as_kind _ line _ (stating-Add copy name x line) (changing_fills it.Add name x (λ slot. expr_fill messages queries slots (it.Add slot) x (add_fine messages queries slots slot)));
     delete = λ name x line ok. as_kind _ line _ (stating-Del copy name x line) (changing_fills it.Del name x (λ slot. expr_fill messages queries slots (it.Del slot) x (del_fine messages queries slots slot)));
     send = λ x to line ok. as_kind _ line _ (stating-Send copy x to line) (exprs_fills messages queries slots it.Send x to (send_fine messages queries slots));
     output = λ x line ok. as_kind _ line _ (stating-Output copy x line) (expr_fill messages queries slots it.Output x (output_fine messages queries slots));
     pass = λ line ok. as_kind _ line _ (stating-Pass copy line) (λ scope tables kept d. d);
-    label = λ name line ok. as_kind _ line _ (stating-Label copy name line) (λ scope tables kept d. d);
+    label = λ name line ok. subst States (sym (stating-Label copy name line)) (λ label scope tables e d. d);
     call = λ name xs line ok. as_kind _ line _ (stating-Call copy name xs line) (call_fills name xs (subst (AllOk Ok) (deeds_of-Call name xs line) ok).0);
     conditional = if_states;
     loop = λ x body line fills ok. as_kind _ line _ (stating-While copy x body line) (loop_fills messages queries slots x (map (stating copy) body) (all_state body fills (subst (AllOk Ok) (deeds_of-While x body line) ok).1));
     each = λ name x body line fills ok. as_kind _ line _ (stating-For copy name x body line) (for_each_fills messages queries slots name x (map (stating copy) body) (all_state body fills (subst (AllOk Ok) (deeds_of-For name x body line) ok).1));
     await_one = λ x line ok. subst States (sym (stating-AwaitOne copy x line)) (await_one_fills messages queries slots line x);
-    await = λ bs over line fills others. await_states bs over line fills;
+    await = await_states;
     branch = branch_states;
-    timeout = λ body line fills. tt;
+    timeout = timeout_states;
   }
 
   stmt_fills : (s : Stmt) → StmtFills s

@@ -87,8 +87,8 @@ module _ (c : Class) (line : ℕ) (d : Data) (todo : List Task) (rest : All Task
     kind_goes_on (While x body) is = outcome_goes (eval c.queries x d) _ (λ v. while_goes body (while_block i x body is) (truth_of v))
     kind_goes_on (For slot x body) is = outcome_goes (eval c.queries x d) _ (λ v. All-cons TaskGoes (Loop slot (elements_of v) body line) todo (goes.blocks body (for_block i slot x body is)) rest)
     kind_goes_on (Call args body) is = outcomes_go (eval_all c.queries (map value_of_arg args) d) _ (λ vs. block_tasks_go body todo (goes.blocks body (call_block i args body is)) rest)
-    kind_goes_on (Await alts) is = rest
-    kind_goes_on Label is = rest
+    kind_goes_on (Await alts timeout label) is = rest
+    kind_goes_on (Label l) is = rest
     kind_goes_on Pass is = rest
 
 turn_goes_on : (c : Class) (t : Task) (d : Data) (todo : List Task) → TaskGoes t → All TaskGoes todo → All TaskGoes (turn c t d todo).todo

@@ -64,7 +64,7 @@ module _ (c : ClassTree) where
       (λ next does. none_any (yields_within most c) (calls_in c name) next calls (Has-filter_map (λ (d : Deed). called d.does) (deeds_in c name) d next h (ap called does))))
 
   -- its copies hold none
-  pub copies_go : (most : ℕ) (name : List ℕ) → Ends most name → (args : List RExpr) (tables : Tables) → KindGoes (copies most c name args tables).0
+  pub copies_go : (most : ℕ) (name : List ℕ) → Ends most name → (args : List RExpr) (tables : Tables) → KindGoes ((copies most c).call name args tables).0
   unfolding copies
   copies_go zero name e args tables = pass_goes
   copies_go (suc most) name e args tables =

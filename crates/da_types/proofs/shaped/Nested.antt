@@ -1,5 +1,5 @@
 -- In a value of a type no more tuples and sets stand in one another than the type has levels.
-use Rattle.std.specs.Prelude.{◌≡◌, ℕ, suc, ◌+◌, ◌≤◌, max, true, false, List, [], ◌∷◌, map}
+use Rattle.std.specs.Prelude.{◌≡◌, ℕ, suc, ◌≤◌, true, List, [], ◌∷◌, map}
 use Rattle.std.specs.List.{AllByRecursion, list_all}
 use Rattle.std.proofs.Common.{◌∙◌, ap, sym, arith}
 use Rattle.std.proofs.lemmas.Bool.{false≢true, and_parts, leb-true}

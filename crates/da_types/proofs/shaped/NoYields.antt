@@ -18,7 +18,7 @@ use Rattle.da_lang.specs.declared.tree.Branch.{Branch, roll-Branch}
 use Rattle.da_lang.specs.declared.tree.Expr.{Expr}
 use Rattle.da_lang.specs.declared.tree.Stmt.{Stmt}
 use Rattle.da_lang.specs.declared.tree.Stmt.TheVariants as stmt
-use Rattle.da_lang.specs.BodyMeaning.{Becomes, Copy, Guarded, Stating, as_branch, block, block_if, body_with, bound, each, for_each, fresh, found_number, guarding, ifs, item_at, loop, named_slots, next, states, stating, untyped}
+use Rattle.da_lang.specs.BodyMeaning.{Becomes, Copy, Guarded, Stating, as_branch, behind_label, block, block_if, body_with, bound, each, for_each, fresh, found_number, guarding, ifs, item_at, loop, named_slots, next, states, stating, untyped}
 use Rattle.da_lang.specs.Deeds.{Deed, Doing, Labels, Calls, Awaits, all, all_if, deeds, deeds_of, deeds_of_branch}
 use Rattle.da_lang.specs.ExprMeaning.{Meaning, Tables, meant}
 use Rattle.da_lang.specs.ExprNames.{found_names}
@@ -86,17 +86,20 @@ abbrev pub PartGoes : {A : Type 0} → (A → Type 0) → Becomes A → Type 0
 PartGoes P f = (scope : Scope Meaning) (tables : Tables) → P (f scope tables).0
 
 abbrev pub StateGoes : Stating → Type 0
-StateGoes f = (scope : Scope Meaning) (tables : Tables) → ItemGoes (f scope tables).item
+StateGoes f = (label : Option ℕ) (scope : Scope Meaning) (tables : Tables) → ItemGoes (f label scope tables).item
 
 kind_item : (line : ℕ) (k : ItemKind) → KindGoes k → ItemGoes (item_at line k)
 kind_item line k goes = subst (λ (z : Item-F ItemKind Alt Item RBranch). KindGoes z.kind) (sym (out-roll-Item (record { line = line; kind = k }))) goes
 
 kind_states : (line : ℕ) (f : Becomes ItemKind) → PartGoes KindGoes f → StateGoes (states line f)
-kind_states line f goes scope tables = kind_item line (f scope tables).0 (goes scope tables)
+kind_states line f goes label scope tables = kind_item line (f scope tables).0 (goes scope tables)
+
+behind_part : (label : Option ℕ) (ss : List Stating) → AllByRecursion StateGoes ss → PartGoes BlockGoes (behind_label label ss)
+behind_part label [] goes scope tables = tt
+behind_part label (s ∷ ss) goes scope tables = let first = s label scope tables in (goes.0 label scope tables, behind_part first.label ss goes.1 first.scope first.tables)
 
 block_part : (ss : List Stating) → AllByRecursion StateGoes ss → PartGoes BlockGoes (block ss)
-block_part [] goes scope tables = tt
-block_part (s ∷ ss) goes scope tables = (goes.0 scope tables, block_part ss goes.1 (s scope tables).scope (s scope tables).tables)
+block_part = behind_part None
 
 block_if_part : (other : Option (List Stating)) → Where (AllByRecursion StateGoes) other → PartGoes BlockGoes (block_if other)
 block_if_part None goes scope tables = tt
@@ -158,7 +161,7 @@ module _ (Ok : List ℕ → Type 0) where
   back [] ys go = go
   back (x ∷ xs) ys go = back xs ys go.1
 
-  module _ (copy : Copy) (copied : (name : List ℕ) → Ok name → (args : List RExpr) (tables : Tables) → KindGoes (copy name args tables).0) where
+  module _ (copy : Copy) (copied : (name : List ℕ) → Ok name → (args : List RExpr) (tables : Tables) → KindGoes (copy.call name args tables).0) where
     abbrev StmtGoes : Stmt → Type 0
     StmtGoes s = DeedsGo (deeds_of s) → StateGoes (stating copy s)
 

@@ -1,5 +1,5 @@
 -- What the rules of types say of a statement that keeps them, by its form.
-use Rattle.std.specs.Prelude.{◌≡◌, ℕ, true, ◌&&◌, List, [], ◌++◌, map, Some, is_some, flat_map, slice_get}
+use Rattle.std.specs.Prelude.{◌≡◌, ℕ, true, ◌&&◌, List, [], ◌++◌, map, Option, Some, is_some, flat_map, slice_get}
 use Rattle.std.proofs.Common.{◌∙◌, ap, sym}
 use Rattle.std.proofs.lemmas.Bool.{and_parts}
 use Rattle.da_values.specs.Sets.{Has}
@@ -98,11 +98,11 @@ module _ (messages : List MessageDecl) (queries : List Query) (slots : Slots) wh
         let here : branch b ≡ [] = none_of (λ part. part) (map branch branches ++ map item other) none (branch b) (Has-append_left (map branch branches) (map item other) (branch b) (Has-map branch branches b h)) in
         and_parts (truth (typed messages queries slots (out-RBranch b).cond)) (have_found messages queries slots (out-RBranch b).found (out-RBranch b).binds) (keeps_rule (out-RBranch b).line _ (no_left _ (all (map item (out-RBranch b).body)) (sym (branch_is b) ∙ here)))
 
-    pub alt_rule : (alts : List Alt) (a : Alt) → kind_of i ≡ ItemKind-F.Await alts → Has alts a
+    pub alt_rule : (alts : List Alt) {timeout : Option (List Item)} {label : Option ℕ} (a : Alt) → kind_of i ≡ ItemKind-F.Await alts timeout label → Has alts a
         → (cond_holds (known messages queries slots) (out-Alt a).cond [] ≡ true) × (have_found messages queries slots (out-Alt a).found (out-Alt a).binds ≡ true)
     alt_rule alts a is h =
-        let none : all (map alt alts) ≡ [] = ap (λ z. (layer z).blocks) (sym is) ∙ blocks_keep in
-        let here : alt a ≡ [] = none_of (λ part. part) (map alt alts) none (alt a) (Has-map alt alts a h) in
+        let none = ap (λ z. (layer z).blocks) (sym is) ∙ blocks_keep in
+        let here : alt a ≡ [] = none_of (λ part. part) (map alt alts ++ _) none (alt a) (Has-append_left (map alt alts) _ (alt a) (Has-map alt alts a h)) in
         and_parts (cond_holds (known messages queries slots) (out-Alt a).cond []) (have_found messages queries slots (out-Alt a).found (out-Alt a).binds) (keeps_rule (out-Alt a).line _ (no_left _ (all (map item (out-Alt a).body)) (sym (alt_is a) ∙ here)))
 
 -- of a handler, and of a line of `setup`

@@ -211,7 +211,7 @@ module _ (p : Program) (c : Class) (d : Data) (f : IsWholeProgram p) (s : Shaped
     branch_row_fits branches other b n row is h finds found =
         row_of_found n (out-RBranch b).binds row (ap (λ z. have_found p.messages c.queries c.slots z (out-RBranch b).binds) (sym finds) ∙ (branch_rule p.messages c.queries c.slots i keeps branches other b is h).1) found
 
-    pub alt_row_fits : (alts : List Alt) (a : Alt) (n : ℕ) (row : Row) → kind_of i ≡ ItemKind-F.Await alts → Has alts a → (out-Alt a).found ≡ Some n → least_row c.queries n d ≡ Some row → FitSlots p c (out-Alt a).binds row
+    pub alt_row_fits : (alts : List Alt) {timeout : Option (List Item)} {label : Option ℕ} (a : Alt) (n : ℕ) (row : Row) → kind_of i ≡ ItemKind-F.Await alts timeout label → Has alts a → (out-Alt a).found ≡ Some n → least_row c.queries n d ≡ Some row → FitSlots p c (out-Alt a).binds row
     alt_row_fits alts a n row is h finds found =
         row_of_found n (out-Alt a).binds row (ap (λ z. have_found p.messages c.queries c.slots z (out-Alt a).binds) (sym finds) ∙ (alt_rule p.messages c.queries c.slots i keeps alts a is h).1) found
 

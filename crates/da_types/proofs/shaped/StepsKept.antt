@@ -1,11 +1,12 @@
 -- A step keeps its world shaped.
-use Rattle.std.specs.Prelude.{◌≡◌, refl, ℕ, ◌+◌, nat_lt, List, [], ◌∷◌, ◌++◌, Option, Some, None, IfSome}
-use Rattle.std.specs.List.{All}
+use Rattle.std.specs.Prelude.{◌≡◌, refl, ℕ, ◌+◌, nat_lt, List, [], ◌∷◌, ◌++◌, length, Option, Some, None, IfSome}
+use Rattle.std.specs.List.{All, list_any}
 use Rattle.std.proofs.Common.{◌∙◌, ap, sym, subst, inl, inr}
 use Rattle.std.proofs.lemmas.List.Elements.{All-nil, All-cons, All-append, All-head, All-tail}
 use Rattle.da_values.specs.declared.val.Val.{Val}
 use Rattle.da_values.specs.Sets.{Has}
 use Rattle.da_values.specs.Value.{value_of}
+use Rattle.da_values.proofs.Members.{of_filter}
 use Rattle.da_lang.specs.declared.event.Action.{Action}
 use Rattle.da_lang.specs.declared.event.Action.TheVariants.{Took, Got, End, Fault}
 use Rattle.da_lang.specs.declared.program.Alt.{Alt}
@@ -19,11 +20,12 @@ use Rattle.da_lang.specs.declared.program.ProcDecl.{ProcDecl}
 use Rattle.da_lang.specs.declared.program.Program.{Program}
 use Rattle.da_lang.specs.declared.program.RBranch.{RBranch}
 use Rattle.da_lang.specs.declared.program.SetupCall.{SetupCall}
+use Rattle.da_lang.specs.Labels.{is_open, label_before, open_handlers, takes}
 use Rattle.da_lang.specs.Matching.{Row, matched_entry}
 use Rattle.da_lang.specs.Queries.{holds}
 use Rattle.da_lang.specs.Runs.{Halt, AtYield, UsedUp, Faults, Ran, max_turns, run_to_yield}
 use Rattle.da_lang.specs.Shaped.{Shaped, ShapedData, ShapedTasks, IsEntry, IsItemOf, IsSetUp, IsTask}
-use Rattle.da_lang.specs.Steps.{Step, Go, Take, Deliver, Stepped, after_halt, class_step, closing, first_tasks, go_waiting, handle, handled, moved, past_await, past_label, preparing, proc_step, received_at, setup_of_decl, step_in, take_alternative, take_waiting, try_handler}
+use Rattle.da_lang.specs.Steps.{Step, Go, Take, TimeOut, Deliver, Stepped, after_halt, class_step, closing, first_tasks, go_waiting, handle, handled, moved, past_await, past_label, past_timeout, preparing, proc_step, received_at, setup_of_decl, step_in, take_alternative, take_waiting, time_out_waiting, try_handler}
 use Rattle.da_lang.specs.Turns.{bind_all, bind_found, do_all, kind_of}
 use Rattle.da_lang.specs.World.{Data, Task, Do, Loop, Prepare, World, at_number, Phase, New, Waiting}
 use Rattle.da_lang.proofs.RunBounds.{by_truth}
@@ -32,7 +34,7 @@ use Rattle.da_types.proofs.shaped.DataKept.{bound-me, bound_shaped, received_sha
 use Rattle.da_types.proofs.shaped.Known.{IsWholeProgram}
 use Rattle.da_types.proofs.shaped.RunsKept.{RunLeaves, leaves_then, run_to_yield_leaves, stays}
 use Rattle.da_types.proofs.shaped.StatementValues.{alt_row_fits, handler_row_fits}
-use Rattle.da_types.proofs.shaped.TasksKept.{alt_block, block_tasks, do_all_tasks, handler_item, run_item}
+use Rattle.da_types.proofs.shaped.TasksKept.{alt_block, timeout_block, block_tasks, do_all_tasks, handler_item, run_item}
 use Rattle.da_types.proofs.shaped.TurnsKept.{found_bound}
 use Rattle.da_types.proofs.totality.Worlds.{numbered_has}
 
@@ -75,7 +77,7 @@ module _ (p : Program) (c : Class) where
     -- MOVES
     module _ (d : Data) (s : ShapedData p c d) where
       label_leaves : (todo : List Task) (kind : ItemKind-F ItemKind Alt Item RBranch) → ShapedTasks p c d.me todo → StepLeaves d.me (past_label c d todo kind)
-      label_leaves todo Label rest = moved_leaves d.me d.me 0 (run_to_yield c 1 d todo) refl (run_to_yield_leaves p c f 1 d todo s rest)
+      label_leaves todo (Label l) rest = moved_leaves d.me d.me 0 (run_to_yield c 1 d todo) refl (run_to_yield_leaves p c f 1 d todo s rest)
       label_leaves todo _ rest = tt
 
       go_leaves : (todo : List Task) → ShapedTasks p c d.me todo → StepLeaves d.me (go_waiting c d todo)
@@ -84,7 +86,7 @@ module _ (p : Program) (c : Class) where
       go_leaves (Loop slot left body line ∷ todo) rest = tt
       go_leaves (Prepare call ∷ todo) rest = tt
 
-      alternative_leaves : (i : Item) (alts : List Alt) (todo : List Task) (k : ℕ) (found : Option Alt) → IsItemOf c i → kind_of i ≡ Await alts → at_number alts k ≡ found → ShapedTasks p c d.me todo → StepLeaves d.me (take_alternative c d todo k found)
+      alternative_leaves : (i : Item) (alts : List Alt) (todo : List Task) (k : ℕ) (found : Option Alt) {timeout : Option (List Item)} {label : Option ℕ} → IsItemOf c i → kind_of i ≡ Await alts timeout label → at_number alts k ≡ found → ShapedTasks p c d.me todo → StepLeaves d.me (take_alternative c d todo k found)
       alternative_leaves i alts todo k None stands is at rest = tt
       alternative_leaves i alts todo k (Some a) stands is at rest =
           let r = out-Alt a in
@@ -97,7 +99,7 @@ module _ (p : Program) (c : Class) where
           by_truth (StepLeaves d.me) (holds d r.cond []) (Some (moved d.me k ran)) None (λ true'. moved_leaves d.me d.me k ran refl (subst (λ z. RunLeaves p c z ran) bound.1 one)) (λ false'. tt)
 
       await_leaves : (i : Item) (todo : List Task) (k : ℕ) (kind : ItemKind-F ItemKind Alt Item RBranch) → IsItemOf c i → kind_of i ≡ kind → ShapedTasks p c d.me todo → StepLeaves d.me (past_await c d todo k kind)
-      await_leaves i todo k (Await alts) stands is rest = alternative_leaves i alts todo k (at_number alts k) stands is refl rest
+      await_leaves i todo k (Await alts timeout label) stands is rest = alternative_leaves i alts todo k (at_number alts k) stands is refl rest
       await_leaves i todo k _ stands is rest = tt
 
       take_leaves : (k : ℕ) (todo : List Task) → ShapedTasks p c d.me todo → StepLeaves d.me (take_waiting c d k todo)
@@ -105,6 +107,20 @@ module _ (p : Program) (c : Class) where
       take_leaves k (Do i ∷ todo) rest = await_leaves i todo k (kind_of i) (All-head (IsTask p c d.me) (Do i) todo rest) refl (All-tail (IsTask p c d.me) (Do i) todo rest)
       take_leaves k (Loop slot left body line ∷ todo) rest = tt
       take_leaves k (Prepare call ∷ todo) rest = tt
+
+      timeout_leaves : (i : Item) (todo : List Task) (kind : ItemKind-F ItemKind Alt Item RBranch) → IsItemOf c i → kind_of i ≡ kind → ShapedTasks p c d.me todo → StepLeaves d.me (past_timeout c d todo kind)
+      timeout_leaves i todo (Await alts (Some body) label) stands is rest =
+          let tasks = block_tasks p c d.me i body todo stands (timeout_block i alts body is) rest in
+          let ran = run_to_yield c 1 d (do_all body todo) in
+          by_truth (StepLeaves d.me) (list_any (λ alt. holds d (out-Alt alt).cond []) alts) None (Some (moved d.me (length alts + 1) ran))
+          (λ true'. tt) (λ false'. moved_leaves d.me d.me (length alts + 1) ran refl (run_to_yield_leaves p c f 1 d (do_all body todo) s tasks))
+      timeout_leaves i todo _ stands is rest = tt
+
+      time_out_leaves : (todo : List Task) → ShapedTasks p c d.me todo → StepLeaves d.me (time_out_waiting c d todo)
+      time_out_leaves [] rest = tt
+      time_out_leaves (Do i ∷ todo) rest = timeout_leaves i todo (kind_of i) (All-head (IsTask p c d.me) (Do i) todo rest) refl (All-tail (IsTask p c d.me) (Do i) todo rest)
+      time_out_leaves (Loop slot left body line ∷ todo) rest = tt
+      time_out_leaves (Prepare call ∷ todo) rest = tt
 
     -- DELIVERIES
     module _ (m : Val) (q time : ℕ) (may : IsEntry p (record { message = m; peer = q; time = time })) where
@@ -143,10 +159,10 @@ module _ (p : Program) (c : Class) where
           (λ is. try_leaves h (n + 1) d (matched_entry d h.message h.from m q []) (handle c m q hs) (among h (inl refl)) s refl (handle_leaves hs (λ g k. among g (inr k))))
           (λ is. stays p c d [] s (All-nil (IsTask p c d.me)))
 
-      delivered : (d : Data) (todo : List Task) → ShapedData p c d → ShapedTasks p c d.me todo → StepsShaped p d.me (handled todo d.me m q time (handle c m q c.handlers 0 (received_at m q time d)))
+      delivered : (d : Data) (todo : List Task) → ShapedData p c d → ShapedTasks p c d.me todo → StepsShaped p d.me (handled todo d.me m q time (handle c m q (open_handlers c todo) 0 (received_at m q time d)))
       delivered d todo s rest =
-          let ran = handle c m q c.handlers 0 (received_at m q time d) in
-          let one = handle_leaves c.handlers (λ h k. k) 0 (received_at m q time d) (received_shaped p c m q time d s may) in
+          let ran = handle c m q (open_handlers c todo) 0 (received_at m q time d) in
+          let one = handle_leaves (open_handlers c todo) (λ h k. (of_filter (is_open (label_before todo)) c.handlers h k).0) 0 (received_at m q time d) (received_shaped p c m q time d s may) in
           record {
             same = one.same;
             shaped = record { class = c; knows = one.knows; todo = subst (λ z. ShapedTasks p c z todo) (sym one.same) rest };
@@ -160,7 +176,9 @@ module _ (p : Program) (c : Class) where
         moved_leaves d.me d.me 0 (run_to_yield c 0 d (first_tasks p c d.me)) refl (run_to_yield_leaves p c f 0 d (first_tasks p c d.me) s (first_shaped d.me))
     class_step_leaves w Go Waiting s rest may = go_leaves w.data' s w.todo rest
     class_step_leaves w (Take k) Waiting s rest may = take_leaves w.data' s k w.todo rest
-    class_step_leaves w (Deliver m q time) Waiting s rest may = delivered m q time may w.data' w.todo s rest
+    class_step_leaves w TimeOut Waiting s rest may = time_out_leaves w.data' s w.todo rest
+    class_step_leaves w (Deliver m q time) Waiting s rest may =
+        by_truth (StepLeaves w.data'.me) (takes c w m q) _ None (λ true'. delivered m q time may w.data' w.todo s rest) (λ false'. tt)
     class_step_leaves w _ _ s rest may = tt
 
 found_step : (P : Stepped → Type 0) (step : Option Stepped) (r : Stepped) → step ≡ Some r → IfSome step P → P r

@@ -107,8 +107,8 @@ module _ (p : Program) (c : Class) (f : IsWholeProgram p) (in_class : Has p.clas
     of_kind (ItemKind-F.Call args body) is x h =
         let (a, among, same) = of_map (λ (a : BindArg). a.value) args x h in
         only a.value x (inl same) (of_slot a.slot a.value (each_from_all (λ (a : BindArg). fits_slot p.messages c.queries c.slots a.slot a.value) args a (call_rule p.messages c.queries c.slots i keeps args body is) among))
-    of_kind (ItemKind-F.Await alts) is x h = absurd h
-    of_kind ItemKind-F.Label is x h = absurd h
+    of_kind (ItemKind-F.Await alts timeout label) is x h = absurd h
+    of_kind (ItemKind-F.Label l) is x h = absurd h
     of_kind ItemKind-F.Pass is x h = absurd h
 
     -- each expression of the statement has a type, or fits one
@@ -144,6 +144,6 @@ module _ (p : Program) (c : Class) (d : Data) (f : IsWholeProgram p) (s : Shaped
     branch_row_size branches other b n row is h finds found =
         size_of_found n (out-RBranch b).binds row (ap (λ z. have_found p.messages c.queries c.slots z (out-RBranch b).binds) (sym finds) ∙ (branch_rule p.messages c.queries c.slots i kept branches other b is h).1) found
 
-    pub alt_row_size : (alts : List Alt) (a : Alt) (n : ℕ) (row : Row) → kind_of i ≡ ItemKind-F.Await alts → Has alts a → (out-Alt a).found ≡ Some n → least_row c.queries n d ≡ Some row → length (out-Alt a).binds ≡ length row
+    pub alt_row_size : (alts : List Alt) {timeout : Option (List Item)} {label : Option ℕ} (a : Alt) (n : ℕ) (row : Row) → kind_of i ≡ ItemKind-F.Await alts timeout label → Has alts a → (out-Alt a).found ≡ Some n → least_row c.queries n d ≡ Some row → length (out-Alt a).binds ≡ length row
     alt_row_size alts a n row is h finds found =
         size_of_found n (out-Alt a).binds row (ap (λ z. have_found p.messages c.queries c.slots z (out-Alt a).binds) (sym finds) ∙ (alt_rule p.messages c.queries c.slots i kept alts a is h).1) found

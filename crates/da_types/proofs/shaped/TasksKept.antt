@@ -1,5 +1,5 @@
 -- What a process has to do comes from its class, also where the blocks of a statement take its place.
-use Rattle.std.specs.Prelude.{◌≡◌, refl, ℕ, List, [], ◌∷◌, map}
+use Rattle.std.specs.Prelude.{◌≡◌, refl, ℕ, List, [], ◌∷◌, map, Option, Some, option_to_list}
 use Rattle.std.proofs.Common.{◌∙◌, ap, sym, subst, inl, inr}
 use Rattle.std.proofs.lemmas.List.Elements.{All-nil, All-cons, All-append}
 use Rattle.da_values.specs.Sets.{Has}
@@ -50,7 +50,7 @@ module _ (p : Program) (c : Class) (me : ℕ) where
   pub block_tasks : (i : Item) (body : List Item) (todo : List Task) → IsItemOf c i → Has (blocks_of i) body → ShapedTasks p c me todo → ShapedTasks p c me (do_all body todo)
   block_tasks i body todo is block rest = do_all_tasks body todo (λ j h. block_of c i j body is block h) rest
 
--- the block of a branch, that of an alternative, and the one of a loop or a call
+-- the block of a branch, that of an alternative or of a timeout, and the one of a loop or a call
 module _ (i : Item) where
   of_kind : (k : ItemKind-F ItemKind Alt Item RBranch) (body : List Item) → kind_of i ≡ k → Has (blocks_in k) body → Has (blocks_of i) body
   of_kind k body is h = subst (λ z. Has (blocks_in z) body) (sym is) h
@@ -70,8 +70,12 @@ module _ (i : Item) where
   pub call_block : (args : List BindArg) (body : List Item) → kind_of i ≡ ItemKind-F.Call args body → Has (blocks_of i) body
   call_block args body is = of_kind (ItemKind-F.Call args body) body is (inl refl)
 
-  pub alt_block : (alts : List Alt) (a : Alt) → kind_of i ≡ ItemKind-F.Await alts → Has alts a → Has (blocks_of i) (out-Alt a).body
-  alt_block alts a is h = of_kind (ItemKind-F.Await alts) (out-Alt a).body is (Has-map (λ a. (out-Alt a).body) alts a h)
+  pub alt_block : (alts : List Alt) {timeout : Option (List Item)} {label : Option ℕ} (a : Alt) → kind_of i ≡ ItemKind-F.Await alts timeout label → Has alts a → Has (blocks_of i) (out-Alt a).body
+  alt_block alts {timeout} {label} a is h =
+      of_kind (ItemKind-F.Await alts timeout label) (out-Alt a).body is (Has-append_left (map (λ a. (out-Alt a).body) alts) (option_to_list timeout) (out-Alt a).body (Has-map (λ a. (out-Alt a).body) alts a h))
+
+  pub timeout_block : (alts : List Alt) (body : List Item) {label : Option ℕ} → kind_of i ≡ ItemKind-F.Await alts (Some body) label → Has (blocks_of i) body
+  timeout_block alts body {label} is = of_kind (ItemKind-F.Await alts (Some body) label) body is (Has-append_right (map (λ a. (out-Alt a).body) alts) (body ∷ []) body (inl refl))
 
   -- a `for` by its line and its kind
   pub for_item : (slot : ℕ) (x : RExpr) (body : List Item) → kind_of i ≡ ItemKind-F.For slot x body → i ≡ item_at (line_of i) (it.For slot x body)

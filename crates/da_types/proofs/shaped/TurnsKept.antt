@@ -166,8 +166,8 @@ module _ (p : Program) (c : Class) (f : IsWholeProgram p) (line : ℕ) (d : Data
         outcome_leaves (value x) _ (λ v e. quiet_leaves d (Loop slot (elements_of v) body line ∷ todo) refl s (All-cons (IsTask p c d.me) (Loop slot (elements_of v) body line) todo (loop_begins slot x body v is e) rest))
     kind_leaves (Call args body) is =
         enter_leaves (map value_of_arg args) (map slot_of_arg args) body (λ vs e. args_fit_params p c d f s i stands args body vs is e) (block_tasks p c d.me i body todo stands (call_block i args body is) rest)
-    kind_leaves (Await alts) is = quiet_leaves d todo refl s rest
-    kind_leaves Label is = quiet_leaves d todo refl s rest
+    kind_leaves (Await alts timeout label) is = quiet_leaves d todo refl s rest
+    kind_leaves (Label l) is = quiet_leaves d todo refl s rest
     kind_leaves Pass is = quiet_leaves d todo refl s rest
 
 -- A TURN KEEPS WORLDS SHAPED

@@ -51,10 +51,10 @@ module _ (messages : List MessageDecl) (queries : List Query) (slots : Slots) wh
       let (x, among, is) = of_map (λ b. ((out-RBranch b).found, (out-RBranch b).binds)) branches b h in
       let broken = branch_broken messages queries slots in
       subst FoundHolds (sym is) (branch_rule x (none_of (λ part. part) (map broken branches ++ map (item_breaks messages queries slots) other) e (broken x) (Has-append_left (map broken branches) (map (item_breaks messages queries slots) other) (broken x) (Has-map broken branches x among))))
-  found_in_kind (ItemKind-F.Await alts) e b h =
+  found_in_kind (ItemKind-F.Await alts timeout label) e b h =
       let (x, among, is) = of_map (λ a. ((out-Alt a).found, (out-Alt a).binds)) alts b h in
       let broken = alt_broken messages queries slots in
-      subst FoundHolds (sym is) (alt_rule messages queries slots x (none_of (λ part. part) (map broken alts) e (broken x) (Has-map broken alts x among))).1
+      subst FoundHolds (sym is) (alt_rule messages queries slots x (none_of (λ part. part) (map broken alts ++ _) e (broken x) (Has-append_left (map broken alts) _ (broken x) (Has-map broken alts x among)))).1
   found_in_kind _ e b h = absurd h
 
   pub found_in_item : (i : Item) → item_breaks messages queries slots i ≡ [] → (b : Bound) → Has (bound_by (kind_of i)) b → FoundHolds b

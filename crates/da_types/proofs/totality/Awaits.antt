@@ -1,5 +1,5 @@
 -- In a program that keeps the rules of types, the condition of each alternative of each `await` keeps them.
-use Rattle.std.specs.Prelude.{◌≡◌, refl, ℕ, Bool, true, false, ◌&&◌, List, [], ◌∷◌, ◌++◌, map, flat_map}
+use Rattle.std.specs.Prelude.{◌≡◌, refl, ℕ, Bool, true, false, ◌&&◌, List, [], ◌∷◌, ◌++◌, map, flat_map, Option, Some, None}
 use Rattle.std.proofs.Common.{◌∙◌, ap, sym, subst, inl, inr}
 use Rattle.std.proofs.lemmas.Bool.{and_parts}
 use Rattle.da_values.specs.Sets.{Has}
@@ -103,20 +103,35 @@ module _ (messages : List MessageDecl) (queries : List Query) (slots : Slots) wh
             ])
       ]
 
-  alt_keeps : (alts : List Alt) → all (map alt alts) ≡ [] → (a : Alt) → Has alts a → alt a ≡ []
-  alt_keeps alts e a h = none_of (λ part. part) (map alt alts) e (alt a) (Has-map alt alts a h)
+  -- the alternatives of an `await`, with the lines in the block of its timeout
+  alt_keeps : (alts : List Alt) (others : List (List ℕ)) → all (map alt alts ++ others) ≡ [] → (a : Alt) → Has alts a → alt a ≡ []
+  alt_keeps alts others e a h = none_of (λ part. part) (map alt alts ++ others) e (alt a) (Has-append_left (map alt alts) others (alt a) (Has-map alt alts a h))
 
-  alt_block : (alts : List Alt) (body : List Item) → all (map alt alts) ≡ [] → Has (map (λ a. (out-Alt a).body) alts) body → (j : Item) → Has body j → Keeps j
-  alt_block alts body e h j k =
+  alt_block : (alts : List Alt) (others : List (List ℕ)) (body : List Item) → all (map alt alts ++ others) ≡ [] → Has (map (λ a. (out-Alt a).body) alts) body → (j : Item) → Has body j → Keeps j
+  alt_block alts others body e h j k =
       let (a, among, is) = of_map (λ a. (out-Alt a).body) alts body h in
-      each_keeps (out-Alt a).body (no_right _ (all (map item (out-Alt a).body)) (sym (alt_layer a) ∙ alt_keeps alts e a among)) j (subst (λ z. Has z j) is k)
+      each_keeps (out-Alt a).body (no_right _ (all (map item (out-Alt a).body)) (sym (alt_layer a) ∙ alt_keeps alts others e a among)) j (subst (λ z. Has z j) is k)
+
+  timeout_block : (alts : List Alt) (own body : List Item) → all (map alt alts ++ map item own) ≡ [] → Has (own ∷ []) body → (j : Item) → Has body j → Keeps j
+  timeout_block alts own body e (inl is) j k =
+      none_of (λ part. part) (map alt alts ++ map item own) e (item j) (Has-append_right (map alt alts) (map item own) (item j) (Has-map item own j (subst (λ z. Has z j) is k)))
+  timeout_block alts own body e (inr none) j k = absurd none
+
+  await_block : (alts : List Alt) (others : List (List ℕ)) (own : List (List Item)) (body : List Item) → all (map alt alts ++ others) ≡ []
+      → (Has own body → (j : Item) → Has body j → Keeps j) → Has (map (λ a. (out-Alt a).body) alts ++ own) body → (j : Item) → Has body j → Keeps j
+  await_block alts others own body e behind h j k =
+      elim (of_append (map (λ a. (out-Alt a).body) alts) own body h) [
+        | inl there ↦ alt_block alts others body e there j k
+        | inr there ↦ behind there j k
+      ]
 
   block_keeps : (y : ItemKind-F ItemKind Alt Item RBranch) → blocks y ≡ [] → (body : List Item) → Has (blocks_in y) body → (j : Item) → Has body j → Keeps j
   block_keeps (ItemKind-F.If branches other) e body h = branch_block branches other body e h
   block_keeps (ItemKind-F.While x own) e body h = one_block own body e h
   block_keeps (ItemKind-F.For slot x own) e body h = one_block own body e h
   block_keeps (ItemKind-F.Call args own) e body h = one_block own body e h
-  block_keeps (ItemKind-F.Await alts) e body h = alt_block alts body e h
+  block_keeps (ItemKind-F.Await alts None label) e body h = await_block alts [] [] body e (λ none. absurd none) h
+  block_keeps (ItemKind-F.Await alts (Some own) label) e body h = await_block alts (map item own) (own ∷ []) body e (timeout_block alts own body e) h
   block_keeps _ e body h = absurd h
 
   within_keeps : (i : Item) (items : List Item) → Within i items → ((j : Item) → Has items j → Keeps j) → Keeps i
@@ -130,11 +145,11 @@ module _ (messages : List MessageDecl) (queries : List Query) (slots : Slots) wh
       and_parts (cond_holds (known messages queries slots) (out-Alt a).cond []) _ rule
 
   -- the condition of an alternative of a statement that keeps the rules
-  alternative_holds : (y : ItemKind-F ItemKind Alt Item RBranch) (alts : List Alt) (a : Alt) → y ≡ ItemKind-F.Await alts → blocks y ≡ [] → Has alts a → cond_holds (known messages queries slots) (out-Alt a).cond [] ≡ true
+  alternative_holds : (y : ItemKind-F ItemKind Alt Item RBranch) (alts : List Alt) {timeout : Option (List Item)} {label : Option ℕ} (a : Alt) → y ≡ ItemKind-F.Await alts timeout label → blocks y ≡ [] → Has alts a → cond_holds (known messages queries slots) (out-Alt a).cond [] ≡ true
   alternative_holds y alts a is e h =
-      (alt_rule a (alt_keeps alts (ap blocks (sym is) ∙ e) a h)).0
+      (alt_rule a (alt_keeps alts _ (ap blocks (sym is) ∙ e) a h)).0
 
-  await_holds : (i : Item) (alts : List Alt) (a : Alt) → Keeps i → kind_of i ≡ ItemKind-F.Await alts → Has alts a → cond_holds (known messages queries slots) (out-Alt a).cond [] ≡ true
+  await_holds : (i : Item) (alts : List Alt) {timeout : Option (List Item)} {label : Option ℕ} (a : Alt) → Keeps i → kind_of i ≡ ItemKind-F.Await alts timeout label → Has alts a → cond_holds (known messages queries slots) (out-Alt a).cond [] ≡ true
   await_holds i alts a keeps is h = alternative_holds (kind_of i) alts a is (blocks_none i keeps) h
 
 -- each statement of a class of a program that keeps the rules keeps them
@@ -152,5 +167,5 @@ item_keeps p c e among i (items, there, within) =
     let none : class_breaks p.messages c ≡ [] = none_of (class_breaks p.messages) p.classes (no_left _ _ e) c among in
     within_keeps p.messages c.queries c.slots i items within (body_keeps p.messages c none items there)
 
-pub condition_holds : (p : Program) (c : Class) → breaks_in p ≡ [] → Has p.classes c → (i : Item) → IsItemOf c i → (alts : List Alt) (a : Alt) → kind_of i ≡ ItemKind-F.Await alts → Has alts a → cond_holds (known p.messages c.queries c.slots) (out-Alt a).cond [] ≡ true
+pub condition_holds : (p : Program) (c : Class) → breaks_in p ≡ [] → Has p.classes c → (i : Item) → IsItemOf c i → (alts : List Alt) {timeout : Option (List Item)} {label : Option ℕ} (a : Alt) → kind_of i ≡ ItemKind-F.Await alts timeout label → Has alts a → cond_holds (known p.messages c.queries c.slots) (out-Alt a).cond [] ≡ true
 condition_holds p c e among i is alts a await h = await_holds p.messages c.queries c.slots i alts a (item_keeps p c e among i is) await h

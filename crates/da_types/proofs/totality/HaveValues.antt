@@ -165,7 +165,7 @@ module _ (p : Program) (c : Class) (d : Data) (typed : IsTyped p) (s : ShapedDat
   all_have_values : AllHaveValues p c d
   all_have_values = record {
     queries = numbered_query;
-    conditions = λ i alts a is await h. cond_there narrow (λ x. tt) here d (knows_here p c d s) (out-Alt a).cond [] [] (condition_holds p c typed.keeps (class_has p d.me c s.is_class) i is alts a await h) tt;
+    conditions = λ i alts timeout label a is await h. cond_there narrow (λ x. tt) here d (knows_here p c d s) (out-Alt a).cond [] [] (condition_holds p c typed.keeps (class_has p d.me c s.is_class) i is alts a await h) tt;
   }
 
 -- THE THEOREM OF TYPES

@@ -1,4 +1,4 @@
-use Rattle.std.proofs.Common.{◌≡◌, ◌∙◌, ◌<◌, ap, get_or, length, subst, sym}
+use Rattle.std.proofs.Common.{◌∙◌, ◌<◌, ap, get_or, length, subst, sym}
 use Rattle.code_gen.proofs.Generated.{code_answered, points_few, setup_none}
 use Rattle.code_gen.proofs.classes.generate.Goals as goal
 

@@ -1,11 +1,13 @@
-use Rattle.std.proofs.Common.{ap, map, subst, ◌∙◌}
+use Rattle.std.proofs.Common.{◌≡◌, List, [], ◌∷◌, ◌++◌, Option, Some, ap, map, refl, subst, sym, take, ◌∙◌}
 use Rattle.std.proofs.lemmas.Result.{on_ok_weaker}
 use Rattle.da_lang.specs.declared.code.Instr.TheVariants as op
+use Rattle.da_lang.specs.declared.program.Item.{Item}
+use Rattle.da_lang.specs.declared.program.ItemKind.TheViews.{out-Alt}
 use Rattle.da_lang.specs.Turns.{slot_of_arg, value_of_arg}
-use Rattle.code_gen.specs.Made.{MadeBlock, MadeBranches, MadeExpr, MadeExprs, MadeFound, MadeStores, filled}
-use Rattle.code_gen.proofs.ItemCode.{alts_whole, branches_whole, made_alts_next, made_branch, made_branches_next, made_items_next, made_no_alt, made_no_branch}
-use Rattle.code_gen.proofs.PointCode.{made_await}
-use Rattle.code_gen.proofs.WorkCode.{made_call, made_if, made_loop, made_pass, made_send, made_while}
+use Rattle.code_gen.specs.Made.{Awaiting, MadeBlock, MadeBranches, MadeExpr, MadeExprs, MadeFound, MadeStores, filled}
+use Rattle.code_gen.proofs.ItemCode.{blocks_all, blocks_next, branches_whole, made_branch, made_branches_next, made_items_next, made_no_branch}
+use Rattle.code_gen.proofs.PointCode.{await_entered, made_await}
+use Rattle.code_gen.proofs.WorkCode.{await_ends, await_with, made_call, made_if, made_loop, made_pass, made_send, made_while}
 use Rattle.code_gen.proofs.items.+items.Goals as goal
 
 pub emit_while-returns : goal.emit_while-returns
@@ -31,18 +33,24 @@ emit_branches-parts-preserved t c =
 pub emit_branches-returns : goal.emit_branches-returns
 emit_branches-returns t c = branches_whole _ _ c.args.branches.now c.parts.branch-index _ c.parts-test.false c.parts.invariant
 
-pub emit_await-bodies-init : goal.emit_await-bodies-init
-emit_await-bodies-init t c = made_no_alt _ _ _ c.new-entries.ensures c.new-leaves.ensures
+pub emit_alts-bodies-init : goal.emit_alts-bodies-init
+emit_alts-bodies-init t c = c.in_ok-begun.ensures
 
-pub emit_await-bodies-preserved : goal.emit_await-bodies-preserved
-emit_await-bodies-preserved t c =
-    made_alts_next _ _ _ _ c.args.alts.now c.bodies.alt-index _ _ _ _ _ _ c.alt-item.result c.bodies-test.true c.alt-item.is c.bodies.invariant c.here.ensures c.in_ok-push.ensures.ok
-    (subst (MadeBlock _ _) c.as_slice.ensures c.in_ok-emit_block.ensures) c.len.ensures c.in_ok-push-2.ensures.ok c.in_ok-put-2.ensures
+pub emit_alts-bodies-preserved : goal.emit_alts-bodies-preserved
+emit_alts-bodies-preserved t c =
+    subst (λ l. Awaiting c.args.code.now c.emit_entered.new.code l c.emit_entered.new.begun) (sym (blocks_next c.args.alts.now c.bodies.alt-index c.alt-item.result c.bodies-test.true c.alt-item.is))
+    (subst (λ b. Awaiting c.args.code.now c.emit_entered.new.code (map (λ a. (out-Alt a).body) (take c.bodies.alt-index c.args.alts.now) ++ b ∷ []) c.emit_entered.new.begun) c.as_slice.ensures
+    (c.in_ok-emit_entered.ensures _ _ c.bodies.invariant))
 
-pub emit_await-returns : goal.emit_await-returns
-emit_await-returns t c =
-    let made = alts_whole _ _ c.args.alts.now c.bodies.alt-index _ _ c.bodies-test.false c.bodies.invariant in
-    made_await _ _ _ _ _ _ c.args.alts.now _ _ _ _ _ _ _ c.len-at.ensures c.next_number-number.ensures c.new.ensures c.in_ok-add_point.ensures c.in_ok-put.ensures made c.here-behind.ensures c.as_slice-2.ensures c.fill_jumps.ensures c.set_point.ensures
+pub emit_alts-returns : goal.emit_alts-returns
+emit_alts-returns t c = subst (λ l. Awaiting c.args.code.now c.bodies.code l c.bodies.begun) (blocks_all c.args.alts.now c.bodies.alt-index c.bodies-test.false) c.bodies.invariant
+
+pub emit_timeout-returns : goal.emit_timeout-returns
+emit_timeout-returns t c = λ old bodies awaiting. made_await _ _ _ _ _ (c.in_ok-emit_entered.ensures old bodies awaiting) c.end_await.ensures
+
+pub emit_entered-returns : goal.emit_entered-returns
+emit_entered-returns t c = λ old bodies awaiting.
+    on_ok_weaker _ (λ put. await_entered _ _ _ _ _ _ _ _ _ _ c.here.ensures c.in_ok-emit_block.ensures c.len.ensures put refl c.in_ok-push.ensures.ok c.in_ok-push-2.ensures.ok awaiting) c.put.ensures
 
 pub emit_block-statements-preserved : goal.emit_block-statements-preserved
 emit_block-statements-preserved t c =
@@ -70,3 +78,14 @@ emit_item-returns-in_ok-emit_bound-in-Call t c =
 pub emit_item-returns-in-Pass : goal.emit_item-returns-in-Pass
 emit_item-returns-in-Pass t c =
     on_ok_weaker _ (made_pass _ _ c.args.item.now c.in-Pass.is) c.put-in-Pass.ensures
+
+pub emit_item-returns-in-None : goal.emit_item-returns-in-None
+emit_item-returns-in-None t c =
+    let begun = subst (λ l. Awaiting c.args.code.now c.emit_alts.new.code (map (λ a. (out-Alt a).body) l) c.in_ok-begun-in-Await.begun) c.as_slice-in-Await.ensures c.in_ok-begun-in-Await.ensures in
+    await_ends _ _ _ c.args.item.now _ _ _ _ c.in-Await.is c.in-None.is begun c.end_await.ensures
+
+pub emit_item-returns-in-Some : goal.emit_item-returns-in-Some
+emit_item-returns-in-Some t c =
+    let begun = subst (λ l. Awaiting c.args.code.now c.emit_alts.new.code (map (λ a. (out-Alt a).body) l) c.in_ok-begun-in-Await.begun) c.as_slice-in-Await.ensures c.in_ok-begun-in-Await.ensures in
+    let some : ◌≡◌ {A = Option (List Item)} c.in-Await.timeout (Some c.as_slice-in-Some.result.now) = c.in-Some.is ∙ ap Some (sym c.as_slice-in-Some.ensures) in
+    on_ok_weaker _ (await_with _ _ c.args.item.now _ _ _ _ c.in-Await.is some) (c.emit_timeout.ensures _ _ begun)

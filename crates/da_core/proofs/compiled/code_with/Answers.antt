@@ -22,5 +22,6 @@ returns c = λ class there.
       code = c.in_ok-code.ensures class there;
       plan = planned;
       waits = waits;
+      opened = c.in_ok-opened.ensures class there;
       live = c.in_ok-live.ensures ∙ ap (λ (x : Plan). plan_live x.nodes) planned;
     }

@@ -1,7 +1,8 @@
 use Rattle.std.proofs.Common.{◌∙◌, [], ◌∷◌, ◌++◌, ap, sym, map}
+use Rattle.std.specs.Prelude.{unwrap_or}
 use Rattle.da_lang.specs.declared.program.Alt.{out-Alt}
 use Rattle.da_core.specs.Waits.{all_taken, alt_take, alts_taken, branch_take, items_take, kind_take, next_flag}
-use Rattle.da_core.proofs.WaitForms.{alts_on, await_parts, branch_layer, came_on, handed_on, if_parts, item_layer, nothing_more, take-Add, take-Assign, take-Del, take-Output, take-Pass, take-Send}
+use Rattle.da_core.proofs.WaitForms.{alts_on, await_alone, await_parts, branch_layer, came_on, handed_on, if_parts, item_layer, nothing_more, take-Add, take-Assign, take-Del, take-Output, take-Pass, take-Send}
 use Rattle.da_core.proofs.waits.+waits.Goals as goal
 
 pub add_items-loop-item-preserved : goal.add_items-loop-item-preserved
@@ -34,16 +35,28 @@ add_kind-returns-in_ok-add_branches-in-If-clause-waits t c =
     (if_parts c.args.kind.now c.in-If.branches c.as_slice.result.now c.in-If.other c.as_slice-in-If.result.now flags c.add_branches.new.flags.rest.now c.in-If.is c.as_slice.ensures c.as_slice-in-If.ensures
     c.in_ok-add_branches-in-If.ensures.left)
 
-pub add_kind-returns-in_ok-push-in-Await-clause-waits : goal.add_kind-returns-in_ok-push-in-Await-clause-waits
-add_kind-returns-in_ok-push-in-Await-clause-waits t c =
+pub add_kind-returns-in-None-clause-waits : goal.add_kind-returns-in-None-clause-waits
+add_kind-returns-in-None-clause-waits t c =
     let flags = c.args.flags.now.rest.now in
     let alts = c.as_slice-in-Await.result.now in
-    let own = c.in_ok-own-in-Await.own in
-    let inside = c.alternatives.new.inside in
     let made = c.in_ok-own-in-Await.ensures in
-    handed_on c.move_behind.result c.args.waits.now c.push.new.self c.move_behind.new.waits (own ∷ []) inside (kind_take c.args.kind.now flags).waits c.move_behind.ensures c.in_ok-push-in-Await.ensures.ok
-    (await_parts c.args.kind.now c.in-Await.alts alts own inside flags c.in-Await.is c.as_slice-in-Await.ensures made.own
-    (made.inside ∙ ap (λ w. w ++ (alts_taken (map alt_take alts) flags).inside) c.new-inside.ensures))
+    await_alone c.args.kind.now c.in-Await.alts alts c.in-Await.timeout c.in-Await.label c.in_ok-own-in-Await.own c.is_some.result c.alternatives.new.inside c.args.waits.now c.put_await.new.waits flags
+    c.in-Await.is c.as_slice-in-Await.ensures c.in-None.is c.is_some.ensures made.own (made.inside ∙ ap (λ w. w ++ (alts_taken (map alt_take alts) flags).inside) c.new-inside.ensures)
+    c.in_ok-put_await-in-Await.ensures
+
+pub add_kind-returns-in-Some-clause-waits : goal.add_kind-returns-in-Some-clause-waits
+add_kind-returns-in-Some-clause-waits t c =
+    let flags = c.args.flags.now.rest.now in
+    let alts = c.as_slice-in-Await.result.now in
+    let body = c.as_slice-in-Some.result.now in
+    let own = c.in_ok-own-in-Await.own in
+    let made = c.in_ok-own-in-Await.ensures in
+    let inside = c.alternatives.new.inside in
+    let left = c.alternatives.new.flags.rest.now in
+    handed_on c.add_items-in-Some.result c.args.waits.now c.put_await.new.waits c.add_items-in-Some.new.waits (record { alternatives = own; has_timeout = c.is_some.result; label = c.in-Await.label } ∷ inside) (items_take body left).waits
+    (kind_take c.args.kind.now flags).waits c.add_items-in-Some.ensures.waits c.in_ok-put_await-in-Await.ensures
+    (await_parts c.args.kind.now c.in-Await.alts alts c.in-Await.timeout body c.in-Await.label own c.is_some.result inside flags left c.in-Await.is c.as_slice-in-Await.ensures
+    (ap (λ t. unwrap_or t []) c.in-Some.is ∙ sym c.as_slice-in-Some.ensures) c.is_some.ensures made.own (made.inside ∙ ap (λ w. w ++ (alts_taken (map alt_take alts) flags).inside) c.new-inside.ensures) made.left)
 
 pub add_kind-returns-in-Assign-clause-waits : goal.add_kind-returns-in-Assign-clause-waits
 add_kind-returns-in-Assign-clause-waits t c = let flags = c.args.flags.now.rest.now in nothing_more c.args.waits.now flags (kind_take c.args.kind.now flags) (ap (λ k. kind_take k flags) c.in-Assign.is ∙ take-Assign flags _ _)

@@ -1,4 +1,4 @@
-use Rattle.std.proofs.Common.{◌≡◌, ap, ◌∙◌, arith}
+use Rattle.std.proofs.Common.{arith}
 use Rattle.da_values.specs.declared.val.Val.{Val}
 use Rattle.da_values.specs.Order.{val_cmp}
 use Rattle.da_values.specs.Sets.{set_has}

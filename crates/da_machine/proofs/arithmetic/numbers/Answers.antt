@@ -1,7 +1,3 @@
-use Rattle.std.proofs.Common.{◌≡◌, List, ap, ◌∙◌}
-use Rattle.da_values.specs.declared.val.Val.{Val}
-use Rattle.da_values.specs.Order.{val_cmp}
-use Rattle.da_values.specs.Sets.{set_insert}
 use Rattle.da_machine.proofs.Numbers.{number_more}
 use Rattle.da_machine.proofs.arithmetic.numbers.Goals as goal
 

@@ -1,4 +1,4 @@
-use Rattle.std.proofs.Common.{◌≡◌, sym}
+use Rattle.std.proofs.Common.{sym}
 use Rattle.da_machine.proofs.Bindings.{may_put, binding_on, bound_values}
 use Rattle.da_machine.proofs.effects.bind.Goals as goal
 

@@ -1,4 +1,4 @@
-use Rattle.std.proofs.Common.{◌≡◌, Option, Some, None, subst, sym, arith}
+use Rattle.std.proofs.Common.{Option, Some, subst, sym, arith}
 use Rattle.std.proofs.lemmas.Option.{slice_get_within, slice_get_past}
 use Rattle.da_machine.specs.declared.machine.Stop.{Stop}
 use Rattle.da_machine.specs.RunsTo.{Acted}

@@ -24,7 +24,7 @@ returns c =
     let list : bodies_in c.in_ok-list.list ≡ bodies class = c.in_ok-list.ensures ∙ ap bodies same in
     let first = c.in_ok-enter_variables.ensures.told ∙ ap (λ k. telling c.args.least.now (at_lines Twice (variables_again k))) same in
     let second = c.in_ok-check_bodies.ensures.told ∙ ap (λ bs. telling c.enter_variables.new.least (flat_map (body_refusals class c.enter_variables.new.names) bs)) (ap bodies_in c.as_slice.ensures ∙ list) in
-    let third = c.in_ok-check_deeds.ensures ∙ ap (λ bs. telling c.check_bodies.new.least (deed_refusals class (deeds_by bs))) (ap bodies_in c.as_slice-2.ensures ∙ list) in
+    let third = c.in_ok-check_deeds.ensures ∙ ap (λ bs. telling c.check_bodies.new.least (deed_refusals class (deeds_by bs) bs)) (ap bodies_in c.as_slice-2.ensures ∙ list) in
     let fourth = c.in_ok-check_members.ensures ∙ ap (λ bs. telling c.check_deeds.new.least (member_refusals c.class-class.result.now.line bs)) (ap bodies_in c.as_slice-3.ensures ∙ list)
     ∙ ap (λ k. telling c.check_deeds.new.least (member_refusals k.line (bodies class))) same in
     on_same c.tell_recursive.result c.tell_recursive.new.least _ _ c.tell_recursive.ensures

@@ -8,5 +8,5 @@ pub returns-clause-told : goal.returns-clause-told
 unfolding body_refusals told_body
 returns-clause-told c =
     on_same c.tell_early_in.result c.tell_early_in.new.least _ _ c.tell_early_in.ensures
-    (five_steps c.args.least.now c.tell_labels.new.least c.check_body.new.least c.tell_params.new.least c.tell_yields_in.new.least _ _ _ _ _
-    c.tell_labels.ensures c.in_ok-check_body.ensures.told c.in_ok-tell_params.ensures c.in_ok-tell_yields_in.ensures)
+    (five_steps c.args.least.now c.check_body.new.least c.tell_named.new.least c.tell_params.new.least c.tell_yields_in.new.least _ _ _ _ _
+    c.in_ok-check_body.ensures.told c.in_ok-tell_named.ensures c.in_ok-tell_params.ensures c.in_ok-tell_yields_in.ensures)

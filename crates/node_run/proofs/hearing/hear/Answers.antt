@@ -3,9 +3,8 @@ use Rattle.node_run.specs.Hearing.{behind}
 use Rattle.node_run.proofs.HearingLaws.{cut_so}
 use Rattle.node_run.proofs.hearing.hear.Goals as goal
 
-pub returns-in-Ok-Datagram-clause-cut : goal.returns-in-Ok-Datagram-clause-cut
-returns-in-Ok-Datagram-clause-cut g c =
-    IfErr-weaker c.arrive.result _ _ (λ fault cut node stood. behind _ _ (rw c.in-Ok-Datagram.field-0-is at c.in-Ok-Datagram.ensures.adds) (cut node stood)) c.arrive.ensures.cut
+pub returns-in-Err-arrive-clause-cut : goal.returns-in-Err-arrive-clause-cut
+returns-in-Err-arrive-clause-cut g c = λ node stood. behind _ _ (rw c.in-Ok-Datagram.field-0-is at c.in-Ok-Datagram.ensures.adds) (c.in-Err-arrive.ensures.cut _ _ node stood)
 
 pub returns-in-Ok-Nothing-clause-cut : goal.returns-in-Ok-Nothing-clause-cut
 returns-in-Ok-Nothing-clause-cut g c =

@@ -1,12 +1,15 @@
-use Rattle.std.proofs.Common.{◌≡◌}
+use Rattle.std.proofs.Common.{◌≡◌, ◌+◌, ◌-◌, ◌*◌, length}
 use Rattle.da_core.specs.Compiled.{program_of}
 use Rattle.node_run.proofs.EndLaws.{IsRunning}
 use Rattle.node_run.proofs.run.node.Given as goal
 
-abbrev pub invariant-answers : goal.invariant-answers
-invariant-answers g l = record {
-  running : IsRunning (program_of l.c) l.me l.idle l.turns l._taken (g.L.Link.told l.fn.link) (g.L.Link.told l.link) (g.K.Sink.taken l.fn.sink) (g.K.Sink.taken l.sink) l.running;
+abbrev pub invariant-rounds : goal.invariant-rounds
+invariant-rounds g l = record {
+  running : IsRunning (program_of l.c) l.me l.idle l.turns l.taken (g.L.Link.told l.fn.link) (g.L.Link.told l.link) (g.K.Sink.taken l.fn.sink) (g.K.Sink.taken l.sink) l.running;
   count : g.L.Link.count l.link ≡ g.L.Link.count l.fn.link;
   link_faults : g.L.Link.faults l.link ≡ g.L.Link.faults l.fn.link;
   sink_faults : g.K.Sink.faults l.sink ≡ g.K.Sink.faults l.fn.sink;
 }
+
+abbrev pub decreases-rounds : goal.decreases-rounds
+decreases-rounds g l = 2 * (l.turns - l.taken) + length l.running.held

@@ -2,8 +2,8 @@ use Rattle.std.specs.Prelude.{refl}
 use Rattle.query_plan.specs.Questions.{item_met}
 use Rattle.quant_norm.specs.Making.{alt_met, branch_met}
 use Rattle.quant_norm.proofs.QuerySteps.{label_put, pass_put, item_further, met_further, met_ended}
-use Rattle.quant_norm.proofs.FullPlans.{put_halted, item_over, met_over, if_over, call_over}
-use Rattle.quant_norm.proofs.PutOn.{assign_ends, add_ends, del_ends, output_ends, send_ends, if_ends, while_ends, for_ends, call_ends, await_ends, block_ends, block_over, branch_ends, alt_ends, alt_over}
+use Rattle.quant_norm.proofs.FullPlans.{put_halted, item_over, met_over, if_over, call_over, await_over}
+use Rattle.quant_norm.proofs.PutOn.{assign_ends, add_ends, del_ends, output_ends, send_ends, if_ends, while_ends, for_ends, call_ends, await_alone, await_ends, block_ends, block_over, branch_ends, alt_ends, alt_over}
 use Rattle.quant_norm.proofs.classes.+items.Goals as goal
 
 pub put_items-loop-item-preserved : goal.put_items-loop-item-preserved
@@ -34,7 +34,7 @@ pub put_alts-returns-in_err-further : goal.put_alts-returns-in_err-further
 put_alts-returns-in_err-further t c = put_halted _ _ _ _ c.from_residual.ensures.1 (λ e. met_over alt_met _ _ _ _ _ c.loop-alt.invariant c.loop-alt-test.true c.alt-item.is (c.in_err-further.ensures e))
 
 pub put_kind-returns-in-Label : goal.put_kind-returns-in-Label
-put_kind-returns-in-Label t c = label_put _ _ _ c.in-Label.is
+put_kind-returns-in-Label t c = label_put _ _ _ _ c.in-Label.is
 
 pub put_kind-returns-in-Pass : goal.put_kind-returns-in-Pass
 put_kind-returns-in-Pass t c = pass_put _ _ _ c.in-Pass.is
@@ -66,14 +66,20 @@ put_kind-returns-in-For t c = for_ends _ _ _ _ _ _ _ _ _ _ c.in-For.is c.get-in-
 pub put_kind-returns-in_ok-middle-in-Call : goal.put_kind-returns-in_ok-middle-in-Call
 put_kind-returns-in_ok-middle-in-Call t c = call_ends _ _ _ _ _ _ _ _ _ _ c.in-Call.is c.as_slice-in-Call.ensures c.as_slice-in-Call-2.ensures c.in_ok-middle-in-Call.ensures c.put_items-in-Call.ensures
 
-pub put_kind-returns-in-Await : goal.put_kind-returns-in-Await
-put_kind-returns-in-Await t c = await_ends _ _ _ _ _ _ _ c.in-Await.is c.as_slice-in-Await.ensures c.put_alts.ensures
+pub put_kind-returns-in-None : goal.put_kind-returns-in-None
+put_kind-returns-in-None t c = await_alone _ _ _ _ _ _ _ _ c.in-Await.is c.as_slice-in-Await.ensures c.in-None.is c.in_ok-middle-in-Await.ensures
+
+pub put_kind-returns-in-Some : goal.put_kind-returns-in-Some
+put_kind-returns-in-Some t c = await_ends _ _ _ _ _ _ _ _ _ _ _ _ c.in-Await.is c.as_slice-in-Await.ensures c.in-Some.is c.as_slice-in-Some.ensures c.in_ok-middle-in-Await.ensures c.put_items-in-Some.ensures
 
 pub put_kind-returns-in_err-middle-in-If : goal.put_kind-returns-in_err-middle-in-If
 put_kind-returns-in_err-middle-in-If t c = put_halted _ _ _ _ c.from_residual.ensures.1 (λ e. if_over _ _ _ _ _ _ c.in-If.is c.as_slice.ensures (c.in_err-middle-in-If.ensures e))
 
 pub put_kind-returns-in_err-middle-in-Call : goal.put_kind-returns-in_err-middle-in-Call
 put_kind-returns-in_err-middle-in-Call t c = put_halted _ _ _ _ c.from_residual-in_err-middle-in-Call.ensures.1 (λ e. call_over _ _ _ _ _ _ _ c.in-Call.is c.as_slice-in-Call.ensures refl (c.in_err-middle-in-Call.ensures e))
+
+pub put_kind-returns-in_err-middle-in-Await : goal.put_kind-returns-in_err-middle-in-Await
+put_kind-returns-in_err-middle-in-Await t c = put_halted _ _ _ _ c.from_residual-in_err-middle-in-Await.ensures.1 (λ e. await_over _ _ _ _ _ _ _ c.in-Await.is c.as_slice-in-Await.ensures (c.in_err-middle-in-Await.ensures e))
 
 pub put_block-returns : goal.put_block-returns
 put_block-returns t c = block_ends _ _ _ _ _ _ _ c.in_ok-middle.ensures c.put_items.ensures

@@ -1,4 +1,4 @@
-use Rattle.std.proofs.Common.{◌≡◌, List, Some, subst, sym}
+use Rattle.std.proofs.Common.{List, Some, subst, sym}
 use Rattle.da_values.specs.declared.val.Val.{Val}
 use Rattle.da_values.specs.Value.{val_of}
 use Rattle.da_machine.specs.Acts.{IsTaken}

@@ -1,5 +1,5 @@
 use Rattle.da_lang.specs.BodyMeaning.{Guarded, copies}
-use Rattle.da_scope.proofs.StatementsAt.{items_step, scope_step, tables_step, part_step, after_step}
+use Rattle.da_scope.proofs.StatementsAt.{items_step, came_step, part_step, after_step}
 use Rattle.da_scope.proofs.inliner.Inliner.+statements.Goals as goal
 
 pub block-loop-stmt-preserved : goal.block-loop-stmt-preserved
@@ -8,9 +8,8 @@ block-loop-stmt-preserved g t c =
     let s = c.loop-stmt.invariant in
     let here = c.in_ok-statement.ensures in
     record {
-      items = items_step copy c.args.stmts.now _ c.stmt-item.result c.args.scope.now c.loop-stmt.inner c.args.tables.now c.loop-stmt.tables _ _ _ c.loop-stmt-test.true c.stmt-item.is s.items s.scope s.tables here.item c.in_ok-push.ensures.ok;
-      scope = scope_step copy c.args.stmts.now _ c.stmt-item.result c.args.scope.now c.loop-stmt.inner _ c.args.tables.now c.loop-stmt.tables c.loop-stmt-test.true c.stmt-item.is s.scope s.tables here.scope;
-      tables = tables_step copy c.args.stmts.now _ c.stmt-item.result c.args.scope.now c.loop-stmt.inner c.args.tables.now c.loop-stmt.tables _ c.loop-stmt-test.true c.stmt-item.is s.scope s.tables here.tables;
+      items = items_step copy c.args.stmts.now _ c.stmt-item.result c.args.scope.now c.loop-stmt.inner c.loop-stmt.label c.args.tables.now c.loop-stmt.tables _ _ _ c.loop-stmt-test.true c.stmt-item.is s.items s.came here.item c.in_ok-push.ensures.ok;
+      came = came_step copy c.args.stmts.now _ c.stmt-item.result c.args.scope.now c.loop-stmt.inner _ c.loop-stmt.label _ c.args.tables.now c.loop-stmt.tables _ c.loop-stmt-test.true c.stmt-item.is s.came (c.label_of-label.ensures _ _ _) here.scope here.tables;
     }
 
 pub branches-loop-branch-preserved : goal.branches-loop-branch-preserved

@@ -1,14 +1,13 @@
 use Rattle.std.proofs.Common.{◌≡◌, map, take}
 use Rattle.da_lang.specs.declared.tree.Branch.{Branch}
-use Rattle.da_lang.specs.BodyMeaning.{Guarded, body_with, copies, each, guarding, stating}
-use Rattle.da_scope.proofs.StatementsAt.{scope_behind}
+use Rattle.da_lang.specs.BodyMeaning.{Guarded, body_with, copies, each, guarding}
+use Rattle.da_scope.proofs.StatementsAt.{Came}
 use Rattle.da_scope.proofs.inliner.Inliner.+statements.Given as goal
 
 abbrev pub invariant-block-loop-stmt : goal.invariant-block-loop-stmt
 invariant-block-loop-stmt g l = record {
   items : l.items ≡ (body_with (copies l.self.most l.self.home.now.class.now) (take l.stmt-index l.stmts) l.scope l.initial.tables).0;
-  scope : l.inner ≡ scope_behind (map (stating (copies l.self.most l.self.home.now.class.now)) (take l.stmt-index l.stmts)) l.scope l.initial.tables;
-  tables : l.tables ≡ (body_with (copies l.self.most l.self.home.now.class.now) (take l.stmt-index l.stmts) l.scope l.initial.tables).1;
+  came : Came (copies l.self.most l.self.home.now.class.now) (take l.stmt-index l.stmts) l.scope l.initial.tables l.label l.inner l.tables;
 }
 
 abbrev pub invariant-branches-loop-branch : goal.invariant-branches-loop-branch

@@ -11,5 +11,5 @@ invariant-loop-place l = record {
   leads : Whichever l.self (λ s.
       let allowed = is_allowed (program_of l.self) s in
       LeadsFrom allowed (moves_of s) (filter allowed (flat_map (moves_of s) (processes s))) l.j (count_of l.self.channels) l.place l.left);
-  few : l.j ≤ l.left + l.place * 2 ^ 32;
+  few : l.j ≤ l.left + l.place * (2 ^ 32 + 1);
 }

@@ -7,4 +7,4 @@ pub returns-in-None : goal.returns-in-None
 returns-in-None c = λ s stands. not_enabled (no_core c.args.self.now s stands c.args.p (move_step c.args.k) (sym c.in-None.ensures))
 
 pub returns-in-Some : goal.returns-in-Some
-returns-in-Some c = λ s stands. may_as c.args.self.now s stands c.args.p c.args.k _ (sym c.in-Some.ensures) c.can_move.result c.can_move.ensures.allowed
+returns-in-Some c = λ s stands. may_as c.args.self.now s stands s.channels c.args.p (move_step c.args.k) _ (sym c.in-Some.ensures) c.can_move.result c.can_move.ensures.allowed
