@@ -1,7 +1,8 @@
 -- What is given and written of some actions up to a fault.
-use Rattle.std.proofs.Common.{◌≡◌, refl, sym, ◌∙◌, ap, subst, ℕ, suc, ◌<◌, List, [], ◌∷◌, ◌++◌, length, get_or, take, drop, arith, append-nil, length-append, take-append-drop, drop-cons}
+use Rattle.std.proofs.Common.{◌≡◌, refl, sym, ◌∙◌, ap, subst, ℕ, suc, ◌<◌, List, [], ◌∷◌, ◌++◌, length, get_or, take, drop, arith, ◌+◌, append-nil, length-append, take-append-drop, drop-cons}
 use Rattle.std.specs.Prelude.{Option}
 use Rattle.std.proofs.lemmas.Grind.{flat_map-append}
+use Rattle.std.proofs.Math.Seq.{take-suc}
 use Rattle.da_lang.specs.declared.event.Action.{Action}
 use Rattle.da_outside.specs.declared.link.LinkEntry.{LinkEntry}
 use Rattle.da_outside.specs.declared.outside.Trouble.{Trouble}
@@ -14,6 +15,17 @@ use Rattle.node_run.specs.Faults.{link_fault, sink_fault}
 use Rattle.node_run.specs.Gifts.{CutText, GainsSome, IsCutShort, MayLeave, due}
 use Rattle.node_run.specs.NodeRun.{gift_of, gifts}
 use Rattle.node_run.proofs.TalkLaws.{gains_then}
+
+-- one more action's gift was given
+pub gave_on : (before mid after : Option (List LinkEntry)) (actions : List Action) (i : ℕ) (action : Action) → i < length actions → action ≡ get_or actions i action
+    → Gains before mid (gifts (take i actions)) → Gains mid after (gift_of action) → Gains before after (gifts (take (i + 1) actions))
+gave_on before mid after actions i action inside is gave more =
+    let next : i + 1 ≡ suc i = omega (arith) in
+    let taken : take (i + 1) actions ≡ take i actions ++ action ∷ [] =
+    ap (λ n. take n actions) next ∙ take-suc actions i action inside ∙ ap (λ a. take i actions ++ a ∷ []) (sym is) in
+    let whole : gifts (take (i + 1) actions) ≡ gifts (take i actions) ++ gift_of action =
+    ap gifts taken ∙ flat_map-append gift_of (take i actions) (action ∷ []) ∙ ap (λ l. gifts (take i actions) ++ l) (append-nil (gift_of action)) in
+    subst (Gains before after) (sym whole) (gains_then before mid after (gifts (take i actions)) (gift_of action) gave more)
 
 -- the packets before that of an action were given, and its own was not
 pub gave_some : (before mid after : Option (List LinkEntry)) (actions : List Action) (i : ℕ) (action : Action) → i < length actions → action ≡ get_or actions i action

@@ -2,12 +2,14 @@
 use Rattle.std.proofs.Common.{◌≡◌, refl, sym, ◌∙◌, ap, subst, ℕ, ◌+◌, ◌-◌, ◌≤◌, ◌<◌, List, [], ◌∷◌, ◌++◌, length, take, drop, take-append-drop, arith, append-nil, append_assoc, length-append, leb-true, ltb-true, Bool, true, false}
 use Rattle.std.specs.Prelude.{Option, Some, None, nat_le, nat_lt, if◌then◌else◌}
 use Rattle.std.proofs.lemmas.Bool.{le-leb, lt-leb}
+use Rattle.std.specs.List.{filter}
 use Rattle.std.proofs.lemmas.Grind.{flat_map-append}
+use Rattle.std.proofs.lemmas.List.Elements.{filter-append}
 use Rattle.std.proofs.Math.Seq.{take-append_seam}
 use Rattle.da_lang.specs.declared.event.Action.{Action}
 use Rattle.da_lang.specs.declared.event.Action.TheVariants.{Sent}
 use Rattle.da_outside.specs.declared.link.LinkEntry.{LinkEntry}
-use Rattle.da_outside.specs.Link.{Gains}
+use Rattle.da_outside.specs.Link.{Carries, Gains, is_binding}
 use Rattle.da_outside.specs.Outside.{Appends, AppendsFront}
 use Rattle.da_outside.proofs.OutsideLemmas.{appends_then}
 use Rattle.sched_text.specs.ActionText.{action_line, action_text}
@@ -31,6 +33,18 @@ gains_then (Some told) (Some mid) (Some now) xs ys first then' =
 pub gains_nothing : (a : Option (List LinkEntry)) → Gains a a []
 gains_nothing None = tt
 gains_nothing (Some told) = ap Some (sym (append-nil told))
+
+-- what a link carries, where it was not bound
+
+pub carries_none : (a : Option (List LinkEntry)) → Carries a a []
+carries_none None = tt
+carries_none (Some told) = ([], gains_nothing (Some told), refl)
+
+pub carries_then : (a b c : Option (List LinkEntry)) → Carries a b [] → Carries b c [] → Carries a c []
+carries_then a b None first then' = tt
+carries_then a None (Some now) first (more, gains, none) = absurd (let clash : Some now ≡ None = gains in cc)
+carries_then a (Some mid) (Some now) (xs, first, no_xs) (ys, then', no_ys) =
+    (xs ++ ys, gains_then a (Some mid) (Some now) xs ys first then', filter-append is_binding xs ys ∙ ap (λ l. l ++ filter is_binding ys) no_xs ∙ no_ys)
 
 -- ROUNDS ONE AFTER THE OTHER
 

@@ -1,5 +1,5 @@
 //! What a node gives and writes behind an event: the packets of what was sent, and then the lines of all actions.
-ghost use Rattle.da_outside.specs.Link.{Gains};
+ghost use Rattle.da_outside.specs.Link.{Carries, Gains};
 ghost use Rattle.da_outside.specs.Outside.{Appends, AppendsFront, HasCause};
 ghost use Rattle.da_outside.specs.declared.link.LinkEntry.TheVariants.{Gave};
 ghost use Rattle.da_values.specs.Value.{val_of};
@@ -18,6 +18,7 @@ use sched_text::write_action;
 use std::alloc::Global;
 
 /// Gives the packets of what the actions send, in order, and writes the lines of all of them when the last one is given.
+#[tactic(auto, using(crate::proofs::TalkLaws::carries_none, crate::proofs::TalkLaws::carries_then))]
 pub(crate) fn tell<L: Link, K: Sink>(
     alloc: Global,
     actions: &[Action],
@@ -28,6 +29,7 @@ pub(crate) fn tell<L: Link, K: Sink>(
     ensures given { OnOk result (Gains (L.told link.old) (L.told link.new) (gifts actions.now)) }
     ensures written { OnOk result (Appends (K.taken sink.old) (K.taken sink.new) (action_text actions.now)) }
     ensures cut { IfErr result (λ outcome. IsCutShort outcome actions.now (L.told link.old) (L.told link.new) (K.taken sink.old) (K.taken sink.new)) }
+    ensures carries { Carries (L.carried link.old) (L.carried link.new) [] }
     ensures kept { L.count link.new ≡ L.count link.old }
     ensures link_cause { HasCause (L.faults link.old) (L.faults link.new) (IsErrOf result NodeOutcome.LinkFault) }
     ensures sink_cause { HasCause (K.faults sink.old) (K.faults sink.new) (IsErrOf result NodeOutcome.WriteFault) }
@@ -43,10 +45,12 @@ pub(crate) fn tell<L: Link, K: Sink>(
 }
 
 // Gives the packets of what the actions send, in order.
+#[tactic(auto, using(crate::proofs::TalkLaws::carries_none, crate::proofs::TalkLaws::carries_then))]
 fn give_all<L: Link>(alloc: Global, actions: &[Action], link: &mut L) -> Result<(), Trouble>
     requires { MayGiveAll (L.count link.old) actions.now }
     ensures given { OnOk result (Gains (L.told link.old) (L.told link.new) (gifts actions.now)) }
     ensures front { OnErr result (GainsSome (L.told link.old) (L.told link.new) (gifts actions.now)) }
+    ensures carries { Carries (L.carried link.old) (L.carried link.new) [] }
     ensures kept { L.count link.new ≡ L.count link.old }
     ensures cause { HasCause (L.faults link.old) (L.faults link.new) (IsErrOf result Trouble.Failed) }
 {
@@ -57,11 +61,13 @@ fn give_all<L: Link>(alloc: Global, actions: &[Action], link: &mut L) -> Result<
 }
 
 // Gives the packet of what an action sends, if it sends something.
+#[tactic(auto, using(crate::proofs::TalkLaws::carries_none, crate::proofs::TalkLaws::carries_then))]
 fn give<L: Link>(alloc: Global, action: &Action, link: &mut L) -> Result<(), Trouble>
     requires { MayGive (L.count link.old) action.now }
     ensures given { OnOk result (Gains (L.told link.old) (L.told link.new) (gift_of action.now)) }
     ensures same { OnErr result (Gains (L.told link.old) (L.told link.new) []) }
     ensures some { OnErr result (0 < length (gift_of action.now)) }
+    ensures carries { Carries (L.carried link.old) (L.carried link.new) [] }
     ensures kept { L.count link.new ≡ L.count link.old }
     ensures cause { HasCause (L.faults link.old) (L.faults link.new) (IsErrOf result Trouble.Failed) }
 {
@@ -72,6 +78,7 @@ fn give<L: Link>(alloc: Global, action: &Action, link: &mut L) -> Result<(), Tro
 }
 
 // Gives the packet of a message.
+#[tactic(auto, using(crate::proofs::TalkLaws::carries_none, crate::proofs::TalkLaws::carries_then))]
 fn give_message<L: Link>(
     alloc: Global,
     sender: u16,
@@ -83,6 +90,7 @@ fn give_message<L: Link>(
     requires { IsGift (L.count link.old) sender recipient time message.now }
     ensures given { OnOk result (Gains (L.told link.old) (L.told link.new) (Gave recipient (packet_bytes sender time (val_of message.now)) ∷ [])) }
     ensures same { OnErr result (Gains (L.told link.old) (L.told link.new) []) }
+    ensures carries { Carries (L.carried link.old) (L.carried link.new) [] }
     ensures kept { L.count link.new ≡ L.count link.old }
     ensures cause { HasCause (L.faults link.old) (L.faults link.new) (IsErrOf result Trouble.Failed) }
 {

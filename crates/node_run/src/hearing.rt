@@ -2,6 +2,7 @@
 ghost use Rattle.da_core.specs.Compiled.{IsCompiled, program_of};
 ghost use Rattle.da_core.specs.StandsFor.{program_of as core_program};
 ghost use Rattle.da_lang.specs.Shaped.{IsProcess, well_typed as typed};
+ghost use Rattle.da_outside.specs.Link.{Carries};
 ghost use Rattle.da_outside.specs.Outside.{HasCause};
 ghost use Rattle.da_outside.specs.declared.link.LinkAnswer.TheVariants.{Datagram, Nothing};
 ghost use Rattle.da_outside.specs.declared.link.LinkEntry.{LinkEntry};
@@ -10,7 +11,7 @@ ghost use Rattle.da_values.specs.Value.{val_of};
 ghost use Rattle.node_run.specs.Hearing.{HasActed, HasBegun, HasHeard, IsListening, IsQuiet, StandsAs};
 ghost use Rattle.node_run.specs.Hearing.{WasCutActing, WasCutBeginning, WasCutHearing};
 ghost use Rattle.node_run.specs.NodeRun.{Node};
-ghost use Rattle.std.specs.Prelude.{◌≡◌, ◌↔◌, ◌≤◌, ℕ, IfErr, IfOk, IsErrOf, IsTrue, List, OnErr, OnOk, Option, length, true};
+ghost use Rattle.std.specs.Prelude.{◌≡◌, ◌↔◌, ◌≤◌, [], ℕ, IfErr, IfOk, IsErrOf, IsTrue, List, OnErr, OnOk, Option, length, true};
 
 use crate::giving::tell;
 use crate::holding::hold;
@@ -36,6 +37,7 @@ pub(crate) struct Running<'c> {
 }
 
 /// Starts the process, gives the packets of what it sends, and writes the lines.
+#[tactic(auto, using(crate::proofs::TalkLaws::carries_none, crate::proofs::TalkLaws::carries_then))]
 pub(crate) fn begin<'c, L: Link, K: Sink>(
     alloc: Global,
     c: &'c Compiled,
@@ -50,6 +52,7 @@ pub(crate) fn begin<'c, L: Link, K: Sink>(
         (L.told link.old) (L.told link.new) (K.taken sink.old) (K.taken sink.new)) }
     ensures cut { IfErr result (λ outcome. WasCutBeginning outcome (program_of c.now) me
         (L.told link.old) (L.told link.new) (K.taken sink.old) (K.taken sink.new)) }
+    ensures carries { Carries (L.carried link.old) (L.carried link.new) [] }
     ensures kept { L.count link.new ≡ L.count link.old }
     ensures link_cause { HasCause (L.faults link.old) (L.faults link.new) (IsErrOf result NodeOutcome.LinkFault) }
     ensures sink_cause { HasCause (K.faults sink.old) (K.faults sink.new) (IsErrOf result NodeOutcome.WriteFault) }
@@ -76,6 +79,7 @@ pub(crate) fn begin<'c, L: Link, K: Sink>(
 }
 
 /// Asks the link once, and does at its answer what the rules say.
+#[tactic(auto, using(crate::proofs::TalkLaws::carries_none, crate::proofs::TalkLaws::carries_then))]
 pub(crate) fn hear<L: Link, K: Sink>(
     alloc: Global,
     c: &Compiled,
@@ -95,6 +99,7 @@ pub(crate) fn hear<L: Link, K: Sink>(
     ensures cut { IfErr result (λ outcome. (node : Node) → StandsAs (program_of c.now) running.old node
         → WasCutHearing outcome (program_of c.now) node
         (L.told link.old) (L.told link.new) (K.taken sink.old) (K.taken sink.new)) }
+    ensures carries { Carries (L.carried link.old) (L.carried link.new) [] }
     ensures kept { L.count link.new ≡ L.count link.old }
     ensures link_cause { HasCause (L.faults link.old) (L.faults link.new) (IsErrOf result NodeOutcome.LinkFault) }
     ensures sink_cause { HasCause (K.faults sink.old) (K.faults sink.new) (IsErrOf result NodeOutcome.WriteFault) }
@@ -110,6 +115,7 @@ pub(crate) fn hear<L: Link, K: Sink>(
 }
 
 // What the node does where nothing comes: the move that it makes, or what it does where it makes none.
+#[tactic(auto, using(crate::proofs::TalkLaws::carries_none, crate::proofs::TalkLaws::carries_then))]
 fn move_on<L: Link, K: Sink>(
     alloc: Global,
     running: &mut Running<'_>,
@@ -124,6 +130,7 @@ fn move_on<L: Link, K: Sink>(
     ensures cut { IfErr result (λ outcome. (node : Node) → StandsAs (core_program running.old.core) running.old node
         → WasCutActing outcome (core_program running.old.core) node Nothing
         (L.told link.old) (L.told link.new) (K.taken sink.old) (K.taken sink.new)) }
+    ensures carries { Carries (L.carried link.old) (L.carried link.new) [] }
     ensures kept { L.count link.new ≡ L.count link.old }
     ensures link_cause { HasCause (L.faults link.old) (L.faults link.new) (IsErrOf result NodeOutcome.LinkFault) }
     ensures sink_cause { HasCause (K.faults sink.old) (K.faults sink.new) (IsErrOf result NodeOutcome.WriteFault) }
@@ -143,6 +150,7 @@ fn move_on<L: Link, K: Sink>(
 }
 
 // What the node does where nothing comes and no move is allowed: the time runs out, or it is an idle turn.
+#[tactic(auto, using(crate::proofs::TalkLaws::carries_none, crate::proofs::TalkLaws::carries_then))]
 fn wait_on<L: Link, K: Sink>(
     alloc: Global,
     running: &mut Running<'_>,
@@ -158,6 +166,7 @@ fn wait_on<L: Link, K: Sink>(
     ensures cut { IfErr result (λ outcome. (node : Node) → StandsAs (core_program running.old.core) running.old node
         → WasCutActing outcome (core_program running.old.core) node Nothing
         (L.told link.old) (L.told link.new) (K.taken sink.old) (K.taken sink.new)) }
+    ensures carries { Carries (L.carried link.old) (L.carried link.new) [] }
     ensures kept { L.count link.new ≡ L.count link.old }
     ensures link_cause { HasCause (L.faults link.old) (L.faults link.new) (IsErrOf result NodeOutcome.LinkFault) }
     ensures sink_cause { HasCause (K.faults sink.old) (K.faults sink.new) (IsErrOf result NodeOutcome.WriteFault) }

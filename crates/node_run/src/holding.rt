@@ -1,6 +1,7 @@
 //! The packets that a node holds: one that comes in, and the delivery of the next one.
 ghost use Rattle.da_core.specs.Compiled.{program_of};
 ghost use Rattle.da_core.specs.StandsFor.{Whichever, program_of as core_program};
+ghost use Rattle.da_outside.specs.Link.{Carries};
 ghost use Rattle.da_outside.specs.Outside.{HasCause};
 ghost use Rattle.da_lang.specs.declared.program.Program.{Program};
 ghost use Rattle.node_run.specs.Hearing.{HasDelivered, HasDeliveredNext, IsFoundAt, IsStanding, MayAllArrive, StandsAs, WasCutDelivering, held_in, held_of};
@@ -40,6 +41,7 @@ pub(crate) fn hold(
 }
 
 /// Delivers the next held packet, if there is one that may be delivered, and tells whether there was.
+#[tactic(auto, using(crate::proofs::TalkLaws::carries_none, crate::proofs::TalkLaws::carries_then))]
 pub(crate) fn deliver_next<L: Link, K: Sink>(
     alloc: Global,
     c: &Compiled,
@@ -55,6 +57,7 @@ pub(crate) fn deliver_next<L: Link, K: Sink>(
     ensures cut { IfErr result (λ outcome. (node : Node) → StandsAs (program_of c.now) running.old node
         → WasCutDelivering outcome (program_of c.now) node
         (L.told link.old) (L.told link.new) (K.taken sink.old) (K.taken sink.new)) }
+    ensures carries { Carries (L.carried link.old) (L.carried link.new) [] }
     ensures kept { L.count link.new ≡ L.count link.old }
     ensures link_cause { HasCause (L.faults link.old) (L.faults link.new) (IsErrOf result NodeOutcome.LinkFault) }
     ensures sink_cause { HasCause (K.faults sink.old) (K.faults sink.new) (IsErrOf result NodeOutcome.WriteFault) }
@@ -102,6 +105,7 @@ fn is_among(packets: &[Packet], sender: u16) -> bool
 }
 
 // The delivery of the packet at this place, which is the next one.
+#[tactic(auto, using(crate::proofs::TalkLaws::carries_none, crate::proofs::TalkLaws::carries_then))]
 fn deliver<L: Link, K: Sink>(
     alloc: Global,
     place: usize,
@@ -119,6 +123,7 @@ fn deliver<L: Link, K: Sink>(
     ensures cut { IfErr result (λ outcome. (node : Node) → StandsAs (core_program running.old.core) running.old node
         → WasCutDelivering outcome (core_program running.old.core) node
         (L.told link.old) (L.told link.new) (K.taken sink.old) (K.taken sink.new)) }
+    ensures carries { Carries (L.carried link.old) (L.carried link.new) [] }
     ensures kept { L.count link.new ≡ L.count link.old }
     ensures link_cause { HasCause (L.faults link.old) (L.faults link.new) (IsErrOf result NodeOutcome.LinkFault) }
     ensures sink_cause { HasCause (K.faults sink.old) (K.faults sink.new) (IsErrOf result NodeOutcome.WriteFault) }

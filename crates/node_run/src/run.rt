@@ -1,10 +1,11 @@
 //! The run of a node, round by round.
 ghost use Rattle.da_core.specs.Compiled.{IsCompiled, program_of};
 ghost use Rattle.da_lang.specs.Shaped.{IsProcess};
+ghost use Rattle.da_outside.specs.Link.{Carries};
 ghost use Rattle.da_outside.specs.Outside.{HasCause};
 ghost use Rattle.node_run.specs.Hearing.{end_at as end_lem};
 ghost use Rattle.node_run.specs.NodeCall.{GivesPackets, HasEnded, HasRun, WasCut, WroteAll, WroteFront, WroteGiven, end_for};
-ghost use Rattle.std.specs.Prelude.{◌≡◌, ◌≤◌, length};
+ghost use Rattle.std.specs.Prelude.{◌≡◌, ◌≤◌, [], length};
 
 use crate::hearing::{begin, hear};
 use crate::holding::deliver_next;
@@ -20,6 +21,7 @@ use std::alloc::Global;
 /// answers were taken.
 ///
 /// The link is bound to as many processes as the program has, and `idle` and `turns` are at least 1.
+#[tactic(auto, using(crate::proofs::TalkLaws::carries_none, crate::proofs::TalkLaws::carries_then))]
 pub fn node<L: Link, K: Sink>(
     alloc: Global,
     c: &Compiled,
@@ -51,6 +53,7 @@ pub fn node<L: Link, K: Sink>(
     // Each fault has its cause.
     ensures link_cause { HasCause (L.faults link.old) (L.faults link.new) (result ≡ NodeOutcome.LinkFault) }
     ensures sink_cause { HasCause (K.faults sink.old) (K.faults sink.new) (result ≡ NodeOutcome.WriteFault) }
+    ensures carries { Carries (L.carried link.old) (L.carried link.new) [] }
     ensures kept { L.count link.new ≡ L.count link.old }
 {
     let mut running = match begin(alloc, c, me, link, sink) {

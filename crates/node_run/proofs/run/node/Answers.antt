@@ -3,6 +3,7 @@ use Rattle.node_run.specs.NodeCall.{HasEnded}
 use Rattle.node_run.proofs.EndLaws.{cut_at_first, cut_delivering, cut_here, ends_here, ends_spent, ended_here, kept_held, listens, runs_delivered, runs_first, runs_on, runs_still, taken_within}
 use Rattle.node_run.proofs.PacketLaws.{cut_packets, ran_packets}
 use Rattle.node_run.proofs.RunLaws.{cut_by_link, cut_by_memory, cut_by_write, cut_not_ended}
+use Rattle.node_run.proofs.TalkLaws.{carries_then}
 use Rattle.node_run.proofs.run.node.Goals as goal
 
 -- THE START WAS CUT SHORT
@@ -25,7 +26,7 @@ returns-in-Err-clause-packets g c = cut_packets _ c.requires.compiled.accepted _
 -- A HELD PACKET IS DELIVERED
 
 pub rounds-init : goal.rounds-init
-rounds-init g c = record { running = runs_first c.in-Ok.ensures.begun; count = search rules; link_faults = search rules; sink_faults = search rules }
+rounds-init g c = record { running = runs_first c.in-Ok.ensures.begun; carries = search rules; count = search rules; link_faults = search rules; sink_faults = search rules }
 
 pub rounds-smaller-in-Ok-true : goal.rounds-smaller-in-Ok-true
 rounds-smaller-in-Ok-true g c = omega (arith, (runs_delivered c.rounds.invariant.running (rw c.in-Ok-true.field-0-test at c.in-Ok-true.ensures.delivered)).1)
@@ -33,6 +34,7 @@ rounds-smaller-in-Ok-true g c = omega (arith, (runs_delivered c.rounds.invariant
 pub rounds-preserved-in-Ok-true : goal.rounds-preserved-in-Ok-true
 rounds-preserved-in-Ok-true g c = record {
   running = (runs_delivered c.rounds.invariant.running (rw c.in-Ok-true.field-0-test at c.in-Ok-true.ensures.delivered)).0;
+  carries = carries_then _ _ _ c.rounds.invariant.carries c.deliver_next.ensures.carries;
   count = search rules;
   link_faults = search rules;
   sink_faults = search rules;
@@ -55,6 +57,9 @@ returns-in-Err-deliver_next-clause-memory g c = cut_by_memory _ (cut_delivering 
 pub returns-in-Err-deliver_next-clause-packets : goal.returns-in-Err-deliver_next-clause-packets
 returns-in-Err-deliver_next-clause-packets g c =
     cut_packets _ c.requires.compiled.accepted _ c.requires.there (cut_delivering c.rounds.invariant.running c.in-Err-deliver_next.ensures.cut)
+
+pub returns-in-Err-deliver_next-clause-carries : goal.returns-in-Err-deliver_next-clause-carries
+returns-in-Err-deliver_next-clause-carries g c = carries_then _ _ _ c.rounds.invariant.carries c.deliver_next.ensures.carries
 
 -- THE RULES END IT
 
@@ -83,6 +88,9 @@ returns-in-Some-clause-packets g c =
     let rests = runs_still c.rounds.invariant.running (rw c.in-Ok-false.field-0-test at c.in-Ok-false.ensures.delivered) in
     ran_packets _ c.requires.compiled.accepted _ c.requires.there (ends_here rests c.in-Some.end (sym c.end_at.ensures ∙ c.in-Some.is))
 
+pub returns-in-Some-clause-carries : goal.returns-in-Some-clause-carries
+returns-in-Some-clause-carries g c = carries_then _ _ _ c.rounds.invariant.carries c.deliver_next.ensures.carries
+
 -- ALL ANSWERS WERE TAKEN
 
 pub returns-then-taken-turns-clause-ran : goal.returns-then-taken-turns-clause-ran
@@ -94,6 +102,9 @@ pub returns-then-taken-turns-clause-packets : goal.returns-then-taken-turns-clau
 returns-then-taken-turns-clause-packets g c =
     let rests = runs_still c.rounds.invariant.running (rw c.in-Ok-false.field-0-test at c.in-Ok-false.ensures.delivered) in
     ran_packets _ c.requires.compiled.accepted _ c.requires.there (ends_spent rests (sym c.end_at.ensures ∙ c.in_default.is) (omega (arith, c.if-taken-turns.true)))
+
+pub returns-then-taken-turns-clause-carries : goal.returns-then-taken-turns-clause-carries
+returns-then-taken-turns-clause-carries g c = carries_then _ _ _ c.rounds.invariant.carries c.deliver_next.ensures.carries
 
 -- AN ANSWER
 
@@ -120,6 +131,7 @@ rounds-preserved g c =
     let few : c.rounds.taken < c.args.turns = omega (arith, taken_within c.rounds.invariant.running, c.if-taken-turns.false) in
     record {
       running = (runs_on rests (sym c.end_at.ensures ∙ c.in_default.is) few c.in-Ok-hear.ensures.heard).0;
+      carries = carries_then _ _ _ (carries_then _ _ _ c.rounds.invariant.carries c.deliver_next.ensures.carries) c.hear.ensures.carries;
       count = search rules;
       link_faults = search rules;
       sink_faults = search rules;
@@ -156,3 +168,6 @@ returns-in-Err-hear-clause-packets g c =
     let rests = runs_still c.rounds.invariant.running (rw c.in-Ok-false.field-0-test at c.in-Ok-false.ensures.delivered) in
     let few : c.rounds.taken < c.args.turns = omega (arith, taken_within c.rounds.invariant.running, c.if-taken-turns.false) in
     cut_packets _ c.requires.compiled.accepted _ c.requires.there (cut_here rests (sym c.end_at.ensures ∙ c.in_default.is) few c.in-Err-hear.ensures.cut)
+
+pub returns-in-Err-hear-clause-carries : goal.returns-in-Err-hear-clause-carries
+returns-in-Err-hear-clause-carries g c = carries_then _ _ _ (carries_then _ _ _ c.rounds.invariant.carries c.deliver_next.ensures.carries) c.hear.ensures.carries

@@ -1,0 +1,16 @@
+pub mod CallLaws
+pub mod CallsLaws
+pub mod FrameLaws
+pub mod GiveLaws
+pub mod HearLaws
+pub mod Invariant
+pub mod LinkLaws
+pub mod ListLaws
+pub mod NetLaws
+pub mod PeerLaws
+pub mod ResultLaws
+pub mod RunLaws
+pub mod SessionLaws
+pub mod TellLaws
+pub mod ToldLaws
+pub mod WaitingLaws

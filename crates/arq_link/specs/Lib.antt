@@ -1,0 +1,11 @@
+pub mod Endpoint
+pub mod Frames
+pub mod Net
+pub mod Waiting
+pub mod Sessions
+pub mod Kept
+pub mod Telling
+pub mod Calls
+pub mod Told
+pub mod Turns
+pub mod ArqLink
