@@ -1,8 +1,16 @@
+pub mod ActionLaws
 pub mod ActionLemmas
 pub mod EventLaws
+pub mod FaultLaws
+pub mod FieldLaws
 pub mod IfLemmas
 pub mod LineLemmas
+pub mod NumberLaws
+pub mod OneAction
 pub mod ScheduleLaws
 pub mod ScheduleLemmas
+pub mod TraceLaws
+pub mod TraceLemmas
+pub mod ValueLaws
 pub mod WordLemmas
 pub mod WrittenEvents

@@ -5,6 +5,7 @@ use Rattle.std.proofs.lemmas.List.Splits.{slice_split_at, slice_split_none}
 use Rattle.std.specs.List.{All, slice_split}
 use Rattle.std.specs.Prelude.{◌==◌, slice_index_or}
 use Rattle.std.specs.Str.Lines.{lines, lines_of_parts, strip_carriage_return}
+use Rattle.sched_text.specs.TraceText.{bare_parts, trace_lines}
 
 abbrev is_end : ℕ → Bool
 is_end b = b == 10
@@ -49,3 +50,17 @@ one_part line false is other = rw is refl
 pub line_last : (text : List ℕ) → 0 < length text → All (λ b. b ≢ 10) text → lines text ≡ text ∷ []
 line_last text some plain =
     ap lines_of_parts (slice_split_none is_end text (none_ends text plain)) ∙ one_part text (length text == 0) refl (not_empty (length text) some)
+
+-- the same, where a carriage return is a byte of the line
+pub bare_first : (text line rest : List ℕ) → All (λ b. b ≢ 10) line → text ≡ line ++ 10 ∷ rest → trace_lines text ≡ line ∷ trace_lines rest
+bare_first text line rest plain is =
+    let parts = parts_of rest in
+    ap trace_lines is ∙ ap bare_parts (slice_split_at is_end line 10 rest (none_ends line plain) refl) ∙ rw parts.is refl
+
+bare_part : (line : List ℕ) (empty : Bool) → (length line == 0) ≡ empty → empty ≡ false → bare_parts (line ∷ []) ≡ line ∷ []
+bare_part line true is other = absurd (true≢false other)
+bare_part line false is other = rw is refl
+
+pub bare_last : (text : List ℕ) → 0 < length text → All (λ b. b ≢ 10) text → trace_lines text ≡ text ∷ []
+bare_last text some plain =
+    ap bare_parts (slice_split_none is_end text (none_ends text plain)) ∙ bare_part text (length text == 0) refl (not_empty (length text) some)

@@ -1,5 +1,9 @@
+pub mod ActionLine
+pub mod ActionReading
 pub mod ActionText
 pub mod EventText
 pub mod Places
 pub mod Reading
 pub mod ScheduleText
+pub mod TraceReading
+pub mod TraceText

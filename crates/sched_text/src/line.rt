@@ -1,4 +1,5 @@
 //! The lines of a text.
+ghost use Rattle.sched_text.specs.TraceText.{trace_lines};
 ghost use Rattle.std.specs.List.{All};
 ghost use Rattle.std.specs.Prelude.{◌≡◌, ◌≢◌, ◌∷◌, ◌++◌, ◌<◌, length, IfSome, MatchOption};
 ghost use Rattle.std.specs.Str.Lines.{lines, strip_carriage_return};
@@ -11,6 +12,18 @@ pub(crate) fn split_line(text: &[u8]) -> (&[u8], &[u8])
 {
     match split_end(text) {
         Some((line, rest)) => (without_return(line), rest),
+        None => (text, b"".as_slice()),
+    }
+}
+
+/// The first line of a text without its LF, and what follows it. A CR is a byte of the line.
+pub(crate) fn split_bare_line(text: &[u8]) -> (&[u8], &[u8])
+    requires { 0 < length text.now }
+    ensures lines { trace_lines text.now ≡ result.0.now ∷ trace_lines result.1.now }
+    ensures shorter { length result.1.now < length text.now }
+{
+    match split_end(text) {
+        Some((line, rest)) => (line, rest),
         None => (text, b"".as_slice()),
     }
 }

@@ -35,8 +35,8 @@ pub(crate) fn split_number(bytes: &[u8]) -> Option<(u32, &[u8])>
     Some((number, rest))
 }
 
-// What follows a space.
-fn after_space(bytes: &[u8]) -> Option<&[u8]>
+/// What follows a space.
+pub(crate) fn after_space(bytes: &[u8]) -> Option<&[u8]>
     ensures some { IfSome result (λ rest. bytes.now ≡ 32 ∷ rest.now) }
     ensures none { IfNone result ((rest : List ℕ) → bytes.now ≡ 32 ∷ rest → ⊥) }
 {

@@ -1,9 +1,3 @@
-pub mod ActionLaws
-pub mod FaultLaws
-pub mod IfLemmas
-pub mod LineLaws
-pub mod NumberLemmas
 pub mod PageLemmas
 pub mod SafetyLaws
 pub mod TraceLemmas
-pub mod ValueLaws

@@ -8,7 +8,8 @@ use Rattle.trace_page.specs.declared.step.Step.{Step}
 use Rattle.trace_page.specs.declared.trace.TraceFault.{TraceFault}
 use Rattle.trace_page.specs.declared.trace.TraceFault.TheVariants.{BadLine, Memory}
 use Rattle.trace_page.specs.Steps.{Adds, AreSteps, IsFaultAt, IsRead, lines_of}
-use Rattle.trace_page.specs.TraceText.{IsActionLine, IsBadTrace, IsTrace, trace_limit}
+use Rattle.sched_text.specs.ActionLine.{IsActionLine}
+use Rattle.trace_page.specs.TraceText.{IsBadTrace, IsTrace, trace_limit}
 
 -- the lines that were passed are those of these steps, and these bytes are left
 pub record Came (text rest : List ℕ) (steps : List Step) (number : ℕ) : Type 0 where

@@ -4,7 +4,8 @@ use Rattle.std.specs.Str.Lines.{lines}
 use Rattle.trace_page.specs.declared.step.Step.{Step}
 use Rattle.trace_page.specs.declared.trace.TraceFault.{TraceFault}
 use Rattle.trace_page.specs.declared.trace.TraceFault.TheVariants.{BadLine, Memory}
-use Rattle.trace_page.specs.TraceText.{IsActionLine, IsBadTrace, IsTrace}
+use Rattle.sched_text.specs.ActionLine.{IsActionLine}
+use Rattle.trace_page.specs.TraceText.{IsBadTrace, IsTrace}
 
 -- the lines of some steps
 abbrev pub lines_of : List Step → List (List ℕ)

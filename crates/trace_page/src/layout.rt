@@ -1,9 +1,9 @@
 //! Where on the drawing everything stands, in pixels from the left and from the top.
-use crate::kind::Kind;
 use crate::matching::{Matching, match_steps};
 use crate::rows::{column_of, put_at, rows_of};
 use crate::step::Step;
 use da_values::{List, NoMemory};
+use sched_text::Kind;
 use std::alloc::Global;
 use std::collections::BTreeSet;
 

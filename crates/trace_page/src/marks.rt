@@ -1,9 +1,9 @@
 //! What stands in a diagram for one action: its mark, its label, and the arrow of its message.
-use crate::kind::Kind;
 use crate::layout::{LABEL_MOST, Layout, Point};
 use crate::markup::Markup;
 use crate::sheet::Sheet;
 use crate::step::Step;
+use sched_text::Kind;
 
 /// How far a label stands to the right of its mark, and above it or below it.
 const ASIDE: u64 = 10;

@@ -1,7 +1,7 @@
 //! Which step sent the message that another one tells of.
-use crate::kind::Kind;
 use crate::step::Step;
 use da_values::{List, NoMemory};
+use sched_text::Kind;
 use std::alloc::Global;
 use std::collections::BTreeMap;
 

@@ -1,8 +1,8 @@
 //! In which row each step stands: behind those of its process before it, and behind the step that sent its message.
-use crate::kind::Kind;
 use crate::matching::Matching;
 use crate::step::Step;
 use da_values::{List, NoMemory};
+use sched_text::Kind;
 use std::alloc::Global;
 
 /// How far the steps of each process are placed.

@@ -1,8 +1,8 @@
 //! What a page shows of an action.
 ghost use Rattle.std.specs.Prelude.{◌≡◌};
 
-use crate::kind::Kind;
 use da_lang::Action;
+use sched_text::Kind;
 
 /// An action with its line. Of the numbers that its kind does not have, each is 0.
 #[derive(Clone, Copy, Debug)]

@@ -4,10 +4,10 @@ ghost use Rattle.std.specs.Prelude.{◌≡◌, ℕ, ◌≤◌, ◌++◌, ◌∷�
 ghost use Rattle.trace_page.specs.Steps.{Adds, IsFaultAt, IsRead};
 ghost use Rattle.trace_page.specs.TraceText.{trace_limit};
 
-use crate::action::read_action;
 use crate::line::split_line;
 use crate::step::{Step, step_of};
 use da_values::{List, NoMemory, ValueFault};
+use sched_text::read_action;
 use std::alloc::Global;
 use thiserror::Error;
 

@@ -1,0 +1,14 @@
+pub mod Blocks
+pub mod Cuts
+pub mod Cutting
+pub mod Fetching
+pub mod Joins
+pub mod Names
+pub mod Progress
+pub mod Remains
+pub mod Repeats
+pub mod Searching
+pub mod Sending
+pub mod Traces
+pub mod Tracks
+pub mod Waiting

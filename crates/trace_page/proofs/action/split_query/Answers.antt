@@ -1,9 +1,0 @@
-use Rattle.std.proofs.Common.{arith}
-use Rattle.trace_page.proofs.IfLemmas.{if_none}
-use Rattle.trace_page.proofs.LineLaws.{lacks_query}
-use Rattle.trace_page.proofs.action.split_query.Goals as goal
-
-pub returns-in_err-n-clause-none : goal.returns-in_err-n-clause-none
-returns-in_err-n-clause-none c =
-    if_none c.from_residual-in_err-n.result _ (lacks_query _ c.in_ok-p.p c.args.bytes.now c.in_ok-p.rest.now (λ n fits. omega (arith, fits))
-    c.in_ok-p.ensures.some.0 c.in_ok-p.ensures.some.1 c.in_ok-p.ensures.some.2 c.in_err-n.ensures.none)

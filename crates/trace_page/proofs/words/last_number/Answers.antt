@@ -1,8 +1,0 @@
-use Rattle.std.proofs.Common.{arith}
-use Rattle.trace_page.proofs.LineLaws.{lacks_last, not_empty}
-use Rattle.trace_page.proofs.words.last_number.Goals as goal
-
-pub returns-else-is_empty-clause-none : goal.returns-else-is_empty-clause-none
-returns-else-is_empty-clause-none c =
-    lacks_last c.args.most c.in_ok-number.number c.args.bytes.now c.in_ok-number.rest.now (omega (arith, c.ranges.most.fits))
-    c.in_ok-number.ensures.some.0 c.in_ok-number.ensures.some.1 c.in_ok-number.ensures.some.2 (not_empty c.in_ok-number.rest.now c.if-is_empty.ensures)
