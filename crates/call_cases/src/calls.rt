@@ -1,7 +1,8 @@
 //! Calls of the program over files, a sink, a link and a spawner.
-use crate::entries::{tell_calls, tell_entries};
+use crate::entries::{tell_calls, tell_entries, tell_gifts};
 use crate::fault::CallFault;
 use crate::texts::bytes_of;
+use arq_link::ArqLink;
 use da_commands::{Status, dalgo};
 use da_outside::{
     DATAGRAM_MAX, Ended, Files, LinkAnswer, MemFiles, MemSink, ScriptLink, ScriptSpawner,
@@ -11,11 +12,12 @@ use std::alloc::Global;
 use std::net::Net;
 use udp_link::UdpLink;
 
-/// The files `p` and `s`, and the datagrams that a link gives, one on a line.
+/// The files `p` and `s`, the files `1`, `2` and so on, and the datagrams that a link gives, one on a line.
 #[derive(Clone, Copy)]
 pub struct Texts<'a> {
     pub program: &'a [u8],
     pub schedule: &'a [u8],
+    pub traces: &'a str,
     pub datagrams: &'a str,
 }
 
@@ -35,16 +37,16 @@ struct Setting {
 struct Outside {
     files: MemFiles,
     sink: MemSink,
-    link: ScriptLink,
+    link: ArqLink<ScriptLink>,
     children: ScriptSpawner,
 }
 
 /// How a call `KIND OPTIONS | WORDS` ends, and what it writes. The options are `width=16`, `read=0`, `write=0`, `link=0` and
 /// `child=0`, where no others are there. Behind `length` only the number of bytes is told. Behind `link` the link answers by
-/// the datagrams, or, where there are none, by one that is none of a message, and its entries are told. Behind `launch` the
-/// first child writes the line `end 1` and ends with status 0, the second writes nothing and ends with 9, and the calls of the
-/// spawner are told. Behind `next` it is told whether the next read of the schedule fails, and behind `udp` the call is over
-/// UDP.
+/// the datagrams, or, where there are none, by one that is none of a message, and its entries are told. Behind `gifts` it does so
+/// too, and all bytes that it was given are told. Behind `launch` the first child writes the line `end 1` and ends with status 0,
+/// the second writes nothing and ends with 9, and the calls of the spawner are told. Behind `next` it is told whether the next
+/// read of the schedule fails, and behind `udp` the call is over UDP.
 pub fn call_reply<R: Net + AllocGlobal>(
     rt: &R,
     texts: Texts<'_>,
@@ -111,7 +113,7 @@ fn outside_of(alloc: Global, texts: Texts<'_>, setting: Setting) -> Result<Outsi
     Ok(Outside {
         files: files_of(alloc, texts, setting.read)?,
         sink: MemSink::new(alloc, setting.width, script_of(alloc, setting.write)?),
-        link: link_of(alloc, texts.datagrams, setting.link)?,
+        link: ArqLink::new(alloc, link_of(alloc, texts.datagrams, setting.link)?),
         children: children_of(alloc, setting.child)?,
     })
 }
@@ -147,7 +149,21 @@ fn files_of(alloc: Global, texts: Texts<'_>, fails: u64) -> Result<MemFiles, NoM
     let mut files = MemFiles::new(alloc, script_of(alloc, fails)?);
     add_file(alloc, b"p", texts.program, &mut files)?;
     add_file(alloc, b"s", texts.schedule, &mut files)?;
+    add_traces(alloc, texts.traces, &mut files)?;
     Ok(files)
+}
+
+// Adds the files `1`, `2` and so on, between which `=== trace` stands.
+fn add_traces(alloc: Global, traces: &str, files: &mut MemFiles) -> Result<(), NoMemory> {
+    let mut number = 0u64;
+    for trace in traces.split("=== trace\n") {
+        number = number.saturating_add(1);
+        let mut name = List::new(alloc);
+        write_number(number, &mut name)?;
+        let bytes = bytes_of(alloc, trace.strip_suffix('\n').unwrap_or(trace))?;
+        files.add(name, bytes)?;
+    }
+    Ok(())
 }
 
 fn add_file(
@@ -161,7 +177,7 @@ fn add_file(
 
 // A call over UDP.
 fn over_udp<R: Net + AllocGlobal>(rt: &R, words: &[String], outside: &mut Outside) -> Status {
-    let mut link = UdpLink::new(rt);
+    let mut link = ArqLink::new(rt.alloc(), UdpLink::new(rt));
     dalgo(
         rt.alloc(),
         words,
@@ -187,7 +203,11 @@ fn in_memory(
         "length" => tell_length(alloc, status, written.len(), out),
         "link" => {
             tell(alloc, status, written, out)?;
-            tell_entries(alloc, outside.link.entries(), out)
+            tell_entries(alloc, outside.link.inner().entries(), out)
+        }
+        "gifts" => {
+            tell(alloc, status, written, out)?;
+            tell_gifts(outside.link.inner().entries(), out)
         }
         "launch" => {
             tell(alloc, status, written, out)?;

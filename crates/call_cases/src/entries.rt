@@ -1,7 +1,7 @@
 //! What a link and a spawner tell of the calls that they were given.
 use crate::fault::CallFault;
 use da_outside::{LinkAnswer, LinkEntry, SpawnEntry};
-use da_values::{Buf, List};
+use da_values::{Buf, List, write_number};
 use std::alloc::Global;
 
 /// The entries of a link: how it was bound, and of datagrams how many bytes they have.
@@ -30,6 +30,40 @@ fn tell_entry(alloc: Global, entry: &LinkEntry, out: &mut Buf) -> Result<(), Cal
         }
     };
     Ok(out.append(text.as_str().as_bytes())?)
+}
+
+/// What a link was given, with all bytes in hexadecimal.
+pub fn tell_gifts(entries: &[LinkEntry], out: &mut Buf) -> Result<(), CallFault> {
+    out.append(b" [")?;
+    let mut first = true;
+    for entry in entries {
+        if let LinkEntry::Gave { to, bytes } = entry {
+            if !first {
+                out.append(b", ")?;
+            }
+            first = false;
+            tell_gift(*to, bytes.as_slice(), out)?;
+        }
+    }
+    Ok(out.append(b"]")?)
+}
+
+fn tell_gift(to: u16, bytes: &[u8], out: &mut Buf) -> Result<(), CallFault> {
+    write_number(u64::from(to), out)?;
+    out.append(b" ")?;
+    for byte in bytes {
+        out.push(digit(*byte >> 4))?;
+        out.push(digit(*byte & 15))?;
+    }
+    Ok(())
+}
+
+// The digit of a number below 16.
+fn digit(number: u8) -> u8 {
+    match number {
+        0..=9 => b'0'.saturating_add(number),
+        _ => b'a'.saturating_add(number).saturating_sub(10),
+    }
 }
 
 /// The calls of a spawner: the words of each child and its number, and how each ended, with the number of bytes that it wrote.

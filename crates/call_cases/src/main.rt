@@ -15,8 +15,8 @@ use std::{fs, rt};
 use texts::bytes_of;
 
 /// The files of calls, in the order of the answers.
-const FILES: [&str; 8] = [
-    "replays", "words", "faults", "links", "launches", "objects", "long", "many",
+const FILES: [&str; 9] = [
+    "replays", "words", "faults", "links", "launches", "joins", "objects", "long", "many",
 ];
 
 /// How many calls there were, and how many of them differ.
@@ -33,8 +33,8 @@ fn main(rt: HostRuntime) -> anyhow::Result<()> {
     Ok(())
 }
 
-// Tries the calls of a file. Behind `=== program` stands the text of the file `p`, behind `=== schedule` that of `s`, behind
-// `=== datagrams` what a link gives, one datagram on a line, and behind `=== calls` each line `CALL ==> WANTED` is one over
+// Tries the calls of a file. Behind `=== program` stands the text of the file `p`, behind `=== schedule` that of `s`, behind each
+// `=== trace` that of `1`, of `2` and so on, behind `=== datagrams` what a link gives, one datagram on a line, and behind `=== calls` each line `CALL ==> WANTED` is one over
 // these; other lines are remarks. The end of the last line of a text does not belong to it.
 fn answer_file<R: rt::Files + Net + Print + AllocGlobal>(rt: &R, name: &str) -> anyhow::Result<()> {
     let path = format!(in rt.alloc(); "{name}.txt")?;
@@ -60,12 +60,14 @@ fn try_section<R: Net + Print + AllocGlobal>(
 ) -> anyhow::Result<()> {
     let (texts, calls) = section.split_once("=== calls\n").unwrap_or((section, ""));
     let (texts, datagrams) = texts.split_once("=== datagrams\n").unwrap_or((texts, ""));
+    let (texts, traces) = texts.split_once("=== trace\n").unwrap_or((texts, ""));
     let (program, schedule) = texts.split_once("=== schedule\n").unwrap_or((texts, ""));
     let program = bytes_of(rt.alloc(), program.strip_suffix('\n').unwrap_or(program))?;
     let schedule = bytes_of(rt.alloc(), schedule.strip_suffix('\n').unwrap_or(schedule))?;
     let texts = Texts {
         program: program.as_slice(),
         schedule: schedule.as_slice(),
+        traces,
         datagrams,
     };
     for line in calls.lines() {

@@ -13,13 +13,14 @@ use Rattle.da_commands.specs.declared.words.NodeSetting.{NodeSetting}
 use Rattle.da_commands.specs.declared.words.Task.{Task}
 use Rattle.da_commands.specs.declared.words.Task.TheVariants.{Check, Plan, Stress}
 use Rattle.da_commands.specs.Launching.{child_words}
-use Rattle.da_commands.specs.LaunchReplies.{HasLaunchEnd, HasLaunched, IsLaunch, IsLaunchAnswer, IsLaunchSetting, IsLaunched, LaunchRefuses, LaunchStopped, MayLaunch}
+use Rattle.da_commands.specs.LaunchReplies.{HasLaunchEnd, HasLaunched, IsLaunch, IsLaunchAnswer, IsLaunchSetting, IsLaunched, LaunchStopped}
 use Rattle.da_commands.specs.LaunchReplies as reply
 use Rattle.da_commands.specs.LaunchSteps.{HasRun, IsFinishEnd}
 use Rattle.da_commands.specs.Lines.{refused_text}
 use Rattle.da_commands.specs.NodeReplies.{IsNode}
 use Rattle.da_commands.specs.Replies.{IsAnswer, IsAsking, IsEnd, IsReplay}
 use Rattle.da_commands.specs.Told.{HasSaid, IsUnwritten, OfTold, said, unsaid}
+use Rattle.da_commands.specs.Verdict.{Accepts, Refuses}
 use Rattle.da_commands.proofs.LaunchLemmas.{tells_none}
 use Rattle.da_commands.proofs.ToldLemmas.{of_any, of_known, of_map}
 
@@ -31,7 +32,7 @@ none_launched file name setting told taken = of_any file _ (λ text. reply.early
 -- A REFUSAL
 
 -- its line was written, or a front of it
-pub launch_refused : (kind : RefusedKind) (line : ℕ) (text name : List ℕ) (setting : LaunchSetting) (told : Option (List SpawnEntry)) (before after : Option (List ℕ)) (status : Status) → LaunchRefuses text kind line
+pub launch_refused : (kind : RefusedKind) (line : ℕ) (text name : List ℕ) (setting : LaunchSetting) (told : Option (List SpawnEntry)) (before after : Option (List ℕ)) (status : Status) → Refuses text kind line
     → HasSaid (Refused kind line) (refused_text kind line) status before after → HasLaunchEnd text name setting status told told before after
 launch_refused kind line text name setting told before after status refuses (said is written) =
     subst (λ s. HasLaunchEnd text name setting s told told before after) (sym is) (reply.refused kind line refuses refl (tells_none told) written)
@@ -45,7 +46,7 @@ launch_refused kind line text name setting told before after status refuses (uns
 -- A LAUNCH THAT RAN
 
 pub launch_ran : (program : Program) (text name : List ℕ) (setting : LaunchSetting) (count : ℕ) (status : Status) (told_before told_after : Option (List SpawnEntry)) (before after : Option (List ℕ))
-    → MayLaunch text program → count ≡ length program.procs → HasRun (child_words name setting) count status told_before told_after before after → IsFinishEnd status
+    → Accepts text program → count ≡ length program.procs → HasRun (child_words name setting) count status told_before told_after before after → IsFinishEnd status
     → HasLaunchEnd text name setting status told_before told_after before after
 launch_ran program text name setting count status told_before told_after before after may same runs ends =
     by_status status (subst (λ n. HasRun (child_words name setting) n status told_before told_after before after) same runs) ends

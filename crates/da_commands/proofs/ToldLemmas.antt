@@ -6,7 +6,7 @@ use Rattle.da_outside.specs.declared.outside.Trouble.TheVariants.{Failed}
 use Rattle.da_outside.specs.Outside.{HasCause, IsWhole}
 use Rattle.da_outside.proofs.OutsideLemmas.{appends_none, cause_as, front_none, no_cause}
 use Rattle.da_commands.specs.declared.status.Status.{Status}
-use Rattle.da_commands.specs.declared.status.Status.TheVariants.{BadSchedule, ChildFault, ChildStatus, Done, Faulted, Forbidden, Idle, LinkFault, Memory, ReadFault, Refused, Spent, Words, WriteFault}
+use Rattle.da_commands.specs.declared.status.Status.TheVariants.{BadSchedule, BadTrace, ChildFault, ChildStatus, Done, Faulted, Forbidden, Idle, LinkFault, Memory, NoJoin, ReadFault, Refused, Spent, Words, WriteFault}
 use Rattle.da_commands.specs.declared.words.Task.{Task}
 use Rattle.da_commands.specs.Replies.{IsAnswer, IsEnd, TaskReply, ReplayReply}
 use Rattle.da_commands.specs.Told.{Begins, Gains, HasReplied, HasSaid, IsUnwritten, OfTold, said, unsaid}
@@ -120,6 +120,8 @@ module _ (Reply : Status → List ℕ → Type 0) (before after : Option (List �
   gained Faulted answer gains = gains
   gained ChildFault answer gains = absurd answer
   gained (ChildStatus child status) answer gains = gains
+  gained (BadTrace process line) answer gains = gains
+  gained NoJoin answer gains = gains
 
   pub whole_replied : (status : Status) → IsAnswer status → HasReplied Reply status before after → Gains Reply status before after
   whole_replied Done answer replied = replied
@@ -136,6 +138,8 @@ module _ (Reply : Status → List ℕ → Type 0) (before after : Option (List �
   whole_replied Faulted answer replied = replied
   whole_replied ChildFault answer replied = absurd answer
   whole_replied (ChildStatus child status) answer replied = replied
+  whole_replied (BadTrace process line) answer replied = replied
+  whole_replied NoJoin answer replied = replied
 
   -- what is no answer has at most a front
   pub begun_replied : (status : Status) → (IsAnswer status → ⊥) → HasReplied Reply status before after → Begins Reply before after

@@ -2,6 +2,8 @@
 use Rattle.std.proofs.Common.{◌≡◌, refl, sym, ◌∙◌, ap, subst, ℕ, ◌≤◌, ◌^◌, inl, inr, List, [], ◌∷◌, length, codes, decimal, arith}
 use Rattle.std.specs.Prelude.{Option, Some}
 use Rattle.da_values.proofs.Numerals.{decimal_injective_wide}
+use Rattle.da_lang.specs.declared.program.Program.{Program}
+use Rattle.da_lang.specs.declared.ty.ChannelKind.{ChannelKind}
 use Rattle.da_outside.specs.declared.link.LinkEntry.{LinkEntry}
 use Rattle.da_outside.specs.Outside.{Appends, AppendsFront}
 use Rattle.da_outside.proofs.OutsideLemmas.{front_whole}
@@ -10,10 +12,12 @@ use Rattle.da_commands.specs.declared.status.Status.TheVariants.{ChildFault, Lin
 use Rattle.da_commands.specs.declared.words.NodeSetting.{NodeSetting}
 use Rattle.da_commands.specs.declared.words.Task.{Task}
 use Rattle.da_commands.specs.declared.words.Task.TheVariants.{Check, Plan, Stress}
-use Rattle.da_commands.specs.NodeReplies.{HasAnswered, HasStopped, IsNode, IsServed, IsSetting, LinkFailed}
+use Rattle.da_commands.specs.NodeReplies.{HasAnswered, HasKind, HasStopped, IsNode, IsServed, IsSetting, LinkFailed}
 use Rattle.da_commands.specs.NodeSteps.{HasServed}
 use Rattle.da_commands.specs.Replies.{IsAnswer, IsAsking, IsReplay}
 use Rattle.da_commands.specs.Told.{Begins, Gains, HasReplied, HasSaid, OfTold, said, unsaid}
+use Rattle.da_commands.specs.Verdict.{Accepts}
+use Rattle.da_commands.proofs.VerdictLemmas.{accepts_one}
 use Rattle.da_commands.proofs.ToldLemmas.{begun_replied, of_known, of_map, unwritten_or_answer, whole_replied}
 
 -- WORDS
@@ -66,52 +70,58 @@ at_node P p a other one same holds = subst (P p) (sym same.1) (subst (λ x. P x 
 
 -- WHAT A NODE LEAVES, by its status
 
-module _ (setting : NodeSetting) (told_before told_after : Option (List LinkEntry)) (before after : Option (List ℕ)) where
+module _ (text : List ℕ) (setting : NodeSetting) (told_before told_after : Option (List LinkEntry)) (before after : Option (List ℕ)) where
+  answered : (status : Status) → IsAnswer status → HasServed text setting status told_before told_after before after → HasAnswered text setting status told_before told_after before after
+  answered ReadFault answer has = absurd answer
+  answered WriteFault answer has = absurd answer
+  answered Memory answer has = absurd answer
+  answered LinkFault answer has = absurd answer
+  answered ChildFault answer has = absurd answer
+  answered status answer has = has
+
+  stopped : (status : Status) → (IsAnswer status → ⊥) → (status ≡ LinkFault → ⊥) → HasServed text setting status told_before told_after before after → HasStopped text setting status told_before told_after before after
+  stopped ReadFault never unlinked has = has
+  stopped WriteFault never unlinked has = has
+  stopped Memory never unlinked has = has
+  stopped LinkFault never unlinked has = absurd (unlinked refl)
+  stopped ChildFault never unlinked has = absurd has
+  stopped _ never unlinked has = absurd (never tt)
+
+  quiet : (status : Status) → (status ≡ ReadFault → ⊥) → (status ≡ WriteFault → ⊥) → (status ≡ LinkFault → ⊥) → HasServed text setting status told_before told_after before after
+      → IsServed text setting status told_before told_after before after
+  quiet ReadFault read write link has = absurd (read refl)
+  quiet WriteFault read write link has = absurd (write refl)
+  quiet Memory read write link has = inl refl
+  quiet LinkFault read write link has = absurd (link refl)
+  quiet ChildFault read write link has = absurd has
+  quiet status read write link has = inr has
+
+-- by the kind of channels of the program, a link tells this
+module _ (setting : NodeSetting) (told_before told_after : ChannelKind → Option (List LinkEntry)) (before after : Option (List ℕ)) where
   abbrev Served : Status → List ℕ → Type 0
-  Served status text = HasServed text setting status told_before told_after before after
-
-  answered : (text : List ℕ) (status : Status) → IsAnswer status → Served status text → HasAnswered text setting status told_before told_after before after
-  answered text ReadFault answer has = absurd answer
-  answered text WriteFault answer has = absurd answer
-  answered text Memory answer has = absurd answer
-  answered text LinkFault answer has = absurd answer
-  answered text ChildFault answer has = absurd answer
-  answered text status answer has = has
-
-  stopped : (text : List ℕ) (status : Status) → (IsAnswer status → ⊥) → (status ≡ LinkFault → ⊥) → Served status text → HasStopped text setting status told_before told_after before after
-  stopped text ReadFault never unlinked has = has
-  stopped text WriteFault never unlinked has = has
-  stopped text Memory never unlinked has = has
-  stopped text LinkFault never unlinked has = absurd (unlinked refl)
-  stopped text ChildFault never unlinked has = absurd has
-  stopped text _ never unlinked has = absurd (never tt)
-
-  quiet : (text : List ℕ) (status : Status) → (status ≡ ReadFault → ⊥) → (status ≡ WriteFault → ⊥) → (status ≡ LinkFault → ⊥) → Served status text → IsServed text setting status told_before told_after before after
-  quiet text ReadFault read write link has = absurd (read refl)
-  quiet text WriteFault read write link has = absurd (write refl)
-  quiet text Memory read write link has = inl refl
-  quiet text LinkFault read write link has = absurd (link refl)
-  quiet text ChildFault read write link has = absurd has
-  quiet text status read write link has = inr has
+  Served status text = (kind : ChannelKind) → HasKind text kind → HasServed text setting status (told_before kind) (told_after kind) before after
 
   module _ (told : Option (List ℕ)) (status : Status) (served : OfTold told (Served status)) where
     -- a status that tells of an answer
-    pub node_answered : IsAnswer status → OfTold told (λ t. HasAnswered t setting status told_before told_after before after)
-    node_answered answer = of_map told (Served status) (λ t. HasAnswered t setting status told_before told_after before after) (λ t has. answered t status answer has) served
+    pub node_answered : IsAnswer status → OfTold told (λ t. (kind : ChannelKind) → HasKind t kind → HasAnswered t setting status (told_before kind) (told_after kind) before after)
+    node_answered answer = of_map told (Served status) _ (λ t has kind is. answered t setting (told_before kind) (told_after kind) before after status answer (has kind is)) served
 
     -- the link failed
-    pub node_link_failed : status ≡ LinkFault → OfTold told (λ t. LinkFailed t setting told_before told_after before after)
-    node_link_failed is =
-        of_map told (Served status) (λ t. LinkFailed t setting told_before told_after before after) (λ t has. let failed : Served LinkFault t = subst (λ s. Served s t) is has in failed) served
+    pub node_link_failed : status ≡ LinkFault → OfTold told (λ t. (kind : ChannelKind) → HasKind t kind → LinkFailed t setting (told_before kind) (told_after kind) before after)
+    node_link_failed failed =
+        of_map told (Served status) _
+        (λ t has kind is. let by_link : HasServed t setting LinkFault (told_before kind) (told_after kind) before after = subst (λ s. HasServed t setting s (told_before kind) (told_after kind) before after) failed (has kind is) in by_link) served
 
     -- a read or a write failed, or memory was refused
-    pub node_has_stopped : (IsAnswer status → ⊥) → (status ≡ LinkFault → ⊥) → OfTold told (λ t. HasStopped t setting status told_before told_after before after)
-    node_has_stopped never unlinked =
-        of_map told (Served status) (λ t. HasStopped t setting status told_before told_after before after) (λ t has. stopped t status never unlinked has) served
+    pub node_has_stopped : (IsAnswer status → ⊥) → (status ≡ LinkFault → ⊥) → OfTold told (λ t. (kind : ChannelKind) → HasKind t kind → HasStopped t setting status (told_before kind) (told_after kind) before after)
+    node_has_stopped never unlinked = of_map told (Served status) _ (λ t has kind is. stopped t setting (told_before kind) (told_after kind) before after status never unlinked (has kind is)) served
 
     -- nothing failed
-    pub node_served : (t : List ℕ) → told ≡ Some t → (status ≡ ReadFault → ⊥) → (status ≡ WriteFault → ⊥) → (status ≡ LinkFault → ⊥) → IsServed t setting status told_before told_after before after
-    node_served t told_t read write link = quiet t status read write link (of_known told (Served status) t told_t served)
+    pub node_served : (t : List ℕ) (program : Program) → told ≡ Some t → Accepts t program → (status ≡ ReadFault → ⊥) → (status ≡ WriteFault → ⊥) → (status ≡ LinkFault → ⊥)
+        → IsServed t setting status (told_before program.kind) (told_after program.kind) before after
+    node_served t program told_t accepts read write link =
+        let of_kind : HasKind t program.kind = λ other also. ap (λ (p : Program). p.kind) (accepts_one t program other accepts also) in
+        quiet t setting (told_before program.kind) (told_after program.kind) before after status read write link (of_known told (Served status) t told_t served program.kind of_kind)
 
 -- THE OTHER COMMANDS
 

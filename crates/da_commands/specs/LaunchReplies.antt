@@ -1,12 +1,10 @@
 -- What the program answers where it is asked to launch the processes of a program, each as a child.
 use Rattle.std.specs.Prelude.{◌≡◌, ◌≤◌, ℕ, ◌⊎◌, List, [], ◌∷◌, length, codes, decimal, Option}
 use Rattle.da_lang.specs.declared.program.Program.{Program}
-use Rattle.da_lang.specs.declared.ty.ChannelKind.TheVariants.{UnorderedUnreliable}
 use Rattle.da_outside.specs.declared.spawner.SpawnEntry.{SpawnEntry}
 use Rattle.da_outside.specs.Outside.{Appends, AppendsFront}
 use Rattle.da_outside.specs.Spawner.{Tells}
 use Rattle.da_commands.specs.declared.status.RefusedKind.{RefusedKind}
-use Rattle.da_commands.specs.declared.status.RefusedKind.TheVariants as kind_is
 use Rattle.da_commands.specs.declared.status.Status.{Status}
 use Rattle.da_commands.specs.declared.status.Status.TheVariants.{Memory, ReadFault, Refused, WriteFault}
 use Rattle.da_commands.specs.declared.words.LaunchSetting.{LaunchSetting}
@@ -37,23 +35,13 @@ IsLaunch words program setting =
 
 -- THE CALL
 
--- a text gives a program that may be launched: messages may come in any order, be lost and be doubled
-pub record MayLaunch (text : List ℕ) (program : Program) : Type 0 where
-  pub accepts : Accepts text program
-  pub kind : program.kind ≡ UnorderedUnreliable
-
--- a text that gives no such program is refused so
-pub data LaunchRefuses (text : List ℕ) : RefusedKind → ℕ → Type 0 where
-  declined : (kind : RefusedKind) (line : ℕ) → Refuses text kind line → LaunchRefuses text kind line
-  by_channel : (program : Program) → Accepts text program → (program.kind ≡ UnorderedUnreliable → ⊥) → LaunchRefuses text kind_is.Channel 0
-
 -- With this status the text was refused and no child was started; or the children of the program were started and finished, and
 -- the reply was written.
 pub data HasLaunched (text name : List ℕ) (setting : LaunchSetting) (status : Status) (told_before told_after : Option (List SpawnEntry)) (before after : Option (List ℕ)) : Type 0 where
-  refused : (kind : RefusedKind) (line : ℕ) → LaunchRefuses text kind line → status ≡ Refused kind line
+  refused : (kind : RefusedKind) (line : ℕ) → Refuses text kind line → status ≡ Refused kind line
       → Tells told_before told_after [] → Appends before after (refused_text kind line)
       → HasLaunched text name setting status told_before told_after before after
-  ran : (program : Program) (calls : List SpawnEntry) (bytes : List ℕ) → MayLaunch text program
+  ran : (program : Program) (calls : List SpawnEntry) (bytes : List ℕ) → Accepts text program
       → LaunchReply (child_words name setting) (length program.procs) calls status bytes
       → Tells told_before told_after calls → Appends before after bytes
       → HasLaunched text name setting status told_before told_after before after
@@ -62,9 +50,9 @@ pub data HasLaunched (text name : List ℕ) (setting : LaunchSetting) (status : 
 -- the launch was cut short.
 pub data LaunchStopped (text name : List ℕ) (setting : LaunchSetting) (told_before told_after : Option (List SpawnEntry)) (before after : Option (List ℕ)) : Type 0 where
   early : Tells told_before told_after [] → Appends before after [] → LaunchStopped text name setting told_before told_after before after
-  refusing : (kind : RefusedKind) (line : ℕ) → LaunchRefuses text kind line → Tells told_before told_after []
+  refusing : (kind : RefusedKind) (line : ℕ) → Refuses text kind line → Tells told_before told_after []
       → AppendsFront before after (refused_text kind line) → LaunchStopped text name setting told_before told_after before after
-  running : (program : Program) → MayLaunch text program
+  running : (program : Program) → Accepts text program
       → LaunchBegan (child_words name setting) (length program.procs) told_before told_after before after
       → LaunchStopped text name setting told_before told_after before after
 

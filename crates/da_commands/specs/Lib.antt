@@ -1,10 +1,13 @@
 pub mod Endings
 pub mod ExitCode
 pub mod Faults
+pub mod JoinReplies
+pub mod JoinSteps
 pub mod Launching
 pub mod LaunchReplies
 pub mod LaunchSteps
 pub mod Lines
+pub mod Links
 pub mod NodeReplies
 pub mod NodeSteps
 pub mod Replies

@@ -1,7 +1,10 @@
--- The lines by which a program is accepted or refused, and a schedule is refused.
+-- The lines by which a program is accepted or refused, and by which a schedule or traces are refused.
 use Rattle.std.specs.Prelude.{ℕ, List, ◌++◌, codes, decimal}
+use Rattle.std.specs.List.{flat_map}
+use Rattle.da_lang.specs.declared.event.Event.{Event}
+use Rattle.sched_text.specs.EventText.{event_line}
 use Rattle.da_commands.specs.declared.status.RefusedKind.{RefusedKind}
-use Rattle.da_commands.specs.declared.status.RefusedKind.TheVariants.{Size, Byte, Indent, Token, Unclosed, Syntax, Deep, Unknown, Twice, Shadow, Recursive, Yield, Setup, NoRun, Arity, Classes, Processes, Items, Blocks, Variables, Parts, Generators, Types, Nodes, Channel, Me}
+use Rattle.da_commands.specs.declared.status.RefusedKind.TheVariants.{Size, Byte, Indent, Token, Unclosed, Syntax, Deep, Unknown, Twice, Shadow, Recursive, Yield, Setup, NoRun, Arity, Classes, Processes, Items, Blocks, Variables, Parts, Generators, Types, Nodes, Me, Traces}
 
 abbrev pub refused_word : RefusedKind → List ℕ
 refused_word Size = codes "size"
@@ -28,8 +31,8 @@ refused_word Parts = codes "parts"
 refused_word Generators = codes "generators"
 refused_word Types = codes "type"
 refused_word Nodes = codes "nodes"
-refused_word Channel = codes "channel"
 refused_word Me = codes "me"
+refused_word Traces = codes "traces"
 
 -- the line of a refusal, and that of a bad schedule
 abbrev pub refused_text : RefusedKind → ℕ → List ℕ
@@ -37,6 +40,18 @@ refused_text kind line = codes "refused " ++ refused_word kind ++ codes " " ++ d
 
 abbrev pub badline_text : ℕ → List ℕ
 badline_text line = codes "badline " ++ decimal line ++ codes "\n"
+
+-- the line of a bad trace: its process, and which line of it is bad
+abbrev pub badtrace_text : ℕ → ℕ → List ℕ
+badtrace_text process line = codes "badtrace " ++ decimal process ++ codes " " ++ decimal line ++ codes "\n"
+
+-- the line of a process that is blocked: which it is, and at which line of its trace
+abbrev pub blocked_line : ℕ × ℕ → List ℕ
+blocked_line block = codes "blocked " ++ decimal block.0 ++ codes " " ++ decimal block.1 ++ codes "\n"
+
+-- the lines of events, one after the other
+abbrev pub schedule_text : List Event → List ℕ
+schedule_text = flat_map event_line
 
 -- the line of an accepted program: how many classes and processes it has
 abbrev pub accepted_text : ℕ → ℕ → List ℕ

@@ -1,7 +1,7 @@
 -- What the program answers where it is asked to run a node.
 use Rattle.std.specs.Prelude.{◌≡◌, ◌<◌, ◌≤◌, ℕ, ◌⊎◌, List, [], ◌∷◌, length, codes, decimal, Option, Some, None}
 use Rattle.da_lang.specs.declared.program.Program.{Program}
-use Rattle.da_lang.specs.declared.ty.ChannelKind.TheVariants.{UnorderedUnreliable}
+use Rattle.da_lang.specs.declared.ty.ChannelKind.{ChannelKind}
 use Rattle.da_outside.specs.declared.link.LinkEntry.{LinkEntry}
 use Rattle.da_outside.specs.declared.link.LinkEntry.TheVariants.{Bound}
 use Rattle.da_outside.specs.Link as link
@@ -38,17 +38,19 @@ IsNode words program setting =
     (port : List ℕ) × (me : List ℕ) × (idle : List ℕ) × (turns : List ℕ)
     × (words ≡ codes "node" ∷ program ∷ port ∷ me ∷ idle ∷ turns ∷ []) × IsSetting setting port me idle turns
 
--- a text gives a program that may run so: messages may come in any order, be lost and be doubled, and the process is there
+-- its program, where the text gives one, has channels of this kind
+abbrev pub HasKind : List ℕ → ChannelKind → Type 0
+HasKind text kind = (program : Program) → Accepts text program → program.kind ≡ kind
+
+-- a text gives a program that has this process
 pub record MayRun (text : List ℕ) (setting : NodeSetting) (program : Program) : Type 0 where
   pub accepts : Accepts text program
-  pub kind : program.kind ≡ UnorderedUnreliable
   pub there : setting.me ≤ length program.procs
 
 -- a text that gives no such program is refused so
 pub data NodeRefuses (text : List ℕ) (setting : NodeSetting) : RefusedKind → ℕ → Type 0 where
   declined : (kind : RefusedKind) (line : ℕ) → Refuses text kind line → NodeRefuses text setting kind line
-  by_channel : (program : Program) → Accepts text program → (program.kind ≡ UnorderedUnreliable → ⊥) → NodeRefuses text setting kind_is.Channel 0
-  by_number : (program : Program) → Accepts text program → program.kind ≡ UnorderedUnreliable → length program.procs < setting.me → NodeRefuses text setting kind_is.Me 0
+  by_number : (program : Program) → Accepts text program → length program.procs < setting.me → NodeRefuses text setting kind_is.Me 0
 
 -- what the link tells of its binding
 abbrev pub binding : Program → NodeSetting → LinkEntry
@@ -95,6 +97,12 @@ pub data HasStopped (text : List ℕ) (setting : NodeSetting) (status : Status) 
       → AppendsFront before after (refused_text kind line) → HasStopped text setting status told_before told_after before after
   writing : status ≡ WriteFault → WasCutBound text setting told_before told_after before after WroteGiven → HasStopped text setting status told_before told_after before after
   running : status ≡ Memory → WasCutBound text setting told_before told_after before after WroteFront → HasStopped text setting status told_before told_after before after
+
+-- a link was not bound, or once: for this process of the program of the text
+abbrev pub BindsOnce : List ℕ → NodeSetting → Option (List LinkEntry) → Option (List LinkEntry) → Type 0
+BindsOnce text setting told_before told_after =
+    link.Carries told_before told_after []
+    ⊎ ((program : Program) × Accepts text program × link.Carries told_before told_after (binding program setting ∷ []))
 
 -- the text was answered, or memory was refused
 abbrev pub IsServed : List ℕ → NodeSetting → Status → Option (List LinkEntry) → Option (List LinkEntry) → Option (List ℕ) → Option (List ℕ) → Type 0

@@ -1,5 +1,6 @@
 -- What the program answers to the text of a program and that of a schedule.
 use Rattle.std.specs.Prelude.{◌≡◌, ◌<◌, ◌≤◌, ◌^◌, ℕ, ◌⊎◌, List, [], ◌∷◌, length, codes, decimal, Option, Some, None}
+use Rattle.da_values.specs.Sets.{Has}
 use Rattle.da_lang.specs.declared.event.Event.{Event}
 use Rattle.da_lang.specs.declared.program.Program.{Program}
 use Rattle.da_system.specs.SourceRun.{src_run}
@@ -11,6 +12,7 @@ use Rattle.da_commands.specs.declared.words.Task.{Task}
 use Rattle.da_commands.specs.declared.words.Task.TheVariants.{Check, Plan, Stress}
 use Rattle.da_commands.specs.declared.words.LaunchSetting.{LaunchSetting}
 use Rattle.da_commands.specs.declared.words.NodeSetting.{NodeSetting}
+use Rattle.da_commands.specs.JoinReplies.{IsJoin}
 use Rattle.da_commands.specs.LaunchReplies.{IsLaunch}
 use Rattle.da_commands.specs.NodeReplies.{IsNode}
 use Rattle.da_commands.specs.Lines.{accepted_text, badline_text, refused_text}
@@ -109,6 +111,7 @@ IsOther words =
     ((p q : List ℕ) → IsReplay words p q → ⊥) × ((task : Task) (p : List ℕ) → IsAsking words task p → ⊥)
     × ((p : List ℕ) (setting : NodeSetting) → IsNode words p setting → ⊥)
     × ((p : List ℕ) (setting : LaunchSetting) → IsLaunch words p setting → ⊥)
+    × ((p : List ℕ) (traces : List (List ℕ)) → IsJoin words p traces → ⊥)
 
 -- a schedule is read unless the told program is refused
 abbrev pub MayRead : Option (List ℕ) → Type 0
@@ -120,6 +123,17 @@ abbrev pub ReadCause : Option (List ℕ) → (List ℕ → ℕ) → (List ℕ �
 ReadCause told before now program schedule =
     Rose (before program) (now program) ⊎ (Rose (before schedule) (now schedule) × MayRead told)
 
+-- so many traces are read unless the told program is refused or has another number of processes
+abbrev pub MayReadTraces : Option (List ℕ) → ℕ → Type 0
+MayReadTraces None count = Unit {0}
+MayReadTraces (Some text) count = (IsRefused text → ⊥) × ((program : Program) → Accepts text program → count ≡ length program.procs)
+
+-- a read failed: the count rose for the program's name, or, where traces are read, for that of one of them
+abbrev pub TraceReadCause : Option (List ℕ) → (List ℕ → ℕ) → (List ℕ → ℕ) → List ℕ → List (List ℕ) → Type 0
+TraceReadCause told before now program traces =
+    Rose (before program) (now program)
+    ⊎ ((trace : List ℕ) × Has traces trace × Rose (before trace) (now trace) × MayReadTraces told (length traces))
+
 -- a read failed, and the count rose for a name in the words that may be read
 abbrev pub HasReadCause : List (List ℕ) → (List ℕ → Option (List ℕ)) → (List ℕ → ℕ) → (List ℕ → ℕ) → Type 0
 HasReadCause words told before now =
@@ -127,3 +141,4 @@ HasReadCause words told before now =
     ⊎ ((task : Task) × (p : List ℕ) × IsAsking words task p × Rose (before p) (now p))
     ⊎ ((p : List ℕ) × (setting : NodeSetting) × IsNode words p setting × Rose (before p) (now p))
     ⊎ ((p : List ℕ) × (setting : LaunchSetting) × IsLaunch words p setting × Rose (before p) (now p))
+    ⊎ ((p : List ℕ) × (traces : List (List ℕ)) × IsJoin words p traces × TraceReadCause (told p) before now p traces)

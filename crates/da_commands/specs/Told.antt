@@ -1,5 +1,5 @@
 -- What is said of texts that are told, and what a sink gained of a reply.
-use Rattle.std.specs.Prelude.{◌≡◌, ℕ, ◌⊎◌, List, [], Option, Some, None}
+use Rattle.std.specs.Prelude.{◌≡◌, ℕ, ◌⊎◌, List, [], ◌∷◌, Option, Some, None}
 use Rattle.da_outside.specs.Outside.{Appends, AppendsFront}
 use Rattle.da_commands.specs.declared.status.Status.{Status}
 use Rattle.da_commands.specs.declared.status.Status.TheVariants.{ReadFault, WriteFault, Memory, LinkFault, ChildFault}
@@ -8,6 +8,11 @@ use Rattle.da_commands.specs.declared.status.Status.TheVariants.{ReadFault, Writ
 abbrev pub OfTold : Option (List ℕ) → (List ℕ → Type 0) → Type 0
 OfTold None P = (text : List ℕ) × P text
 OfTold (Some text) P = P text
+
+-- it holds of the texts that are told, each in its place
+abbrev pub OfAllTold : List (Option (List ℕ)) → (List (List ℕ) → Type 0) → Type 0
+OfAllTold [] P = P []
+OfAllTold (told ∷ others) P = OfTold told (λ text. OfAllTold others (λ texts. P (text ∷ texts)))
 
 -- a sink gained the bytes of a reply with this status
 pub record Gains (Reply : Status → List ℕ → Type 0) (status : Status) (before after : Option (List ℕ)) : Type 0 where

@@ -1,12 +1,12 @@
 //! The lines that end a call, and the statuses of calls whose parts ended so.
 ghost use Rattle.da_commands.specs.Endings.{status_of_node as status_of_node_lem, status_of_run as status_of_run_lem};
-ghost use Rattle.da_commands.specs.Lines.{badline_text, refused_text};
+ghost use Rattle.da_commands.specs.Lines.{badline_text, badtrace_text, refused_text};
 ghost use Rattle.da_commands.specs.Replies.{IsAnswer, IsEnd};
 ghost use Rattle.da_commands.specs.Told.{HasSaid};
 ghost use Rattle.da_outside.specs.Outside.{HasCause};
 ghost use Rattle.std.specs.Prelude.{◌≡◌};
 
-use crate::lines::{bad_line, refused_line};
+use crate::lines::{bad_line, refused_line, trace_line};
 use crate::status::{RefusedKind, Status};
 use da_outside::{Sink, Trouble, write_all};
 use node_run::NodeOutcome;
@@ -66,6 +66,20 @@ pub fn refuse_schedule<K: Sink>(alloc: Global, out: &mut K, line: u64) -> Status
         return Status::Memory;
     };
     say(out, text.as_slice(), Status::BadSchedule { line })
+}
+
+/// Refuses the trace of a process.
+#[tactic(auto, using(crate::proofs::ToldLemmas::memory_said, crate::proofs::ToldLemmas::said_ends, crate::proofs::ToldLemmas::said_unread))]
+pub fn refuse_trace<K: Sink>(alloc: Global, out: &mut K, process: u16, line: u64) -> Status
+    ensures said { HasSaid (Status.BadTrace process line) (badtrace_text process line) result (K.taken out.old) (K.taken out.new) }
+    ensures ends { IsEnd result }
+    ensures read { result ≡ Status.ReadFault → ⊥ }
+    ensures write { HasCause (K.faults out.old) (K.faults out.new) (result ≡ Status.WriteFault) }
+{
+    let Ok(text) = trace_line(alloc, process, line) else {
+        return Status::Memory;
+    };
+    say(out, text.as_slice(), Status::BadTrace { process, line })
 }
 
 /// Writes the bytes, with which the call ends so.

@@ -14,7 +14,6 @@ use crate::starting::{Started, start_all};
 use crate::status::{RefusedKind, Status};
 use crate::words::LaunchSetting;
 use da_core::Compiled;
-use da_lang::ChannelKind;
 use da_outside::{Files, Sink, Spawner, Trouble, read_all};
 use std::alloc::Global;
 
@@ -73,7 +72,7 @@ fn answer_text<K: Sink, S: Spawner>(
     }
 }
 
-// Refuses an accepted program that cannot run so, or runs its processes.
+// Runs the processes of an accepted program.
 fn answer_program<K: Sink, S: Spawner>(
     alloc: Global,
     setting: LaunchSetting,
@@ -91,11 +90,7 @@ fn answer_program<K: Sink, S: Spawner>(
     ensures write { HasCause (K.faults out.old) (K.faults out.new) (result ≡ Status.WriteFault) }
     ensures children { HasChildCause (S.faults children.old) (S.faults children.new) result }
 {
-    let program = compiled.program();
-    let count = program.procs.len();
-    if program.kind != ChannelKind::UnorderedUnreliable {
-        return refuse(alloc, out, RefusedKind::Channel, 0);
-    }
+    let count = compiled.program().procs.len();
     run_children(alloc, setting, name, count as u16, out, children)
 }
 

@@ -1,10 +1,15 @@
-//! The lines by which a program is accepted or refused, and a schedule is refused.
-ghost use Rattle.da_commands.specs.Lines.{accepted_text, badline_text, refused_text, refused_word as refused_word_lem};
-ghost use Rattle.std.specs.Prelude.{◌≡◌, IfOk};
+//! The lines by which a program is accepted or refused, and by which a schedule or traces are refused or joined.
+ghost use Rattle.da_commands.specs.JoinSteps.{blocked_at};
+ghost use Rattle.da_commands.specs.Lines.{accepted_text, badline_text, badtrace_text, blocked_line, refused_text, refused_word as refused_word_lem, schedule_text};
+ghost use Rattle.std.specs.List.{flat_map};
+ghost use Rattle.std.specs.Prelude.{◌≡◌, ◌++◌, IfOk, OnOk, map};
 
 use crate::status::RefusedKind;
+use da_lang::Event;
 use da_values::{Buf, List, NoMemory, write_number};
+use sched_text::write_event;
 use std::alloc::Global;
+use trace_join::Block;
 
 // The word for a kind of refusal.
 fn refused_word(kind: RefusedKind) -> &'static [u8]
@@ -35,8 +40,8 @@ fn refused_word(kind: RefusedKind) -> &'static [u8]
         RefusedKind::Generators => b"generators",
         RefusedKind::Types => b"type",
         RefusedKind::Nodes => b"nodes",
-        RefusedKind::Channel => b"channel",
         RefusedKind::Me => b"me",
+        RefusedKind::Traces => b"traces",
     }
 }
 
@@ -62,6 +67,52 @@ pub fn bad_line(alloc: Global, line: u64) -> Result<Buf, NoMemory>
     write_number(line, &mut text)?;
     text.append(b"\n")?;
     Ok(text)
+}
+
+/// The line of a bad trace.
+pub fn trace_line(alloc: Global, process: u16, line: u64) -> Result<Buf, NoMemory>
+    ensures { IfOk result (λ text. text ≡ badtrace_text process line) }
+{
+    let mut text = List::new(alloc);
+    text.append(b"badtrace ")?;
+    write_number(u64::from(process), &mut text)?;
+    text.append(b" ")?;
+    write_number(line, &mut text)?;
+    text.append(b"\n")?;
+    Ok(text)
+}
+
+/// The lines of events.
+pub fn event_lines(alloc: Global, events: &[Event]) -> Result<Buf, NoMemory>
+    ensures { IfOk result (λ text. text ≡ schedule_text events.now) }
+{
+    let mut text = List::new(alloc);
+    for event in events {
+        write_event(event, &mut text)?;
+    }
+    Ok(text)
+}
+
+/// The lines of processes that are blocked.
+pub fn block_lines(alloc: Global, blocks: &[Block]) -> Result<Buf, NoMemory>
+    ensures { IfOk result (λ text. text ≡ flat_map blocked_line (map blocked_at blocks.now)) }
+{
+    let mut text = List::new(alloc);
+    for block in blocks {
+        push_block(block, &mut text)?;
+    }
+    Ok(text)
+}
+
+// Appends the line of a process that is blocked.
+fn push_block(block: &Block, text: &mut Buf) -> Result<(), NoMemory>
+    ensures { OnOk result (text.new ≡ text.old ++ blocked_line (blocked_at block.now)) }
+{
+    text.append(b"blocked ")?;
+    write_number(u64::from(block.process), text)?;
+    text.append(b" ")?;
+    write_number(block.line, text)?;
+    text.append(b"\n")
 }
 
 /// The line of an accepted program with so many classes and processes.

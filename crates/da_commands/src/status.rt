@@ -77,12 +77,12 @@ pub enum RefusedKind {
     /// The plan of a class has more than 4,096 nodes.
     #[error("the query plan of the class has more than 4,096 nodes")]
     Nodes,
-    /// Nodes run over channels that are unordered and unreliable, and these are not.
-    #[error("a node needs channels that are unordered and unreliable")]
-    Channel,
     /// The program has no process of the number that a node is to run.
     #[error("the program has no process of the number that the node is to run")]
     Me,
+    /// There are not as many traces as the program has processes.
+    #[error("a join takes one trace for each process of the program")]
+    Traces,
 }
 
 /// How a call of the program ends.
@@ -116,6 +116,10 @@ pub enum Status {
     ChildFault,
     /// All children have ended, and this is the first process whose child ended with another status than 0.
     ChildStatus { child: u16, status: u8 },
+    /// The line of this number is no line of the trace of this process, or the trace is too long, with 0.
+    BadTrace { process: u16, line: u64 },
+    /// No schedule has these traces.
+    NoJoin,
 }
 
 impl Status {
@@ -141,6 +145,8 @@ impl Status {
             Status::Faulted => 11,
             Status::ChildFault => 12,
             Status::ChildStatus { .. } => 13,
+            Status::BadTrace { .. } => 14,
+            Status::NoJoin => 15,
         }
     }
 }

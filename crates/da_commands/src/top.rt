@@ -1,15 +1,21 @@
 //! The top call: all that the program does.
+ghost use Rattle.arq_link.specs.ArqLink.{inner_of, told_of};
+ghost use Rattle.arq_link.specs.Calls.{Retells};
 ghost use Rattle.da_lang.specs.declared.event.Event.{Event};
 ghost use Rattle.da_lang.specs.declared.program.Program.{Program};
+ghost use Rattle.da_lang.specs.declared.ty.ChannelKind.{ChannelKind};
 ghost use Rattle.da_outside.specs.Outside.{Appends, AppendsFront, HasCause, Rose};
+ghost use Rattle.da_values.specs.Sets.{Has};
+ghost use Rattle.da_commands.specs.JoinReplies.{IsJoin, IsJoined, JoinReply};
 ghost use Rattle.da_commands.specs.LaunchReplies.{HasLaunched, IsLaunch, IsLaunchAnswer, IsLaunched, LaunchStopped};
 ghost use Rattle.da_commands.specs.Launching.{HasChildCause};
-ghost use Rattle.da_commands.specs.NodeReplies.{HasAnswered, HasStopped, IsNode, IsServed, LinkFailed};
+ghost use Rattle.da_commands.specs.Links.{told_over};
+ghost use Rattle.da_commands.specs.NodeReplies.{BindsOnce, HasAnswered, HasKind, HasStopped, IsNode, IsServed, LinkFailed};
 ghost use Rattle.da_commands.specs.Replies.{HasReadCause, IsAnswer, IsAsking, IsCarriedOut, IsOther, IsReplay, ReplayReply, RunsWhole, TaskReply};
 ghost use Rattle.da_commands.specs.declared.words.LaunchSetting.{LaunchSetting};
 ghost use Rattle.da_commands.specs.declared.words.NodeSetting.{NodeSetting};
 ghost use Rattle.da_commands.specs.declared.words.Task.{Task};
-ghost use Rattle.da_commands.specs.Told.{Begins, Gains, OfTold};
+ghost use Rattle.da_commands.specs.Told.{Begins, Gains, OfAllTold, OfTold};
 ghost use Rattle.da_commands.specs.Verdict.{Accepts};
 ghost use Rattle.node_run.specs.NodeCall.{GivesPackets};
 ghost use Rattle.sched_text.specs.ScheduleText.{SpellsSchedule};
@@ -17,22 +23,25 @@ ghost use Rattle.std.specs.Prelude.{ℕ, ◌≡◌, ◌<◌, ◌≤◌, List, So
 ghost use Rattle.std.specs.String.{string_bytes};
 
 use crate::endings::say;
+use crate::joining::join;
 use crate::launching::launch;
 use crate::noding::run_node;
 use crate::replaying::replay;
 use crate::status::Status;
 use crate::tasks::carry_out;
 use crate::words::{Command, command_of};
+use arq_link::ArqLink;
 use da_outside::{Files, Link, Sink, Spawner};
 use std::alloc::Global;
 
 /// Does what the words ask for, and says how that ended. The words are those after the program's name.
+#[tactic(auto, using(arq_link::proofs::LinkLaws::retells))]
 pub fn dalgo<F: Files, K: Sink, L: Link, S: Spawner>(
     alloc: Global,
     words: &[String],
     files: &mut F,
     out: &mut K,
-    link: &mut L,
+    link: &mut ArqLink<L>,
     children: &mut S,
 ) -> Status
     // The bytes that the sink took are the reply to the two texts, and the status is that of the reply. Where a text is not
@@ -53,23 +62,35 @@ pub fn dalgo<F: Files, K: Sink, L: Link, S: Spawner>(
         → (Rose (F.faults files.old p) (F.faults files.new p) → ⊥) → (Rose (K.faults out.old) (K.faults out.new) → ⊥)
         → IsCarriedOut task program result (K.taken out.old) (K.taken out.new) }
 
-    // A node answers by the program's text and by what its link answers. The link is bound once, unless the program is refused,
-    // and then tells the talk of the run. Where it fails to be bound nothing is written. Where a write fails, it tells the talk
-    // up to there, and only lines of the last event are missing.
+    // A node answers by the program's text and by what its link answers, which is the inner link where the channels of the program
+    // keep no order and may lose and double messages, else the reliable link over it. That link is bound once, unless the program
+    // is refused, and then tells the talk of the run. Where it fails to be bound nothing is written. Where a write fails, it tells
+    // the talk up to there, and only lines of the last event are missing.
     ensures node { (p : List ℕ) (setting : NodeSetting) → IsNode (map string_bytes words.now) p setting → IsAnswer result
-        → OfTold (F.told files.old p) (λ t. HasAnswered t setting result (L.told link.old) (L.told link.new) (K.taken out.old) (K.taken out.new)) }
+        → OfTold (F.told files.old p)
+        (λ t. (kind : ChannelKind) → HasKind t kind → HasAnswered t setting result (told_over L.told kind link.old) (told_over L.told kind link.new) (K.taken out.old) (K.taken out.new)) }
     ensures node_link { (p : List ℕ) (setting : NodeSetting) → IsNode (map string_bytes words.now) p setting → result ≡ Status.LinkFault
-        → OfTold (F.told files.old p) (λ t. LinkFailed t setting (L.told link.old) (L.told link.new) (K.taken out.old) (K.taken out.new)) }
+        → OfTold (F.told files.old p)
+        (λ t. (kind : ChannelKind) → HasKind t kind → LinkFailed t setting (told_over L.told kind link.old) (told_over L.told kind link.new) (K.taken out.old) (K.taken out.new)) }
     ensures node_stopped { (p : List ℕ) (setting : NodeSetting) → IsNode (map string_bytes words.now) p setting → (IsAnswer result → ⊥) → (result ≡ Status.LinkFault → ⊥)
-        → OfTold (F.told files.old p) (λ t. HasStopped t setting result (L.told link.old) (L.told link.new) (K.taken out.old) (K.taken out.new)) }
+        → OfTold (F.told files.old p)
+        (λ t. (kind : ChannelKind) → HasKind t kind → HasStopped t setting result (told_over L.told kind link.old) (told_over L.told kind link.new) (K.taken out.old) (K.taken out.new)) }
 
     // However it ends, a node gives nothing but packets of messages that its process sent.
-    ensures node_packets { (p : List ℕ) (setting : NodeSetting) → IsNode (map string_bytes words.now) p setting → GivesPackets setting.me (L.told link.old) (L.told link.new) }
+    ensures node_packets { (p : List ℕ) (setting : NodeSetting) → IsNode (map string_bytes words.now) p setting
+        → OfTold (F.told files.old p)
+        (λ t. (kind : ChannelKind) → HasKind t kind → GivesPackets setting.me (told_over L.told kind link.old) (told_over L.told kind link.new)) }
+
+    // Where the reliable link tells something, it tells what is made of the entries of the inner link. Among these are the frames
+    // that were due, in the order of the steps, and no others. Whatever it tells, the inner link is bound once at most.
+    ensures frames { Retells (L.told (inner_of link.new)) (told_of L.told link.new) }
+    ensures binds { (p : List ℕ) (setting : NodeSetting) → IsNode (map string_bytes words.now) p setting
+        → OfTold (F.told files.old p) (λ t. BindsOnce t setting (L.told (inner_of link.old)) (L.told (inner_of link.new))) }
 
     // Each accepted program is served, unless a read, a write or the link failed or memory was refused.
     ensures served { (p t : List ℕ) (program : Program) (setting : NodeSetting) → IsNode (map string_bytes words.now) p setting → F.told files.old p ≡ Some t → Accepts t program
-        → (Rose (F.faults files.old p) (F.faults files.new p) → ⊥) → (Rose (K.faults out.old) (K.faults out.new) → ⊥) → (Rose (L.faults link.old) (L.faults link.new) → ⊥)
-        → IsServed t setting result (L.told link.old) (L.told link.new) (K.taken out.old) (K.taken out.new) }
+        → (Rose (F.faults files.old p) (F.faults files.new p) → ⊥) → (Rose (K.faults out.old) (K.faults out.new) → ⊥) → (Rose (L.faults (inner_of link.old)) (L.faults (inner_of link.new)) → ⊥)
+        → IsServed t setting result (told_over L.told program.kind link.old) (told_over L.told program.kind link.new) (K.taken out.old) (K.taken out.new) }
 
     // Words that ask for no node leave the link as it was.
     ensures unlinked { ((p : List ℕ) (setting : NodeSetting) → IsNode (map string_bytes words.now) p setting → ⊥) → link.new ≡ link.old }
@@ -102,6 +123,18 @@ pub fn dalgo<F: Files, K: Sink, L: Link, S: Spawner>(
         → OfTold (F.told files.old p) (λ t. Begins (TaskReply task t) (K.taken out.old) (K.taken out.new)) }
     ensures begun_words { IsOther (map string_bytes words.now) → (IsAnswer result → ⊥) → AppendsFront (K.taken out.old) (K.taken out.new) (codes "words\n") }
 
+    // A join answers by the texts of the program and of the traces.
+    ensures joins { (p : List ℕ) (traces : List (List ℕ)) → IsJoin (map string_bytes words.now) p traces → IsAnswer result
+        → OfTold (F.told files.old p) (λ t. OfAllTold (map (F.told files.old) traces) (λ texts. Gains (JoinReply t texts) result (K.taken out.old) (K.taken out.new))) }
+    ensures begun_join { (p : List ℕ) (traces : List (List ℕ)) → IsJoin (map string_bytes words.now) p traces → (IsAnswer result → ⊥)
+        → OfTold (F.told files.old p) (λ t. OfAllTold (map (F.told files.old) traces) (λ texts. Begins (JoinReply t texts) (K.taken out.old) (K.taken out.new))) }
+
+    // It answers unless a read or a write failed or memory was refused.
+    ensures joined { (p : List ℕ) (traces : List (List ℕ)) → IsJoin (map string_bytes words.now) p traces
+        → (Rose (F.faults files.old p) (F.faults files.new p) → ⊥) → ((x : List ℕ) → Has traces x → Rose (F.faults files.old x) (F.faults files.new x) → ⊥)
+        → (Rose (K.faults out.old) (K.faults out.new) → ⊥)
+        → IsJoined (F.told files.old p) (map (F.told files.old) traces) result (K.taken out.old) (K.taken out.new) }
+
     // Each fault has its cause, and where a count rose the status says so. What files tell stays as it was, and no count
     // falls.
     ensures read { result ≡ Status.ReadFault → HasReadCause (map string_bytes words.now) (F.told files.old) (F.faults files.old) (F.faults files.new) }
@@ -112,7 +145,7 @@ pub fn dalgo<F: Files, K: Sink, L: Link, S: Spawner>(
     ensures told { (x : List ℕ) → F.told files.new x ≡ F.told files.old x }
     ensures counts { (x : List ℕ) → F.faults files.old x ≤ F.faults files.new x }
     ensures write { HasCause (K.faults out.old) (K.faults out.new) (result ≡ Status.WriteFault) }
-    ensures link { HasCause (L.faults link.old) (L.faults link.new) (result ≡ Status.LinkFault) }
+    ensures link { HasCause (L.faults (inner_of link.old)) (L.faults (inner_of link.new)) (result ≡ Status.LinkFault) }
     ensures only_node { result ≡ Status.LinkFault → (p : List ℕ) × (setting : NodeSetting) × IsNode (map string_bytes words.now) p setting }
     ensures children { HasChildCause (S.faults children.old) (S.faults children.new) result }
     ensures only_launch { result ≡ Status.ChildFault → (p : List ℕ) × (setting : LaunchSetting) × IsLaunch (map string_bytes words.now) p setting }
@@ -124,6 +157,7 @@ pub fn dalgo<F: Files, K: Sink, L: Link, S: Spawner>(
         Command::Launch { setting, program } => launch(
             alloc, setting, program, files, out, children,
         ),
+        Command::Join { program, traces } => join(alloc, program, traces, files, out),
         Command::Other => say(out, b"words\n", Status::Words),
     }
 }

@@ -1,8 +1,9 @@
 //! What the words of a call ask for.
+ghost use Rattle.da_commands.specs.JoinReplies.{IsJoin};
 ghost use Rattle.da_commands.specs.LaunchReplies.{IsLaunchSetting};
 ghost use Rattle.da_commands.specs.NodeReplies.{IsSetting};
-ghost use Rattle.da_commands.specs.Words.{IsAsked, IsBetween};
-ghost use Rattle.std.specs.Prelude.{◌≡◌, ℕ, [], ◌∷◌, IfNone, IfSome, decimal, map};
+ghost use Rattle.da_commands.specs.Words.{IsAsked, IsAskedPlainly, IsBetween};
+ghost use Rattle.std.specs.Prelude.{◌≡◌, ℕ, [], ◌∷◌, IfNone, IfSome, List, decimal, map};
 ghost use Rattle.std.specs.String.{string_bytes};
 
 use itoa::Buffer;
@@ -63,6 +64,11 @@ pub enum Command<'a> {
         setting: LaunchSetting,
         program: &'a str,
     },
+    /// To make one schedule for the program of this name, of the traces of those names.
+    Join {
+        program: &'a str,
+        traces: &'a [String],
+    },
     /// Nothing that it knows.
     Other,
 }
@@ -92,8 +98,42 @@ const MOST_PROCESSES: u64 = 64;
 const MOST_ANSWERS: u64 = 1_000_000_000;
 
 /// What these words ask for.
+#[tactic(auto, using(crate::proofs::WordLemmas::asked_plainly))]
 pub fn command_of(words: &[String]) -> Command<'_>
     ensures { IsAsked (map string_bytes words.now) result }
+{
+    match join_of(words) {
+        Some(command) => command,
+        None => plain_command_of(words),
+    }
+}
+
+// The join that these words ask for, or `None` where they ask for none.
+fn join_of(words: &[String]) -> Option<Command<'_>>
+    ensures some { IfSome result (IsAsked (map string_bytes words.now)) }
+    ensures none { IfNone result ((p : List ℕ) (traces : List (List ℕ)) → IsJoin (map string_bytes words.now) p traces → ⊥) }
+{
+    match words {
+        [command, program, traces @ ..] => { join_by(command.as_str(), program.as_str(), traces) }
+        _ => None,
+    }
+}
+
+// The join that two words and more ask for, or `None`.
+fn join_by<'a>(command: &str, program: &'a str, traces: &'a [String]) -> Option<Command<'a>>
+    ensures some { IfSome result (IsAsked (command.now ∷ program.now ∷ map string_bytes traces.now)) }
+    ensures none { IfNone result ((p : List ℕ) (names : List (List ℕ)) → IsJoin (command.now ∷ program.now ∷ map string_bytes traces.now) p names → ⊥) }
+{
+    if command == "join" {
+        Some(Command::Join { program, traces })
+    } else {
+        None
+    }
+}
+
+// What these words ask for, which ask for no join.
+fn plain_command_of(words: &[String]) -> Command<'_>
+    ensures { IsAskedPlainly (map string_bytes words.now) result }
 {
     match words {
         [command, program] => task_of(command.as_str(), program.as_str()),
@@ -127,7 +167,7 @@ pub fn command_of(words: &[String]) -> Command<'_>
 
 // What two words ask for.
 fn task_of<'a>(command: &str, program: &'a str) -> Command<'a>
-    ensures { IsAsked (command.now ∷ program.now ∷ []) result }
+    ensures { IsAskedPlainly (command.now ∷ program.now ∷ []) result }
 {
     if command == "check" {
         Command::Carry {
@@ -146,7 +186,7 @@ fn task_of<'a>(command: &str, program: &'a str) -> Command<'a>
 
 // What three words ask for.
 fn replay_of<'a>(command: &str, program: &'a str, schedule: &'a str) -> Command<'a>
-    ensures { IsAsked (command.now ∷ program.now ∷ schedule.now ∷ []) result }
+    ensures { IsAskedPlainly (command.now ∷ program.now ∷ schedule.now ∷ []) result }
 {
     if command == "replay" {
         Command::Replay(Names { program, schedule })
@@ -157,7 +197,7 @@ fn replay_of<'a>(command: &str, program: &'a str, schedule: &'a str) -> Command<
 
 // What four words ask for.
 fn stress_of<'a>(command: &str, program: &'a str, start: &str, most: &str) -> Command<'a>
-    ensures { IsAsked (command.now ∷ program.now ∷ start.now ∷ most.now ∷ []) result }
+    ensures { IsAskedPlainly (command.now ∷ program.now ∷ start.now ∷ most.now ∷ []) result }
 {
     if command != "stress" {
         return Command::Other;
@@ -182,7 +222,7 @@ fn launch_of<'a>(
     idle: &str,
     turns: &str,
 ) -> Command<'a>
-    ensures { IsAsked (command.now ∷ program.now ∷ port.now ∷ idle.now ∷ turns.now ∷ []) result }
+    ensures { IsAskedPlainly (command.now ∷ program.now ∷ port.now ∷ idle.now ∷ turns.now ∷ []) result }
 {
     if command != "launch" {
         return Command::Other;
@@ -202,7 +242,7 @@ fn node_of<'a>(
     idle: &str,
     turns: &str,
 ) -> Command<'a>
-    ensures { IsAsked (command.now ∷ program.now ∷ port.now ∷ me.now ∷ idle.now ∷ turns.now ∷ []) result }
+    ensures { IsAskedPlainly (command.now ∷ program.now ∷ port.now ∷ me.now ∷ idle.now ∷ turns.now ∷ []) result }
 {
     if command != "node" {
         return Command::Other;

@@ -1,9 +1,10 @@
-//! Checks DistAlgo programs, replays their schedules, and runs their processes as nodes, alone or all together: writes what they
-//! do.
+//! Checks DistAlgo programs, replays their schedules, runs their processes as nodes, alone or all together, and joins what nodes
+//! told: writes what they do.
 #![tactic(auto)]
 
 mod again;
 mod exit;
+mod joined;
 mod needs;
 mod refused;
 mod report;
@@ -11,6 +12,7 @@ mod stopped;
 mod watch;
 mod words;
 
+use arq_link::ArqLink;
 use da_commands::{Status, dalgo};
 use da_outside::{RealFiles, RealSink, RealSpawner};
 use exit::{NoWords, exit_code};
@@ -28,6 +30,7 @@ fn main(rt: HostRuntime) -> ExitCode {
             status: Status::Memory,
             fault: &[],
             count: 0,
+            blocks: &[],
             child: None,
         };
         report(&rt, &[], outcome);
@@ -35,7 +38,7 @@ fn main(rt: HostRuntime) -> ExitCode {
     exit_code(words, |words| {
         let mut files = RealFiles::new(&rt);
         let mut out = Watched::new(rt.alloc(), RealSink::new(&rt));
-        let mut link = UdpLink::new(&rt);
+        let mut link = ArqLink::new(rt.alloc(), UdpLink::new(&rt));
         let mut children = RealSpawner::new(&rt, None);
         let status = dalgo(
             rt.alloc(),
@@ -50,6 +53,7 @@ fn main(rt: HostRuntime) -> ExitCode {
             status,
             fault: out.fault(),
             count: out.count(),
+            blocks: out.blocks(),
             child: children.trouble(),
         };
         report(&rt, words.as_slice(), outcome);

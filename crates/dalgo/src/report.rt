@@ -1,30 +1,33 @@
 //! What a person is told on standard error: why the work was not done, in a few lines, and of a run that a process ended with a
 //! fault. What cannot be told is left out: the exit status says how the call ended.
 use crate::again::{TOLD, shown};
+use crate::joined::{tell_bad_trace, tell_blocks};
 use crate::refused::tell_refused;
 use crate::stopped::{tell_bad_line, tell_fault, tell_forbidden};
 use crate::words::why_not;
-use da_commands::{Command, Names, NodeSetting, Status, command_of};
+use da_commands::{Command, Names, NodeSetting, RefusedKind, Status, command_of};
 use da_outside::ChildTrouble;
+use run_hints::Blocked;
 use std::io::Eprint;
 use std::{fs, io, rt};
 
 const USAGE: &str = "\
 usage:
-  dalgo check PROG
+  dalgo check PROG, dalgo plan PROG
   dalgo replay PROG SCHED
-  dalgo plan PROG
+  dalgo join PROG TRACE..                 what the nodes wrote, in the order of their processes
   dalgo stress PROG START N               START from 0 to 281474976710655, N from 1 to 1000000
   dalgo node PROG PORT ME IDLE TURNS      PORT from 1024 to 65000, ME from 1 to 64,
   dalgo launch PROG PORT IDLE TURNS       IDLE and TURNS from 1 to 1000000000";
 
-/// How a call ended: its status, the first line that told a fault, how many such lines there were, and the first child at which
-/// a call failed, with the reason.
+/// How a call ended: its status, the first line that told a fault, how many such lines there were, the processes that are blocked in
+/// a join, and the first child at which a call failed, with the reason.
 #[derive(Clone, Copy)]
 pub struct Outcome<'f> {
     pub status: Status,
     pub fault: &'f [u8],
     pub count: usize,
+    pub blocks: &'f [Blocked],
     pub child: Option<&'f (u32, ChildTrouble)>,
 }
 
@@ -36,6 +39,7 @@ pub fn report<R: rt::Files + AllocGlobal + Eprint>(rt: &R, words: &[String], out
         Command::Carry { program, .. } => tell_program(rt, program, status),
         Command::Node { setting, program } => tell_node(rt, setting, program, outcome),
         Command::Launch { program, .. } => tell_launch(rt, program, outcome),
+        Command::Join { program, traces } => tell_join(rt, program, traces, outcome),
         Command::Other => tell_common(rt, words, status),
     };
     drop(told);
@@ -102,6 +106,48 @@ fn tell_node<R: rt::Files + AllocGlobal + Eprint>(
         Status::Idle => eprintln!(rt; "dalgo: node {me}: idle for {idle} turns in a row"),
         Status::Spent => eprintln!(rt; "dalgo: node {me}: all {turns} turns are spent"),
         Status::Faulted => tell_fault(rt, program, outcome.fault, outcome.count),
+        status => tell_program(rt, program, status),
+    }
+}
+
+// How a join ended.
+fn tell_join<R: rt::Files + AllocGlobal + Eprint>(
+    rt: &R,
+    program: &str,
+    traces: &[String],
+    outcome: Outcome<'_>,
+) -> io::Result<()> {
+    match outcome.status {
+        Status::BadTrace { process, line } => {
+            match usize::from(process)
+                .checked_sub(1)
+                .and_then(|place| traces.get(place))
+            {
+                Some(name) => tell_bad_trace(rt, name.as_str(), process, line),
+                None => Ok(()),
+            }
+        }
+        Status::NoJoin => tell_blocks(rt, program, traces, outcome.blocks),
+        Status::Refused {
+            kind: RefusedKind::Traces,
+            ..
+        } => {
+            let count = traces.len();
+            eprintln!(rt;
+                "{program}: a join takes one trace for each process that main makes, and not {count}"
+            )
+        }
+        Status::ReadFault => {
+            if tell_unread(rt, program)? {
+                return Ok(());
+            }
+            for name in traces {
+                if tell_unread(rt, name.as_str())? {
+                    return Ok(());
+                }
+            }
+            tell_common(rt, &[], outcome.status)
+        }
         status => tell_program(rt, program, status),
     }
 }

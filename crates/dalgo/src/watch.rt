@@ -1,24 +1,26 @@
-//! A sink that looks for faults among the lines that go through it.
+//! A sink that looks for faults, and for processes that are blocked, among the lines that go through it.
 use da_outside::{Sink, Trouble};
 use da_values::{Buf, List};
+use run_hints::{Blocked, blocked_in};
 use std::alloc::Global;
 
-/// The bytes of a line that are kept at most: no line of a fault has more.
+/// The bytes of a line that are kept at most: no line of a fault or of a blocked process has more.
 const KEPT: usize = 60;
 
-/// A sink that hands all bytes on, and keeps the first line that tells a fault.
+/// A sink that hands all bytes on, and keeps the first line that tells a fault, and the processes that are blocked.
 #[derive(Drop)]
 pub struct Watched<K> {
     sink: K,
     seen: Seen,
 }
 
-// What went through: the front of the last line, the first line of a fault, and how many there were.
+// What went through: the front of the last line, the first line of a fault, how many there were, and the processes that are blocked.
 #[derive(Drop)]
 struct Seen {
     line: Buf,
     fault: Buf,
     count: usize,
+    blocks: List<Blocked>,
 }
 
 impl<K> Watched<K> {
@@ -30,6 +32,7 @@ impl<K> Watched<K> {
                 line: List::new(alloc),
                 fault: List::new(alloc),
                 count: 0,
+                blocks: List::new(alloc),
             },
         }
     }
@@ -37,6 +40,11 @@ impl<K> Watched<K> {
     /// The first line that tells a fault, without its end; it is empty where there is none.
     pub fn fault(&self) -> &[u8] {
         self.seen.fault.as_slice()
+    }
+
+    /// The processes that are blocked, as far as memory was there for them.
+    pub fn blocks(&self) -> &[Blocked] {
+        self.seen.blocks.as_slice()
     }
 
     /// How many lines tell a fault.
@@ -64,6 +72,9 @@ impl Seen {
                 let _ = self.fault.append(self.line.as_slice());
             }
             self.count = self.count.saturating_add(1);
+        }
+        if let Some(block) = blocked_in(self.line.as_slice()) {
+            let _ = self.blocks.push(block);
         }
         self.line.truncate(0);
     }

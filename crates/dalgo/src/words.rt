@@ -2,14 +2,15 @@
 use std::alloc::Global;
 use text_hints::{Nearest, Phrase};
 
-/// The commands, and how many words stand behind each.
-const COMMANDS: [(&[u8], usize); 6] = [
+/// The commands, and how many words stand behind each; behind `join` there may be more.
+const COMMANDS: [(&[u8], usize); 7] = [
     (b"check", 1),
     (b"replay", 2),
     (b"plan", 1),
     (b"stress", 3),
     (b"node", 5),
     (b"launch", 4),
+    (b"join", 1),
 ];
 
 /// A word that is a number, and the least and the greatest that it may be.
@@ -94,6 +95,11 @@ pub fn why_not(alloc: Global, words: &[String]) -> Phrase {
     let command = command.as_bytes();
     match count_of(command) {
         None => tell_command(alloc, command, &mut told),
+        Some(_) if command == b"join".as_slice() => {
+            told.put(
+                b"'join' takes the name of a program and those of traces behind it, and none is given",
+            );
+        }
         Some(count) if count != rest.len() => {
             told.quote(command);
             told.put(b" takes ");

@@ -5,7 +5,9 @@
 //! `=== rows SCHEDULE` each line `PART ==> TEXT` is a case: the last program has the part in the place of each `@`, and
 //! `; ` stands between the lines of the text. Behind `=== rows` alone the part is the schedule. Behind `=== node WORDS`
 //! stands what a node of the last program writes and gives, and behind `=== stress WORDS` what a generated schedule comes
-//! to. Other parts are remarks.
+//! to. Behind `=== join` stand traces, each with a line `--` behind it, and behind a line `==>` what their join gives. Behind
+//! `=== joins PART` each line `TRACES ==> TEXT` is a case, over the last program with the part in the place of each `@`: `|`
+//! stands between the traces, and `; ` between the lines of each and of the text. Other parts are remarks.
 use std::alloc::{AllocError, Global};
 
 /// What is done with a program.
@@ -17,6 +19,8 @@ pub enum Task {
     Node,
     /// A generated schedule is run.
     Stress,
+    /// Traces are joined.
+    Join,
 }
 
 /// A program, what is done with it, the schedule or the words of that, and what it is to write.
@@ -41,6 +45,11 @@ pub fn cases_of(alloc: Global, file: &str) -> Result<Vec<Case>, AllocError> {
             "rows" => push_rows(alloc, program, words, text, &mut cases)?,
             "node" => cases.push(task_case(alloc, program, Task::Node, words, text)?)?,
             "stress" => cases.push(task_case(alloc, program, Task::Stress, words, text)?)?,
+            "join" => {
+                let (traces, wanted) = text.split_once("==>\n").unwrap_or((text, ""));
+                cases.push(task_case(alloc, program, Task::Join, traces, wanted)?)?;
+            }
+            "joins" => push_joins(alloc, program, words, text, &mut cases)?,
             _ => {}
         }
     }
@@ -70,6 +79,28 @@ fn push_rows(
     Ok(())
 }
 
+// Adds the joins of rows.
+fn push_joins(
+    alloc: Global,
+    program: &str,
+    part: &str,
+    rows: &str,
+    cases: &mut Vec<Case>,
+) -> Result<(), AllocError> {
+    for row in rows.lines() {
+        if let Some((traces, expected)) = row.split_once(" ==>") {
+            let mut case = task_case(alloc, "", Task::Join, "", "")?;
+            push_program(program, part, &mut case.program)?;
+            push_traces(traces, &mut case.words)?;
+            if let Some(lines) = expected.strip_prefix(' ') {
+                push_lines(lines, &mut case.expected)?;
+            }
+            cases.push(case)?;
+        }
+    }
+    Ok(())
+}
+
 // A case whose program has a part in the place of each `@`.
 fn case_of(
     alloc: Global,
@@ -84,15 +115,21 @@ fn case_of(
         words: String::new(alloc),
         expected: String::new(alloc),
     };
-    for (place, piece) in program.split('@').enumerate() {
-        if place > 0 {
-            case.program.push_str(part)?;
-        }
-        case.program.push_str(piece)?;
-    }
+    push_program(program, part, &mut case.program)?;
     push_lines(schedule, &mut case.words)?;
     case.expected.push_str(expected)?;
     Ok(case)
+}
+
+// Adds a program, with a part in the place of each `@`.
+fn push_program(program: &str, part: &str, text: &mut String) -> Result<(), AllocError> {
+    for (place, piece) in program.split('@').enumerate() {
+        if place > 0 {
+            text.push_str(part)?;
+        }
+        text.push_str(piece)?;
+    }
+    Ok(())
 }
 
 // A case of another task, by its words.
@@ -113,6 +150,17 @@ fn task_case(
     case.words.push_str(words)?;
     case.expected.push_str(expected)?;
     Ok(case)
+}
+
+// Adds traces that have `|` between them, each with a line `--` behind it.
+fn push_traces(traces: &str, text: &mut String) -> Result<(), AllocError> {
+    for trace in traces.split('|') {
+        if !trace.trim().is_empty() {
+            push_lines(trace.trim(), text)?;
+        }
+        text.push_str("--\n")?;
+    }
+    Ok(())
 }
 
 // Adds lines that have `; ` between them.

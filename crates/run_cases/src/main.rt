@@ -1,15 +1,17 @@
-//! Replays the programs in files, runs their nodes and generated schedules, and prints for each file how many cases it has
+//! Replays the programs in files, runs their nodes and generated schedules, joins traces of theirs, and prints for each file how many cases it has
 //! and how many of them differ from what was expected, and before that what these wrote.
 #![tactic(auto)]
 
 mod cases;
 mod compiling;
+mod joins;
 mod nodes;
 mod replays;
 mod stresses;
 
 use anyhow::Context;
 use cases::{Case, Task, cases_of};
+use joins::join_reply;
 use nodes::node_reply;
 use replays::replay_reply;
 use std::alloc::Global;
@@ -17,7 +19,7 @@ use std::{fs, rt};
 use stresses::stress_reply;
 
 /// The files of cases, in the order of the answers.
-const FILES: [&str; 27] = [
+const FILES: [&str; 29] = [
     "operators",
     "statements",
     "turns",
@@ -45,6 +47,8 @@ const FILES: [&str; 27] = [
     "gates",
     "held",
     "stresses",
+    "joins",
+    "joined",
 ];
 
 fn main(rt: HostRuntime) -> anyhow::Result<()> {
@@ -95,5 +99,6 @@ fn reply(alloc: Global, case: &Case) -> anyhow::Result<String> {
         Task::Replay => replay_reply(alloc, program.as_bytes(), words.as_bytes()),
         Task::Node => node_reply(alloc, program.as_bytes(), words),
         Task::Stress => stress_reply(alloc, program.as_bytes(), words),
+        Task::Join => join_reply(alloc, program.as_bytes(), words),
     }
 }

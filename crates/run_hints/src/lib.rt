@@ -1,19 +1,26 @@
 //! What a person is told of a run: of an event that is not allowed where its process stands, what is under way, and which
-//! events are allowed there, for which the program is run up to there once more; why a line is none of a schedule; and what a
-//! fault was. No contract speaks of the words.
+//! events are allowed there, for which the program is run up to there once more; why a line is none of a schedule; what a fault
+//! was; why a process is blocked in a join of traces, and why a line is none of a trace. No contract speaks of the words.
 #![tactic(auto)]
 
+mod blocks;
 mod faults;
 mod following;
 mod lines;
 mod marked;
 mod program;
+mod retrace;
 mod run;
 mod state;
 mod stop;
+mod trace_lines;
+mod unmade;
+mod unsent;
 mod waits;
 
+pub use blocks::{Blocked, blocked_in, explain_blocks};
 pub use faults::{Fault, explain_fault};
 pub use following::explain_events;
 pub use lines::explain_line;
 pub use stop::explain_stop;
+pub use trace_lines::{explain_trace_line, trace_line};

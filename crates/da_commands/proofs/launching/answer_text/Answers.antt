@@ -1,7 +1,7 @@
 use Rattle.std.proofs.Common.{◌≡◌}
 use Rattle.da_commands.specs.declared.status.RefusedKind.TheVariants.{Size}
 use Rattle.da_commands.specs.declared.status.Status.TheVariants.{ChildFault, Memory}
-use Rattle.da_commands.specs.LaunchReplies.{declined, early}
+use Rattle.da_commands.specs.LaunchReplies.{early}
 use Rattle.da_commands.specs.Verdict.{program_limit, too_long}
 use Rattle.da_outside.proofs.OutsideLemmas.{appends_none}
 use Rattle.da_commands.proofs.LaunchCallLemmas.{end_no_child, launch_refused}
@@ -13,7 +13,7 @@ use Rattle.da_commands.proofs.launching.answer_text.Goals as goal
 
 pub returns-then-text-gt-PROGRAM_LIMIT-clause-launched : goal.returns-then-text-gt-PROGRAM_LIMIT-clause-launched
 returns-then-text-gt-PROGRAM_LIMIT-clause-launched g c = λ t is.
-    launch_refused Size 0 t c.args.name.now c.args.setting _ _ _ c.refuse.result (declined Size 0 (too_long (take_beyond program_limit _ t is c.if-text-gt-PROGRAM_LIMIT.true))) c.refuse.ensures.said
+    launch_refused Size 0 t c.args.name.now c.args.setting _ _ _ c.refuse.result (too_long (take_beyond program_limit _ t is c.if-text-gt-PROGRAM_LIMIT.true)) c.refuse.ensures.said
 
 pub returns-then-text-gt-PROGRAM_LIMIT-clause-children : goal.returns-then-text-gt-PROGRAM_LIMIT-clause-children
 returns-then-text-gt-PROGRAM_LIMIT-clause-children g c = no_child_cause _ c.refuse.result (end_no_child c.refuse.result c.refuse.ensures.ends)
@@ -29,7 +29,7 @@ returns-in-Err-Refused-clause-launched g c = λ t is.
     let kind = c.in-Err-Refused.kind in
     let line = c.in-Err-Refused.line in
     launch_refused kind line t c.args.name.now c.args.setting _ _ _ c.refuse-in-Err-Refused.result
-    (declined kind line (refuses_within _ t _ _ _ is c.if-text-gt-PROGRAM_LIMIT.false c.in-Err-Refused.field-0-is c.in-Err-Refused.ensures.refused))
+    (refuses_within _ t _ _ _ is c.if-text-gt-PROGRAM_LIMIT.false c.in-Err-Refused.field-0-is c.in-Err-Refused.ensures.refused)
     (rw c.in-Err-Refused.field-0-is at c.refuse-in-Err-Refused.ensures.said)
 
 pub returns-in-Err-Refused-clause-children : goal.returns-in-Err-Refused-clause-children

@@ -1,19 +1,27 @@
-use Rattle.std.proofs.Common.{◌≡◌, subst, List, ℕ, sym}
+use Rattle.std.proofs.Common.{◌≡◌, subst, List, ℕ, map, sym}
+use Rattle.std.specs.String.{string_bytes}
 use Rattle.std.specs.Prelude.{Some}
+use Rattle.arq_link.specs.ArqLink.{inner_of}
+use Rattle.da_lang.specs.declared.ty.ChannelKind.{ChannelKind}
 use Rattle.da_outside.specs.Outside.{Rose}
 use Rattle.da_outside.proofs.OutsideLemmas.{no_cause}
 use Rattle.node_run.specs.NodeCall.{GivesPackets}
 use Rattle.da_commands.specs.declared.words.LaunchSetting.{LaunchSetting}
 use Rattle.da_commands.specs.declared.words.NodeSetting.{NodeSetting}
 use Rattle.da_commands.specs.declared.words.Task.{Task}
+use Rattle.da_values.specs.Sets.{Has}
+use Rattle.da_commands.specs.JoinReplies.{IsJoined, JoinReply}
 use Rattle.da_commands.specs.LaunchReplies.{HasLaunched, IsLaunched, LaunchStopped}
-use Rattle.da_commands.specs.NodeReplies.{HasAnswered, HasStopped, IsServed, LinkFailed}
+use Rattle.da_commands.specs.Links.{told_over}
+use Rattle.da_commands.specs.NodeReplies.{BindsOnce, HasAnswered, HasKind, HasStopped, IsServed, LinkFailed}
 use Rattle.da_commands.specs.Replies.{IsCarriedOut, ReplayReply, TaskReply}
-use Rattle.da_commands.specs.Told.{Begins, Gains, OfTold}
+use Rattle.da_commands.specs.Told.{Begins, Gains, OfAllTold, OfTold}
+use Rattle.da_commands.proofs.JoinLemmas.{at_join, is_joined, join_begun, join_whole, not_read_join, told_names}
 use Rattle.da_commands.proofs.LaunchCallLemmas.{at_launch, end_no_child, launch_answered, launch_has_stopped, launch_no_node, launch_quiet, said_childless, same_launch}
 use Rattle.da_commands.proofs.LaunchLemmas.{no_child_cause}
 use Rattle.da_commands.proofs.ReplyLemmas.{at_names, is_carried_out, not_read, runs_whole, same_names, same_task}
 use Rattle.da_commands.proofs.TopLemmas.{at_node, both_begun, both_whole, node_answered, node_has_stopped, node_link_failed, node_served, said_front, said_whole, same_node, told_begun, told_whole}
+use Rattle.da_commands.proofs.WordLemmas.{join_no_launch, join_no_node, join_no_replay, join_no_task, same_join}
 use Rattle.da_commands.proofs.ToldLemmas.{end_no_link, end_no_words, ends_unlinked, said_unlinked, said_unread}
 use Rattle.da_commands.proofs.top.dalgo.Goals as goal
 
@@ -56,6 +64,15 @@ returns-in-Replay-clause-children g c = no_child_cause _ c.replay.result (end_no
 pub returns-in-Replay-clause-only_launch : goal.returns-in-Replay-clause-only_launch
 returns-in-Replay-clause-only_launch g c = λ is. absurd (end_no_child c.replay.result c.replay.ensures.ends is)
 
+pub returns-in-Replay-clause-joins : goal.returns-in-Replay-clause-joins
+returns-in-Replay-clause-joins g c = λ p traces words. absurd (join_no_replay _ _ _ words _ _ c.in-Replay.ensures)
+
+pub returns-in-Replay-clause-begun_join : goal.returns-in-Replay-clause-begun_join
+returns-in-Replay-clause-begun_join g c = λ p traces words. absurd (join_no_replay _ _ _ words _ _ c.in-Replay.ensures)
+
+pub returns-in-Replay-clause-joined : goal.returns-in-Replay-clause-joined
+returns-in-Replay-clause-joined g c = λ p traces words. absurd (join_no_replay _ _ _ words _ _ c.in-Replay.ensures)
+
 -- A TASK
 
 pub returns-in-Carry-clause-answers : goal.returns-in-Carry-clause-answers
@@ -97,26 +114,41 @@ returns-in-Carry-clause-children g c = no_child_cause _ c.carry_out.result (end_
 pub returns-in-Carry-clause-only_launch : goal.returns-in-Carry-clause-only_launch
 returns-in-Carry-clause-only_launch g c = λ is. absurd (end_no_child c.carry_out.result c.carry_out.ensures.ends is)
 
+pub returns-in-Carry-clause-joins : goal.returns-in-Carry-clause-joins
+returns-in-Carry-clause-joins g c = λ p traces words. absurd (join_no_task _ _ _ words _ _ c.in-Carry.ensures)
+
+pub returns-in-Carry-clause-begun_join : goal.returns-in-Carry-clause-begun_join
+returns-in-Carry-clause-begun_join g c = λ p traces words. absurd (join_no_task _ _ _ words _ _ c.in-Carry.ensures)
+
+pub returns-in-Carry-clause-joined : goal.returns-in-Carry-clause-joined
+returns-in-Carry-clause-joined g c = λ p traces words. absurd (join_no_task _ _ _ words _ _ c.in-Carry.ensures)
+
 -- A NODE
 
 pub returns-in-Node-clause-node : goal.returns-in-Node-clause-node
 returns-in-Node-clause-node g c = λ p setting words answer.
-    let P : List ℕ → NodeSetting → Type 0 = λ x s. OfTold (g.F.Files.told c.args.files.now x) (λ t. HasAnswered t s c.run_node.result (g.L.Link.told c.args.link.now) (g.L.Link.told c.run_node.new.link) (g.K.Sink.taken c.args.out.now) (g.K.Sink.taken c.run_node.new.out)) in
-    at_node P p _ setting _ (same_node _ _ _ _ _ c.in-Node.ensures words) (node_answered _ _ _ _ _ _ c.run_node.result c.run_node.ensures.served answer)
+    let P : List ℕ → NodeSetting → Type 0 = λ x s. OfTold (g.F.Files.told c.args.files.now x) (λ t. (kind : ChannelKind) → HasKind t kind → HasAnswered t s c.run_node.result (told_over g.L.Link.told kind c.args.link.now) (told_over g.L.Link.told kind c.run_node.new.link) (g.K.Sink.taken c.args.out.now) (g.K.Sink.taken c.run_node.new.out)) in
+    at_node P p _ setting _ (same_node _ _ _ _ _ c.in-Node.ensures words) (node_answered c.in-Node.setting (λ kind. told_over g.L.Link.told kind c.args.link.now) (λ kind. told_over g.L.Link.told kind c.run_node.new.link) _ _ _ c.run_node.result c.run_node.ensures.served answer)
 
 pub returns-in-Node-clause-node_link : goal.returns-in-Node-clause-node_link
 returns-in-Node-clause-node_link g c = λ p setting words is.
-    let P : List ℕ → NodeSetting → Type 0 = λ x s. OfTold (g.F.Files.told c.args.files.now x) (λ t. LinkFailed t s (g.L.Link.told c.args.link.now) (g.L.Link.told c.run_node.new.link) (g.K.Sink.taken c.args.out.now) (g.K.Sink.taken c.run_node.new.out)) in
-    at_node P p _ setting _ (same_node _ _ _ _ _ c.in-Node.ensures words) (node_link_failed _ _ _ _ _ _ c.run_node.result c.run_node.ensures.served is)
+    let P : List ℕ → NodeSetting → Type 0 = λ x s. OfTold (g.F.Files.told c.args.files.now x) (λ t. (kind : ChannelKind) → HasKind t kind → LinkFailed t s (told_over g.L.Link.told kind c.args.link.now) (told_over g.L.Link.told kind c.run_node.new.link) (g.K.Sink.taken c.args.out.now) (g.K.Sink.taken c.run_node.new.out)) in
+    at_node P p _ setting _ (same_node _ _ _ _ _ c.in-Node.ensures words) (node_link_failed c.in-Node.setting (λ kind. told_over g.L.Link.told kind c.args.link.now) (λ kind. told_over g.L.Link.told kind c.run_node.new.link) _ _ _ c.run_node.result c.run_node.ensures.served is)
 
 pub returns-in-Node-clause-node_stopped : goal.returns-in-Node-clause-node_stopped
 returns-in-Node-clause-node_stopped g c = λ p setting words never unlinked.
-    let P : List ℕ → NodeSetting → Type 0 = λ x s. OfTold (g.F.Files.told c.args.files.now x) (λ t. HasStopped t s c.run_node.result (g.L.Link.told c.args.link.now) (g.L.Link.told c.run_node.new.link) (g.K.Sink.taken c.args.out.now) (g.K.Sink.taken c.run_node.new.out)) in
-    at_node P p _ setting _ (same_node _ _ _ _ _ c.in-Node.ensures words) (node_has_stopped _ _ _ _ _ _ c.run_node.result c.run_node.ensures.served never unlinked)
+    let P : List ℕ → NodeSetting → Type 0 = λ x s. OfTold (g.F.Files.told c.args.files.now x) (λ t. (kind : ChannelKind) → HasKind t kind → HasStopped t s c.run_node.result (told_over g.L.Link.told kind c.args.link.now) (told_over g.L.Link.told kind c.run_node.new.link) (g.K.Sink.taken c.args.out.now) (g.K.Sink.taken c.run_node.new.out)) in
+    at_node P p _ setting _ (same_node _ _ _ _ _ c.in-Node.ensures words) (node_has_stopped c.in-Node.setting (λ kind. told_over g.L.Link.told kind c.args.link.now) (λ kind. told_over g.L.Link.told kind c.run_node.new.link) _ _ _ c.run_node.result c.run_node.ensures.served never unlinked)
 
 pub returns-in-Node-clause-node_packets : goal.returns-in-Node-clause-node_packets
 returns-in-Node-clause-node_packets g c = λ p setting words.
-    subst (λ (s : NodeSetting). GivesPackets s.me (g.L.Link.told c.args.link.now) (g.L.Link.told c.run_node.new.link)) (sym (same_node _ _ _ _ _ c.in-Node.ensures words).1) c.run_node.ensures.packets
+    let P : List ℕ → NodeSetting → Type 0 = λ x s. OfTold (g.F.Files.told c.args.files.now x) (λ t. (kind : ChannelKind) → HasKind t kind → GivesPackets s.me (told_over g.L.Link.told kind c.args.link.now) (told_over g.L.Link.told kind c.run_node.new.link)) in
+    at_node P p _ setting _ (same_node _ _ _ _ _ c.in-Node.ensures words) c.run_node.ensures.packets
+
+pub returns-in-Node-clause-binds : goal.returns-in-Node-clause-binds
+returns-in-Node-clause-binds g c = λ p setting words.
+    let P : List ℕ → NodeSetting → Type 0 = λ x s. OfTold (g.F.Files.told c.args.files.now x) (λ t. BindsOnce t s (g.L.Link.told (inner_of c.args.link.now)) (g.L.Link.told (inner_of c.run_node.new.link))) in
+    at_node P p _ setting _ (same_node _ _ _ _ _ c.in-Node.ensures words) c.run_node.ensures.binds
 
 pub returns-in-Node-clause-served : goal.returns-in-Node-clause-served
 returns-in-Node-clause-served g c = λ p t program setting words told accepts quiet quiet_out quiet_link.
@@ -124,8 +156,8 @@ returns-in-Node-clause-served g c = λ p t program setting words told accepts qu
     let here : g.F.Files.told c.args.files.now c.in-Node.program.now ≡ Some t = subst (λ n. g.F.Files.told c.args.files.now n ≡ Some t) same.0 told in
     let quiet_here : Rose (g.F.Files.faults c.args.files.now c.in-Node.program.now) (g.F.Files.faults c.run_node.new.files c.in-Node.program.now) → ⊥ =
     subst (λ n. Rose (g.F.Files.faults c.args.files.now n) (g.F.Files.faults c.run_node.new.files n) → ⊥) same.0 quiet in
-    subst (λ s. IsServed t s c.run_node.result (g.L.Link.told c.args.link.now) (g.L.Link.told c.run_node.new.link) (g.K.Sink.taken c.args.out.now) (g.K.Sink.taken c.run_node.new.out)) (sym same.1)
-    (node_served _ _ _ _ _ _ c.run_node.result c.run_node.ensures.served t here (λ failed. quiet_here (c.run_node.ensures.read failed))
+    subst (λ s. IsServed t s c.run_node.result (told_over g.L.Link.told program.kind c.args.link.now) (told_over g.L.Link.told program.kind c.run_node.new.link) (g.K.Sink.taken c.args.out.now) (g.K.Sink.taken c.run_node.new.out)) (sym same.1)
+    (node_served c.in-Node.setting (λ kind. told_over g.L.Link.told kind c.args.link.now) (λ kind. told_over g.L.Link.told kind c.run_node.new.link) _ _ _ c.run_node.result c.run_node.ensures.served t program here accepts (λ failed. quiet_here (c.run_node.ensures.read failed))
     (λ failed. quiet_out (c.run_node.ensures.write.failed failed)) (λ failed. quiet_link (c.run_node.ensures.link.failed failed)))
 
 pub returns-in-Node-clause-unlinked : goal.returns-in-Node-clause-unlinked
@@ -145,6 +177,15 @@ returns-in-Node-clause-children g c = no_child_cause _ c.run_node.result c.run_n
 
 pub returns-in-Node-clause-only_launch : goal.returns-in-Node-clause-only_launch
 returns-in-Node-clause-only_launch g c = λ is. absurd (c.run_node.ensures.childless is)
+
+pub returns-in-Node-clause-joins : goal.returns-in-Node-clause-joins
+returns-in-Node-clause-joins g c = λ p traces words. absurd (join_no_node _ _ _ words _ _ c.in-Node.ensures)
+
+pub returns-in-Node-clause-begun_join : goal.returns-in-Node-clause-begun_join
+returns-in-Node-clause-begun_join g c = λ p traces words. absurd (join_no_node _ _ _ words _ _ c.in-Node.ensures)
+
+pub returns-in-Node-clause-joined : goal.returns-in-Node-clause-joined
+returns-in-Node-clause-joined g c = λ p traces words. absurd (join_no_node _ _ _ words _ _ c.in-Node.ensures)
 
 -- A LAUNCH
 
@@ -184,6 +225,114 @@ returns-in-Launch-clause-link g c = no_cause _ c.launch.ensures.link
 
 pub returns-in-Launch-clause-only_node : goal.returns-in-Launch-clause-only_node
 returns-in-Launch-clause-only_node g c = λ is. absurd (c.launch.ensures.link is)
+
+pub returns-in-Launch-clause-joins : goal.returns-in-Launch-clause-joins
+returns-in-Launch-clause-joins g c = λ p traces words. absurd (join_no_launch _ _ _ words _ _ c.in-Launch.ensures)
+
+pub returns-in-Launch-clause-begun_join : goal.returns-in-Launch-clause-begun_join
+returns-in-Launch-clause-begun_join g c = λ p traces words. absurd (join_no_launch _ _ _ words _ _ c.in-Launch.ensures)
+
+pub returns-in-Launch-clause-joined : goal.returns-in-Launch-clause-joined
+returns-in-Launch-clause-joined g c = λ p traces words. absurd (join_no_launch _ _ _ words _ _ c.in-Launch.ensures)
+
+-- A JOIN
+
+pub returns-in-Join-clause-joins : goal.returns-in-Join-clause-joins
+returns-in-Join-clause-joins g c = λ p traces words answer.
+    let R : List ℕ → List (List ℕ) → Type 0 = λ x xs. OfTold (g.F.Files.told c.args.files.now x) (λ t. OfAllTold (map (g.F.Files.told c.args.files.now) xs)
+    (λ texts. Gains (JoinReply t texts) c.join.result (g.K.Sink.taken c.args.out.now) (g.K.Sink.taken c.join.new.out))) in
+    at_join R p c.in-Join.program.now traces (map string_bytes c.in-Join.traces.now) (same_join _ _ _ c.in-Join.ensures p traces words)
+    (subst (λ os. OfTold (g.F.Files.told c.args.files.now c.in-Join.program.now) (λ t. OfAllTold os (λ texts. Gains (JoinReply t texts) c.join.result (g.K.Sink.taken c.args.out.now) (g.K.Sink.taken c.join.new.out))))
+    (told_names (g.F.Files.told c.args.files.now) c.in-Join.traces.now) (join_whole (g.F.Files.told c.args.files.now c.in-Join.program.now) (map (λ name. g.F.Files.told c.args.files.now (string_bytes name)) c.in-Join.traces.now) c.join.result (g.K.Sink.taken c.args.out.now) (g.K.Sink.taken c.join.new.out) c.join.ensures.replies answer))
+
+pub returns-in-Join-clause-begun_join : goal.returns-in-Join-clause-begun_join
+returns-in-Join-clause-begun_join g c = λ p traces words never.
+    let R : List ℕ → List (List ℕ) → Type 0 = λ x xs. OfTold (g.F.Files.told c.args.files.now x) (λ t. OfAllTold (map (g.F.Files.told c.args.files.now) xs)
+    (λ texts. Begins (JoinReply t texts) (g.K.Sink.taken c.args.out.now) (g.K.Sink.taken c.join.new.out))) in
+    at_join R p c.in-Join.program.now traces (map string_bytes c.in-Join.traces.now) (same_join _ _ _ c.in-Join.ensures p traces words)
+    (subst (λ os. OfTold (g.F.Files.told c.args.files.now c.in-Join.program.now) (λ t. OfAllTold os (λ texts. Begins (JoinReply t texts) (g.K.Sink.taken c.args.out.now) (g.K.Sink.taken c.join.new.out))))
+    (told_names (g.F.Files.told c.args.files.now) c.in-Join.traces.now) (join_begun (g.F.Files.told c.args.files.now c.in-Join.program.now) (map (λ name. g.F.Files.told c.args.files.now (string_bytes name)) c.in-Join.traces.now) c.join.result (g.K.Sink.taken c.args.out.now) (g.K.Sink.taken c.join.new.out) c.join.ensures.replies never))
+
+pub returns-in-Join-clause-joined : goal.returns-in-Join-clause-joined
+returns-in-Join-clause-joined g c = λ p traces words quiet quiet_traces quiet_out.
+    let same = same_join _ _ _ c.in-Join.ensures p traces words in
+    let R : List ℕ → List (List ℕ) → Type 0 = λ x xs. IsJoined (g.F.Files.told c.args.files.now x) (map (g.F.Files.told c.args.files.now) xs) c.join.result (g.K.Sink.taken c.args.out.now) (g.K.Sink.taken c.join.new.out) in
+    let quiet_here : Rose (g.F.Files.faults c.args.files.now c.in-Join.program.now) (g.F.Files.faults c.join.new.files c.in-Join.program.now) → ⊥ =
+    subst (λ n. Rose (g.F.Files.faults c.args.files.now n) (g.F.Files.faults c.join.new.files n) → ⊥) same.0 quiet in
+    let quiet_there : (x : List ℕ) → Has (map string_bytes c.in-Join.traces.now) x → Rose (g.F.Files.faults c.args.files.now x) (g.F.Files.faults c.join.new.files x) → ⊥ =
+    subst (λ xs. (x : List ℕ) → Has xs x → Rose (g.F.Files.faults c.args.files.now x) (g.F.Files.faults c.join.new.files x) → ⊥) same.1 quiet_traces in
+    at_join R p c.in-Join.program.now traces (map string_bytes c.in-Join.traces.now) same
+    (subst (λ os. IsJoined (g.F.Files.told c.args.files.now c.in-Join.program.now) os c.join.result (g.K.Sink.taken c.args.out.now) (g.K.Sink.taken c.join.new.out))
+    (told_names (g.F.Files.told c.args.files.now) c.in-Join.traces.now)
+    (is_joined (g.F.Files.told c.args.files.now c.in-Join.program.now) (map (λ name. g.F.Files.told c.args.files.now (string_bytes name)) c.in-Join.traces.now) c.join.result (g.K.Sink.taken c.args.out.now) (g.K.Sink.taken c.join.new.out) c.join.ensures.ends (λ failed. not_read_join (g.F.Files.told c.args.files.now c.in-Join.program.now) (g.F.Files.faults c.args.files.now) (g.F.Files.faults c.join.new.files) c.in-Join.program.now (map string_bytes c.in-Join.traces.now) (c.join.ensures.read failed) quiet_here quiet_there) (λ failed. quiet_out (c.join.ensures.write.failed failed)) c.join.ensures.replies))
+
+pub returns-in-Join-clause-link : goal.returns-in-Join-clause-link
+returns-in-Join-clause-link g c = ends_unlinked c.join.result _ c.join.ensures.ends
+
+pub returns-in-Join-clause-only_words : goal.returns-in-Join-clause-only_words
+returns-in-Join-clause-only_words g c = λ is. absurd (end_no_words c.join.result c.join.ensures.ends is)
+
+pub returns-in-Join-clause-only_node : goal.returns-in-Join-clause-only_node
+returns-in-Join-clause-only_node g c = λ is. absurd (end_no_link c.join.result c.join.ensures.ends is)
+
+pub returns-in-Join-clause-children : goal.returns-in-Join-clause-children
+returns-in-Join-clause-children g c = no_child_cause _ c.join.result (end_no_child c.join.result c.join.ensures.ends)
+
+pub returns-in-Join-clause-only_launch : goal.returns-in-Join-clause-only_launch
+returns-in-Join-clause-only_launch g c = λ is. absurd (end_no_child c.join.result c.join.ensures.ends is)
+
+-- which asks for nothing else
+
+pub returns-in-Join-clause-replies : goal.returns-in-Join-clause-replies
+returns-in-Join-clause-replies g c = λ p q words. absurd (join_no_replay _ _ _ c.in-Join.ensures p q words)
+
+pub returns-in-Join-clause-complete : goal.returns-in-Join-clause-complete
+returns-in-Join-clause-complete g c = λ p q t s program events words. absurd (join_no_replay _ _ _ c.in-Join.ensures p q words)
+
+pub returns-in-Join-clause-begun : goal.returns-in-Join-clause-begun
+returns-in-Join-clause-begun g c = λ p q words. absurd (join_no_replay _ _ _ c.in-Join.ensures p q words)
+
+pub returns-in-Join-clause-answers : goal.returns-in-Join-clause-answers
+returns-in-Join-clause-answers g c = λ task p words. absurd (join_no_task _ _ _ c.in-Join.ensures task p words)
+
+pub returns-in-Join-clause-carried_out : goal.returns-in-Join-clause-carried_out
+returns-in-Join-clause-carried_out g c = λ task p t program words. absurd (join_no_task _ _ _ c.in-Join.ensures task p words)
+
+pub returns-in-Join-clause-begun_task : goal.returns-in-Join-clause-begun_task
+returns-in-Join-clause-begun_task g c = λ task p words. absurd (join_no_task _ _ _ c.in-Join.ensures task p words)
+
+pub returns-in-Join-clause-node : goal.returns-in-Join-clause-node
+returns-in-Join-clause-node g c = λ p setting words. absurd (join_no_node _ _ _ c.in-Join.ensures p setting words)
+
+pub returns-in-Join-clause-node_link : goal.returns-in-Join-clause-node_link
+returns-in-Join-clause-node_link g c = λ p setting words. absurd (join_no_node _ _ _ c.in-Join.ensures p setting words)
+
+pub returns-in-Join-clause-node_stopped : goal.returns-in-Join-clause-node_stopped
+returns-in-Join-clause-node_stopped g c = λ p setting words. absurd (join_no_node _ _ _ c.in-Join.ensures p setting words)
+
+pub returns-in-Join-clause-node_packets : goal.returns-in-Join-clause-node_packets
+returns-in-Join-clause-node_packets g c = λ p setting words. absurd (join_no_node _ _ _ c.in-Join.ensures p setting words)
+
+pub returns-in-Join-clause-binds : goal.returns-in-Join-clause-binds
+returns-in-Join-clause-binds g c = λ p setting words. absurd (join_no_node _ _ _ c.in-Join.ensures p setting words)
+
+pub returns-in-Join-clause-served : goal.returns-in-Join-clause-served
+returns-in-Join-clause-served g c = λ p t program setting words. absurd (join_no_node _ _ _ c.in-Join.ensures p setting words)
+
+pub returns-in-Join-clause-launch : goal.returns-in-Join-clause-launch
+returns-in-Join-clause-launch g c = λ p setting words. absurd (join_no_launch _ _ _ c.in-Join.ensures p setting words)
+
+pub returns-in-Join-clause-launch_stopped : goal.returns-in-Join-clause-launch_stopped
+returns-in-Join-clause-launch_stopped g c = λ p setting words. absurd (join_no_launch _ _ _ c.in-Join.ensures p setting words)
+
+pub returns-in-Join-clause-launched : goal.returns-in-Join-clause-launched
+returns-in-Join-clause-launched g c = λ p t program setting words. absurd (join_no_launch _ _ _ c.in-Join.ensures p setting words)
+
+pub returns-in-Join-clause-words : goal.returns-in-Join-clause-words
+returns-in-Join-clause-words g c = λ other. absurd (other.4 _ _ c.in-Join.ensures)
+
+pub returns-in-Join-clause-begun_words : goal.returns-in-Join-clause-begun_words
+returns-in-Join-clause-begun_words g c = λ other. absurd (other.4 _ _ c.in-Join.ensures)
 
 -- OTHER WORDS
 
@@ -228,3 +377,12 @@ returns-in-Other-clause-children g c = no_child_cause _ c.say.result (said_child
 
 pub returns-in-Other-clause-only_launch : goal.returns-in-Other-clause-only_launch
 returns-in-Other-clause-only_launch g c = λ is. absurd (said_childless _ _ c.say.result _ _ tt c.say.ensures.said is)
+
+pub returns-in-Other-clause-joins : goal.returns-in-Other-clause-joins
+returns-in-Other-clause-joins g c = λ p traces words. absurd (c.in-Other.ensures.4 p traces words)
+
+pub returns-in-Other-clause-begun_join : goal.returns-in-Other-clause-begun_join
+returns-in-Other-clause-begun_join g c = λ p traces words. absurd (c.in-Other.ensures.4 p traces words)
+
+pub returns-in-Other-clause-joined : goal.returns-in-Other-clause-joined
+returns-in-Other-clause-joined g c = λ p traces words. absurd (c.in-Other.ensures.4 p traces words)

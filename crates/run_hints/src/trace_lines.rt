@@ -1,0 +1,139 @@
+//! Lines that are none of the trace of a process.
+use da_values::read_value;
+use std::alloc::Global;
+use std::str;
+use text_hints::{Nearest, Phrase};
+
+/// The lines of a trace, each with what stands behind its word.
+const LINES: [(&[u8], &[u8]); 6] = [
+    (b"took", b"took P K"),
+    (b"sent", b"sent P Q T V"),
+    (b"got", b"got P Q T V"),
+    (b"out", b"out P V"),
+    (b"end", b"end P"),
+    (b"fault", b"fault P KIND LINE"),
+];
+
+/// The lines that a replay writes, and no node.
+const REPLAYED: [&[u8]; 5] = [b"lost", b"again", b"answer", b"kept", b"stop"];
+
+/// The line of this number of a trace, counted from 1, without its LF; behind the last LF there is none where nothing follows.
+pub fn trace_line(text: &[u8], number: u64) -> Option<&[u8]> {
+    let place = usize::try_from(number.checked_sub(1)?).ok()?;
+    let lines = text.strip_suffix(b"\n").unwrap_or(text);
+    if lines.is_empty() && !text.starts_with(b"\n") {
+        return None;
+    }
+    lines.split(|byte| *byte == b'\n').nth(place)
+}
+
+/// Why a line is none of the trace of a process, in one sentence.
+pub fn explain_trace_line(alloc: Global, line: &[u8], process: u16) -> Phrase {
+    let mut told = Phrase::new(alloc);
+    if tell_ends(line, &mut told) {
+        return told;
+    }
+    let mut words = line.split(|byte| *byte == b' ');
+    let word = words.next().unwrap_or(line);
+    let Some(form) = form_of(word) else {
+        tell_word(alloc, word, &mut told);
+        return told;
+    };
+    if tell_process(words.next(), process, &mut told) {
+        return told;
+    }
+    if let Some(value) = value_of(word, line) {
+        if read_value(alloc, value).is_err() {
+            told.quote_front(value);
+            told.put(b" is no text of a value: a space stands behind each comma, and sets ascend");
+            return told;
+        }
+    }
+    told.quote(word);
+    told.put(b" is written ");
+    told.put(form);
+    told.put(b", with numbers that have no 0 in front");
+    told
+}
+
+// What stands at the ends of a line.
+fn tell_ends(line: &[u8], out: &mut Phrase) -> bool {
+    let why = match line {
+        [] => b"a trace has no empty lines".as_slice(),
+        [.., b'\r'] => b"it ends with a carriage return (CR), and lines of a trace with LF alone",
+        [b' ', ..] => b"a line begins with its word, and not with a space",
+        [.., b' '] => b"a space stands at the end of the line",
+        [b'#', ..] => b"a trace has no remarks",
+        _ => return false,
+    };
+    out.put(why);
+    true
+}
+
+// How a line of this word is written.
+fn form_of(word: &[u8]) -> Option<&'static [u8]> {
+    for known in &LINES {
+        if known.0 == word {
+            return Some(known.1);
+        }
+    }
+    None
+}
+
+fn tell_word(alloc: Global, word: &[u8], out: &mut Phrase) {
+    out.quote_front(word);
+    if REPLAYED.iter().any(|known| *known == word) {
+        out.put(b" is told by a replay, and by no node");
+        return;
+    }
+    out.put(b" is the word of no line of a trace");
+    let mut nearest = Nearest::new(alloc, word);
+    for known in &LINES {
+        nearest.offer(known.0);
+    }
+    if let Some(found) = nearest.found() {
+        out.put(b": is ");
+        out.quote(found);
+        out.put(b" meant?");
+    }
+}
+
+// That the line is of another process, or of none.
+fn tell_process(word: Option<&[u8]>, process: u16, out: &mut Phrase) -> bool {
+    match word.and_then(number_of) {
+        None => out.put(b"the number of the process stands behind the first word"),
+        Some(own) => {
+            if own == u64::from(process) {
+                return false;
+            }
+            out.put(b"this line is of process ");
+            out.number(own);
+            out.put(b", and the trace that of process ");
+            out.number(u64::from(process));
+        }
+    }
+    true
+}
+
+fn number_of(word: &[u8]) -> Option<u64> {
+    str::from_utf8(word).ok()?.parse::<u64>().ok()
+}
+
+// The bytes that stand where a line of this word has a value.
+fn value_of<'l>(word: &[u8], line: &'l [u8]) -> Option<&'l [u8]> {
+    let spaces = match word {
+        b"sent" | b"got" => 4u32,
+        b"out" => 2,
+        _ => return None,
+    };
+    let mut rest = line;
+    for _space in 0..spaces {
+        let length = rest.iter().take_while(|byte| **byte != b' ').count();
+        let (_, behind) = rest.split_at(length.min(rest.len()));
+        let [_, others @ ..] = behind else {
+            return None;
+        };
+        rest = others;
+    }
+    Some(rest)
+}
