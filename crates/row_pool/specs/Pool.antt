@@ -59,3 +59,8 @@ or_no_value (Some x) = x
 -- the value of an id, for any number
 abbrev pub val_at : Cells → ℕ → Val
 val_at s k = or_no_value (value_at s k)
+
+-- the same for an id that may be missing
+abbrev pub part_at : Cells → Option ℕ → Val
+part_at s None = no_value
+part_at s (Some k) = val_at s k

@@ -4,7 +4,8 @@ ghost use Rattle.da_values.specs.Value.{val_of, vals};
 ghost use Rattle.da_values.specs.declared.val.Val.{Val};
 ghost use Rattle.row_pool.specs.Cells.{children, live_in, outside, value_at};
 ghost use Rattle.row_pool.specs.InUse.{AreHeld, InUse, IsCounted, IsOne};
-ghost use Rattle.row_pool.specs.Pool.{AreGiven, Holds, IsGivenNext, IsUnchanged, Trades, val_at};
+ghost use Rattle.row_pool.specs.Pool.{AreGiven, Holds, IsGivenNext, IsUnchanged, Trades, no_value, part_at, val_at};
+ghost use Rattle.std.specs.Option.{option_copied};
 ghost use Rattle.std.specs.Prelude.{◌≡◌, ℕ, ◌^◌, ◌<◌, [], ◌∷◌, Some, None, List, length, map, slice_get, IfOk, OnErr, OnOk, IsSome, IfSome, IfNone};
 
 use crate::cell::Cell;
@@ -231,6 +232,20 @@ impl Pool {
         Id { key: id.key }
     }
 
+    /// The same as `keep` where there is room for one more holder, of which a value has at most 2^128 - 1; otherwise all is
+    /// as it was. It takes no memory.
+    pub fn try_keep(&mut self, id: &Id) -> Result<Id, NoMemory>
+        requires { IsSome (value_at self.old id.now) }
+        ensures same { IfOk result (λ more. more ≡ id.now) }
+        ensures ok { IfOk result (λ more. Trades self.old [] self.new (more ∷ [])) }
+        ensures err { OnErr result (self.new ≡ self.old) }
+    {
+        if !try_add_holder(&mut self.cells, id.key) {
+            return Err(NoMemory);
+        }
+        Ok(Id { key: id.key })
+    }
+
     /// One holder fewer. A value that has none left leaves the pool and gives its parts back, and so on. It takes no
     /// memory, and goes from cell to cell in a loop.
     pub fn give_back(&mut self, id: Id)
@@ -253,6 +268,17 @@ impl Pool {
         cmp_values(
             held_or(&self.cells, a.key, &nothing),
             held_or(&self.cells, b.key, &nothing),
+        )
+    }
+
+    /// The same for parts that may be missing; one that is missing counts as the process 0 too.
+    pub fn cmp_parts(&self, a: Option<&Id>, b: Option<&Id>) -> Ordering
+        ensures { result ≡ val_cmp (part_at self.now (option_copied a.entry)) (part_at self.now (option_copied b.entry)) }
+    {
+        let nothing = Value::Proc(0);
+        cmp_values(
+            part_or(&self.cells, a, &nothing),
+            part_or(&self.cells, b, &nothing),
         )
     }
 
@@ -295,5 +321,16 @@ impl Pool {
     {
         let _ = &self.index;
         self.cells.len()
+    }
+}
+
+// The value of an id that may be missing, or what stands for none.
+fn part_or<'a>(cells: &'a Slab<Cell>, id: Option<&Id>, nothing: &'a Value) -> &'a Value
+    requires { val_of nothing.now ≡ no_value }
+    ensures { val_of result.now ≡ part_at cells.now.slots (option_copied id.entry) }
+{
+    match id {
+        Some(id) => held_or(cells, id.key, nothing),
+        None => nothing,
     }
 }

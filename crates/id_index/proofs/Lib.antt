@@ -1,0 +1,12 @@
+pub mod ChangeLaws
+pub mod CodeLemmas
+pub mod FrontKeys
+pub mod GroupLaws
+pub mod HolderLaws
+pub mod KeyLaws
+pub mod KeyedLaws
+pub mod PlaceLaws
+pub mod RowLaws
+pub mod SetLemmas
+pub mod SettleLaws
+pub mod TurnLaws

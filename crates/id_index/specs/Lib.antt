@@ -1,0 +1,6 @@
+pub mod Answers
+pub mod Groups
+pub mod Orders
+pub mod Rows
+pub mod Settle
+pub mod Turns
