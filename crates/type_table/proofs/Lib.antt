@@ -1,0 +1,10 @@
+pub mod AgreeLaws
+pub mod DrawLaws
+pub mod FormLaws
+pub mod NumberLaws
+pub mod RootLaws
+pub mod SchemeLaws
+pub mod SettleLaws
+pub mod SolveLaws
+pub mod TableLaws
+pub mod ValueLaws

@@ -1,0 +1,9 @@
+pub mod Draws
+pub mod Fits
+pub mod Joins
+pub mod Links
+pub mod Schemes
+pub mod Settling
+pub mod Solves
+pub mod Values
+pub mod Weight
