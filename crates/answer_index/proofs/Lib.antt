@@ -1,9 +1,16 @@
+pub mod AnewLaws
+pub mod ChangeLaws
+pub mod ChoiceLaws
 pub mod CodeLemmas
 pub mod FrontKeys
 pub mod GroupLaws
+pub mod HolderLaws
 pub mod KeyLaws
 pub mod KeyedLaws
+pub mod ListLaws
 pub mod PlaceLaws
+pub mod RowLaws
 pub mod SetLemmas
 pub mod SettleLaws
+pub mod StoredLaws
 pub mod TurnLaws

@@ -1,6 +1,7 @@
 pub mod AnewLaws
 pub mod BindLaws
 pub mod CodeLemmas
+pub mod NoteLaws
 pub mod PartLaws
 pub mod ReadLaws
 pub mod SettleLaws

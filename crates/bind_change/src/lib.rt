@@ -1,5 +1,6 @@
 //! The rows of a parent, each with one more part: an aggregate over the rows of a child that extend it. They are kept by what
-//! changes in parent and child, and by reading the groups of those rows alone that a change touches.
+//! changes in parent and child, and by reading the groups of those rows alone that a change touches. The rows are those of a
+//! pool: they are read as rows of values, and the set is changed by one call, once all is known.
 #![tactic(auto)]
 
 mod bind;

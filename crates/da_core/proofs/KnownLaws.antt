@@ -20,7 +20,11 @@ use Rattle.query_plan.specs.Told.{has_row}
 use Rattle.query_plan.specs.Updates.{Assigns, Joins, Leaves, Receives, Sends, Update, after}
 use Rattle.quant_norm.proofs.ClassLaw.{class_law}
 use Rattle.quant_norm.proofs.PlainLaw.{class_plain}
+use Rattle.row_pool.specs.Cells.{Cells}
+use Rattle.row_pool.specs.Pool.{HoldsAll}
+use Rattle.answer_index.specs.Rows.{row_in}
 use Rattle.delta_rules.specs.declared.answers.Answers.{Answers}
+use Rattle.delta_rules.specs.Holding.{ids_of_answers}
 use Rattle.delta_rules.specs.Keeping.{Keeps, all_live}
 use Rattle.delta_rules.specs.Laid.{IsLaid}
 use Rattle.da_core.specs.declared.known.Known.{Known}
@@ -31,7 +35,7 @@ module _ (known : Known) (p : Program) (class : Class) (d : Data) (knows : Knows
   pub me_is : d.me ≡ known.answers.me
   me_is = sym knows.keeps.me
 
-  pub slots_are : d.slots ≡ known.answers.slots
+  pub slots_are : d.slots ≡ row_in known.pool known.answers.slots
   slots_are = sym knows.keeps.slots
 
   pub clock_is : d.clock ≡ known.clock
@@ -42,13 +46,13 @@ module _ (known : Known) (p : Program) (class : Class) (d : Data) (knows : Knows
 
   -- whatever actions are kept beside
   pub with_actions : (actions : List Action) → Knows (record known { actions = actions }) p class d
-  with_actions actions = record { plan = knows.plan; clock = knows.clock; keeps = knows.keeps; laid = knows.laid }
+  with_actions actions = record { plan = knows.plan; clock = knows.clock; keeps = knows.keeps; laid = knows.laid; held = knows.held }
 
   -- what is told of its answers by any nodes and any process that they keep, is so of its own
-  pub told_of : (holds : List Node → Data → Type 0) → ((nodes : List Node) (e : Data) → Keeps known.answers nodes e → holds nodes e) → holds (norm_class class).nodes d
+  pub told_of : (holds : List Node → Data → Type 0) → ((nodes : List Node) (e : Data) → Keeps known.answers known.pool nodes e → holds nodes e) → holds (norm_class class).nodes d
   told_of holds told = subst (λ (x : Plan). holds x.nodes d) knows.plan (told known.plan.now.nodes d knows.keeps)
 
-  pub told_by_plan : (holds : Data → Type 0) → ((e : Data) → Keeps known.answers known.plan.now.nodes e → holds e) → holds d
+  pub told_by_plan : (holds : Data → Type 0) → ((e : Data) → Keeps known.answers known.pool known.plan.now.nodes e → holds e) → holds d
   told_by_plan holds told = told d knows.keeps
 
 -- THE PLAN
@@ -67,29 +71,32 @@ lower_plan known (p, class, d, knows) = lower known.plan.now class knows.plan
 pub plain_nodes : (known : Known) → KnowsSome known → PlainNodes known.plan.now.nodes
 plain_nodes known (p, class, d, knows) = plain known.plan.now class knows.plan
 
-pub laid_out : (known : Known) → KnowsSome known → IsLaid known.answers known.plan.now.nodes
+pub laid_out : (known : Known) → KnowsSome known → IsLaid known.answers known.pool known.plan.now.nodes
 laid_out known (p, class, d, knows) = knows.laid
+
+pub all_held : (known : Known) → KnowsSome known → HoldsAll known.pool (ids_of_answers known.answers)
+all_held known (p, class, d, knows) = knows.held
 
 -- UPDATES
 
--- the answers are now those behind an update
-module _ (known : Known) (new : Answers) (clock : ℕ) (actions : List Action) (laid : IsLaid new known.plan.now.nodes) where
+-- the answers and their pool are now those behind an update
+module _ (known : Known) (new : Answers) (pool : Cells) (clock : ℕ) (actions : List Action) (laid : IsLaid new pool known.plan.now.nodes) (held : HoldsAll pool (ids_of_answers new)) where
   abbrev now : Known
-  now = record known { answers = new; clock = clock; actions = actions }
+  now = record known { answers = new; pool = pool; clock = clock; actions = actions }
 
   abbrev PassesOn : Update → Type 0
-  PassesOn u = (d : Data) → Keeps known.answers known.plan.now.nodes d → Keeps new known.plan.now.nodes (after u d)
+  PassesOn u = (d : Data) → Keeps known.answers known.pool known.plan.now.nodes d → Keeps new pool known.plan.now.nodes (after u d)
 
-  known_after : (p : Program) (class : Class) (d e : Data) → Knows known p class d → e.clock ≡ clock → Keeps new known.plan.now.nodes e → Knows now p class e
-  known_after p class d e knows late keeps = record { plan = knows.plan; clock = late; keeps = keeps; laid = laid }
+  known_after : (p : Program) (class : Class) (d e : Data) → Knows known p class d → e.clock ≡ clock → Keeps new pool known.plan.now.nodes e → Knows now p class e
+  known_after p class d e knows late keeps = record { plan = knows.plan; clock = late; keeps = keeps; laid = laid; held = held }
 
   pub known_received : (m : Val) (from time : ℕ) → clock ≡ later (max known.clock time)
-      → ((d : Data) (at : ℕ) → Keeps known.answers known.plan.now.nodes d → Keeps new known.plan.now.nodes (after (Receives m from at) d)) → Becomes known now (received_at m from time)
+      → ((d : Data) (at : ℕ) → Keeps known.answers known.pool known.plan.now.nodes d → Keeps new pool known.plan.now.nodes (after (Receives m from at) d)) → Becomes known now (received_at m from time)
   known_received m from time is passes p class d knows =
       known_after p class d (received_at m from time d) knows (ap (λ c. later (max c time)) knows.clock ∙ sym is) (passes d time knows.keeps)
 
   pub known_sent : (m : Val) (to : ℕ) → clock ≡ later known.clock
-      → ((d : Data) (at : ℕ) → Keeps known.answers known.plan.now.nodes d → Keeps new known.plan.now.nodes (after (Sends m to at) d)) → Becomes known now (λ d. sent_at m to (later d.clock) d)
+      → ((d : Data) (at : ℕ) → Keeps known.answers known.pool known.plan.now.nodes d → Keeps new pool known.plan.now.nodes (after (Sends m to at) d)) → Becomes known now (λ d. sent_at m to (later d.clock) d)
   known_sent m to is passes p class d knows =
       known_after p class d (sent_at m to (later d.clock) d) knows (ap later knows.clock ∙ sym is) (passes d (later d.clock) knows.keeps)
 
@@ -97,7 +104,7 @@ module _ (known : Known) (new : Answers) (clock : ℕ) (actions : List Action) (
     pub known_given : (s : ℕ) (v : Val) → PassesOn (Assigns s v) → Becomes known now (λ d. put_slot d s v)
     known_given s v passes p class d knows = known_after p class d (put_slot d s v) knows (knows.clock ∙ sym still) (passes d knows.keeps)
 
-    pub known_added : (s : ℕ) (v : Val) → ((d : Data) (time : ℕ) → Keeps known.answers known.plan.now.nodes d → Keeps new known.plan.now.nodes (after (Joins s v) d)) → Becomes known now (with_element s v)
+    pub known_added : (s : ℕ) (v : Val) → ((d : Data) (time : ℕ) → Keeps known.answers known.pool known.plan.now.nodes d → Keeps new pool known.plan.now.nodes (after (Joins s v) d)) → Becomes known now (with_element s v)
     known_added s v passes p class d knows = known_after p class d (with_element s v d) knows (knows.clock ∙ sym still) (passes d 0 knows.keeps)
 
     pub known_taken : (s : ℕ) (v : Val) → PassesOn (Leaves s v) → Becomes known now (without_element s v)
@@ -107,25 +114,26 @@ module _ (known : Known) (new : Answers) (clock : ℕ) (actions : List Action) (
 
 -- a process before its first event
 pub opens : (known : Known) (p : Program) (me : ℕ) (class : Class) → class_of p me ≡ Some class → known.plan.now ≡ norm_class class → known.clock ≡ 0
-    → ((d : Data) → d.me ≡ me → d.slots ≡ map (first_value me) class.slots → d.sent ≡ [] → d.received ≡ [] → Keeps known.answers known.plan.now.nodes d)
-    → IsLaid known.answers known.plan.now.nodes → Knows known p class (opening_data p me)
-opens known p me class classed plan early keeps laid = record {
+    → ((d : Data) → d.me ≡ me → d.slots ≡ map (first_value me) class.slots → d.sent ≡ [] → d.received ≡ [] → Keeps known.answers known.pool known.plan.now.nodes d)
+    → IsLaid known.answers known.pool known.plan.now.nodes → HoldsAll known.pool (ids_of_answers known.answers) → Knows known p class (opening_data p me)
+opens known p me class classed plan early keeps laid held = record {
   plan = plan;
   clock = sym early;
   keeps = keeps (opening_data p me) refl (rw classed refl) refl refl;
   laid = laid;
+  held = held;
 }
 
 -- THE ROWS THAT ARE KEPT
 
 -- as many as the live patterns of the plan match in the whole histories
-pub kept_is : (known : Known) (n : ℕ) → ((nodes : List Node) (d : Data) → Keeps known.answers nodes d → n ≡ sum (map length (all_live d nodes)))
+pub kept_is : (known : Known) (n : ℕ) → ((pool : Cells) (nodes : List Node) (d : Data) → Keeps known.answers pool nodes d → n ≡ sum (map length (all_live d nodes)))
     → Each known (λ p class d. n ≡ sum (map (λ x. length (live_rows x d)) (plan_live (norm_class class).nodes)))
 kept_is known n told p class d knows =
-    told_of known p class d knows (λ nodes e. n ≡ sum (map length (all_live e nodes))) told
+    told_of known p class d knows (λ nodes e. n ≡ sum (map length (all_live e nodes))) (told known.pool)
     ∙ ap sum (map-map length (λ x. live_rows x d) (plan_live (norm_class class).nodes))
 
 -- whether a node of the plan has a row
-pub flag_is : (known : Known) (flag : ℕ) (b : Bool) → ((nodes : List Node) (d : Data) → Keeps known.answers nodes d → b ≡ has_row (node_rows d nodes flag))
+pub flag_is : (known : Known) (flag : ℕ) (b : Bool) → ((pool : Cells) (nodes : List Node) (d : Data) → Keeps known.answers pool nodes d → b ≡ has_row (node_rows d nodes flag))
     → Each known (λ p class d. b ≡ has_row (node_rows d (norm_class class).nodes flag))
-flag_is known flag b told p class d knows = told_of known p class d knows (λ nodes e. b ≡ has_row (node_rows e nodes flag)) told
+flag_is known flag b told p class d knows = told_of known p class d knows (λ nodes e. b ≡ has_row (node_rows e nodes flag)) (told known.pool)

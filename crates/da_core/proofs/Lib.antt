@@ -9,6 +9,8 @@ pub mod Entering
 pub mod Fronts
 pub mod KeptLaw
 pub mod KnownLaws
+pub mod HeldIds
+pub mod HeldLaws
 pub mod Laws
 pub mod Letting
 pub mod MessageForms

@@ -1,6 +1,7 @@
 -- What a core stands for behind a move.
 use Rattle.std.proofs.Common.{◌≡◌, ℕ, List, [], ◌++◌, length, map, take, refl, sym, ap, ◌∙◌, subst}
-use Rattle.std.specs.Prelude.{false, sum}
+use Rattle.std.specs.Prelude.{Option, false, sum}
+use Rattle.da_values.specs.declared.val.Val.{Val}
 use Rattle.da_lang.specs.declared.event.Action.{Action}
 use Rattle.da_lang.specs.declared.program.Class.{Class}
 use Rattle.da_lang.specs.declared.program.Program.{Program}
@@ -12,6 +13,9 @@ use Rattle.da_lang.specs.World.{Data, Task, World, Phase, New, Waiting, Ended, F
 use Rattle.da_types.specs.KeepsShaped.{LeavesShaped}
 use Rattle.da_machine.specs.declared.machine.Machine.{Machine}
 use Rattle.da_machine.specs.RunsTo.{IsFront}
+use Rattle.query_plan.specs.declared.plan.Plan.{Plan}
+use Rattle.row_pool.specs.Cells.{Cells}
+use Rattle.row_pool.specs.InUse.{AreHeld, InUse, IsCounted}
 use Rattle.delta_rules.specs.Keeping.{Keeps, all_live}
 use Rattle.da_core.specs.declared.compiled.ClassCode.{ClassCode}
 use Rattle.da_core.specs.declared.process.Core.{Core}
@@ -22,9 +26,11 @@ use Rattle.da_core.specs.declared.place.Place.TheVariants as place
 use Rattle.da_core.specs.declared.place.Stopped.{Stopped}
 use Rattle.da_core.specs.Begins.{CanMove, HasRun, IsBehind, MayRun, move_actions}
 use Rattle.da_core.specs.Compiled.{code_of}
+use Rattle.da_core.specs.HeldCells.{AreHeldCells, HeldCells}
 use Rattle.da_core.specs.Made.{HasBegun, HasMade, phase_at, phase_of, stopped_at}
 use Rattle.da_core.specs.StandsFor.{IsAt, IsPlace, StandsFor, Whichever, program_of}
 use Rattle.da_core.specs.Told.{answers, answers_of, kept_of}
+use Rattle.da_core.proofs.HeldLaws.{so_many}
 use Rattle.da_core.proofs.KeptLaw.{rows_are}
 use Rattle.da_core.proofs.KnownLaws.{with_actions}
 use Rattle.da_core.proofs.Laws.{keeps_shaped}
@@ -89,10 +95,18 @@ stops_so todo place.Faulted AtYield is = absurd is
 stops_so todo place.Faulted UsedUp is = absurd is
 
 -- the answers of a core keep as many rows as its process
-pub keeps_rows : (core : Core) (w : World) → StandsFor core w → (n : ℕ) → ((nodes : List Node) (d : Data) → Keeps core.known.answers nodes d → n ≡ sum (map length (all_live d nodes)))
+pub keeps_rows : (core : Core) (w : World) → StandsFor core w → (n : ℕ) → ((pool : Cells) (nodes : List Node) (d : Data) → Keeps core.known.answers pool nodes d → n ≡ sum (map length (all_live d nodes)))
     → n ≡ kept_of (class_of (program_of core) w.data'.me) w.data'
 keeps_rows core w s n told =
     rows_are core.known (program_of core) w.data'.me s.class w.data' s.compiled.accepted s.knows.is_class s.stands n told ∙ sym (ap (λ class. kept_of class w.data') s.knows.is_class)
+
+-- so many values are in its pool as the process has to keep
+pub holds_cells : (core : Core) (w : World) → StandsFor core w → (n : ℕ) → InUse core.known.pool → IsCounted core.known.pool → ((set : List Val) → AreHeld core.known.pool set → n ≡ length set)
+    → AreHeldCells (class_of (program_of core) w.data'.me) w.data' n
+holds_cells core w s n used counted count =
+    let k = s.stands in
+    let so = so_many core.known.answers core.known.pool core.known.plan.now.nodes w.data' k.keeps k.laid k.held used counted n count in
+    subst (λ (c : Option Class). AreHeldCells c w.data' n) (sym s.knows.is_class) (subst (λ (x : Plan). (set : List Val) × HeldCells x.nodes w.data' set × (n ≡ length set)) k.plan so)
 
 -- what it tells of its queries is told of the process
 pub tells_answers : (core : Core) (w : World) (s : StandsFor core w)

@@ -15,6 +15,8 @@ use Rattle.query_plan.specs.declared.plan.Plan.{Plan}
 use Rattle.query_plan.specs.Nodes.{IsPlan}
 use Rattle.query_plan.specs.PlainNodes.{PlainNodes}
 use Rattle.query_plan.specs.Questions.{norm_class}
+use Rattle.row_pool.specs.Pool.{HoldsAll}
+use Rattle.delta_rules.specs.Holding.{ids_of_answers}
 use Rattle.delta_rules.specs.Keeping.{Keeps}
 use Rattle.delta_rules.specs.Laid.{IsLaid}
 use Rattle.da_core.specs.declared.compiled.ClassCode.{ClassCode}
@@ -143,21 +145,21 @@ module _ (c : Compiled) (me : ℕ) (is : IsCompiled c) where
 
     -- where its parts are those of the opening
     pub starts_with : (class : Class) → class_of p me ≡ Some class → core.spent ≡ false → core.place ≡ place.New → core.known.actions ≡ [] → core.known.clock ≡ 0
-        → ((d : Data) → d.me ≡ me → d.slots ≡ map (first_value me) class.slots → d.sent ≡ [] → d.received ≡ [] → Keeps core.known.answers code.plan.nodes d)
-        → IsLaid core.known.answers code.plan.nodes → core.machine.loops ≡ [] → start_in p (code_of c me) me ≡ Some core.machine.place
+        → ((d : Data) → d.me ≡ me → d.slots ≡ map (first_value me) class.slots → d.sent ≡ [] → d.received ≡ [] → Keeps core.known.answers core.known.pool code.plan.nodes d)
+        → IsLaid core.known.answers core.known.pool code.plan.nodes → HoldsAll core.known.pool (ids_of_answers core.known.answers) → core.machine.loops ≡ [] → start_in p (code_of c me) me ≡ Some core.machine.place
         → StandsFor core (opening p me)
-    starts_with class classed unspent new no_actions early keeps laid loops entry =
+    starts_with class classed unspent new no_actions early keeps laid held loops entry =
         starts_as unspent new no_actions opened loops entry
       where
-        keeps_first : (d : Data) → d.me ≡ me → d.slots ≡ map (first_value me) class.slots → d.sent ≡ [] → d.received ≡ [] → Keeps core.known.answers core.known.plan.now.nodes d
-        keeps_first d mine slots sent received = subst (λ (x : Plan). Keeps core.known.answers x.nodes d) (sym planned) (keeps d mine slots sent received)
+        keeps_first : (d : Data) → d.me ≡ me → d.slots ≡ map (first_value me) class.slots → d.sent ≡ [] → d.received ≡ [] → Keeps core.known.answers core.known.pool core.known.plan.now.nodes d
+        keeps_first d mine slots sent received = subst (λ (x : Plan). Keeps core.known.answers core.known.pool x.nodes d) (sym planned) (keeps d mine slots sent received)
 
         opened : (other : Class) → class_of p me ≡ Some other → core.known.plan.now ≡ norm_class other → Knows core.known p other (opening_data p me)
         opened other others plan =
             let both : ◌≡◌ {A = Option Class} (Some class) (Some other) = sym classed ∙ others in
             let same : class ≡ other = cc in
             opens core.known p me other others plan early (λ d mine slots sent received. keeps_first d mine (slots ∙ ap (λ (k : Class). map (first_value me) k.slots) (sym same)) sent received)
-            (subst (λ (x : Plan). IsLaid core.known.answers x.nodes) (sym planned) laid)
+            (subst (λ (x : Plan). IsLaid core.known.answers core.known.pool x.nodes) (sym planned) laid) held
 
   -- the class, its code and the start are there
   pub has_a_class : IsProcess p me → None ≡ class_of p me → ⊥

@@ -1,6 +1,7 @@
 pub mod Arrivals
 pub mod Begins
 pub mod Compiled
+pub mod HeldCells
 pub mod Known
 pub mod Made
 pub mod Opened

@@ -14,14 +14,14 @@ use da_values::{List, NoMemory, Row, SetVal, Value};
 pub fn ask(known: &Known<'_>, q: u32) -> Result<Value, NoMemory>
     ensures { IfOk result (λ v. Each known.now (λ p class d. val_of v ≡ query_value class.queries q d)) }
 {
-    known.answers.ask(known.alloc, known.plan, q)
+    known.answers.ask(known.alloc, known.plan, q, &known.pool)
 }
 
 /// The least row of the query of this number, if it is a `some` that holds.
 pub fn found(known: &Known<'_>, q: u32) -> Result<Option<Row>, NoMemory>
     ensures { IfOk result (λ row. Each known.now (λ p class d. row ≡ least_row class.queries q d)) }
 {
-    known.answers.found(known.alloc, known.plan, q)
+    known.answers.found(known.alloc, known.plan, q, &known.pool)
 }
 
 // The set of the rows of the query of this number.
@@ -29,7 +29,9 @@ fn listed(known: &Known<'_>, q: u32) -> Result<SetVal, NoMemory>
     requires { KnowsSome known.now }
     ensures { IfOk result (λ set. Each known.now (λ p class d. set ≡ shown_set class.queries q d)) }
 {
-    known.answers.listed(known.alloc, known.plan, q)
+    known
+        .answers
+        .listed(known.alloc, known.plan, q, &known.pool)
 }
 
 /// Tells the answers of all queries, ascending by number.

@@ -2,17 +2,20 @@
 ghost use Rattle.da_lang.specs.World.{Data};
 ghost use Rattle.da_values.specs.Value.{val_of};
 ghost use Rattle.delta_rules.specs.Entering.{coming};
+ghost use Rattle.delta_rules.specs.Holding.{ids_of_answers};
 ghost use Rattle.delta_rules.specs.Keeping.{Keeps};
 ghost use Rattle.delta_rules.specs.Laid.{IsLaid};
 ghost use Rattle.query_plan.specs.Nodes.{IsPlan};
 ghost use Rattle.query_plan.specs.PlainNodes.{PlainNodes};
 ghost use Rattle.query_plan.specs.Updates.{Assigns, Leaves, after};
+ghost use Rattle.row_pool.specs.Pool.{HoldsAll};
 ghost use Rattle.std.specs.Prelude.{◌≡◌, ◌<◌, ℕ, OnOk};
 
 use da_lang::Source;
 use da_values::{NoMemory, Steps, Value};
 use delta_rules::Answers;
 use query_plan::Plan;
+use row_pool::Pool;
 use std::alloc::Global;
 use std::marker::Brand;
 use std::sync::ledger::{Blank, Ledger};
@@ -25,15 +28,18 @@ pub fn insert(
     v: &Value,
     peer: u16,
     answers: &mut Answers,
+    pool: &mut Pool,
 ) -> Result<(), NoMemory>
     requires plan { IsPlan plan.now.nodes }
     requires plain { PlainNodes plan.now.nodes }
-    requires laid { IsLaid answers.old plan.now.nodes }
-    ensures kept { OnOk result ((d : Data) (time : ℕ) → Keeps answers.old plan.now.nodes d
-        → Keeps answers.new plan.now.nodes (after (coming source (val_of v.now) peer time) d)) }
-    ensures laid { OnOk result (IsLaid answers.new plan.now.nodes) }
+    requires laid { IsLaid answers.old pool.old plan.now.nodes }
+    requires held { HoldsAll pool.old (ids_of_answers answers.old) }
+    ensures kept { OnOk result ((d : Data) (time : ℕ) → Keeps answers.old pool.old plan.now.nodes d
+        → Keeps answers.new pool.new plan.now.nodes (after (coming source (val_of v.now) peer time) d)) }
+    ensures laid { OnOk result (IsLaid answers.new pool.new plan.now.nodes) }
+    ensures held { OnOk result (HoldsAll pool.new (ids_of_answers answers.new)) }
 {
-    insert_by::<Brand>(alloc, plan, source, v, peer, answers, Blank::new(1))?;
+    insert_by::<Brand>(alloc, plan, source, v, peer, answers, pool, Blank::new(1))?;
     Ok(())
 }
 
@@ -45,20 +51,23 @@ fn insert_by<L: Ledger>(
     v: &Value,
     peer: u16,
     answers: &mut Answers,
+    pool: &mut Pool,
     blank: Blank,
 ) -> Result<(), NoMemory>
     requires plan { IsPlan plan.now.nodes }
     requires plain { PlainNodes plan.now.nodes }
-    requires laid { IsLaid answers.old plan.now.nodes }
+    requires laid { IsLaid answers.old pool.old plan.now.nodes }
+    requires held { HoldsAll pool.old (ids_of_answers answers.old) }
     requires name { blank.name ≡ L.name }
     requires parts { blank.parts ≡ L.parts }
     requires some { 0 < blank.parts }
-    ensures kept { OnOk result ((d : Data) (time : ℕ) → Keeps answers.old plan.now.nodes d
-        → Keeps answers.new plan.now.nodes (after (coming source (val_of v.now) peer time) d)) }
-    ensures laid { OnOk result (IsLaid answers.new plan.now.nodes) }
+    ensures kept { OnOk result ((d : Data) (time : ℕ) → Keeps answers.old pool.old plan.now.nodes d
+        → Keeps answers.new pool.new plan.now.nodes (after (coming source (val_of v.now) peer time) d)) }
+    ensures laid { OnOk result (IsLaid answers.new pool.new plan.now.nodes) }
+    ensures held { OnOk result (HoldsAll pool.new (ids_of_answers answers.new)) }
 {
     let mut steps = Steps::<L>::new(blank);
-    answers.insert_element(alloc, plan, source, v, peer, &mut steps)?;
+    answers.insert_element(alloc, plan, source, v, peer, pool, &mut steps)?;
     Ok(())
 }
 
@@ -69,15 +78,18 @@ pub fn remove(
     slot: u16,
     v: &Value,
     answers: &mut Answers,
+    pool: &mut Pool,
 ) -> Result<(), NoMemory>
     requires plan { IsPlan plan.now.nodes }
     requires plain { PlainNodes plan.now.nodes }
-    requires laid { IsLaid answers.old plan.now.nodes }
-    ensures kept { OnOk result ((d : Data) → Keeps answers.old plan.now.nodes d
-        → Keeps answers.new plan.now.nodes (after (Leaves slot (val_of v.now)) d)) }
-    ensures laid { OnOk result (IsLaid answers.new plan.now.nodes) }
+    requires laid { IsLaid answers.old pool.old plan.now.nodes }
+    requires held { HoldsAll pool.old (ids_of_answers answers.old) }
+    ensures kept { OnOk result ((d : Data) → Keeps answers.old pool.old plan.now.nodes d
+        → Keeps answers.new pool.new plan.now.nodes (after (Leaves slot (val_of v.now)) d)) }
+    ensures laid { OnOk result (IsLaid answers.new pool.new plan.now.nodes) }
+    ensures held { OnOk result (HoldsAll pool.new (ids_of_answers answers.new)) }
 {
-    remove_by::<Brand>(alloc, plan, slot, v, answers, Blank::new(1))?;
+    remove_by::<Brand>(alloc, plan, slot, v, answers, pool, Blank::new(1))?;
     Ok(())
 }
 
@@ -88,20 +100,23 @@ fn remove_by<L: Ledger>(
     slot: u16,
     v: &Value,
     answers: &mut Answers,
+    pool: &mut Pool,
     blank: Blank,
 ) -> Result<(), NoMemory>
     requires plan { IsPlan plan.now.nodes }
     requires plain { PlainNodes plan.now.nodes }
-    requires laid { IsLaid answers.old plan.now.nodes }
+    requires laid { IsLaid answers.old pool.old plan.now.nodes }
+    requires held { HoldsAll pool.old (ids_of_answers answers.old) }
     requires name { blank.name ≡ L.name }
     requires parts { blank.parts ≡ L.parts }
     requires some { 0 < blank.parts }
-    ensures kept { OnOk result ((d : Data) → Keeps answers.old plan.now.nodes d
-        → Keeps answers.new plan.now.nodes (after (Leaves slot (val_of v.now)) d)) }
-    ensures laid { OnOk result (IsLaid answers.new plan.now.nodes) }
+    ensures kept { OnOk result ((d : Data) → Keeps answers.old pool.old plan.now.nodes d
+        → Keeps answers.new pool.new plan.now.nodes (after (Leaves slot (val_of v.now)) d)) }
+    ensures laid { OnOk result (IsLaid answers.new pool.new plan.now.nodes) }
+    ensures held { OnOk result (HoldsAll pool.new (ids_of_answers answers.new)) }
 {
     let mut steps = Steps::<L>::new(blank);
-    answers.remove_element(alloc, plan, slot, v, &mut steps)?;
+    answers.remove_element(alloc, plan, slot, v, pool, &mut steps)?;
     Ok(())
 }
 
@@ -112,15 +127,18 @@ pub fn assign(
     slot: u16,
     v: &Value,
     answers: &mut Answers,
+    pool: &mut Pool,
 ) -> Result<(), NoMemory>
     requires plan { IsPlan plan.now.nodes }
     requires plain { PlainNodes plan.now.nodes }
-    requires laid { IsLaid answers.old plan.now.nodes }
-    ensures kept { OnOk result ((d : Data) → Keeps answers.old plan.now.nodes d
-        → Keeps answers.new plan.now.nodes (after (Assigns slot (val_of v.now)) d)) }
-    ensures laid { OnOk result (IsLaid answers.new plan.now.nodes) }
+    requires laid { IsLaid answers.old pool.old plan.now.nodes }
+    requires held { HoldsAll pool.old (ids_of_answers answers.old) }
+    ensures kept { OnOk result ((d : Data) → Keeps answers.old pool.old plan.now.nodes d
+        → Keeps answers.new pool.new plan.now.nodes (after (Assigns slot (val_of v.now)) d)) }
+    ensures laid { OnOk result (IsLaid answers.new pool.new plan.now.nodes) }
+    ensures held { OnOk result (HoldsAll pool.new (ids_of_answers answers.new)) }
 {
-    assign_by::<Brand>(alloc, plan, slot, v, answers, Blank::new(1))?;
+    assign_by::<Brand>(alloc, plan, slot, v, answers, pool, Blank::new(1))?;
     Ok(())
 }
 
@@ -131,19 +149,22 @@ fn assign_by<L: Ledger>(
     slot: u16,
     v: &Value,
     answers: &mut Answers,
+    pool: &mut Pool,
     blank: Blank,
 ) -> Result<(), NoMemory>
     requires plan { IsPlan plan.now.nodes }
     requires plain { PlainNodes plan.now.nodes }
-    requires laid { IsLaid answers.old plan.now.nodes }
+    requires laid { IsLaid answers.old pool.old plan.now.nodes }
+    requires held { HoldsAll pool.old (ids_of_answers answers.old) }
     requires name { blank.name ≡ L.name }
     requires parts { blank.parts ≡ L.parts }
     requires some { 0 < blank.parts }
-    ensures kept { OnOk result ((d : Data) → Keeps answers.old plan.now.nodes d
-        → Keeps answers.new plan.now.nodes (after (Assigns slot (val_of v.now)) d)) }
-    ensures laid { OnOk result (IsLaid answers.new plan.now.nodes) }
+    ensures kept { OnOk result ((d : Data) → Keeps answers.old pool.old plan.now.nodes d
+        → Keeps answers.new pool.new plan.now.nodes (after (Assigns slot (val_of v.now)) d)) }
+    ensures laid { OnOk result (IsLaid answers.new pool.new plan.now.nodes) }
+    ensures held { OnOk result (HoldsAll pool.new (ids_of_answers answers.new)) }
 {
     let mut steps = Steps::<L>::new(blank);
-    answers.set_slot(alloc, plan, slot, v, &mut steps)?;
+    answers.set_slot(alloc, plan, slot, v, pool, &mut steps)?;
     Ok(())
 }

@@ -192,12 +192,12 @@ fn row_for(
 {
     let alloc = known.alloc;
     let none = Row::new(alloc);
-    let slots = &known.answers.slots;
+    let slots = known.answers.slot_values(alloc, &known.pool)?;
     let me = known.answers.me;
-    let first = match_pattern(alloc, &handler.message, m, &none, slots, me)?;
+    let first = match_pattern(alloc, &handler.message, m, &none, &slots, me)?;
     let Some(row) = first else {
         return Ok(None);
     };
     let sender = Value::Proc(from);
-    match_pattern(alloc, &handler.from, &sender, &row, slots, me)
+    match_pattern(alloc, &handler.from, &sender, &row, &slots, me)
 }

@@ -1,5 +1,5 @@
-//! What a process knows, as code keeps it: its clock, and the answers to its queries and conditions, which hold its slots. Of
-//! the messages that it sent and received nothing else is kept.
+//! What a process knows, as code keeps it: its clock, and the answers to its queries and conditions, which hold its slots, with
+//! the pool of their values. Of the messages that it sent and received nothing else is kept.
 ghost use Rattle.da_core.specs.Arrivals.{untold};
 ghost use Rattle.da_core.specs.Known.{Becomes, KnowsSome};
 ghost use Rattle.da_lang.specs.Steps.{received_at};
@@ -15,6 +15,7 @@ use da_lang::{Action, Source};
 use da_values::{List, NoMemory, Row, Value, copy_value};
 use delta_rules::Answers;
 use query_plan::Plan;
+use row_pool::Pool;
 use std::alloc::Global;
 
 /// The greatest time of a clock.
@@ -22,13 +23,14 @@ const LAST_TIME: u64 = 9_223_372_036_854_775_807;
 
 /// What a process knows, the plan by which it answers the queries of its class, and the actions of the event that it carries
 /// out. Contracts see the processes for which it stands, by `Knows`. Each message and each change of a slot goes through the
-/// answers.
+/// answers, and the values of slots and rows stand in the pool.
 #[derive(Drop)]
 pub struct Known<'c> {
     pub alloc: Global,
     pub plan: &'c Plan,
     pub clock: u64,
     pub answers: Answers,
+    pub pool: Pool,
     pub actions: List<Action>,
 }
 
@@ -50,6 +52,7 @@ impl Known<'_> {
             m,
             from,
             &mut self.answers,
+            &mut self.pool,
         )?;
         self.actions.push(Action::Got {
             q: me,
@@ -95,6 +98,7 @@ impl Known<'_> {
             &m,
             to,
             &mut self.answers,
+            &mut self.pool,
         )?;
         self.actions.push(Action::Sent {
             p: me,
@@ -112,7 +116,14 @@ impl Known<'_> {
         ensures known { OnOk result (Becomes self.old self.new (λ d. put_slot d s (val_of v.now))) }
         ensures actions { self.new.actions ≡ self.old.actions }
     {
-        assign(self.alloc, self.plan, s, v, &mut self.answers)?;
+        assign(
+            self.alloc,
+            self.plan,
+            s,
+            v,
+            &mut self.answers,
+            &mut self.pool,
+        )?;
         Ok(())
     }
 
@@ -129,6 +140,7 @@ impl Known<'_> {
             v,
             0,
             &mut self.answers,
+            &mut self.pool,
         )?;
         Ok(())
     }
@@ -139,7 +151,14 @@ impl Known<'_> {
         ensures known { OnOk result (Becomes self.old self.new (without_element s (val_of v.now))) }
         ensures actions { self.new.actions ≡ self.old.actions }
     {
-        remove(self.alloc, self.plan, s, v, &mut self.answers)?;
+        remove(
+            self.alloc,
+            self.plan,
+            s,
+            v,
+            &mut self.answers,
+            &mut self.pool,
+        )?;
         Ok(())
     }
 }

@@ -13,7 +13,6 @@ mod opened;
 mod opening;
 mod place;
 mod process;
-mod slots;
 mod store;
 mod waits;
 

@@ -2,6 +2,7 @@
 ghost use Rattle.da_core.specs.Arrivals.{MayArrive, arrival};
 ghost use Rattle.da_core.specs.Begins.{CanMove, alternative_at as alternative_lem, settled};
 ghost use Rattle.da_core.specs.Compiled.{IsCompiled, code_of, program_of as compiled_program};
+ghost use Rattle.da_core.specs.HeldCells.{AreHeldCells};
 ghost use Rattle.da_core.specs.Made.{HasBegun, HasMade, phase_at, stopped_at as stopped_lem};
 ghost use Rattle.da_core.specs.declared.compiled.ClassCode.{ClassCode as ClassCodeOf};
 ghost use Rattle.da_core.specs.StandsFor.{BeginsWith, IsPlace, IsReady, StandsFor, Whichever, is_spent, program_of};
@@ -31,6 +32,7 @@ use da_lang::{Action, Class};
 use da_machine::Machine;
 use da_values::{List, NoMemory, Steps, Value, copy_value};
 use delta_rules::Answers;
+use row_pool::Pool;
 use std::alloc::Global;
 use std::mem;
 use std::sync::ledger::Ledger;
@@ -65,11 +67,13 @@ impl<'c> Core<'c> {
             unreachable!()
         };
         let slots = first_values(alloc, me, class.slots.as_slice())?;
+        let mut pool = Pool::new(alloc);
         let known = Known {
             alloc,
             plan: &code.plan,
             clock: 0,
-            answers: Answers::new(alloc, &code.plan, me, &slots)?,
+            answers: Answers::new(alloc, &code.plan, me, &slots, &mut pool)?,
+            pool,
             actions: List::new(alloc),
         };
         Ok(Core {
@@ -104,6 +108,15 @@ impl<'c> Core<'c> {
             result ≡ kept_of (class_of (program_of self.now) w.data'.me) w.data') }
     {
         self.known.answers.kept()
+    }
+
+    /// How many values the process keeps: each once that is the value of a slot, or a part of a row of a node of the plan of its
+    /// class or of a live row, or is within one of these. It takes no memory.
+    pub fn held(&self) -> usize
+        ensures { Whichever self.now (λ w.
+            AreHeldCells (class_of (program_of self.now) w.data'.me) w.data' result) }
+    {
+        self.known.pool.live()
     }
 
     /// Tells the answers of all queries of the process, ascending by number, in `out`. Where memory is refused, `out` has a
@@ -498,7 +511,8 @@ fn put_in(out: &mut List<Action>, at: usize, action: Action)
     }
 }
 
-// Each field by its name: a further one is refused here until it is named. None of them is a list of past messages.
+// Each field by its name: a further one is refused here until it is named. None of them is a list of past messages: the actions
+// are those of the event at hand, and none between events.
 fn fields_are_whole(core: &Core<'_>) {
     let Core {
         alloc: _,
@@ -513,6 +527,7 @@ fn fields_are_whole(core: &Core<'_>) {
         plan: _,
         clock: _,
         answers: _,
+        pool: _,
         actions: _,
     } = known;
 }

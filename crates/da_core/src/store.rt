@@ -8,7 +8,6 @@ ghost use Rattle.std.specs.Prelude.{◌≡◌};
 
 use crate::answers;
 use crate::known::Known;
-use crate::slots::in_slot;
 use da_lang::Action;
 use da_machine::Store;
 use da_values::{NoMemory, Row, SetVal, Value, copy_value};
@@ -19,11 +18,7 @@ impl Store for Known<'_> {
     ghost actions = { λ known. known.actions };
 
     fn slot(&self, s: u16) -> Result<Value, NoMemory> {
-        match in_slot(&self.answers.slots, s) {
-            Some(Value::Int(number)) => Ok(Value::Int(*number)),
-            Some(v) => copy_value(self.alloc, v),
-            None => Ok(Value::Proc(0)),
-        }
+        self.answers.slot(s, &self.pool)
     }
 
     fn clock(&self) -> u64 {

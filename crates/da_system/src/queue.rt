@@ -77,3 +77,8 @@ impl Queue {
         }
     }
 }
+
+// Each field by its name: a further one is refused here until it is named.
+fn fields_are_whole(queue: &Queue) {
+    let Queue { letters: _ } = queue;
+}

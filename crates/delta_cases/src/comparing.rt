@@ -1,9 +1,10 @@
 //! Whether kept answers are those that were worked out anew.
 use crate::rows::rows_at;
 use crate::world::World;
-use answer_index::AnswerSet;
+use answer_index::{AnswerSet, row_values};
 use da_values::{List, NoMemory, Row, Steps, cmp_rows, cmp_values};
 use delta_rules::Answers;
+use row_pool::Pool;
 use std::alloc::Global;
 use std::sync::ledger::Ledger;
 
@@ -24,82 +25,92 @@ pub struct Difference {
 }
 
 // Whether a set hands out these rows, one by one, and no others.
-fn has_rows<L: Ledger>(set: &AnswerSet, rows: &[Row], steps: &mut Steps<L>) -> bool {
-    if set.len() != rows.len() {
-        return false;
-    }
-    for (place, row) in rows.iter().enumerate() {
-        match set.rows(place, steps) {
-            Some(found) => {
-                if !cmp_rows(found.as_slice(), row.as_slice()).is_eq() {
-                    return false;
-                }
-            }
-            None => return false,
-        }
-    }
-    true
-}
-
-// A set and the rows that it should have, where they differ.
-fn other_rows<L: Ledger>(
-    what: &'static str,
-    number: usize,
-    set: Option<&AnswerSet>,
+fn has_rows<L: Ledger>(
+    alloc: Global,
+    set: &AnswerSet,
+    pool: &Pool,
     rows: &[Row],
     steps: &mut Steps<L>,
-) -> Option<Difference> {
-    match set {
-        Some(set) => {
-            if has_rows(set, rows, steps) {
-                return None;
-            }
-            Some(Difference {
-                what,
-                number,
-                kept: set.len(),
-                anew: rows.len(),
-            })
+) -> Result<bool, NoMemory> {
+    if set.len() != rows.len() {
+        return Ok(false);
+    }
+    for (place, row) in rows.iter().enumerate() {
+        let Some(found) = set.rows(place, steps) else {
+            return Ok(false);
+        };
+        let values = row_values(alloc, found.ids.as_slice(), pool)?;
+        if !cmp_rows(values.as_slice(), row.as_slice()).is_eq() {
+            return Ok(false);
         }
-        None => Some(Difference {
-            what,
-            number,
-            kept: 0,
-            anew: rows.len(),
-        }),
+    }
+    Ok(true)
+}
+
+// How many rows a set has, where they are not these; none if it is missing.
+fn other_rows<L: Ledger>(
+    alloc: Global,
+    set: Option<&AnswerSet>,
+    pool: &Pool,
+    rows: &[Row],
+    steps: &mut Steps<L>,
+) -> Result<Option<usize>, NoMemory> {
+    let Some(set) = set else {
+        return Ok(Some(0));
+    };
+    if has_rows(alloc, set, pool, rows, steps)? {
+        Ok(None)
+    } else {
+        Ok(Some(set.len()))
     }
 }
 
 /// The first node whose rows differ.
 pub fn other_node<L: Ledger>(
+    alloc: Global,
     answers: &Answers,
+    pool: &Pool,
     known: &Known,
     steps: &mut Steps<L>,
-) -> Option<Difference> {
+) -> Result<Option<Difference>, NoMemory> {
     for (number, rows) in known.tables.as_slice().iter().enumerate() {
         let set = answers.nodes.get(number);
-        if let Some(found) = other_rows("node", number, set, rows.as_slice(), steps) {
-            return Some(found);
+        let found = other_rows(alloc, set, pool, rows.as_slice(), steps)?;
+        if let Some(kept) = found {
+            return Ok(Some(Difference {
+                what: "node",
+                number,
+                kept,
+                anew: rows.len(),
+            }));
         }
     }
-    None
+    Ok(None)
 }
 
 /// The first live pattern whose rows differ, of those that these nodes have first.
 pub fn other_live<L: Ledger>(
+    alloc: Global,
     answers: &Answers,
+    pool: &Pool,
     known: &Known,
     firsts: &[u32],
     steps: &mut Steps<L>,
-) -> Option<Difference> {
+) -> Result<Option<Difference>, NoMemory> {
     for (number, node) in firsts.iter().enumerate() {
         let set = answers.live.get(number);
         let rows = rows_at(known.stored.as_slice(), *node);
-        if let Some(found) = other_rows("live pattern", number, set, rows, steps) {
-            return Some(found);
+        let found = other_rows(alloc, set, pool, rows, steps)?;
+        if let Some(kept) = found {
+            return Ok(Some(Difference {
+                what: "live pattern",
+                number,
+                kept,
+                anew: rows.len(),
+            }));
         }
     }
-    other_number("live patterns", answers.live.len(), firsts.len())
+    Ok(other_number("live patterns", answers.live.len(), firsts.len()))
 }
 
 /// Two numbers where they differ.
@@ -117,15 +128,15 @@ pub fn other_number(what: &'static str, kept: usize, anew: usize) -> Option<Diff
 
 /// The first slot whose value differs.
 pub fn other_slot(
-    alloc: Global,
     answers: &Answers,
+    pool: &Pool,
     world: &World,
 ) -> Result<Option<Difference>, NoMemory> {
     for (place, value) in world.slots.as_slice().iter().enumerate() {
         if place >= 65_535 {
             return Ok(None);
         }
-        let found = answers.slot(alloc, place as u16 + 1)?;
+        let found = answers.slot(place as u16 + 1, pool)?;
         if !cmp_values(&found, value).is_eq() {
             return Ok(Some(Difference {
                 what: "slot",

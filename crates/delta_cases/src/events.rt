@@ -1,7 +1,9 @@
 //! Single updates from a file, each with the work that it should take.
+ghost use Rattle.delta_rules.specs.Holding.{ids_of_answers};
 ghost use Rattle.delta_rules.specs.Laid.{IsLaid};
 ghost use Rattle.query_plan.specs.Nodes.{IsPlan};
 ghost use Rattle.query_plan.specs.PlainNodes.{PlainNodes};
+ghost use Rattle.row_pool.specs.Pool.{HoldsAll};
 ghost use Rattle.std.specs.Prelude.{◌≡◌, ◌<◌, OnOk, length};
 
 use crate::compiling::{plan_of, typed_of};
@@ -185,7 +187,8 @@ fn trial_outcomes<L: Ledger>(
 ) -> Result<List<Outcome>, NoMemory>
     requires plan { IsPlan subject.now.plan.now.nodes }
     requires plain { PlainNodes subject.now.plan.now.nodes }
-    requires laid { IsLaid trial.old.answers subject.now.plan.now.nodes }
+    requires laid { IsLaid trial.old.answers trial.old.pool subject.now.plan.now.nodes }
+    requires held { HoldsAll trial.old.pool (ids_of_answers trial.old.answers) }
 {
     let mut outcomes = List::new(subject.alloc);
     for event in events {
@@ -203,8 +206,10 @@ fn outcome_of<L: Ledger>(
 ) -> Result<Outcome, NoMemory>
     requires plan { IsPlan subject.now.plan.now.nodes }
     requires plain { PlainNodes subject.now.plan.now.nodes }
-    requires laid { IsLaid trial.old.answers subject.now.plan.now.nodes }
-    ensures { OnOk result (IsLaid trial.new.answers subject.now.plan.now.nodes) }
+    requires laid { IsLaid trial.old.answers trial.old.pool subject.now.plan.now.nodes }
+    requires held { HoldsAll trial.old.pool (ids_of_answers trial.old.answers) }
+    ensures laid { OnOk result (IsLaid trial.new.answers trial.new.pool subject.now.plan.now.nodes) }
+    ensures held { OnOk result (HoldsAll trial.new.pool (ids_of_answers trial.new.answers)) }
 {
     let mut tally = Tally::new();
     let found = update_once(subject, &event.update, trial, &mut tally, steps)?;

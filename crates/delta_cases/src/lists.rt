@@ -1,7 +1,9 @@
 //! Lists of updates, each told to kept answers and worked out anew.
+ghost use Rattle.delta_rules.specs.Holding.{ids_of_answers};
 ghost use Rattle.delta_rules.specs.Laid.{IsLaid};
 ghost use Rattle.query_plan.specs.Nodes.{IsPlan};
 ghost use Rattle.query_plan.specs.PlainNodes.{PlainNodes};
+ghost use Rattle.row_pool.specs.Pool.{HoldsAll};
 ghost use Rattle.std.specs.Prelude.{◌≡◌, ◌<◌, IfOk, OnOk};
 
 use crate::alike::first_nodes;
@@ -23,14 +25,16 @@ use crate::world::World;
 use da_lang::{Node, QueryNode, Shape};
 use da_values::{List, NoMemory, Row, Steps, Value, cmp_rows, cmp_values};
 use delta_rules::Answers;
+use row_pool::Pool;
 use std::alloc::Global;
 use std::marker::Brand;
 use std::sync::ledger::{Blank, Ledger};
 
-/// Kept answers, the process for which they stand, and what was worked out of it.
+/// Kept answers with the pool of their values, the process for which they stand, and what was worked out of it.
 #[derive(Drop)]
 pub struct Trial {
     pub answers: Answers,
+    pub pool: Pool,
     pub world: World,
     pub known: Known,
     pub firsts: List<u32>,
@@ -57,14 +61,23 @@ fn know(alloc: Global, world: &World, nodes: &[Node]) -> Result<Known, NoMemory>
 pub fn begin(subject: &Subject<'_>, world: World) -> Result<Trial, NoMemory>
     requires plan { IsPlan subject.now.plan.now.nodes }
     requires plain { PlainNodes subject.now.plan.now.nodes }
-    ensures { IfOk result (λ trial. IsLaid trial.answers subject.now.plan.now.nodes) }
+    ensures laid { IfOk result (λ trial. IsLaid trial.answers trial.pool subject.now.plan.now.nodes) }
+    ensures held { IfOk result (λ trial. HoldsAll trial.pool (ids_of_answers trial.answers)) }
 {
     let nodes = subject.plan.nodes.as_slice();
     let known = know(subject.alloc, &world, nodes)?;
     let firsts = first_nodes(subject.alloc, nodes)?;
-    let answers = Answers::new(subject.alloc, subject.plan, world.me, &world.slots)?;
+    let mut pool = Pool::new(subject.alloc);
+    let answers = Answers::new(
+        subject.alloc,
+        subject.plan,
+        world.me,
+        &world.slots,
+        &mut pool,
+    )?;
     Ok(Trial {
         answers,
+        pool,
         world,
         known,
         firsts,
@@ -79,11 +92,13 @@ fn compared<L: Ledger>(
 ) -> Result<Option<Difference>, NoMemory> {
     let (answers, known) = (&trial.answers, &trial.known);
     let firsts = trial.firsts.as_slice();
-    if let Some(found) = other_node(answers, known, steps) {
-        return Ok(Some(found));
+    let found = other_node(alloc, answers, &trial.pool, known, steps)?;
+    if found.is_some() {
+        return Ok(found);
     }
-    if let Some(found) = other_live(answers, known, firsts, steps) {
-        return Ok(Some(found));
+    let found = other_live(alloc, answers, &trial.pool, known, firsts, steps)?;
+    if found.is_some() {
+        return Ok(found);
     }
     if let Some(found) = other_flag(answers, known) {
         return Ok(Some(found));
@@ -91,7 +106,7 @@ fn compared<L: Ledger>(
     if let Some(found) = other_kept(answers, known, firsts) {
         return Ok(Some(found));
     }
-    other_slot(alloc, answers, &trial.world)
+    other_slot(answers, &trial.pool, &trial.world)
 }
 
 // Notes what an update did to each node, and answers one whose rows changed although it is not touched, which there should not
@@ -195,14 +210,17 @@ pub fn update_once<L: Ledger>(
 ) -> Result<Option<Difference>, NoMemory>
     requires plan { IsPlan subject.now.plan.now.nodes }
     requires plain { PlainNodes subject.now.plan.now.nodes }
-    requires laid { IsLaid trial.old.answers subject.now.plan.now.nodes }
-    ensures { OnOk result (IsLaid trial.new.answers subject.now.plan.now.nodes) }
+    requires laid { IsLaid trial.old.answers trial.old.pool subject.now.plan.now.nodes }
+    requires held { HoldsAll trial.old.pool (ids_of_answers trial.old.answers) }
+    ensures laid { OnOk result (IsLaid trial.new.answers trial.new.pool subject.now.plan.now.nodes) }
+    ensures held { OnOk result (HoldsAll trial.new.pool (ids_of_answers trial.new.answers)) }
 {
     tell(
         subject.alloc,
         subject.plan,
         update,
         &mut trial.answers,
+        &mut trial.pool,
         steps,
     )?;
     let stray = go_on(subject, update, &mut trial.world, &mut trial.known, tally)?;
@@ -228,8 +246,10 @@ fn run_update<L: Ledger>(
 ) -> Result<Option<Failed>, NoMemory>
     requires plan { IsPlan subject.now.plan.now.nodes }
     requires plain { PlainNodes subject.now.plan.now.nodes }
-    requires laid { IsLaid trial.old.answers subject.now.plan.now.nodes }
-    ensures { OnOk result (IsLaid trial.new.answers subject.now.plan.now.nodes) }
+    requires laid { IsLaid trial.old.answers trial.old.pool subject.now.plan.now.nodes }
+    requires held { HoldsAll trial.old.pool (ids_of_answers trial.old.answers) }
+    ensures laid { OnOk result (IsLaid trial.new.answers trial.new.pool subject.now.plan.now.nodes) }
+    ensures held { OnOk result (HoldsAll trial.new.pool (ids_of_answers trial.new.answers)) }
 {
     let update = next_update(subject, &trial.world, chance)?;
     let found = update_once(subject, &update, trial, tally, steps)?;
@@ -259,8 +279,10 @@ fn run_updates<L: Ledger>(
 ) -> Result<Option<Failed>, NoMemory>
     requires plan { IsPlan subject.now.plan.now.nodes }
     requires plain { PlainNodes subject.now.plan.now.nodes }
-    requires laid { IsLaid trial.old.answers subject.now.plan.now.nodes }
-    ensures { OnOk result (IsLaid trial.new.answers subject.now.plan.now.nodes) }
+    requires laid { IsLaid trial.old.answers trial.old.pool subject.now.plan.now.nodes }
+    requires held { HoldsAll trial.old.pool (ids_of_answers trial.old.answers) }
+    ensures laid { OnOk result (IsLaid trial.new.answers trial.new.pool subject.now.plan.now.nodes) }
+    ensures held { OnOk result (HoldsAll trial.new.pool (ids_of_answers trial.new.answers)) }
 {
     for number in 0..last {
         let found = run_update(subject, number + 1, chance, trial, tally, steps)?;
@@ -281,7 +303,8 @@ fn run_trial<L: Ledger>(
 ) -> Result<Option<Failed>, NoMemory>
     requires plan { IsPlan subject.now.plan.now.nodes }
     requires plain { PlainNodes subject.now.plan.now.nodes }
-    requires laid { IsLaid trial.old.answers subject.now.plan.now.nodes }
+    requires laid { IsLaid trial.old.answers trial.old.pool subject.now.plan.now.nodes }
+    requires held { HoldsAll trial.old.pool (ids_of_answers trial.old.answers) }
 {
     let first = compared(subject.alloc, trial, steps)?;
     if first.is_some() {
@@ -330,7 +353,7 @@ pub fn run_list(
 
 // The first numbered query of which something else is told.
 fn other_query(subject: &Subject<'_>, trial: &Trial) -> Result<Option<Difference>, NoMemory>
-    requires { IsLaid trial.now.answers subject.now.plan.now.nodes }
+    requires { IsLaid trial.now.answers trial.now.pool subject.now.plan.now.nodes }
 {
     let queries = subject.plan.queries.as_slice();
     for (place, query) in queries.iter().enumerate() {
@@ -353,7 +376,7 @@ fn is_told(
     q: u32,
     query: &QueryNode,
 ) -> Result<bool, NoMemory>
-    requires { IsLaid trial.now.answers subject.now.plan.now.nodes }
+    requires { IsLaid trial.now.answers trial.now.pool subject.now.plan.now.nodes }
 {
     let rows = rows_at(trial.known.tables.as_slice(), query.node);
     if !is_value(subject, trial, q, &query.shape, rows)? {
@@ -373,9 +396,11 @@ fn is_value(
     shape: &Shape,
     rows: &[Row],
 ) -> Result<bool, NoMemory>
-    requires { IsLaid trial.now.answers subject.now.plan.now.nodes }
+    requires { IsLaid trial.now.answers trial.now.pool subject.now.plan.now.nodes }
 {
-    let value = trial.answers.ask(subject.alloc, subject.plan, q)?;
+    let value = trial
+        .answers
+        .ask(subject.alloc, subject.plan, q, &trial.pool)?;
     let wanted = value_of_query(subject.alloc, &trial.world, shape, rows)?;
     Ok(cmp_values(&value, &wanted).is_eq())
 }
@@ -388,9 +413,11 @@ fn is_found(
     shape: &Shape,
     rows: &[Row],
 ) -> Result<bool, NoMemory>
-    requires { IsLaid trial.now.answers subject.now.plan.now.nodes }
+    requires { IsLaid trial.now.answers trial.now.pool subject.now.plan.now.nodes }
 {
-    let found = trial.answers.found(subject.alloc, subject.plan, q)?;
+    let found = trial
+        .answers
+        .found(subject.alloc, subject.plan, q, &trial.pool)?;
     Ok(are_same(&found, least_of_query(shape, rows)))
 }
 
@@ -402,9 +429,11 @@ fn is_listed(
     shape: &Shape,
     rows: &[Row],
 ) -> Result<bool, NoMemory>
-    requires { IsLaid trial.now.answers subject.now.plan.now.nodes }
+    requires { IsLaid trial.now.answers trial.now.pool subject.now.plan.now.nodes }
 {
-    let listed = trial.answers.listed(subject.alloc, subject.plan, q)?;
+    let listed = trial
+        .answers
+        .listed(subject.alloc, subject.plan, q, &trial.pool)?;
     let wanted = listed_of_query(subject.alloc, &trial.world, shape, rows)?;
     Ok(cmp_rows(listed.as_slice(), wanted.as_slice()).is_eq())
 }

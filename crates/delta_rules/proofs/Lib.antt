@@ -3,11 +3,15 @@ pub mod EmptyLaws
 pub mod EntryLaws
 pub mod FirstLaws
 pub mod GenTurnLaws
+pub mod HeldLaws
+pub mod HoldingLaws
 pub mod KeyLaws
 pub mod LayingLaws
+pub mod ListPlaces
 pub mod LiveTurns
 pub mod NamingAt
 pub mod ReadingLaws
+pub mod SlotIds
 pub mod SlotLaws
 pub mod Steadiness
 pub mod TakingLaws
@@ -15,6 +19,7 @@ pub mod TurnLaws
 pub mod TurnLoop
 pub mod UnusedLaws
 pub mod UpdateCounts
+pub mod UpdateHeld
 pub mod UpdateLaws
 pub mod UpdateSteps
 pub mod UseLaws

@@ -16,7 +16,7 @@ use Rattle.da_lang.specs.declared.query.Node.{Node}
 use Rattle.delta_rules.specs.Passing.{is_named}
 use Rattle.delta_rules.specs.SlotUse.{Adds, AreNamed, ListsNamed, is_listed}
 use Rattle.delta_rules.specs.declared.turn.Moved.{Moved}
-use Rattle.delta_rules.proofs.TakingLaws.{get_longer, nothing_there, same_or_not}
+use Rattle.delta_rules.proofs.ListPlaces.{get_longer, nothing_there, same_or_not}
 use Rattle.delta_rules.proofs.NamingAt.{in-And, in-Chain, in-Cmp, in-Or}
 
 or_nil : (b : Bool) → (b || false) ≡ b

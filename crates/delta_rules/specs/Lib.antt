@@ -1,6 +1,7 @@
 pub mod Counting
 pub mod Empty
 pub mod Entering
+pub mod Holding
 pub mod Keeping
 pub mod Keys
 pub mod Laid
@@ -10,3 +11,4 @@ pub mod Passing
 pub mod SlotUse
 pub mod Told
 pub mod Turning
+pub mod Updating

@@ -10,12 +10,13 @@ use Rattle.da_lang.specs.World.{Data, at_number, nothing}
 use Rattle.query_plan.specs.declared.plan.Plan.{Plan}
 use Rattle.query_plan.specs.Nodes.{node_rows}
 use Rattle.query_plan.specs.Told.{told_least, told_shown, told_value}
-use Rattle.delta_rules.specs.Keeping.{rows_in}
+use Rattle.row_pool.specs.Cells.{Cells}
+use Rattle.delta_rules.specs.Keeping.{set_rows}
 use Rattle.delta_rules.specs.declared.answers.Answers.{Answers}
 
 -- the rows of a node, as answers keep them
-abbrev pub kept_rows : Answers → ℕ → List Row
-kept_rows answers i = get_or (rows_in answers.nodes.items) i []
+abbrev pub kept_rows : Answers → Cells → ℕ → List Row
+kept_rows answers pool i = get_or (set_rows pool answers.nodes.items) i []
 
 abbrev pub value_of_node : Data → List Node → Option QueryNode → Val
 value_of_node d nodes None = nothing

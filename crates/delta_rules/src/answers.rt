@@ -2,22 +2,25 @@
 use crate::empty::laid_for;
 use crate::first::first_rows;
 use crate::fixed::Fixed;
+use crate::slots::slot_id;
 use crate::uses::{all_named, used_slots};
-use answer_index::AnswerSet;
-use da_values::{NoMemory, Row, Value, copy_value};
+use answer_index::{AnswerSet, IdRow, intern_row, row_values};
+use da_values::{NoMemory, Row, Value};
 use history_live::live_patterns;
 use query_plan::Plan;
-use row_terms::{Locals, copy_row, numbered};
+use row_pool::Pool;
+use row_terms::Locals;
 use std::alloc::Global;
 use std::marker::Brand;
 use std::sync::ledger::Blank;
 
 /// What a process of a class has to know of its past: its number, its slots, the rows of each node of the plan and those of
-/// each live pattern.
+/// each live pattern. The values are those of a pool, of which the answers hold the ids of `ids_of_answers`; answers that are
+/// only dropped leave these counted.
 #[derive(Drop)]
 pub struct Answers {
     pub me: u16,
-    pub slots: Row,
+    pub slots: IdRow,
     pub nodes: Vec<AnswerSet>,
     pub live: Vec<AnswerSet>,
     pub fixed: Fixed,
@@ -27,32 +30,41 @@ impl Answers {
     ghost use Rattle.da_lang.specs.declared.query.Node.{Node};
     ghost use Rattle.da_lang.specs.World.{Data, value_in};
     ghost use Rattle.da_values.specs.Value.{val_of};
+    ghost use Rattle.answer_index.specs.Rows.{row_in};
+    ghost use Rattle.delta_rules.specs.Holding.{ids_of_answers};
     ghost use Rattle.delta_rules.specs.Keeping.{Keeps, all_live};
     ghost use Rattle.delta_rules.specs.Laid.{IsLaid};
     ghost use Rattle.query_plan.specs.Nodes.{IsPlan, node_rows};
     ghost use Rattle.query_plan.specs.PlainNodes.{PlainNodes};
     ghost use Rattle.query_plan.specs.Told.{has_row};
+    ghost use Rattle.row_pool.specs.Cells.{Cells};
+    ghost use Rattle.row_pool.specs.Pool.{HoldsAll};
     ghost use Rattle.std.specs.Prelude.{◌≡◌, [], IfOk, List as Seq, length, map, sum};
 
-    /// The answers of a process of this number with these slots that has neither sent nor received a message.
-    pub fn new(alloc: Global, plan: &Plan, me: u16, slots: &Row) -> Result<Answers, NoMemory>
+    /// The answers of a process of this number with these slots that has neither sent nor received a message. The pool is
+    /// empty before, and nobody else may hold an id of it after.
+    pub fn new(
+        alloc: Global,
+        plan: &Plan,
+        me: u16,
+        slots: &Row,
+        pool: &mut Pool,
+    ) -> Result<Answers, NoMemory>
         requires plan { IsPlan plan.now.nodes }
         requires plain { PlainNodes plan.now.nodes }
+        requires none { pool.old ≡ [] }
         ensures kept { IfOk result (λ answers. (d : Data) → d.me ≡ me → d.slots ≡ slots.now → d.sent ≡ [] → d.received ≡ []
-            → Keeps answers plan.now.nodes d) }
-        ensures laid { IfOk result (λ answers. IsLaid answers plan.now.nodes) }
+            → Keeps answers pool.new plan.now.nodes d) }
+        ensures laid { IfOk result (λ answers. IsLaid answers pool.new plan.now.nodes) }
+        ensures held { IfOk result (λ answers. HoldsAll pool.new (ids_of_answers answers)) }
     {
         let live = live_patterns(alloc, plan)?;
         let nodes = plan.nodes.as_slice();
         let mut laid = laid_for(alloc, nodes, live.patterns.as_slice())?;
         let named = all_named(alloc, nodes)?;
         let used = used_slots(alloc, nodes)?;
-        let slots = copy_row(alloc, slots)?;
-        let locals = Locals {
-            alloc,
-            me,
-            slots: &slots,
-        };
+        let locals = Locals { alloc, me, slots };
+        let ids = intern_row(alloc, slots.as_slice(), pool)?;
         first_rows::<Brand>(
             &locals,
             nodes,
@@ -60,11 +72,12 @@ impl Answers {
             named.as_slice(),
             laid.live.as_slice(),
             &mut laid.nodes,
+            pool,
             Blank::new(1),
         )?;
         Ok(Answers {
             me,
-            slots,
+            slots: ids,
             nodes: laid.nodes,
             live: laid.live,
             fixed: Fixed {
@@ -77,19 +90,26 @@ impl Answers {
     }
 
     /// The value of a slot, numbered from 1; process 0, which is no process, where there is no such slot.
-    pub fn slot(&self, alloc: Global, s: u16) -> Result<Value, NoMemory>
-        ensures { IfOk result (λ v. val_of v ≡ value_in self.now.slots s) }
+    pub fn slot(&self, s: u16, pool: &Pool) -> Result<Value, NoMemory>
+        ensures { IfOk result (λ v. val_of v ≡ value_in (row_in pool.now self.now.slots) s) }
     {
-        match numbered(&self.slots, s) {
-            Some(v) => copy_value(alloc, v),
+        match slot_id(&self.slots, s) {
+            Some(id) => pool.value(id),
             None => Ok(Value::Proc(0)),
         }
+    }
+
+    /// Copies of the values of all slots.
+    pub fn slot_values(&self, alloc: Global, pool: &Pool) -> Result<Row, NoMemory>
+        ensures { IfOk result (λ values. values ≡ row_in pool.now self.now.slots) }
+    {
+        row_values(alloc, self.slots.ids.as_slice(), pool)
     }
 
     /// How many rows the live patterns have, together. It takes no memory. The sum has fewer than 2^64 terms below 2^64, so a
     /// u128 holds it.
     pub fn kept(&self) -> u128
-        ensures { (nodes : Seq Node) (d : Data) → Keeps self.now nodes d → result ≡ sum (map length (all_live d nodes)) }
+        ensures { (pool : Cells) (nodes : Seq Node) (d : Data) → Keeps self.now pool nodes d → result ≡ sum (map length (all_live d nodes)) }
     {
         let mut total: u128 = 0;
         for place in 0..self.live.len() {
@@ -100,7 +120,7 @@ impl Answers {
 
     /// Whether a node has a row. It takes no memory and no step.
     pub fn flag(&self, node: u32) -> bool
-        ensures { (nodes : Seq Node) (d : Data) → Keeps self.now nodes d → result ≡ has_row (node_rows d nodes node) }
+        ensures { (pool : Cells) (nodes : Seq Node) (d : Data) → Keeps self.now pool nodes d → result ≡ has_row (node_rows d nodes node) }
     {
         match self.nodes.get(node as usize) {
             Some(set) => set.len() > 0,

@@ -8,6 +8,7 @@ use crate::reading::{all_rows, front_row, least_row};
 use da_lang::{QueryNode, Shape};
 use da_values::{List, NoMemory, Row, SetVal, Value};
 use query_plan::Plan;
+use row_pool::Pool;
 use row_terms::{Locals, told_listed, told_value};
 use std::alloc::Global;
 
@@ -23,6 +24,7 @@ fn query_node(plan: &Plan, q: u32) -> Option<&QueryNode>
 
 impl Answers {
     ghost use Rattle.answer_index.specs.Answers.{IsSet};
+    ghost use Rattle.answer_index.specs.Rows.{row_in};
     ghost use Rattle.da_lang.specs.Queries.{first};
     ghost use Rattle.da_lang.specs.World.{Data};
     ghost use Rattle.da_values.specs.declared.val.Val.TheVariants as val;
@@ -36,120 +38,139 @@ impl Answers {
 
     /// The value of query `q`, numbered from 1; process 0, which is no process, where there is no such query. A sum outside an
     /// i128 answers `NoMemory`.
-    pub fn ask(&self, alloc: Global, plan: &Plan, q: u32) -> Result<Value, NoMemory>
-        ensures { IfOk result (λ v. (d : Data) → Keeps self.now plan.now.nodes d → val_of v ≡ asked d plan.now q) }
+    pub fn ask(&self, alloc: Global, plan: &Plan, q: u32, pool: &Pool) -> Result<Value, NoMemory>
+        ensures { IfOk result (λ v. (d : Data) → Keeps self.now pool.now plan.now.nodes d → val_of v ≡ asked d plan.now q) }
     {
         match query_node(plan, q) {
-            Some(query) => self.value_at(alloc, query),
+            Some(query) => self.value_at(alloc, query, pool),
             None => Ok(Value::Proc(0)),
         }
     }
 
     /// The least row of query `q`, numbered from 1, where it is a `some` that holds.
-    pub fn found(&self, alloc: Global, plan: &Plan, q: u32) -> Result<Option<Row>, NoMemory>
-        ensures { IfOk result (λ row. (d : Data) → Keeps self.now plan.now.nodes d → row ≡ least_found d plan.now q) }
+    pub fn found(
+        &self,
+        alloc: Global,
+        plan: &Plan,
+        q: u32,
+        pool: &Pool,
+    ) -> Result<Option<Row>, NoMemory>
+        ensures { IfOk result (λ row. (d : Data) → Keeps self.now pool.now plan.now.nodes d → row ≡ least_found d plan.now q) }
     {
         match query_node(plan, q) {
-            Some(query) => self.least_at(alloc, query),
+            Some(query) => self.least_at(alloc, query, pool),
             None => Ok(None),
         }
     }
 
     /// The set that `show` lists of query `q`, numbered from 1: its rows as tuples.
-    pub fn listed(&self, alloc: Global, plan: &Plan, q: u32) -> Result<SetVal, NoMemory>
-        requires { IsLaid self.now plan.now.nodes }
-        ensures { IfOk result (λ set. (d : Data) → Keeps self.now plan.now.nodes d → set ≡ set_listed d plan.now q) }
+    pub fn listed(
+        &self,
+        alloc: Global,
+        plan: &Plan,
+        q: u32,
+        pool: &Pool,
+    ) -> Result<SetVal, NoMemory>
+        requires { IsLaid self.now pool.now plan.now.nodes }
+        ensures { IfOk result (λ set. (d : Data) → Keeps self.now pool.now plan.now.nodes d → set ≡ set_listed d plan.now q) }
     {
         match query_node(plan, q) {
-            Some(query) => self.set_at(alloc, query),
+            Some(query) => self.set_at(alloc, query, pool),
             None => Ok(SetVal::new(alloc)),
         }
     }
 
-    // The number and the slots.
-    fn locals(&self, alloc: Global) -> Locals<'_>
+    // The number, and these slots.
+    fn locals<'s>(&self, alloc: Global, slots: &'s Row) -> Locals<'s>
         ensures me { result.me ≡ self.now.me }
-        ensures slots { result.slots.now ≡ self.now.slots }
+        ensures slots { result.slots.now ≡ slots.now }
     {
         Locals {
             alloc,
             me: self.me,
-            slots: &self.slots,
+            slots,
         }
     }
 
     // The rows of a node.
-    fn rows_at(&self, alloc: Global, node: u32) -> Result<List<Row>, NoMemory>
-        ensures { IfOk result (λ rows. rows ≡ kept_rows self.now node) }
+    fn rows_at(&self, alloc: Global, node: u32, pool: &Pool) -> Result<List<Row>, NoMemory>
+        ensures { IfOk result (λ rows. rows ≡ kept_rows self.now pool.now node) }
     {
         match self.nodes.get(node as usize) {
-            Some(set) => all_rows(alloc, set),
+            Some(set) => all_rows(alloc, set, pool),
             None => Ok(List::new(alloc)),
         }
     }
 
     // The first of them, if there is one, as a list.
-    fn front_at(&self, alloc: Global, node: u32) -> Result<List<Row>, NoMemory>
-        ensures { IfOk result (λ rows. rows ≡ take 1 (kept_rows self.now node)) }
+    fn front_at(&self, alloc: Global, node: u32, pool: &Pool) -> Result<List<Row>, NoMemory>
+        ensures { IfOk result (λ rows. rows ≡ take 1 (kept_rows self.now pool.now node)) }
     {
         match self.nodes.get(node as usize) {
-            Some(set) => front_row(alloc, set),
+            Some(set) => front_row(alloc, set, pool),
             None => Ok(List::new(alloc)),
         }
     }
 
     // The first of them, if there is one.
-    fn first_at(&self, alloc: Global, node: u32) -> Result<Option<Row>, NoMemory>
-        ensures { IfOk result (λ row. row ≡ first (kept_rows self.now node)) }
+    fn first_at(&self, alloc: Global, node: u32, pool: &Pool) -> Result<Option<Row>, NoMemory>
+        ensures { IfOk result (λ row. row ≡ first (kept_rows self.now pool.now node)) }
     {
         match self.nodes.get(node as usize) {
-            Some(set) => least_row(alloc, set),
+            Some(set) => least_row(alloc, set, pool),
             None => Ok(None),
         }
     }
 
     // As many of them as the value of a query needs: of a comprehension all, and else the first.
-    fn rows_for(&self, alloc: Global, query: &QueryNode) -> Result<List<Row>, NoMemory>
+    fn rows_for(&self, alloc: Global, query: &QueryNode, pool: &Pool) -> Result<List<Row>, NoMemory>
         ensures { IfOk result (λ rows. (d : Data)
-            → told_value_lem d query.now.shape rows ≡ told_value_lem d query.now.shape (kept_rows self.now query.now.node)) }
+            → told_value_lem d query.now.shape rows ≡ told_value_lem d query.now.shape (kept_rows self.now pool.now query.now.node)) }
     {
         match query.shape {
-            Shape::Exists => self.front_at(alloc, query.node),
-            Shape::Each => self.front_at(alloc, query.node),
-            Shape::Comp(_) => self.rows_at(alloc, query.node),
-            Shape::Agg => self.front_at(alloc, query.node),
+            Shape::Exists => self.front_at(alloc, query.node, pool),
+            Shape::Each => self.front_at(alloc, query.node, pool),
+            Shape::Comp(_) => self.rows_at(alloc, query.node, pool),
+            Shape::Agg => self.front_at(alloc, query.node, pool),
         }
     }
 
     // The value of a query.
-    fn value_at(&self, alloc: Global, query: &QueryNode) -> Result<Value, NoMemory>
-        ensures { IfOk result (λ v. (d : Data) → d.me ≡ self.now.me → d.slots ≡ self.now.slots
-            → val_of v ≡ told_value_lem d query.now.shape (kept_rows self.now query.now.node)) }
+    fn value_at(&self, alloc: Global, query: &QueryNode, pool: &Pool) -> Result<Value, NoMemory>
+        ensures { IfOk result (λ v. (d : Data) → d.me ≡ self.now.me → d.slots ≡ row_in pool.now self.now.slots
+            → val_of v ≡ told_value_lem d query.now.shape (kept_rows self.now pool.now query.now.node)) }
     {
-        let rows = self.rows_for(alloc, query)?;
-        let locals = self.locals(alloc);
+        let rows = self.rows_for(alloc, query, pool)?;
+        let slots = self.slot_values(alloc, pool)?;
+        let locals = self.locals(alloc, &slots);
         let v = told_value(&locals, &query.shape, rows.as_slice())?;
         Ok(v)
     }
 
     // The set that `show` lists of a query.
-    fn set_at(&self, alloc: Global, query: &QueryNode) -> Result<SetVal, NoMemory>
-        requires { All IsSet self.now.nodes.items }
-        ensures { IfOk result (λ set. (d : Data) → d.me ≡ self.now.me → d.slots ≡ self.now.slots
-            → set ≡ map val.Tuple (told_shown d query.now.shape (kept_rows self.now query.now.node))) }
+    fn set_at(&self, alloc: Global, query: &QueryNode, pool: &Pool) -> Result<SetVal, NoMemory>
+        requires { All (λ set. IsSet set pool.now) self.now.nodes.items }
+        ensures { IfOk result (λ set. (d : Data) → d.me ≡ self.now.me → d.slots ≡ row_in pool.now self.now.slots
+            → set ≡ map val.Tuple (told_shown d query.now.shape (kept_rows self.now pool.now query.now.node))) }
     {
-        let rows = self.rows_at(alloc, query.node)?;
-        let locals = self.locals(alloc);
+        let rows = self.rows_at(alloc, query.node, pool)?;
+        let slots = self.slot_values(alloc, pool)?;
+        let locals = self.locals(alloc, &slots);
         let set = told_listed(&locals, &query.shape, rows.as_slice())?;
         Ok(set)
     }
 
     // The row that a query binds, if any.
-    fn least_at(&self, alloc: Global, query: &QueryNode) -> Result<Option<Row>, NoMemory>
-        ensures { IfOk result (λ row. row ≡ told_least query.now.shape (kept_rows self.now query.now.node)) }
+    fn least_at(
+        &self,
+        alloc: Global,
+        query: &QueryNode,
+        pool: &Pool,
+    ) -> Result<Option<Row>, NoMemory>
+        ensures { IfOk result (λ row. row ≡ told_least query.now.shape (kept_rows self.now pool.now query.now.node)) }
     {
         match query.shape {
-            Shape::Exists => self.first_at(alloc, query.node),
+            Shape::Exists => self.first_at(alloc, query.node, pool),
             Shape::Each => Ok(None),
             Shape::Comp(_) => Ok(None),
             Shape::Agg => Ok(None),

@@ -6,38 +6,71 @@ ghost use Rattle.da_values.specs.Order.{val_cmp};
 ghost use Rattle.da_values.specs.Sets.{Distinct, set_insert as insert_lem, set_remove as remove_lem};
 ghost use Rattle.da_values.specs.Value.{val_of, vals};
 ghost use Rattle.da_values.specs.Views.{elements_of as elements_lem};
+ghost use Rattle.answer_index.specs.Rows.{row_in, row_of};
 ghost use Rattle.delta_rules.specs.Passing.{IsSwap, lacking};
-ghost use Rattle.std.specs.Option.{option_map};
-ghost use Rattle.std.specs.Prelude.{◌≡◌, ◌<◌, ◌≤◌, [], ◌∷◌, IfOk, MatchBool, None, OnOk, if◌then◌else◌, length};
+ghost use Rattle.row_pool.specs.Cells.{Cells, count};
+ghost use Rattle.row_pool.specs.Pool.{Holds, Trades, val_at};
+ghost use Rattle.std.specs.Option.{option_copied, option_map};
+ghost use Rattle.std.specs.Prelude.{◌≡◌, ◌<◌, ◌≤◌, ℕ, [], ◌∷◌, IfOk, MatchBool, None, OnOk, if◌then◌else◌, length};
 
-use da_values::{List, NoMemory, Row, SetVal, Value, copy_value, set_has, set_insert, set_remove};
+use answer_index::IdRow;
+use da_values::{List, NoMemory, SetVal, Value, copy_value, set_has, set_insert, set_remove};
+use row_pool::{Id, Pool};
 use std::alloc::Global;
 
 // Whether there is a slot with this number.
-fn is_slot(slots: &Row, s: u16) -> bool
-    ensures { MatchBool result ((0 < s) × (s ≤ length slots.now)) (at_number slots.now s ≡ None) }
+fn is_slot(slots: &IdRow, s: u16) -> bool
+    ensures { MatchBool result ((0 < s) × (s ≤ length slots.now.ids)) ((pool : Cells) → at_number (row_in pool slots.now) s ≡ None) }
 {
-    s > 0 && usize::from(s) <= slots.len()
+    s > 0 && usize::from(s) <= slots.ids.len()
 }
 
-// Puts a value into a slot, if there is one, and hands out the one that was there.
-fn exchange(slots: &mut Row, s: u16, v: Value) -> Option<Value>
-    ensures old { option_map val_of result ≡ at_number slots.old s }
-    ensures slots { slots.new ≡ with_slot slots.old s (val_of v) }
+/// The id in a slot, numbered from 1, or `None` where there is no such slot. It takes no memory.
+pub fn slot_id(slots: &IdRow, s: u16) -> Option<&Id>
+    ensures { (pool : Cells) → option_map (val_at pool) (option_copied result) ≡ at_number (row_in pool slots.now) s }
 {
-    let place = usize::from(s).checked_sub(1)?;
-    if place < slots.len() {
-        Some(slots.replace(place, v))
-    } else {
-        None
+    match s.checked_sub(1) {
+        Some(at) => slots.ids.get(usize::from(at)),
+        None => None,
     }
 }
 
-/// Gives a slot a value, if there is such a slot.
-pub fn put(alloc: Global, slots: &mut Row, s: u16, v: &Value) -> Result<(), NoMemory>
-    ensures { OnOk result (slots.new ≡ with_slot slots.old s (val_of v.now)) }
+// A copy of the value in a slot, if there is such a slot.
+fn slot_value(slots: &IdRow, s: u16, pool: &Pool) -> Result<Option<Value>, NoMemory>
+    ensures { IfOk result (λ found. option_map val_of found ≡ at_number (row_in pool.now slots.now) s) }
 {
-    let _ = exchange(slots, s, copy_value(alloc, v)?);
+    match slot_id(slots, s) {
+        Some(id) => Ok(Some(pool.value(id)?)),
+        None => Ok(None),
+    }
+}
+
+// Puts an id into a slot and hands out the one that was there; where there is no such slot, it is handed back.
+fn exchange(ids: &mut List<Id>, s: u16, id: Id) -> Id
+    ensures values { (pool : Cells) → row_of pool ids.new ≡ with_slot (row_of pool ids.old) s (val_at pool id) }
+    ensures same { (k : ℕ) → count k (result ∷ ids.new) ≡ count k (id ∷ ids.old) }
+{
+    match usize::from(s).checked_sub(1) {
+        Some(place) => {
+            if place < ids.len() {
+                ids.replace(place, id)
+            } else {
+                id
+            }
+        }
+        None => id,
+    }
+}
+
+/// Gives a slot a value, if there is such a slot. The id of the old one is given back.
+pub fn put(slots: &mut IdRow, s: u16, v: &Value, pool: &mut Pool) -> Result<(), NoMemory>
+    requires held { Holds pool.old slots.old.ids }
+    ensures slots { OnOk result (row_in pool.new slots.new ≡ with_slot (row_in pool.old slots.old) s (val_of v.now)) }
+    ensures trades { OnOk result (Trades pool.old slots.old.ids pool.new slots.new.ids) }
+{
+    let id = pool.intern(v)?;
+    let old = exchange(&mut slots.ids, s, id);
+    pool.give_back(old);
     Ok(())
 }
 
@@ -63,36 +96,52 @@ fn set_in(alloc: Global, v: Value) -> SetVal
     }
 }
 
-/// Puts a value into the set in a slot, and answers whether it came into it. Where memory is refused the slot has lost its
-/// value.
-pub fn add_to(alloc: Global, slots: &mut Row, s: u16, v: &Value) -> Result<bool, NoMemory>
-    ensures slots { OnOk result (slots.new ≡ with_slot slots.old s (val.Set (insert_lem val_cmp (elements_lem (value_in slots.old s)) (val_of v.now)))) }
-    ensures swap { IfOk result (λ fresh. IsSwap (elements_lem (value_in slots.old s)) (elements_lem (value_in slots.new s)) (if fresh then val_of v.now ∷ [] else []) []) }
+/// Puts a value into the set in a slot, and answers whether it came into it.
+pub fn add_to(
+    alloc: Global,
+    slots: &mut IdRow,
+    s: u16,
+    v: &Value,
+    pool: &mut Pool,
+) -> Result<bool, NoMemory>
+    requires held { Holds pool.old slots.old.ids }
+    ensures slots { OnOk result (row_in pool.new slots.new ≡ with_slot (row_in pool.old slots.old) s (val.Set (insert_lem val_cmp (elements_lem (value_in (row_in pool.old slots.old) s)) (val_of v.now)))) }
+    ensures swap { IfOk result (λ fresh. IsSwap (elements_lem (value_in (row_in pool.old slots.old) s)) (elements_lem (value_in (row_in pool.new slots.new) s)) (if fresh then val_of v.now ∷ [] else []) []) }
+    ensures trades { OnOk result (Trades pool.old slots.old.ids pool.new slots.new.ids) }
 {
     if !is_slot(slots, s) {
         return Ok(false);
     }
-    let found = exchange(slots, s, Value::Proc(0));
+    let found = slot_value(slots, s, pool)?;
     let mut set = set_of(alloc, found);
     let fresh = set_insert(&mut set, copy_value(alloc, v)?)?;
-    let _ = exchange(slots, s, Value::Set(set));
+    put(slots, s, &Value::Set(set), pool)?;
     Ok(fresh)
 }
 
-/// Takes a value out of the set in a slot, and answers whether it left it. It takes no memory.
-pub fn take_from(alloc: Global, slots: &mut Row, s: u16, v: &Value) -> bool
-    ensures slots { slots.new ≡ with_slot slots.old s (val.Set (remove_lem val_cmp (elements_lem (value_in slots.old s)) (val_of v.now))) }
-    ensures swap { IsSwap (elements_lem (value_in slots.old s)) (elements_lem (value_in slots.new s)) [] (if result then val_of v.now ∷ [] else []) }
+/// Takes a value out of the set in a slot, and answers whether it left it.
+pub fn take_from(
+    alloc: Global,
+    slots: &mut IdRow,
+    s: u16,
+    v: &Value,
+    pool: &mut Pool,
+) -> Result<bool, NoMemory>
+    requires held { Holds pool.old slots.old.ids }
+    ensures slots { OnOk result (row_in pool.new slots.new ≡ with_slot (row_in pool.old slots.old) s (val.Set (remove_lem val_cmp (elements_lem (value_in (row_in pool.old slots.old) s)) (val_of v.now)))) }
+    ensures swap { IfOk result (λ there. IsSwap (elements_lem (value_in (row_in pool.old slots.old) s)) (elements_lem (value_in (row_in pool.new slots.new) s)) [] (if there then val_of v.now ∷ [] else [])) }
+    ensures trades { OnOk result (Trades pool.old slots.old.ids pool.new slots.new.ids) }
 {
     if !is_slot(slots, s) {
-        return false;
+        return Ok(false);
     }
-    let found = exchange(slots, s, Value::Proc(0));
+    let found = slot_value(slots, s, pool)?;
     let mut set = set_of(alloc, found);
+    // (that a set ascends is needed here)
     let _ = set.as_slice();
     let there = set_remove(&mut set, v);
-    let _ = exchange(slots, s, Value::Set(set));
-    there
+    put(slots, s, &Value::Set(set), pool)?;
+    Ok(there)
 }
 
 /// The elements that came into a set, and those that left it.
@@ -127,10 +176,18 @@ fn between(alloc: Global, old: &SetVal, new: &SetVal) -> Result<Swap, NoMemory>
 }
 
 /// Gives a slot a value, and answers what moved in its set.
-pub fn assign(alloc: Global, slots: &mut Row, s: u16, v: &Value) -> Result<Swap, NoMemory>
-    ensures slots { OnOk result (slots.new ≡ with_slot slots.old s (val_of v.now)) }
-    ensures swap { IfOk result (λ swap. IsSwap (elements_lem (value_in slots.old s)) (elements_lem (value_in slots.new s)) (vals swap.came) (vals swap.left)) }
+pub fn assign(
+    alloc: Global,
+    slots: &mut IdRow,
+    s: u16,
+    v: &Value,
+    pool: &mut Pool,
+) -> Result<Swap, NoMemory>
+    requires held { Holds pool.old slots.old.ids }
+    ensures slots { OnOk result (row_in pool.new slots.new ≡ with_slot (row_in pool.old slots.old) s (val_of v.now)) }
+    ensures swap { IfOk result (λ swap. IsSwap (elements_lem (value_in (row_in pool.old slots.old) s)) (elements_lem (value_in (row_in pool.new slots.new) s)) (vals swap.came) (vals swap.left)) }
     ensures once { IfOk result (λ swap. Distinct (vals swap.came) × Distinct (vals swap.left)) }
+    ensures trades { OnOk result (Trades pool.old slots.old.ids pool.new slots.new.ids) }
 {
     if !is_slot(slots, s) {
         return Ok(Swap {
@@ -138,9 +195,10 @@ pub fn assign(alloc: Global, slots: &mut Row, s: u16, v: &Value) -> Result<Swap,
             left: List::new(alloc),
         });
     }
-    let found = exchange(slots, s, copy_value(alloc, v)?);
+    let found = slot_value(slots, s, pool)?;
     let old = set_of(alloc, found);
     let new = set_in(alloc, copy_value(alloc, v)?);
     let moved = between(alloc, &old, &new)?;
+    put(slots, s, v, pool)?;
     Ok(moved)
 }

@@ -1,11 +1,14 @@
 //! Long runs: many rows go into a set in some order, and leave it in the same order.
-ghost use Rattle.answer_index.specs.Answers.{IsSet, keys_of};
-ghost use Rattle.std.specs.Prelude.{◌≡◌, ◌<◌, ◌≤◌, IfOk, length};
+ghost use Rattle.answer_index.specs.Answers.{IsSet, ids_of, keys_of};
+ghost use Rattle.row_pool.specs.Pool.{Holds};
+ghost use Rattle.std.specs.Prelude.{◌≡◌, ◌<◌, OnOk, length};
 
 use crate::reading::{group_size, rising};
 use crate::tables::keyed_set;
-use answer_index::AnswerSet;
-use da_values::{NoMemory, Row, Value};
+use crate::turning::{Turned, choose};
+use answer_index::{AnswerSet, Choice};
+use da_values::{List, NoMemory, Row, Value};
+use row_pool::Pool;
 use std::alloc::Global;
 
 /// The order in which rows come: ascending, descending, or neither.
@@ -17,39 +20,77 @@ pub enum Way {
 }
 
 /// What a run found.
-#[derive(Debug, Drop)]
+#[derive(Clone, Copy, Debug)]
 pub struct Found {
     /// How many rows were new, and how many were when all were put in again.
-    pub came: u32,
-    pub again: u32,
+    pub came: usize,
+    pub again: usize,
     /// How many rows there were then, and how many were greater than the one before.
     pub rows: usize,
     pub rising: usize,
     /// How many of them had the second part 7.
     pub sevens: usize,
-    /// How many were there when they were taken out, and how many rows were left.
-    pub left: u32,
+    /// How many were there when they were taken out, how many rows were left, and how many values in the pool.
+    pub left: usize,
     pub rest: usize,
+    pub live: usize,
 }
 
 /// Puts so many rows into a set, reads it, and takes them out again.
 pub fn run(alloc: Global, way: Way, many: u32) -> Result<Found, NoMemory> {
+    let mut pool = Pool::new(alloc);
     let mut set = keyed_set(alloc, 2, &[1])?;
-    let came = fill(alloc, &mut set, way, many)?;
-    let again = fill(alloc, &mut set, way, many)?;
+    run_over(alloc, way, many, &mut set, &mut pool)
+}
+
+// The same over a set that is empty.
+fn run_over(
+    alloc: Global,
+    way: Way,
+    many: u32,
+    set: &mut AnswerSet,
+    pool: &mut Pool,
+) -> Result<Found, NoMemory>
+    requires set { IsSet set.old pool.old }
+    requires held { Holds pool.old (ids_of set.old) }
+    requires key { 0 < length (keys_of set.old) }
+{
+    let came = settle_all(alloc, way, many, true, set, pool)?;
+    let again = settle_all(alloc, way, many, true, set, pool)?;
     let rows = set.len();
-    let rising = rising(&set);
-    let sevens = group_size(&set, &[Value::Int(7)]);
-    let left = drain(alloc, &mut set, way, many)?;
+    let rising = rising(alloc, set, pool)?;
+    let sevens = group_size(set, &[Value::Int(7)], pool);
+    let left = settle_all(alloc, way, many, false, set, pool)?;
     Ok(Found {
-        came,
-        again,
+        came: came.came,
+        again: again.came,
         rows,
         rising,
         sevens,
-        left,
+        left: left.left,
         rest: set.len(),
+        live: pool.live(),
     })
+}
+
+// The same choice for all rows, in the order in which they come.
+fn settle_all(
+    alloc: Global,
+    way: Way,
+    many: u32,
+    keep: bool,
+    set: &mut AnswerSet,
+    pool: &mut Pool,
+) -> Result<Turned, NoMemory>
+    requires set { IsSet set.old pool.old }
+    requires held { Holds pool.old (ids_of set.old) }
+    ensures set { OnOk result (IsSet set.new pool.new) }
+    ensures held { OnOk result (Holds pool.new (ids_of set.new)) }
+    ensures keys { OnOk result (keys_of set.new ≡ keys_of set.old) }
+{
+    let choices = choices_of(alloc, way, many, keep)?;
+    let turned = choose(alloc, set, choices.as_slice(), pool)?;
+    Ok(turned)
 }
 
 // The number of the row that comes at a place.
@@ -71,32 +112,14 @@ fn row_of(alloc: Global, number: u64) -> Result<Row, NoMemory> {
     Ok(row)
 }
 
-// Puts the rows in, and answers how many were new.
-fn fill(alloc: Global, set: &mut AnswerSet, way: Way, many: u32) -> Result<u32, NoMemory>
-    requires { IsSet set.old }
-    ensures set { IsSet set.new }
-    ensures keys { keys_of set.new ≡ keys_of set.old }
-{
-    let mut count = 0;
+// The choices for all rows, in the order in which they come.
+fn choices_of(alloc: Global, way: Way, many: u32, keep: bool) -> Result<List<Choice>, NoMemory> {
+    let mut choices = List::new(alloc);
     for place in 0..many {
-        if set.insert(row_of(alloc, number_at(way, place, many))?)? {
-            count += 1;
-        }
+        choices.push(Choice {
+            row: row_of(alloc, number_at(way, place, many))?,
+            keep,
+        })?;
     }
-    Ok(count)
-}
-
-// Takes the rows out, and answers how many were there.
-fn drain(alloc: Global, set: &mut AnswerSet, way: Way, many: u32) -> Result<u32, NoMemory>
-    requires { IsSet set.old }
-    ensures { IsSet set.new }
-{
-    let mut count = 0;
-    for place in 0..many {
-        let row = row_of(alloc, number_at(way, place, many))?;
-        if set.remove(row.as_slice()) {
-            count += 1;
-        }
-    }
-    Ok(count)
+    Ok(choices)
 }

@@ -1,26 +1,32 @@
 //! Small sets, from texts of values.
-ghost use Rattle.answer_index.specs.Answers.{IsSet, keys_of};
-ghost use Rattle.std.specs.Prelude.{◌≡◌, ◌<◌, IfOk, length};
+ghost use Rattle.answer_index.specs.Answers.{IsSet, ids_of, keys_of};
+ghost use Rattle.row_pool.specs.Cells.{Cells};
+ghost use Rattle.row_pool.specs.Pool.{Holds};
+ghost use Rattle.std.specs.Prelude.{◌≡◌, ◌<◌, [], IfOk, OnOk, length};
 
-use crate::reading::group_size;
-use answer_index::{AnswerSet, KeyParts, copy_row};
+use crate::reading::{group_size, there};
+use crate::turning::{Turned, become_rows, choose};
+use answer_index::{AnswerSet, Choice, KeyParts};
 use anyhow::anyhow;
-use da_values::{List, NoMemory, Row, Value, read_value};
+use da_values::{List, NoMemory, Row, Value, copy_value, read_value};
+use row_pool::Pool;
 use std::alloc::Global;
 
-/// A set with one key, its rows, and the parts by which a group of it is read.
+/// A set with one key, its rows, the parts by which a group of it is read, and the rows that it is brought to then.
 #[derive(Clone, Copy, Debug)]
 pub struct Table<'a> {
     pub width: u16,
     pub key: &'a [u16],
     pub rows: &'a [u8],
     pub parts: &'a [u8],
+    pub next: &'a [u8],
 }
 
 /// An empty set with one key.
 pub fn keyed_set(alloc: Global, width: u16, places: &[u16]) -> Result<AnswerSet, NoMemory>
-    ensures set { IfOk result IsSet }
+    ensures set { IfOk result (λ set. (pool : Cells) → IsSet set pool) }
     ensures key { IfOk result (λ set. 0 < length (keys_of set)) }
+    ensures ids { IfOk result (λ set. ids_of set ≡ []) }
 {
     let mut parts = List::new(alloc);
     for place in places {
@@ -37,108 +43,125 @@ fn tuple_of(alloc: Global, text: &[u8]) -> anyhow::Result<Row> {
     }
 }
 
-// Puts these rows in.
-fn put_rows(alloc: Global, set: &mut AnswerSet, rows: &Row) -> Result<(), NoMemory>
-    requires { IsSet set.old }
-    ensures set { IsSet set.new }
-    ensures keys { keys_of set.new ≡ keys_of set.old }
-{
-    let parts = rows.as_slice();
-    for part in parts {
-        if let Value::Tuple(row) = part {
-            let _ = set.insert(copy_row(alloc, row.as_slice())?)?;
-        }
+// A copy of a row.
+fn copied(alloc: Global, row: &Row) -> Result<Row, NoMemory> {
+    let mut copy = Row::new(alloc);
+    for part in row.as_slice() {
+        copy.push(copy_value(alloc, part)?)?;
     }
-    Ok(())
+    Ok(copy)
 }
 
-// Takes these rows out.
-fn take_rows(set: &mut AnswerSet, rows: &Row)
-    requires { IsSet set.old }
-    ensures { IsSet set.new }
-{
-    let parts = rows.as_slice();
-    for part in parts {
+// The rows that a text says.
+fn rows_of_text(alloc: Global, text: &[u8]) -> anyhow::Result<List<Row>> {
+    let parts = tuple_of(alloc, text)?;
+    let mut rows = List::new(alloc);
+    for part in parts.as_slice() {
         if let Value::Tuple(row) = part {
-            let _ = set.remove(row.as_slice());
+            rows.push(copied(alloc, row)?)?;
         }
     }
+    Ok(rows)
 }
 
-/// What was found in a table: how many rows there were, how many in the group, and how many after all had left.
+// The choices for all these rows.
+fn choices_of(alloc: Global, rows: &[Row], keep: bool) -> Result<List<Choice>, NoMemory> {
+    let mut choices = List::new(alloc);
+    for row in rows {
+        choices.push(Choice {
+            row: copied(alloc, row)?,
+            keep,
+        })?;
+    }
+    Ok(choices)
+}
+
+/// What was found in a table: how many rows there were, how many in the group, how many came and left when it was brought
+/// to the others, how many of these are there, and how many rows after they had left, and values in the pool.
 #[derive(Clone, Copy, Debug)]
 pub struct Tried {
     pub rows: usize,
     pub group: usize,
+    pub came: usize,
+    pub left: usize,
+    pub there: usize,
     pub rest: usize,
+    pub live: usize,
 }
 
-/// Fills a set, reads a group, and takes the rows out again.
-pub fn try_table(alloc: Global, table: &Table<'_>) -> anyhow::Result<Tried> {
-    let mut set = keyed_set(alloc, table.width, table.key)?;
-    let rows = tuple_of(alloc, table.rows)?;
-    let parts = tuple_of(alloc, table.parts)?;
-    put_rows(alloc, &mut set, &rows)?;
-    let all = set.len();
-    let group = group_size(&set, parts.as_slice());
-    take_rows(&mut set, &rows);
-    Ok(Tried {
-        rows: all,
-        group,
-        rest: set.len(),
-    })
-}
-
-/// What was found in the set of three rows, of which one comes twice.
+// What the texts of a table say.
 #[derive(Debug, Drop)]
-pub struct Worked {
-    pub fresh: [bool; 3],
-    pub least: String,
-    pub group: usize,
-    pub last: String,
+struct Texts {
+    rows: List<Row>,
+    next: List<Row>,
+    parts: Row,
 }
 
-/// Puts in (1, 2), (1, 3) and (1, 2), reads the group of 1, and takes both rows out.
-pub fn three_rows(alloc: Global) -> anyhow::Result<Worked> {
-    let mut set = keyed_set(alloc, 2, &[0])?;
-    let first = set.insert(pair(alloc, 1, 2)?)?;
-    let second = set.insert(pair(alloc, 1, 3)?)?;
-    let third = set.insert(pair(alloc, 1, 2)?)?;
-    let least = shown(alloc, set.least())?;
-    let group = group_size(&set, &[Value::Int(1)]);
-    let last = emptied(alloc, &mut set)?;
-    Ok(Worked {
-        fresh: [first, second, third],
-        least,
+// Reads the texts of a table.
+fn texts_of(alloc: Global, table: &Table<'_>) -> anyhow::Result<Texts> {
+    let rows = rows_of_text(alloc, table.rows)?;
+    let next = rows_of_text(alloc, table.next)?;
+    let parts = tuple_of(alloc, table.parts)?;
+    Ok(Texts { rows, next, parts })
+}
+
+/// Fills a set, reads a group, brings it to other rows, and takes these out again.
+pub fn try_table(alloc: Global, table: &Table<'_>) -> anyhow::Result<Tried> {
+    let texts = texts_of(alloc, table)?;
+    Ok(try_texts(alloc, table.width, table.key, &texts)?)
+}
+
+// The same over what the texts say.
+fn try_texts(alloc: Global, width: u16, key: &[u16], texts: &Texts) -> Result<Tried, NoMemory> {
+    let mut pool = Pool::new(alloc);
+    let mut set = keyed_set(alloc, width, key)?;
+    try_set(alloc, texts, &mut set, &mut pool)
+}
+
+// The same of a set that is empty.
+fn try_set(
+    alloc: Global,
+    texts: &Texts,
+    set: &mut AnswerSet,
+    pool: &mut Pool,
+) -> Result<Tried, NoMemory>
+    requires set { IsSet set.old pool.old }
+    requires held { Holds pool.old (ids_of set.old) }
+    requires key { 0 < length (keys_of set.old) }
+{
+    let next = texts.next.as_slice();
+    settle_all(alloc, set, texts.rows.as_slice(), true, pool)?;
+    let rows = set.len();
+    let group = group_size(set, texts.parts.as_slice(), pool);
+    let turned = become_rows(alloc, set, next, pool)?;
+    let there = there(set, next, pool);
+    settle_all(alloc, set, next, false, pool)?;
+    Ok(Tried {
+        rows,
         group,
-        last,
+        came: turned.came,
+        left: turned.left,
+        there,
+        rest: set.len(),
+        live: pool.live(),
     })
 }
 
-// Takes both rows out, and shows the least row then.
-fn emptied(alloc: Global, set: &mut AnswerSet) -> anyhow::Result<String>
-    requires { IsSet set.old }
+// The same choice for all these rows.
+fn settle_all(
+    alloc: Global,
+    set: &mut AnswerSet,
+    rows: &[Row],
+    keep: bool,
+    pool: &mut Pool,
+) -> Result<Turned, NoMemory>
+    requires set { IsSet set.old pool.old }
+    requires held { Holds pool.old (ids_of set.old) }
+    ensures set { OnOk result (IsSet set.new pool.new) }
+    ensures held { OnOk result (Holds pool.new (ids_of set.new)) }
+    ensures keys { OnOk result (keys_of set.new ≡ keys_of set.old) }
 {
-    let _ = set.remove(pair(alloc, 1, 2)?.as_slice());
-    let _ = set.remove(pair(alloc, 1, 3)?.as_slice());
-    shown(alloc, set.least())
-}
-
-// A row of two numbers.
-fn pair(alloc: Global, a: i128, b: i128) -> Result<Row, NoMemory> {
-    let mut row = Row::new(alloc);
-    row.push(Value::Int(a))?;
-    row.push(Value::Int(b))?;
-    Ok(row)
-}
-
-// A row of two numbers as a text.
-fn shown(alloc: Global, row: Option<&Row>) -> anyhow::Result<String> {
-    match row {
-        Some(row) => match (row.get(0), row.get(1)) {
-            (Some(Value::Int(a)), Some(Value::Int(b))) => Ok(format!(in alloc; "({a}, {b})")?),
-            _ => Err(anyhow!("no pair")),
-        },
-        None => Ok(format!(in alloc; "none")?),
-    }
+    let choices = choices_of(alloc, rows, keep)?;
+    let turned = choose(alloc, set, choices.as_slice(), pool)?;
+    Ok(turned)
 }

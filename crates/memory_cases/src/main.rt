@@ -1,12 +1,16 @@
 //! Makes the step of each event of a schedule, and prints what the system answers to it. With ample memory each step is made
 //! but the last, which is not allowed. Where memory is refused in a step, all steps behind it are answered as spent:
-//! `.ci/refused` of this repository runs the program so.
+//! `.ci/refused` of this repository runs the program so. Where it was not refused, the program prints besides how many values
+//! a process of another program holds.
 #![tactic(auto)]
+
+mod held;
 
 ghost use Rattle.da_core.specs.Compiled.{IsCompiled};
 ghost use Rattle.da_lang.specs.Accepted.{IsWritten};
 ghost use Rattle.std.specs.Prelude.{IfOk};
 
+use crate::held::tell_held;
 use anyhow::anyhow;
 use da_core::{Compiled, StepFault, compile};
 use da_lang::{Event, Tree};
@@ -28,7 +32,12 @@ fn main(rt: HostRuntime) -> anyhow::Result<()> {
     let compiled = compiled_of(rt.alloc(), text.as_bytes())?;
     let schedule = fs::read_to_string(&rt, "lamport.moves")?;
     let events = read_schedule(rt.alloc(), schedule.as_bytes())?;
-    make_steps(&rt, &compiled, events.as_slice())
+    if make_steps(&rt, &compiled, events.as_slice())? {
+        let text = fs::read_to_string(&rt, "ping.da")?;
+        let compiled = compiled_of(rt.alloc(), text.as_bytes())?;
+        tell_held(&rt, &compiled)?;
+    }
+    Ok(())
 }
 
 // The program of a text.
@@ -53,21 +62,25 @@ fn tree_of(alloc: Global, text: &[u8]) -> anyhow::Result<Tree>
     Ok(parse(alloc, &tokens)?)
 }
 
-// Makes the steps, and prints the answers.
+// Makes the steps, and prints the answers. Whether none of them found no memory.
 fn make_steps<R: Print + AllocGlobal>(
     rt: &R,
     compiled: &Compiled,
     events: &[Event],
-) -> anyhow::Result<()>
+) -> anyhow::Result<bool>
     requires { IsCompiled compiled.now }
 {
     let mut system = System::new(rt.alloc(), compiled)?;
+    let mut is_ample = true;
     for event in events {
         let mut actions = List::new(rt.alloc());
         let step = system.step(event, &mut actions);
+        if matches!(step, Err(StepFault::Memory)) {
+            is_ample = false;
+        }
         println!(rt; "{}", answer_of(step))?;
     }
-    Ok(())
+    Ok(is_ample)
 }
 
 // What the system answers to a step, in a word.

@@ -1,4 +1,5 @@
 pub mod FilterLaws
 pub mod FrontLaws
 pub mod JoinLaws
+pub mod LendLaws
 pub mod UnionLaws

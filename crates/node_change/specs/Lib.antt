@@ -1,3 +1,4 @@
 pub mod Filtered
 pub mod Joined
+pub mod Lending
 pub mod United

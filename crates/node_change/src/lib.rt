@@ -2,11 +2,13 @@
 //! those that some row of another node extends, those that none does, and those of two nodes.
 //!
 //! Each function takes the sets that a node reads, new already, with their changes, and the node's own set, which is still old.
-//! It settles the rows that may have changed, and answers the change of its own set.
+//! It first notes which rows may have changed, lent from the sets and changes that have them, and whether each is to be in the
+//! own set; then it settles them, and answers the change of its own set. The rows are those of a pool.
 #![tactic(auto)]
 
 mod filter;
 mod fronts;
+mod lend;
 mod sides;
 mod union;
 

@@ -80,9 +80,7 @@ pub fn give_back_all(pool: &mut Pool, ids: &mut List<Id>)
 }
 
 /// A copy of the value of an id; `None` where there is no id at the place.
-pub fn value(pool: &Pool, ids: &List<Id>, at: usize) -> Result<Option<Value>, NoMemory>
-    requires { HoldsAll pool.now ids.now }
-{
+pub fn value(pool: &Pool, ids: &List<Id>, at: usize) -> Result<Option<Value>, NoMemory> {
     match ids.get(at) {
         Some(id) => Ok(Some(pool.value(id)?)),
         None => Ok(None),

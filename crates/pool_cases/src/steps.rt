@@ -117,9 +117,7 @@ fn tell_live(
 }
 
 // The text of the value of an id.
-fn tell_value(words: &str, pool: &Pool, ids: &List<Id>, out: &mut Buf) -> Result<(), RowFault>
-    requires { HoldsAll pool.now ids.now }
-{
+fn tell_value(words: &str, pool: &Pool, ids: &List<Id>, out: &mut Buf) -> Result<(), RowFault> {
     let at = place(words)?;
     match holder::value(pool, ids, at)? {
         Some(value) => Ok(write_value(&value, out)?),

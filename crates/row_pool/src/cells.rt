@@ -15,17 +15,6 @@ use std::alloc::Global;
 /// More parts than any list in memory has.
 const PARTS_MAX: usize = 1 << 62;
 
-/// The value under a key.
-pub(crate) fn held(cells: &Slab<Cell>, key: usize) -> &Value
-    requires { IsSome (value_at cells.now.slots key) }
-    ensures { value_at cells.now.slots key ≡ Some (val_of result.now) }
-{
-    match cells.get(key) {
-        Some(cell) => &cell.value,
-        None => unreachable!(),
-    }
-}
-
 /// The value under a key, or what stands for none.
 pub(crate) fn held_or<'a>(cells: &'a Slab<Cell>, key: usize, nothing: &'a Value) -> &'a Value
     requires { val_of nothing.now ≡ no_value }

@@ -9,7 +9,7 @@ ghost use Rattle.std.specs.Option.{option_copied};
 ghost use Rattle.std.specs.Prelude.{◌≡◌, ℕ, ◌^◌, ◌<◌, [], ◌∷◌, Some, None, List, length, map, slice_get, IfOk, OnErr, OnOk, IsSome, IfSome, IfNone};
 
 use crate::cell::Cell;
-use crate::cells::{add_holder, held, held_or, new_cell, part_key, try_add_holder};
+use crate::cells::{add_holder, held_or, new_cell, part_key, try_add_holder};
 use crate::release::{lose_holder, release};
 use da_values::{List, NoMemory, Value, cmp_values, copy_value};
 use indexmap::IndexMap;
@@ -282,6 +282,14 @@ impl Pool {
         )
     }
 
+    /// The same for a part that may be missing against a value that is no part of the pool.
+    pub fn cmp_value(&self, a: Option<&Id>, v: &Value) -> Ordering
+        ensures { result ≡ val_cmp (part_at self.now (option_copied a.entry)) (val_of v.now) }
+    {
+        let nothing = Value::Proc(0);
+        cmp_values(part_or(&self.cells, a, &nothing), v)
+    }
+
     /// The part of a tuple, or the element of a set, at a place counted from 0, under one more holder; `None` exactly
     /// where there is none. It takes no memory.
     pub fn part(&mut self, id: &Id, i: usize) -> Option<Id>
@@ -302,12 +310,12 @@ impl Pool {
         }
     }
 
-    /// A copy of a value.
+    /// A copy of a value; of an id of no value of the pool, the process 0.
     pub fn value(&self, id: &Id) -> Result<Value, NoMemory>
-        requires { IsSome (value_at self.now id.now) }
-        ensures { IfOk result (λ v. value_at self.now id.now ≡ Some (val_of v)) }
+        ensures { IfOk result (λ v. val_of v ≡ val_at self.now id.now) }
     {
-        copy_value(self.alloc, held(&self.cells, id.key))
+        let nothing = Value::Proc(0);
+        copy_value(self.alloc, held_or(&self.cells, id.key, &nothing))
     }
 
     /// How many values there are, parts included: as many as are held from outside or are within one that is. It takes

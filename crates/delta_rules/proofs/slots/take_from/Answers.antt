@@ -1,17 +1,20 @@
-use Rattle.std.proofs.Common.{ap, refl, sym, ◌∙◌}
+use Rattle.std.proofs.Common.{refl, sym}
 use Rattle.da_values.specs.Order.{val_cmp}
 use Rattle.da_values.specs.Sets.{set_remove}
 use Rattle.da_values.specs.Value.{val_of}
+use Rattle.answer_index.specs.Rows.{row_of}
+use Rattle.delta_rules.proofs.SlotIds.{slot_there}
 use Rattle.delta_rules.proofs.SlotLaws.{put_none, put_back, old_held, removed_swap}
 use Rattle.delta_rules.proofs.slots.take_from.Goals as goal
 
 pub returns-then-not-is_slot-clause-slots : goal.returns-then-not-is_slot-clause-slots
-returns-then-not-is_slot-clause-slots c = sym (put_none _ _ _ c.if-not-is_slot.ensures)
+returns-then-not-is_slot-clause-slots c = sym (put_none _ _ _ (c.if-not-is_slot.ensures c.args.pool.now))
 
 pub returns-clause-slots : goal.returns-clause-slots
 returns-clause-slots c =
-    put_back _ _ _ _ _ _ _ _ _ c.exchange-found.ensures.old c.set_of-set.ensures c.exchange-found.ensures.slots refl c.exchange.ensures.slots (λ xs. set_remove val_cmp xs (val_of c.args.v.now)) c.set_remove-there.ensures.set
+    put_back (row_of c.args.pool.now c.args.slots.now.ids) c.args.s _ _ c.in_ok-found.ensures c.set_of-set.ensures _ _ _ refl c.in_ok-put.ensures.slots (λ xs. set_remove val_cmp xs (val_of c.args.v.now)) c.set_remove-there.ensures.set
 
 pub returns-clause-swap : goal.returns-clause-swap
 returns-clause-swap c =
-    removed_swap _ _ c.if-not-is_slot.ensures _ (old_held _ _ _ _ _ _ _ _ _ c.exchange-found.ensures.old c.set_of-set.ensures c.exchange-found.ensures.slots refl c.exchange.ensures.slots) _ _ _ c.as_slice.ensures.ascends c.set_remove-there.ensures.there (returns-clause-slots c)
+    removed_swap _ _ (slot_there c.args.pool.now c.args.slots.now.ids c.args.s c.if-not-is_slot.ensures) _ (old_held (row_of c.args.pool.now c.args.slots.now.ids) c.args.s _ _ c.in_ok-found.ensures c.set_of-set.ensures) _ _ _
+    c.as_slice.ensures.ascends c.set_remove-there.ensures.there (returns-clause-slots c)

@@ -1,15 +1,15 @@
 use Rattle.std.proofs.Common.{rules, ◌≡◌, max}
 use Rattle.da_lang.specs.Turns.{later}
 use Rattle.da_values.specs.Value.{val_of}
-use Rattle.da_core.proofs.KnownLaws.{known_received, laid_out, lower_plan, plain_nodes}
+use Rattle.da_core.proofs.KnownLaws.{all_held, known_received, laid_out, lower_plan, plain_nodes}
 use Rattle.da_core.proofs.known.Known.receive.Goals as goal
 
 pub insert-requires : goal.insert-requires
 insert-requires c =
     let known = c.args.self.now in
-    record { plan = lower_plan known c.requires; plain = plain_nodes known c.requires; laid = laid_out known c.requires }
+    record { plan = lower_plan known c.requires; plain = plain_nodes known c.requires; laid = laid_out known c.requires; held = all_held known c.requires }
 
 pub returns-clause-known : goal.returns-clause-known
 returns-clause-known c =
     let time : c.later_time-self.result ≡ later (max c.args.self.now.clock c.args.time) = search rules in
-    known_received c.args.self.now c.insert.new.answers c.later_time-self.result c.push.new.self c.in_ok-insert.ensures.laid (val_of c.args.m.now) c.args.from c.args.time time c.in_ok-insert.ensures.kept
+    known_received c.args.self.now c.insert.new.answers c.insert.new.pool c.later_time-self.result c.push.new.self c.in_ok-insert.ensures.laid c.in_ok-insert.ensures.held (val_of c.args.m.now) c.args.from c.args.time time c.in_ok-insert.ensures.kept

@@ -1,0 +1,10 @@
+use Rattle.std.proofs.Common.{arith}
+use Rattle.delta_rules.proofs.SlotIds.{counts_put, values_put}
+use Rattle.delta_rules.proofs.slots.exchange.Goals as goal
+
+pub returns-then-place-len-clause-values : goal.returns-then-place-len-clause-values
+returns-then-place-len-clause-values c pool =
+    values_put c.args.ids.now _ c.args.s c.in-Some.place c.args.id (omega (arith, c.in-Some.ensures.0, c.in-Some.ensures.1, c.from.ensures)) c.replace.ensures.put pool
+
+pub returns-then-place-len-clause-same : goal.returns-then-place-len-clause-same
+returns-then-place-len-clause-same c = counts_put c.args.ids.now _ c.in-Some.place c.args.id c.replace.result c.replace.ensures.value c.replace.ensures.put

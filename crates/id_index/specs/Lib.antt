@@ -1,6 +1,0 @@
-pub mod Answers
-pub mod Groups
-pub mod Orders
-pub mod Rows
-pub mod Settle
-pub mod Turns
