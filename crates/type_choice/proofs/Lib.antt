@@ -1,0 +1,12 @@
+pub mod ChoiceLaws
+pub mod EndLaws
+pub mod FillLaws
+pub mod ForceLaws
+pub mod KeepLaws
+pub mod LeanLaws
+pub mod ListLaws
+pub mod LoopLaws
+pub mod RoundLaws
+pub mod StartLaws
+pub mod TypeLaws
+pub mod WholeLaws

@@ -1,0 +1,4 @@
+pub mod Choice
+pub mod Lean
+pub mod Marks
+pub mod Roots

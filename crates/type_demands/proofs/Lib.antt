@@ -1,0 +1,13 @@
+pub mod ExprLaws
+pub mod ExprsAgree
+pub mod ExprsAt
+pub mod FoundLaws
+pub mod PartLaws
+pub mod PatternForms
+pub mod PutLaws
+pub mod QueriesAgree
+pub mod QueriesAt
+pub mod RowLaws
+pub mod SideLaws
+pub mod TermForms
+pub mod TermsAgree
