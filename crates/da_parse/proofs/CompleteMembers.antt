@@ -1,5 +1,5 @@
 -- The members of classes that are spelled so are read so.
-use Rattle.std.proofs.Common.{◌≡◌, ℕ, true, false, List, [], length, Option, Some, Ok, refl, ap, ◌∙◌}
+use Rattle.std.proofs.Common.{◌≡◌, ℕ, Bool, true, false, List, [], length, Option, Some, Ok, refl, ap, ◌∙◌}
 use Rattle.da_values.specs.declared.token.Mark.{Mark}
 use Rattle.da_values.specs.declared.token.Mark.TheVariants as m
 use Rattle.da_values.specs.Marks.{Tok}
@@ -13,17 +13,18 @@ use Rattle.da_lang.specs.Spelling.{Spelling, Room, At, Opens, Named, Separated, 
 use Rattle.da_lang.specs.TypeGrammar.{TypeIn}
 use Rattle.da_lang.specs.ExprGrammar.{IsPattern, deeper}
 use Rattle.da_lang.specs.StmtGrammar.{IsBlock, BodyIn}
-use Rattle.da_lang.specs.Grammar.{IsParam, IsFrom, IsAt, IsMember, TypedParam, IsParams}
+use Rattle.da_lang.specs.Grammar.{IsParam, IsFrom, IsAt, IsMember, IsParams}
 use Rattle.da_phrases.specs.Reader as reader
 use Rattle.da_phrases.specs.Reader.{mark, text, rest, same, sees, Reading, Reader, continued, ◌>>=◌, ◌>>◌, pure, refuse, expect, word}
 use Rattle.da_phrases.specs.Place.{Limit}
 use Rattle.da_phrases.specs.Types.{types}
 use Rattle.da_phrases.specs.Exprs.{pattern}
-use Rattle.da_parse.specs.Members.{Parts, typed_param, parts_in, params, variable, setup, run, method, definition_by, definition, sender, labels, handler, member_by, member, members}
-use Rattle.da_phrases.proofs.Steps.{mark-At, mark-Named, behind_is, behind_not, expect_is, not_seen, room-Opens, opening_is, word_is, taking_is, past_is}
+use Rattle.da_parse.specs.Parameters.{IsLooseParam, ParamBy, ParameterBy}
+use Rattle.da_parse.specs.Members.{Parts, typed_param, loose_param, param_by, parts_in, params, variable, setup, run, method, definition_by, definition, sender, labels, handler, member_by, member, members}
+use Rattle.da_phrases.proofs.Steps.{mark-At, mark-Named, behind_is, after_not, expect_is, not_seen, room-Opens, opening_is, word_is, taking_is, past_is}
 use Rattle.da_phrases.proofs.Laws.{IsComplete, Shrinks, Begins, Lacks, Anything, goes_on_param}
-use Rattle.da_phrases.proofs.Firsts.{never_seen, next-At}
-use Rattle.da_parse.proofs.ShorterStmts.{begins_name, begins_member, IsParam-begins, IsParam-shrinks, Named-shrinks, IsMember-begins, member_shrinks}
+use Rattle.da_phrases.proofs.Firsts.{never_seen, lacked, next-At}
+use Rattle.da_parse.proofs.ShorterStmts.{begins_name, begins_member, IsParam-begins, IsParam-shrinks, IsLooseParam-begins, IsLooseParam-shrinks, Named-shrinks, IsMember-begins, member_shrinks}
 use Rattle.da_phrases.proofs.ListComplete.{separated-complete, closed-complete, ended-complete}
 use Rattle.da_phrases.proofs.Shorter.{TypeIn-shrinks}
 use Rattle.da_phrases.proofs.CompleteTypes.{Enough, types-complete, type_at-complete}
@@ -33,7 +34,7 @@ use Rattle.da_parse.proofs.SoundStmts.{same_line}
 
 labels-complete : (ns : List (List ℕ)) (i r s : List Tok) → IsAt ns i r → At m.Colon r s → labels i ≡ Ok (ns, r)
 unfolding labels
-labels-complete _ i r s IsAt.no_at c = behind_not m.At _ _ (not_seen m.At c refl)
+labels-complete _ i r s IsAt.no_at c = after_not m.At _ _ (not_seen m.At c refl)
 labels-complete ns i r s (IsAt.labels h l) c =
     behind_is _ _ h ∙ separated-complete {Stops = Anything} {item = word m.Name} (λ x j q a t. word_is a) Named-shrinks m.Comma (λ j q k. tt) [] ns _ r l tt (not_seen m.Comma c refl)
 
@@ -52,12 +53,29 @@ unfolding typed_param
 typed_param_reads inner_ty Inner inner_complete _ i r (IsParam.param {n} {x} a c b) _ = rw (word_is a, expect_is c, inner_complete x _ r b tt) refl
 
 -- a parameter with its type
-pub typed_param-complete : (room : Room) (inner_ty : Reader Ty) (Inner : Spelling Ty) → Shrinks Inner → ((t : List Tok) → room t → IsComplete Anything inner_ty Inner) → ParamCompletes room (typed_param inner_ty) (IsParam Inner)
+typed_param-complete : (room : Room) (inner_ty : Reader Ty) (Inner : Spelling Ty) → Shrinks Inner → ((t : List Tok) → room t → IsComplete Anything inner_ty Inner) → ParamCompletes room (typed_param inner_ty) (IsParam Inner)
 typed_param-complete room inner_ty Inner inner_shrinks inner_complete = record {
   shrinks = IsParam-shrinks Inner inner_shrinks;
   begins = IsParam-begins Inner;
   complete = λ t some. typed_param_reads inner_ty Inner (inner_complete t some);
 }
+
+loose_param_reads : (inner_ty : Reader Ty) (Inner : Spelling Ty) → IsComplete Anything inner_ty Inner → IsComplete (Lacks goes_on_param) (loose_param inner_ty) (IsLooseParam Inner)
+unfolding loose_param
+loose_param_reads inner_ty Inner inner_complete _ i r (IsLooseParam.written {n} {x} a c b) _ = rw (word_is a) (behind_is _ _ c ∙ rw (inner_complete x _ r b tt) refl)
+loose_param_reads inner_ty Inner inner_complete _ i r (IsLooseParam.without {n} a) lacks = rw (word_is a) (after_not m.Colon _ _ (lacked goes_on_param m.Colon r refl lacks))
+
+-- a parameter that may lack its type
+loose_param-complete : (room : Room) (inner_ty : Reader Ty) (Inner : Spelling Ty) → Shrinks Inner → ((t : List Tok) → room t → IsComplete Anything inner_ty Inner) → ParamCompletes room (loose_param inner_ty) (IsLooseParam Inner)
+loose_param-complete room inner_ty Inner inner_shrinks inner_complete = record {
+  shrinks = IsLooseParam-shrinks Inner inner_shrinks;
+  begins = IsLooseParam-begins Inner;
+  complete = λ t some. loose_param_reads inner_ty Inner (inner_complete t some);
+}
+
+param_by-complete : (loose : Bool) (room : Room) (inner_ty : Reader Ty) (Inner : Spelling Ty) → Shrinks Inner → ((t : List Tok) → room t → IsComplete Anything inner_ty Inner) → ParamCompletes room (param_by loose inner_ty) (ParamBy loose Inner)
+param_by-complete false room inner_ty Inner inner_shrinks inner_complete = typed_param-complete room inner_ty Inner inner_shrinks inner_complete
+param_by-complete true room inner_ty Inner inner_shrinks inner_complete = loose_param-complete room inner_ty Inner inner_shrinks inner_complete
 
 module _ (s : Parts) (room : Room) (allows : (t : List Tok) → room t → s.place.may_open (length t) ≡ true)
     (Type_ : Spelling Ty) (type_complete : IsComplete Anything s.ty Type_)
@@ -72,7 +90,7 @@ module _ (s : Parts) (room : Room) (allows : (t : List Tok) → room t → s.pla
 
   sender-complete : (o : Option PatternTree) (ns : List (List ℕ)) (i r q z : List Tok) → IsFrom Pattern o i r → IsAt ns r q → At m.Colon q z → sender s i ≡ Ok (o, r)
   unfolding sender
-  sender-complete _ ns i r q z IsFrom.no_from l c = behind_not m.From _ _ (no_sender ns i q z l c)
+  sender-complete _ ns i r q z IsFrom.no_from l c = after_not m.From _ _ (no_sender ns i q z l c)
   sender-complete _ ns i r q z (IsFrom.from {p} h a) l c = behind_is _ _ h ∙ rw (pattern_complete p _ r a tt) refl
 
   -- a member is read by its first token, at its line
@@ -80,7 +98,7 @@ module _ (s : Parts) (room : Room) (allows : (t : List Tok) → room t → s.pla
   unfolding member
   at_member {k} i is e = ap (λ z. member_by s (reader.line i) z i) is ∙ ap (λ at. member_by s at (Some k) i) (same_line i) ∙ e
 
-  -- a definition is read by the token behind `def`
+  -- a definition is read by the token after `def`
   at_definition : {k : Mark} {i r : List Tok} {o : Reading Member} → At m.Def i r → mark r ≡ Some k → definition_by s (sp.line i) (Some k) r ≡ o → member s i ≡ o
   unfolding definition
   at_definition {k} {i} {r} h is e = at_member i (mark-At h) (past_is (definition s (sp.line i)) h ∙ ap (λ z. definition_by s (sp.line i) z r) is ∙ e)
@@ -114,6 +132,6 @@ module _ (limit : Limit) (room : ℕ → Room) (allows : (d : ℕ) (t : List Tok
       (IsPattern (room 1) (deeper room g 2)) (pattern_there-complete limit room allows g f 1 e) (IsBlock (room 1) (deeper room g 2) (BodyIn room g 2)) (block_there-complete limit room allows g f 1 e)
       (member_shrinks room g Parameter param_completes.shrinks)
 
-  -- where each parameter has its type
-  pub typed_params-complete : (g f : ℕ) → Enough room g f 1 → ParamCompletes (room 1) (typed_param (types limit f 2)) (TypedParam room g)
-  typed_params-complete g f e = typed_param-complete (room 1) (types limit f 2) (TypeIn room g 2) (TypeIn-shrinks room g 2) (types-complete limit room allows g f 1 e)
+  -- where parameters may lack their types or may not
+  pub params_by-complete : (loose : Bool) (g f : ℕ) → Enough room g f 1 → ParamCompletes (room 1) (param_by loose (types limit f 2)) (ParameterBy loose room g)
+  params_by-complete loose g f e = param_by-complete loose (room 1) (types limit f 2) (TypeIn room g 2) (TypeIn-shrinks room g 2) (types-complete limit room allows g f 1 e)

@@ -1,5 +1,5 @@
 -- The programs that are spelled so are read so.
-use Rattle.std.proofs.Common.{◌≡◌, ℕ, zero, suc, ◌+◌, ◌-◌, ◌≤◌, true, false, List, [], ◌∷◌, ◌++◌, length, Option, Some, Ok, refl, sym, ap, ◌∙◌, subst, arith, append_assoc, append-nil}
+use Rattle.std.proofs.Common.{◌≡◌, ℕ, zero, suc, ◌+◌, ◌-◌, ◌≤◌, Bool, true, false, List, [], ◌∷◌, ◌++◌, length, Option, Some, Ok, refl, sym, ap, ◌∙◌, subst, arith, append_assoc, append-nil}
 use Rattle.std.specs.Prelude.{◌⊎◌}
 use Rattle.da_values.specs.declared.token.Mark.{Mark}
 use Rattle.da_values.specs.declared.token.Mark.TheVariants as m
@@ -16,27 +16,28 @@ use Rattle.da_lang.specs.Spelling.{Spelling, Room, At, Opens, Named, Ended}
 use Rattle.da_lang.specs.TypeGrammar.{TypeIn}
 use Rattle.da_lang.specs.ExprGrammar.{IsPattern, deeper}
 use Rattle.da_lang.specs.StmtGrammar.{IsBlock, BodyIn}
-use Rattle.da_lang.specs.Grammar.{IsMember, IsCount, IsMline, IsKind, TypedParam, IsParams, IsMessage, IsClass, IsDecls, IsMain, IsProgram, IsTypedProgram}
+use Rattle.da_lang.specs.Grammar.{IsMember, IsCount, IsMline, IsKind, IsParams, IsMessage, IsClass, IsDecls, IsMain, IsProgram}
 use Rattle.da_phrases.specs.Reader as reader
 use Rattle.da_phrases.specs.Reader.{mark, text, rest, same, is_mark, sees, Reading, Reader, continued, ◌>>=◌, ◌>>◌, pure, refuse, expect, word, number}
 use Rattle.da_phrases.specs.Place.{Limit}
 use Rattle.da_phrases.specs.Types.{types}
-use Rattle.da_parse.specs.Members.{typed_param, members}
-use Rattle.da_parse.specs.Programs.{Outer, outer_in, typed_in, count, one_of, kind, header_end, message, class, new_line, setup_line, line_by, main_line, main, program_end, decls_by, decls_from, decls, program}
-use Rattle.da_phrases.proofs.Steps.{mark-At, mark-Named, rest-At, behind_is, behind_not, expect_is, not_seen, room-Opens, opening_is, word_is, number_is, taking_is, past_is}
+use Rattle.da_parse.specs.Members.{param_by, members}
+use Rattle.da_parse.specs.Parameters.{ParameterBy, IsProgramBy}
+use Rattle.da_parse.specs.Programs.{Outer, outer_in, outer_by, count, one_of, kind, header_end, message, class, new_line, setup_line, line_by, main_line, main, program_end, decls_by, decls_from, decls, program}
+use Rattle.da_phrases.proofs.Steps.{mark-At, mark-Named, rest-At, behind_is, after_not, expect_is, not_seen, room-Opens, opening_is, word_is, number_is, taking_is, past_is}
 use Rattle.da_phrases.proofs.Laws.{IsComplete, Shrinks, Anything, Completes, goes_on_disj}
 use Rattle.da_phrases.proofs.Firsts.{begins_type, never_seen, next-At, TypeIn-begins}
 use Rattle.da_phrases.proofs.Shorter.{TypeIn-shrinks, deeper-shrinks}
-use Rattle.da_parse.proofs.ShorterStmts.{begins_line, IsMline-begins, IsMline-shrinks, IsParam-shrinks, IsMessage-shrinks, IsClass-shrinks}
+use Rattle.da_parse.proofs.ShorterStmts.{begins_line, IsMline-begins, IsMline-shrinks, ParamBy-shrinks, IsMessage-shrinks, IsClass-shrinks}
 use Rattle.da_phrases.proofs.ListComplete.{closed-complete, behind-complete, ended-complete}
 use Rattle.da_phrases.proofs.CompleteTypes.{Enough, enough_fewer, enough_below, types-complete}
 use Rattle.da_phrases.proofs.CompletePlaces.{place-complete}
-use Rattle.da_parse.proofs.CompleteMembers.{ParamCompletes, typed_params-complete, members_inside-complete}
+use Rattle.da_parse.proofs.CompleteMembers.{ParamCompletes, params_by-complete, members_inside-complete}
 use Rattle.da_parse.proofs.SoundStmts.{same_line}
 
 count-complete : (o : Option ℕ) (i r : List Tok) → IsCount o i r → sees m.Comma r ≡ false → count i ≡ Ok (o, r)
 unfolding count
-count-complete _ i r IsCount.no_count s = behind_not m.Comma _ _ s
+count-complete _ i r IsCount.no_count s = after_not m.Comma _ _ s
 count-complete _ i r (IsCount.count {n} h a) s = behind_is _ _ h ∙ rw (number_is a) refl
 
 first_of : {k : Mark} {i r : List Tok} (other : Mark) → At k i r → one_of k other i ≡ Ok (true, r)
@@ -45,11 +46,11 @@ first_of other h = behind_is _ _ h
 
 second_of : (k : Mark) {other : Mark} {i r : List Tok} → same other k ≡ false → At other i r → one_of k other i ≡ Ok (false, r)
 unfolding one_of
-second_of k apart h = behind_not k _ _ (not_seen k h apart) ∙ rw (expect_is h) refl
+second_of k apart h = after_not k _ _ (not_seen k h apart) ∙ rw (expect_is h) refl
 
 kind-complete : (k : ChannelKind) (i r : List Tok) → IsKind k i r → sees m.Channel r ≡ false → kind i ≡ Ok (k, r)
 unfolding kind
-kind-complete _ i r IsKind.no_kind s = behind_not m.Channel _ _ s
+kind-complete _ i r IsKind.no_kind s = after_not m.Channel _ _ s
 kind-complete _ i r (IsKind.fifo_reliable h a b e) s = behind_is _ _ h ∙ rw (first_of m.Unordered a, first_of m.Unreliable b, expect_is e) refl
 kind-complete _ i r (IsKind.unordered_reliable h a b e) s = behind_is _ _ h ∙ rw (second_of m.Fifo refl a, first_of m.Unreliable b, expect_is e) refl
 kind-complete _ i r (IsKind.fifo_unreliable h a b e) s = behind_is _ _ h ∙ rw (first_of m.Unordered a, second_of m.Reliable refl b, expect_is e) refl
@@ -174,13 +175,13 @@ module _ (limit : Limit) (room : ℕ → Room) (allows : (d : ℕ) (t : List Tok
     members = λ t some. members_inside-complete limit room allows param Parameter (param_completes t some) g (f - 1) (enough_below room g f 0 t some e);
   }
 
-  typed_complete : (g f : ℕ) → Enough room (suc g) f 0 → OuterCompletes (typed_in limit f) room g (TypedParam room g)
-  typed_complete g f e =
-      outer_complete (typed_param (types limit (f - 1) 2)) (TypedParam room g) (IsParam-shrinks (TypeIn room g 2) (TypeIn-shrinks room g 2)) g f e
-      (λ t some. typed_params-complete limit room allows g (f - 1) (enough_below room g f 0 t some e))
+  complete_by : (loose : Bool) (g f : ℕ) → Enough room (suc g) f 0 → OuterCompletes (outer_by loose limit f) room g (ParameterBy loose room g)
+  complete_by loose g f e =
+      outer_complete (param_by loose (types limit (f - 1) 2)) (ParameterBy loose room g) (ParamBy-shrinks loose (TypeIn room g 2) (TypeIn-shrinks room g 2)) g f e
+      (λ t some. params_by-complete limit room allows loose g (f - 1) (enough_below room g f 0 t some e))
 
   -- Inside a class the grammar has g more where the reader has one less than outside, so the reader needs one more than the grammar.
-  pub program_in-complete : (g f : ℕ) → (suc g ≤ f) ⊎ ((t : List Tok) → room f t → ⊥) → (x : Tree) (i : List Tok) → IsTypedProgram room g x i → program (typed_in limit f) i ≡ Ok (x, [])
-  program_in-complete g f enough x i h =
+  pub program_in-complete : (loose : Bool) (g f : ℕ) → (suc g ≤ f) ⊎ ((t : List Tok) → room f t → ⊥) → (x : Tree) (i : List Tok) → IsProgramBy loose room g x i → program (outer_by loose limit f) i ≡ Ok (x, [])
+  program_in-complete loose g f enough x i h =
       let same : 0 + f ≡ f = omega arith in
-      program-complete (typed_in limit f) room g (TypedParam room g) (typed_complete g f (subst (λ n. (suc g ≤ f) ⊎ ((t : List Tok) → room n t → ⊥)) (sym same) enough)) x i h
+      program-complete (outer_by loose limit f) room g (ParameterBy loose room g) (complete_by loose g f (subst (λ n. (suc g ≤ f) ⊎ ((t : List Tok) → room n t → ⊥)) (sym same) enough)) x i h

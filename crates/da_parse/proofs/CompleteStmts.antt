@@ -16,8 +16,8 @@ use Rattle.da_phrases.specs.Reader as reader
 use Rattle.da_phrases.specs.Reader.{mark, text, rest, same, sees, Reading, Reader, continued, ◌>>=◌, ◌>>◌, pure, refuse, expect, word}
 use Rattle.da_phrases.specs.Place.{Limit, Place}
 use Rattle.da_phrases.specs.Exprs.{place, expression}
-use Rattle.da_parse.specs.Stmts.{branch_of, in_parens, arguments, assigned, changed, called, named, sending, output, passing, label, block, block_behind_colon, branch, otherwise, timeout, conditional, while_loop, for_loop, alternatives, awaiting, stmt_by, stmt, stmts, bodies}
-use Rattle.da_phrases.proofs.Steps.{mark-At, mark-Named, sees-At, rest-At, behind_is, behind_not, expect_is, not_seen, At-Opens, room-Opens, opening_is, word_is, taking_is}
+use Rattle.da_parse.specs.Stmts.{branch_of, in_parens, arguments, assigned, changed, called, named, sending, output, passing, label, block, block_after_colon, branch, otherwise, timeout, conditional, while_loop, for_loop, alternatives, awaiting, stmt_by, stmt, stmts, bodies}
+use Rattle.da_phrases.proofs.Steps.{mark-At, mark-Named, sees-At, rest-At, behind_is, after_not, expect_is, not_seen, At-Opens, room-Opens, opening_is, word_is, taking_is}
 use Rattle.da_phrases.proofs.Laws.{IsComplete, Shrinks, Lacks, Anything, Completes, goes_on_expr, goes_on_disj}
 use Rattle.da_phrases.proofs.Firsts.{Beginning, deeper-begins, begins_disj, never_seen, lacked, apart, next-At}
 use Rattle.da_phrases.proofs.Shorter.{Shrinking, deeper-shrinks}
@@ -59,25 +59,25 @@ module _ (p : Place) (room : Room) (deep : Deeper) (beginning : Beginning deep) 
   unfolding block
   block-complete b i r (IsBlock.block h o l) = rw (expect_is h, opening_is p.may_open completes.allows o) (body_complete _ (room-Opens o) b _ r l tt)
 
-  pub block_behind_colon-complete : (b : List Stmt) (i r s : List Tok) → At m.Colon i r → IsBlock room deep Body b r s → block_behind_colon p body i ≡ Ok (b, s)
-  unfolding block_behind_colon
-  block_behind_colon-complete b i r s h l = rw (expect_is h) (block-complete b r s l)
+  pub block_after_colon-complete : (b : List Stmt) (i r s : List Tok) → At m.Colon i r → IsBlock room deep Body b r s → block_after_colon p body i ≡ Ok (b, s)
+  unfolding block_after_colon
+  block_after_colon-complete b i r s h l = rw (expect_is h) (block-complete b r s l)
 
   branch-complete : (word : Mark) → IsComplete Anything (branch p body) (IsBranch room deep Body word)
   unfolding branch
   branch-complete word _ i r (IsBranch.branch {x} {b} h a c l) _ =
-      rw (rest-At h, expression_complete x _ _ a (next-At goes_on_expr c), block_behind_colon-complete b _ _ r c l) (ap (λ at. Ok (branch_of x b at, r)) (same_line i))
+      rw (rest-At h, expression_complete x _ _ a (next-At goes_on_expr c), block_after_colon-complete b _ _ r c l) (ap (λ at. Ok (branch_of x b at, r)) (same_line i))
 
   otherwise-complete : IsComplete (Lacks goes_on_stmt) (otherwise p body) (IsElse room deep Body)
   unfolding otherwise
-  otherwise-complete _ i r IsElse.no_else s = behind_not m.Else _ _ (lacked goes_on_stmt m.Else i refl s)
-  otherwise-complete _ i r (IsElse.otherwise {b} h c l) s = behind_is _ _ h ∙ rw (block_behind_colon-complete b _ _ r c l) refl
+  otherwise-complete _ i r IsElse.no_else s = after_not m.Else _ _ (lacked goes_on_stmt m.Else i refl s)
+  otherwise-complete _ i r (IsElse.otherwise {b} h c l) s = behind_is _ _ h ∙ rw (block_after_colon-complete b _ _ r c l) refl
 
   timeout-complete : IsComplete (Lacks goes_on_stmt) (timeout p body) (IsTimeout room deep Body)
   unfolding timeout
-  timeout-complete _ i r IsTimeout.no_timeout s = behind_not m.Timeout _ _ (lacked goes_on_stmt m.Timeout i refl s)
+  timeout-complete _ i r IsTimeout.no_timeout s = after_not m.Timeout _ _ (lacked goes_on_stmt m.Timeout i refl s)
   timeout-complete _ i r (IsTimeout.timeout {b} h c l) s =
-      behind_is _ _ h ∙ rw (block_behind_colon-complete b _ _ r c l) (ap (λ at. Ok (Some (roll-TimeoutTree (record { body = b; line = at })), r)) (same_line i))
+      behind_is _ _ h ∙ rw (block_after_colon-complete b _ _ r c l) (ap (λ at. Ok (Some (roll-TimeoutTree (record { body = b; line = at })), r)) (same_line i))
 
   conditional-complete : (b : Branch) (bs : List Branch) (o : Option (List Stmt)) (at : ℕ) (i r s q : List Tok) → IsBranch room deep Body m.If b i r → Many (IsBranch room deep Body m.Elif) bs r s → IsElse room deep Body o s q
       → Lacks goes_on_stmt q → conditional p body at i ≡ Ok (stmt_tree.If (b ∷ bs) o at, q)
@@ -94,7 +94,7 @@ module _ (p : Place) (room : Room) (deep : Deeper) (beginning : Beginning deep) 
   unfolding alternatives
   alternatives-complete x b bs o at i r s q z h a l e stops =
       rw (
-        block_behind_colon-complete b i r s h a,
+        block_after_colon-complete b i r s h a,
         begun-complete (branch-complete m.Or) (IsBranch-shrinks room deep shrinking Body body_shrinks m.Or) m.Or (λ x j k h. IsBranch-sees h) (λ j k h. tt) (branch_of x b at ∷ []) bs s q l tt (no_or e stops),
         timeout-complete o q z e stops,
       ) refl
@@ -115,11 +115,11 @@ module _ (p : Place) (room : Room) (deep : Deeper) (beginning : Beginning deep) 
   unfolding named assigned changed called sending output passing label while_loop for_loop awaiting
   stmt-complete _ i r (IsStmt.assign {x = x} n h a e) s = named_stmt n (behind_is _ _ h ∙ rw (expression_complete x _ _ a (next-At goes_on_expr e), expect_is e) refl)
   stmt-complete _ i r (IsStmt.add {x = x} n h k o a c e) s =
-      named_stmt n (behind_not m.Assign _ _ (not_seen m.Assign h refl) ∙ behind_is _ _ h ∙ behind_is _ _ k ∙ rw (in_parens-complete p room deep beginning shrinking completes x _ _ _ _ o a c, expect_is e) refl)
+      named_stmt n (after_not m.Assign _ _ (not_seen m.Assign h refl) ∙ behind_is _ _ h ∙ behind_is _ _ k ∙ rw (in_parens-complete p room deep beginning shrinking completes x _ _ _ _ o a c, expect_is e) refl)
   stmt-complete _ i r (IsStmt.remove {x = x} n h k o a c e) s =
-      named_stmt n (behind_not m.Assign _ _ (not_seen m.Assign h refl) ∙ behind_is _ _ h ∙ behind_not m.Add _ _ (not_seen m.Add k refl) ∙ rw (expect_is k, in_parens-complete p room deep beginning shrinking completes x _ _ _ _ o a c, expect_is e) refl)
+      named_stmt n (after_not m.Assign _ _ (not_seen m.Assign h refl) ∙ behind_is _ _ h ∙ after_not m.Add _ _ (not_seen m.Add k refl) ∙ rw (expect_is k, in_parens-complete p room deep beginning shrinking completes x _ _ _ _ o a c, expect_is e) refl)
   stmt-complete _ i r (IsStmt.call {xs = xs} n o l e) s =
-      named_stmt n (behind_not m.Assign _ _ (not_seen m.Assign (At-Opens o) refl) ∙ behind_not m.Dot _ _ (not_seen m.Dot (At-Opens o) refl) ∙ rw (arguments-complete p room deep beginning shrinking completes xs _ _ _ o l, expect_is e) refl)
+      named_stmt n (after_not m.Assign _ _ (not_seen m.Assign (At-Opens o) refl) ∙ after_not m.Dot _ _ (not_seen m.Dot (At-Opens o) refl) ∙ rw (arguments-complete p room deep beginning shrinking completes xs _ _ _ o l, expect_is e) refl)
   stmt-complete _ i r (IsStmt.send {x} {y} h a k b e) s =
       word_stmt (sending p (sp.line i)) h (λ j. refl) (rw (expression_complete x _ _ a (next-At goes_on_expr k), expect_is k, expression_complete y _ _ b (next-At goes_on_expr e), expect_is e) refl)
   stmt-complete _ i r (IsStmt.output {x} h o a c e) s =
@@ -128,14 +128,14 @@ module _ (p : Place) (room : Room) (deep : Deeper) (beginning : Beginning deep) 
   stmt-complete _ i r (IsStmt.label h n e) s = word_stmt (label (sp.line i)) h (λ j. refl) (rw (word_is n, expect_is e) refl)
   stmt-complete _ i r (IsStmt.conditional {b} {bs} {o} a l e) s = at_stmt i (mark-Branch a) (conditional-complete b bs o (sp.line i) i _ _ r a l e s)
   stmt-complete _ i r (IsStmt.while {x} {b} h a c l) s =
-      word_stmt (while_loop p body (sp.line i)) h (λ j. refl) (rw (expression_complete x _ _ a (next-At goes_on_expr c), block_behind_colon-complete b _ _ r c l) refl)
+      word_stmt (while_loop p body (sp.line i)) h (λ j. refl) (rw (expression_complete x _ _ a (next-At goes_on_expr c), block_after_colon-complete b _ _ r c l) refl)
   stmt-complete _ i r (IsStmt.for {x = x} {b = b} h n k a c l) s =
-      word_stmt (for_loop p body (sp.line i)) h (λ j. refl) (rw (word_is n, expect_is k, expression_complete x _ _ a (next-At goes_on_expr c), block_behind_colon-complete b _ _ r c l) refl)
+      word_stmt (for_loop p body (sp.line i)) h (λ j. refl) (rw (word_is n, expect_is k, expression_complete x _ _ a (next-At goes_on_expr c), block_after_colon-complete b _ _ r c l) refl)
   stmt-complete _ i r (IsStmt.await_one {x} h a e) s =
       word_stmt (awaiting p body (sp.line i)) h (λ j. refl) (rw (expression_complete x _ _ a (next-At goes_on_expr e)) (behind_is _ _ e))
   stmt-complete _ i r (IsStmt.await {bs = bs} {o = o} (IsBranch.branch {x} {b} h a c k) l e) s =
       word_stmt (awaiting p body (sp.line i)) h (λ j. refl)
-      (rw (expression_complete x _ _ a (next-At goes_on_expr c)) (behind_not m.Newline _ _ (not_seen m.Newline c refl) ∙ alternatives-complete x b bs o (sp.line i) _ _ _ _ r c k l e s))
+      (rw (expression_complete x _ _ a (next-At goes_on_expr c)) (after_not m.Newline _ _ (not_seen m.Newline c refl) ∙ alternatives-complete x b bs o (sp.line i) _ _ _ _ r c k l e s))
 
   pub stmts-complete : (xs : List Stmt) (i r : List Tok) → Ended (IsStmt room deep Body) xs i r → stmts p body i ≡ Ok (xs, r)
   unfolding stmts
@@ -145,7 +145,7 @@ module _ (p : Place) (room : Room) (deep : Deeper) (beginning : Beginning deep) 
 
 -- by a rule of how many things may be open, which allows all that the grammar allows
 module _ (limit : Limit) (room : ℕ → Room) (allows : (d : ℕ) (t : List Tok) → room d t → limit d (length t) ≡ true) where
-  -- the statements of a block behind a token that opened it, where d things are open round it
+  -- the statements of a block after a token that opened it, where d things are open round it
   pub bodies-complete : (g f d : ℕ) → Enough room g f d → (t : List Tok) → room d t → IsComplete Anything (bodies limit f (suc d)) (BodyIn room g (suc d))
   unfolding bodies BodyIn
   bodies-complete zero f d e t some x i r h s = absurd h
@@ -156,10 +156,10 @@ module _ (limit : Limit) (room : ℕ → Room) (allows : (d : ℕ) (t : List Tok
       (place-complete limit room allows g f (suc d) inside) (expression_there-complete limit room allows g f (suc d) inside)
       (bodies limit f (suc (suc d))) (BodyIn room g (suc (suc d))) (BodyIn-shrinks room g (suc (suc d))) (bodies-complete g f (suc d) inside) x i r h
 
-  -- a block where d things are open, behind its colon
+  -- a block where d things are open, after its colon
   pub block_there-complete : (g f d : ℕ) → Enough room g f d → (b : List Stmt) (i r s : List Tok) → At m.Colon i r → IsBlock (room d) (deeper room g (suc d)) (BodyIn room g (suc d)) b r s
-      → block_behind_colon (place limit f d) (bodies limit f (suc d)) i ≡ Ok (b, s)
+      → block_after_colon (place limit f d) (bodies limit f (suc d)) i ≡ Ok (b, s)
   block_there-complete g f d e =
-      block_behind_colon-complete (place limit f d) (room d) (deeper room g (suc d)) (deeper-begins room g (suc d)) (deeper-shrinks room g (suc d))
+      block_after_colon-complete (place limit f d) (room d) (deeper room g (suc d)) (deeper-begins room g (suc d)) (deeper-shrinks room g (suc d))
       (place-complete limit room allows g f d e) (expression_there-complete limit room allows g f d e)
       (bodies limit f (suc d)) (BodyIn room g (suc d)) (BodyIn-shrinks room g (suc d)) (bodies-complete g f d e)

@@ -12,19 +12,19 @@ use Rattle.da_lang.specs.StmtGrammar as g
 use Rattle.da_phrases.specs.Reader.{sees, Reader}
 use Rattle.da_phrases.specs.Place.{Limit, Place}
 use Rattle.da_phrases.specs.Exprs.{place, expression}
-use Rattle.da_parse.specs.Stmts.{block_behind_colon, branch, stmt, stmts, bodies}
+use Rattle.da_parse.specs.Stmts.{block_after_colon, branch, stmt, stmts, bodies}
 use Rattle.da_phrases.proofs.Laws.{IsSound, Sounds}
 use Rattle.da_phrases.proofs.Steps.{At-sees}
 use Rattle.da_phrases.proofs.Shorter.{Shrinking, deeper-shrinks}
 use Rattle.da_parse.proofs.ShorterStmts.{IsBranch-shrinks, IsStmt-shrinks, BodyIn-shrinks}
 use Rattle.da_phrases.proofs.SoundPlaces.{places-sound, expression_there-sound}
-use Rattle.da_parse.proofs.SoundStmts.{BehindColon, branch-sound, stmt-sound, bodies-sound}
+use Rattle.da_parse.proofs.SoundStmts.{AfterColon, branch-sound, stmt-sound, bodies-sound}
 use Rattle.da_phrases.proofs.Faults.{Rule, Makes, Cut, Good, Whole}
 use Rattle.da_phrases.proofs.FaultLists.{Strict}
 use Rattle.da_phrases.proofs.FaultTypes.{below}
 use Rattle.da_phrases.proofs.FaultExprs.{Exact}
 use Rattle.da_phrases.proofs.FaultPlaces.{by_parts, levels, places}
-use Rattle.da_parse.proofs.FaultStmts.{stmts-whole, block_behind_colon-whole}
+use Rattle.da_parse.proofs.FaultStmts.{stmts-whole, block_after_colon-whole}
 
 abbrev Any : ℕ → Room
 Any d t = Unit {0}
@@ -100,10 +100,10 @@ module _ (c : Cut) (Q : Type 0) (f h n d : ℕ) (sum : f + d ≡ c.most) (le : f
       (subst (λ q. Whole c Q (m.Pass ∷ m.Newline ∷ m.Dedent ∷ []) (stmts First B1) (stmts q B2) (λ room. Ended (IsStmt (room d) (deeper room n (suc d)) (BodyIn room n (suc d))))) second_is
       (stmts-whole c d exact Q expr_whole body branch1 branch2 stmt1 stmt2))
 
-  pub block_whole : Whole c Q (m.Colon ∷ m.Newline ∷ m.Indent ∷ w) (block_behind_colon (place (below c.most) f d) B1) (block_behind_colon (place c.wider h d) B2) (λ room. BehindColon (IsBlock (room d) (deeper room n (suc d)) (BodyIn room n (suc d))))
-  block_whole = subst (λ p. Whole c Q (m.Colon ∷ m.Newline ∷ m.Indent ∷ w) (block_behind_colon p B1) (block_behind_colon (place c.wider h d) B2) (λ room. BehindColon (IsBlock (room d) (deeper room n (suc d)) (BodyIn room n (suc d))))) first_is
-      (subst (λ q. Whole c Q (m.Colon ∷ m.Newline ∷ m.Indent ∷ w) (block_behind_colon First B1) (block_behind_colon q B2) (λ room. BehindColon (IsBlock (room d) (deeper room n (suc d)) (BodyIn room n (suc d))))) second_is
-      (block_behind_colon-whole c d exact Q expr_whole body))
+  pub block_whole : Whole c Q (m.Colon ∷ m.Newline ∷ m.Indent ∷ w) (block_after_colon (place (below c.most) f d) B1) (block_after_colon (place c.wider h d) B2) (λ room. AfterColon (IsBlock (room d) (deeper room n (suc d)) (BodyIn room n (suc d))))
+  block_whole = subst (λ p. Whole c Q (m.Colon ∷ m.Newline ∷ m.Indent ∷ w) (block_after_colon p B1) (block_after_colon (place c.wider h d) B2) (λ room. AfterColon (IsBlock (room d) (deeper room n (suc d)) (BodyIn room n (suc d))))) first_is
+      (subst (λ q. Whole c Q (m.Colon ∷ m.Newline ∷ m.Indent ∷ w) (block_after_colon First B1) (block_after_colon q B2) (λ room. AfterColon (IsBlock (room d) (deeper room n (suc d)) (BodyIn room n (suc d))))) second_is
+      (block_after_colon-whole c d exact Q expr_whole body))
 
 -- the grammar may have more things open than the readers, of which the second may have more than the first
 pub bodies-whole : (c : Cut) (f h n d : ℕ) → f + d ≡ suc c.most → f ≤ h → f < n → Whole c (d ≤ c.most) (m.Pass ∷ m.Newline ∷ m.Dedent ∷ []) (bodies (below c.most) f d) (bodies c.wider h d) (λ room. BodyIn room n d)

@@ -1,5 +1,5 @@
 -- Members of classes: what is shown of a place where the reader stops.
-use Rattle.std.proofs.Common.{◌≡◌, ℕ, zero, suc, ◌+◌, ◌≤◌, ◌<◌, true, List, [], ◌∷◌, ◌++◌, length, Option, Some, None, Ok, refl, sym, subst, arith}
+use Rattle.std.proofs.Common.{◌≡◌, ℕ, zero, suc, ◌+◌, ◌≤◌, ◌<◌, Bool, true, false, List, [], ◌∷◌, ◌++◌, length, Option, Some, None, Ok, refl, sym, subst, arith}
 use Rattle.std.specs.Prelude.{nat_lt}
 use Rattle.da_values.specs.declared.token.Mark.{Mark}
 use Rattle.da_values.specs.declared.token.Mark.TheVariants as m
@@ -19,33 +19,53 @@ use Rattle.da_phrases.specs.declared.place.Level.{Level}
 use Rattle.da_phrases.specs.Reader.{mark, line, Reader, refuse, word}
 use Rattle.da_phrases.specs.Place.{Limit, Place}
 use Rattle.da_phrases.specs.Exprs.{pattern}
-use Rattle.da_parse.specs.Members.{Parts, typed_param, params, variable, setup, run, method, definition_by, definition, sender, labels, handler, member_by, member, members}
+use Rattle.da_parse.specs.Parameters as pa
+use Rattle.da_parse.specs.Parameters.{IsLooseParam, ParamBy}
+use Rattle.da_parse.specs.Members.{Parts, no_type, typed_param, loose_param, param_by, params, variable, setup, run, method, definition_by, definition, sender, labels, handler, member_by, member, members}
 use Rattle.da_phrases.proofs.Steps.{word_ok}
 use Rattle.da_parse.proofs.ShorterStmts.{Named-shrinks}
-use Rattle.da_parse.proofs.SoundStmts.{BehindColon}
+use Rattle.da_parse.proofs.SoundStmts.{AfterColon}
 use Rattle.da_phrases.proofs.Samples.{sample, onto}
 use Rattle.da_phrases.proofs.Faults.{Rule, Anywhere, Makes, Cut, Good, Whole}
-use Rattle.da_phrases.proofs.FaultSteps.{bind, bind_good, pure_good, pure_whole, refuse_good, by_mark_good, at_line_good, good_as, good_on, whole_as, past_mark, past_line, taking_name, behind_good, opening_whole, expect_whole, word_whole}
+use Rattle.da_phrases.proofs.FaultSteps.{bind, bind_good, pure_good, pure_whole, refuse_good, by_mark_good, at_line_good, good_as, good_on, whole_as, past_mark, past_line, taking_name, after_good, opening_whole, expect_whole, word_whole}
 use Rattle.da_phrases.proofs.FaultLists.{Strict, all_separated, all_closed, ended_whole}
 
 word_strict : Strict (word m.Name)
 word_strict i y e = Named-shrinks _ _ _ (word_ok i y e)
 
+-- what a parameter is completed by
+abbrev pub param_marks : Bool → List Mark → List Mark
+param_marks false w = m.Name ∷ m.Colon ∷ w ++ []
+param_marks true w = m.Name ∷ []
+
 module _ (c : Cut) (Q : Type 0) where
   labels-whole : Whole c Q [] labels labels (λ room. IsAt)
   unfolding labels
   labels-whole = record {
-    good = behind_good c Q m.At
+    good = after_good c Q m.At
         (good_as c Q (λ room ns i r l i1 there. g.labels there l) (all_separated c Q m.Comma (word_whole c Q) word_strict word_strict).good)
         (pure_good c Q [] (λ room i. g.no_at));
     makes = record { of = λ wide n s few. ([], g.no_at) };
   }
 
   -- a parameter with its type
-  pub typed_param-whole : {w : List Mark} {p q : Reader Ty} {Type_ : Rule Ty} → Whole c Q w p q Type_ → Whole c Q (m.Name ∷ m.Colon ∷ w ++ []) (typed_param p) (typed_param q) (λ room. IsParam (Type_ room))
+  typed_param-whole : {w : List Mark} {p q : Reader Ty} {Type_ : Rule Ty} → Whole c Q w p q Type_ → Whole c Q (m.Name ∷ m.Colon ∷ w ++ []) (typed_param p) (typed_param q) (λ room. IsParam (Type_ room))
   unfolding typed_param
   typed_param-whole types = bind c Q (word_whole c Q) (λ n. bind c Q (expect_whole c Q m.Colon) (λ _. bind c Q types (λ x.
       pure_whole c Q (record { name = n; ty = x }) (λ room i i1 h i2 colon i3 name. g.param name colon h))))
+
+  -- a parameter that may lack its type
+  loose_param-whole : {w : List Mark} {p q : Reader Ty} {Type_ : Rule Ty} → Whole c Q w p q Type_ → Whole c Q (m.Name ∷ []) (loose_param p) (loose_param q) (λ room. IsLooseParam (Type_ room))
+  unfolding loose_param
+  loose_param-whole types = bind c Q (word_whole c Q) (λ n. record {
+    good = after_good c Q m.Colon (bind c Q types (λ x. pure_whole c Q (record { name = n; ty = x }) (λ room i i1 h i2 colon i3 name. pa.written name colon h))).good
+        (pure_good c Q (record { name = n; ty = no_type }) (λ room i i1 name. pa.without name));
+    makes = record { of = λ wide k s few. (record { name = n; ty = no_type }, λ i1 name. pa.without name) };
+  })
+
+  pub param_by-whole : (loose : Bool) {w : List Mark} {p q : Reader Ty} {Type_ : Rule Ty} → Whole c Q w p q Type_ → Whole c Q (param_marks loose w) (param_by loose p) (param_by loose q) (λ room. ParamBy loose (Type_ room))
+  param_by-whole false types = typed_param-whole types
+  param_by-whole true types = loose_param-whole types
 
 module _ (c : Cut) (d : ℕ) (e e1 : Level → Reader Expr) (r r1 : Reader PatternTree) where
   abbrev P : Place
@@ -60,7 +80,7 @@ module _ (c : Cut) (d : ℕ) (e e1 : Level → Reader Expr) (r r1 : Reader Patte
   module _ (Q : Type 0) {wb : List Mark} {y y1 : Reader Ty} {a a1 : Reader Param} {b b1 : Reader (List Stmt)} {Type_ : Rule Ty} {Parameter : Rule Param} {Pattern : Rule PatternTree} {Block : Rule (List Stmt)} {wp : List Mark}
       (types : Whole c Q (m.Int ∷ []) y y1 Type_) (param : Whole c D wp a a1 Parameter) (param_strict : Strict a) (param_strict1 : Strict a1)
       (patterns : Whole c Q (m.Name ∷ []) (pattern P) (pattern P1) Pattern)
-      (blocks : Whole c Q wb b b1 (λ room. BehindColon (Block room))) (blocks_in : Whole c D wb b b1 (λ room. BehindColon (Block room))) where
+      (blocks : Whole c Q wb b b1 (λ room. AfterColon (Block room))) (blocks_in : Whole c D wb b b1 (λ room. AfterColon (Block room))) where
     abbrev S : Parts
     S = record { place = P; ty = y; param = a; block = b }
 
@@ -77,7 +97,7 @@ module _ (c : Cut) (d : ℕ) (e e1 : Level → Reader Expr) (r r1 : Reader Patte
     unfolding params
     params-whole = all_closed c D m.CloseParen param param_strict param_strict1
 
-    -- behind a word
+    -- after a word
     abbrev WordHere : Mark → ℕ → Rule Member
     WordHere k at_it room z q s = (i : List Tok) → At k i q → sp.line i ≡ at_it → MemberHere room z i s
 
@@ -86,7 +106,7 @@ module _ (c : Cut) (d : ℕ) (e e1 : Level → Reader Expr) (r r1 : Reader Patte
     variable-good at_it = (bind c Q (word_whole c Q) (λ n. bind c Q (expect_whole c Q m.Colon) (λ _. bind c Q types (λ x. bind c Q (expect_whole c Q m.Newline) (λ _.
         pure_whole c Q (member_tree.Var n x at_it) (λ room i i1 over i2 h i3 colon i4 name i5 there lined. subst (λ l. MemberHere room (member_tree.Var n x l) i5 i) lined (g.var there name colon h over))))))).good
 
-    -- behind `def` and a word
+    -- after `def` and a word
     abbrev DefHere : Mark → ℕ → Rule Member
     DefHere k at_it room z q s = (i : List Tok) → At k i q → WordHere m.Def at_it room z i s
 
@@ -128,7 +148,7 @@ module _ (c : Cut) (d : ℕ) (e e1 : Level → Reader Expr) (r r1 : Reader Patte
     sender-whole : Whole c Q [] (sender S) (sender S1) (λ room. IsFrom (Pattern room))
     unfolding sender
     sender-whole = record {
-      good = behind_good c Q m.From (bind c Q patterns (λ z. pure_whole c Q (Some z) (λ room i i1 h i2 there. g.from there h))).good (pure_good c Q None (λ room i. g.no_from));
+      good = after_good c Q m.From (bind c Q patterns (λ z. pure_whole c Q (Some z) (λ room i i1 h i2 there. g.from there h))).good (pure_good c Q None (λ room i. g.no_from));
       makes = record { of = λ wide n s few. (None, g.no_from) };
     }
 

@@ -18,7 +18,7 @@ use Rattle.da_lang.specs.declared.ty.ChannelKind.{ChannelKind}
 use Rattle.da_lang.specs.declared.ty.ChannelKind.TheVariants as kind_of
 use Rattle.da_lang.specs.declared.ty.Ty.{Ty}
 use Rattle.da_lang.specs.Spelling as sp
-use Rattle.da_lang.specs.Spelling.{Spelling, Room, At, at, Opens, opens, Named, named, Closed, Behind, Many, Ended}
+use Rattle.da_lang.specs.Spelling.{Spelling, Room, At, at, Opens, opens, Named, named, Closed, EachAfter, Many, Ended}
 use Rattle.da_lang.specs.TypeGrammar.{TypeIn}
 use Rattle.da_lang.specs.ExprGrammar.{IsPattern, deeper}
 use Rattle.da_lang.specs.StmtGrammar.{IsBlock, BodyIn}
@@ -36,14 +36,14 @@ use Rattle.da_phrases.proofs.Laws.{Led, led}
 use Rattle.da_phrases.proofs.Samples.{sample, onto}
 use Rattle.da_phrases.proofs.Faults as f
 use Rattle.da_phrases.proofs.Faults.{Shifted, Placed, Completed, room_of, room_late, Rule, Anywhere, Makes, Cut, Follows, Good, Whole, ahead, same_ahead, not_longer}
-use Rattle.da_phrases.proofs.FaultSteps.{bind, bind_good, bind_makes, pure_good, pure_whole, refuse_good, refuse_stops, by_mark_good, at_line_good, good_as, good_on, whole_as, whole_same, mark_sees, past_mark, past_line, taking_line, behind_good, opening_whole, expect_whole, word_whole, number_whole, first_sees}
+use Rattle.da_phrases.proofs.FaultSteps.{bind, bind_good, bind_makes, pure_good, pure_whole, refuse_good, refuse_stops, by_mark_good, at_line_good, good_as, good_on, whole_as, whole_same, mark_sees, past_mark, past_line, taking_line, after_good, opening_whole, expect_whole, word_whole, number_whole, first_sees}
 use Rattle.da_phrases.proofs.FaultExprs.{joins}
 use Rattle.da_phrases.proofs.FaultLists.{Strict, Finds, continued_same, none_left, rest_shorter, all_closed, begun_whole, ended_whole}
 
--- arguments that each stand behind a comma
-Many-Behind : {A : Type 0} {k : Mark} {Item : Spelling A} {xs : List A} {t r : List Tok} → Many (Led k Item) xs t r → Behind k Item xs t r
-Many-Behind Many.none = Behind.none
-Many-Behind (Many.one (led h x) xs) = Behind.one h x (Many-Behind xs)
+-- arguments that each stand after a comma
+Many-Behind : {A : Type 0} {k : Mark} {Item : Spelling A} {xs : List A} {t r : List Tok} → Many (Led k Item) xs t r → EachAfter k Item xs t r
+Many-Behind Many.none = EachAfter.none
+Many-Behind (Many.one (led h x) xs) = EachAfter.one h x (Many-Behind xs)
 
 -- ---- the parts that stand in no place
 
@@ -51,7 +51,7 @@ module _ (c : Cut) (Q : Type 0) where
   count-whole : Whole c Q [] count count (λ room. IsCount)
   unfolding count
   count-whole = record {
-    good = behind_good c Q m.Comma (bind c Q (number_whole c Q) (λ n. pure_whole c Q (Some n) (λ room i i1 h i2 comma. g.count comma h))).good (pure_good c Q None (λ room i. g.no_count));
+    good = after_good c Q m.Comma (bind c Q (number_whole c Q) (λ n. pure_whole c Q (Some n) (λ room i i1 h i2 comma. g.count comma h))).good (pure_good c Q None (λ room i. g.no_count));
     makes = record { of = λ wide n s few. (None, g.no_count) };
   }
 
@@ -63,7 +63,7 @@ module _ (c : Cut) (Q : Type 0) where
   one_of-whole : (k other : Mark) → Whole c Q (k ∷ []) (one_of k other) (one_of k other) (OneOf k other)
   unfolding one_of
   one_of-whole k other = record {
-    good = behind_good c Q k (pure_good c Q true (λ room i i1 there. there))
+    good = after_good c Q k (pure_good c Q true (λ room i i1 there. there))
         (bind_good c Q (good_on c Q (λ i ok. tt) (expect_whole c Q other).good) (λ _. pure_whole c Q false (λ room i i1 there. there)));
     makes = record { of = λ wide n s few. (true, at refl) };
   }
@@ -77,7 +77,7 @@ module _ (c : Cut) (Q : Type 0) where
   pub kind-whole : Whole c Q [] kind kind (λ room. IsKind)
   unfolding kind
   kind-whole = record {
-    good = behind_good c Q m.Channel
+    good = after_good c Q m.Channel
         (bind c Q (one_of-whole m.Fifo m.Unordered) (λ fifo. bind c Q (one_of-whole m.Reliable m.Unreliable) (λ reliable. bind c Q (expect_whole c Q m.Newline) (λ _.
         pure_whole c Q (kind_from fifo reliable) (λ room i i1 over i2 b i3 a i4 there. kinds room fifo reliable i4 i3 i2 i1 i there a b over))))).good
         (pure_good c Q kind_of.UnorderedUnreliable (λ room i. g.no_kind));
@@ -124,7 +124,7 @@ header_is : {A : Type 0} (o : Outer) (p : Reader A) (i : List Tok) → (header_e
 unfolding header_end
 header_is o p i = three (expect m.Colon i) (expect m.Newline) (opening o.place.may_open m.Indent) p
 
--- messages and classes behind those found take no more steps than there are tokens
+-- messages and classes after those found take no more steps than there are tokens
 module _ (o : Outer) (k : ChannelKind) (message_keeps : (at_it : ℕ) (i : List Tok) (y : MessageDecl × List Tok) → message o at_it i ≡ Ok y → length y.1 ≤ length i)
     (class_keeps : (at_it : ℕ) (i : List Tok) (y : ClassTree × List Tok) → class o at_it i ≡ Ok y → length y.1 ≤ length i) where
   decls_same : (g1 h1 : List MessageDecl → List ClassTree → Reader Tree) (xs : List MessageDecl) (cs : List ClassTree) (b : Option Mark) (i : List Tok)
@@ -143,7 +143,7 @@ module _ (o : Outer) (k : ChannelKind) (message_keeps : (at_it : ℕ) (i : List 
   decls_enough (suc n) zero xs cs (t ∷ i) few less = absurd (omega (arith, less))
   decls_enough (suc n) (suc l) xs cs (t ∷ i) few less = decls_same (decls_from o k n) (decls_from o k l) xs cs (Some t.mark) (t ∷ i) (λ ys ds r shorter. decls_enough n l ys ds r (omega (arith, shorter, few)) (omega (arith, shorter, less)))
 
--- the lines of `main` are read behind what opens a block
+-- the lines of `main` are read after what opens a block
 abbrev pub main_marks : List Mark
 main_marks = m.Def ∷ m.Main ∷ m.OpenParen ∷ m.CloseParen ∷ m.Colon ∷ m.Newline ∷ m.Indent ∷ m.Setup ∷ m.OpenParen ∷ m.Name ∷ m.CloseParen ∷ m.Newline ∷ m.Dedent ∷ []
 
@@ -231,10 +231,10 @@ module _ (c : Cut) (Q : Type 0) (N : ℕ) (e0 e01 e1 e11 : Level → Reader Expr
         bind c RoomForTwo (expect_whole c RoomForTwo m.CloseParen) (λ _. bind c RoomForTwo (expect_whole c RoomForTwo m.Newline) (λ _.
         pure_whole c RoomForTwo (line_tree.Setup n xs at_it) (λ room i i1 over i2 close i3 finds i4 name i5 opened i6 there lined.
         let (l, is, spelled) = finds in
-        subst (λ v. LineHere room (line_tree.Setup n xs v) i6 i) lined (g.IsMline.setup there opened name (subst (λ v. Behind m.Comma (deeper room N 2).disj v i3 i2) (sym is) (Many-Behind spelled)) close over)))))))).good
+        subst (λ v. LineHere room (line_tree.Setup n xs v) i6 i) lined (g.IsMline.setup there opened name (subst (λ v. EachAfter m.Comma (deeper room N 2).disj v i3 i2) (sym is) (Many-Behind spelled)) close over)))))))).good
 
     line_makes : Makes c.most (m.Setup ∷ m.OpenParen ∷ m.Name ∷ m.CloseParen ∷ m.Newline ∷ []) LineHere
-    line_makes = record { of = λ wide n s few. (_, g.IsMline.setup (at refl) (opens (room_late c.most wide n 1 (onto (m.OpenParen ∷ m.Name ∷ m.CloseParen ∷ m.Newline ∷ []) s) (omega (arith, few))) (at refl)) (named refl) Behind.none (at refl) (at refl)) }
+    line_makes = record { of = λ wide n s few. (_, g.IsMline.setup (at refl) (opens (room_late c.most wide n 1 (onto (m.OpenParen ∷ m.Name ∷ m.CloseParen ∷ m.Newline ∷ []) s) (omega (arith, few))) (at refl)) (named refl) EachAfter.none (at refl) (at refl)) }
 
     line_by-good : (at_it : ℕ) (k : Option Mark) → Good c Q (λ i. (line i ≡ at_it) × (mark i ≡ k)) (line_by O at_it k) (line_by O1 at_it k) LineHere
     line_by-good at_it (Some m.Name) = taking_line c Q at_it (λ i ok. (ok.1, ok.0)) (λ n. new_line-good n at_it)

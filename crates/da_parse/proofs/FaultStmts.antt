@@ -22,10 +22,10 @@ use Rattle.da_phrases.specs.Reader.{mark, line, sees, Reader, past, taking, refu
 use Rattle.da_phrases.specs.Lists.{begun}
 use Rattle.da_phrases.specs.Place.{Limit, Place}
 use Rattle.da_phrases.specs.Exprs.{place, expression}
-use Rattle.da_parse.specs.Stmts.{branch_of, in_parens, behind_paren, arguments, assigned, changed, called, named, sending, output, passing, label, simple_by, block, block_behind_colon, branch, otherwise, timeout, conditional, while_loop, for_loop, alternatives, awaiting, stmt_by, stmt, stmts, bodies}
-use Rattle.da_parse.proofs.SoundStmts.{BehindColon}
+use Rattle.da_parse.specs.Stmts.{branch_of, in_parens, after_paren, arguments, assigned, changed, called, named, sending, output, passing, label, simple_by, block, block_after_colon, branch, otherwise, timeout, conditional, while_loop, for_loop, alternatives, awaiting, stmt_by, stmt, stmts, bodies}
+use Rattle.da_parse.proofs.SoundStmts.{AfterColon}
 use Rattle.da_phrases.proofs.Faults.{room_of, Rule, Anywhere, Makes, Cut, Good, Whole}
-use Rattle.da_phrases.proofs.FaultSteps.{First, leads, mark_sees, by_line_good, bind, bind_good, bind_makes, pure_good, pure_whole, refuse_good, by_mark_good, at_line_good, if_good, good_same, good_as, good_on, whole_as, past_good, past_mark, past_line, taking_line, behind_good, behind_line, opening_whole, expect_whole, word_whole, first_mark}
+use Rattle.da_phrases.proofs.FaultSteps.{First, leads, mark_sees, by_line_good, bind, bind_good, bind_makes, pure_good, pure_whole, refuse_good, by_mark_good, at_line_good, if_good, good_same, good_as, good_on, whole_as, past_good, past_mark, past_line, taking_line, after_good, after_line, opening_whole, expect_whole, word_whole, first_mark}
 use Rattle.da_phrases.proofs.FaultLists.{Strict, all_closed, begun_whole, ended_whole}
 use Rattle.da_phrases.proofs.FaultExprs.{Exact, Here, There}
 
@@ -61,7 +61,7 @@ module _ (c : Cut) (d : ℕ) {e e1 : Level → Reader Expr} {r r1 : Reader Patte
 
       -- ---- without blocks
 
-      -- behind a name
+      -- after a name
       abbrev NamedHere : List ℕ → ℕ → Rule Stmt
       NamedHere b at_it room y r s = (i : List Tok) → Named b i r → sp.line i ≡ at_it → StmtHere room y i s
 
@@ -72,7 +72,7 @@ module _ (c : Cut) (d : ℕ) {e e1 : Level → Reader Expr} {r r1 : Reader Patte
 
       changed-good : (b : List ℕ) (at_it : ℕ) → Good c Q Anywhere (changed P b at_it) (changed P1 b at_it) (λ room y r s. (i : List Tok) → At m.Dot i r → NamedHere b at_it room y i s)
       unfolding changed
-      changed-good b at_it = behind_good c Q m.Add
+      changed-good b at_it = after_good c Q m.Add
           (bind c Q in_parens-whole (λ z. bind c Q (expect_whole c Q m.Newline) (λ _.
           pure_whole c Q (stmt_tree.Add b z at_it) (λ room i i1 over i2 in_it i3 adds i4 dot i5 name lined.
           let (u, v, opened, h, close) = in_it in subst (λ l. StmtHere room (stmt_tree.Add b z l) i5 i) lined (g.add name dot adds opened h close over))))).good
@@ -87,9 +87,9 @@ module _ (c : Cut) (d : ℕ) {e e1 : Level → Reader Expr} {r r1 : Reader Patte
 
       named-good : (b : List ℕ) (at_it : ℕ) → Good c Q Anywhere (named P b at_it) (named P1 b at_it) (NamedHere b at_it)
       unfolding named
-      named-good b at_it = behind_good c Q m.Assign (assigned-good b at_it) (behind_good c Q m.Dot (changed-good b at_it) (good_on c Q (λ i ok. tt) (called-good b at_it)))
+      named-good b at_it = after_good c Q m.Assign (assigned-good b at_it) (after_good c Q m.Dot (changed-good b at_it) (good_on c Q (λ i ok. tt) (called-good b at_it)))
 
-      -- behind a word
+      -- after a word
       abbrev WordHere : Mark → ℕ → Rule Stmt
       WordHere k at_it room y r s = (i : List Tok) → At k i r → sp.line i ≡ at_it → StmtHere room y i s
 
@@ -133,9 +133,9 @@ module _ (c : Cut) (d : ℕ) {e e1 : Level → Reader Expr} {r r1 : Reader Patte
       unfolding block
       block-whole = bind c Q (expect_whole c Q m.Newline) (λ _. opening_whole c Q d m.Indent (whole_as c D (λ room b i s h i1 opened i2 over. g.block over opened h) inside))
 
-      pub block_behind_colon-whole : Whole c Q (m.Colon ∷ m.Newline ∷ m.Indent ∷ w) (block_behind_colon P body) (block_behind_colon P1 body1) (λ room. BehindColon (BlockHere room))
-      unfolding block_behind_colon
-      block_behind_colon-whole = bind c Q (expect_whole c Q m.Colon) (λ _. whole_as c Q (λ room b i s h i1 colon. (i, colon, h)) block-whole)
+      pub block_after_colon-whole : Whole c Q (m.Colon ∷ m.Newline ∷ m.Indent ∷ w) (block_after_colon P body) (block_after_colon P1 body1) (λ room. AfterColon (BlockHere room))
+      unfolding block_after_colon
+      block_after_colon-whole = bind c Q (expect_whole c Q m.Colon) (λ _. whole_as c Q (λ room b i s h i1 colon. (i, colon, h)) block-whole)
 
       abbrev BranchHere : Mark → Rule Branch
       BranchHere k room = IsBranch (room d) (deep room) (Body room) k
@@ -144,7 +144,7 @@ module _ (c : Cut) (d : ℕ) {e e1 : Level → Reader Expr} {r r1 : Reader Patte
       branch_at-good : (k : Mark) (at_it : ℕ) → Good c Q (Next at_it (Some k)) (branch P body) (branch P1 body1) (λ room y i s. BranchHere k room y i s × (sp.line i ≡ at_it))
       unfolding branch
       branch_at-good k at_it = at_line_good c Q (λ here. past_good c Q (λ t. (t.mark ≡ k) × (t.line ≡ here) × (t.line ≡ at_it)) (λ i ok. first_three i ok.0.1 ok.1 ok.0.0)
-          (bind c Q expr (λ z. bind c Q block_behind_colon-whole (λ b.
+          (bind c Q expr (λ z. bind c Q block_after_colon-whole (λ b.
           pure_whole c Q (branch_of z b here) (λ room i i1 blk i2 h t is.
           let (u, colon, body_is) = blk in (subst (λ l. BranchHere k room (branch_of z b l) (t ∷ i2) i) is.1 (g.branch (at is.0) h colon body_is), is.2))))).good)
 
@@ -154,8 +154,8 @@ module _ (c : Cut) (d : ℕ) {e e1 : Level → Reader Expr} {r r1 : Reader Patte
       otherwise-whole : Whole c Q [] (otherwise P body) (otherwise P1 body1) (λ room. IsElse (room d) (deep room) (Body room))
       unfolding otherwise
       otherwise-whole = record {
-        good = behind_good c Q m.Else
-            (bind c Q block_behind_colon-whole (λ b. pure_whole c Q (Some b) (λ room i i1 blk i2 word. let (u, colon, h) = blk in g.otherwise word colon h))).good
+        good = after_good c Q m.Else
+            (bind c Q block_after_colon-whole (λ b. pure_whole c Q (Some b) (λ room i i1 blk i2 word. let (u, colon, h) = blk in g.otherwise word colon h))).good
             (pure_good c Q None (λ room i. g.no_else));
         makes = record { of = λ wide n s few. (None, g.no_else) };
       }
@@ -166,8 +166,8 @@ module _ (c : Cut) (d : ℕ) {e e1 : Level → Reader Expr} {r r1 : Reader Patte
       timeout-whole : Whole c Q [] (timeout P body) (timeout P1 body1) TimeoutHere
       unfolding timeout
       timeout-whole = record {
-        good = at_line_good c Q (λ at_it. behind_line c Q m.Timeout at_it (λ i ok. ok.1)
-            (bind c Q block_behind_colon-whole (λ b. pure_whole c Q (Some (roll-TimeoutTree (record { body = b; line = at_it }))) (λ room i i1 blk i2 word lined.
+        good = at_line_good c Q (λ at_it. after_line c Q m.Timeout at_it (λ i ok. ok.1)
+            (bind c Q block_after_colon-whole (λ b. pure_whole c Q (Some (roll-TimeoutTree (record { body = b; line = at_it }))) (λ room i i1 blk i2 word lined.
             let (u, colon, h) = blk in subst (λ l. TimeoutHere room (Some (roll-TimeoutTree (record { body = b; line = l }))) i2 i) lined (g.timeout word colon h)))).good
             (pure_good c Q None (λ room i. g.no_timeout)));
         makes = record { of = λ wide n s few. (None, g.no_timeout) };
@@ -175,12 +175,12 @@ module _ (c : Cut) (d : ℕ) {e e1 : Level → Reader Expr} {r r1 : Reader Patte
 
       while_loop-good : (at_it : ℕ) → Good c Q Anywhere (while_loop P body at_it) (while_loop P1 body1 at_it) (WordHere m.While at_it)
       unfolding while_loop
-      while_loop-good at_it = (bind c Q expr (λ z. bind c Q block_behind_colon-whole (λ b.
+      while_loop-good at_it = (bind c Q expr (λ z. bind c Q block_after_colon-whole (λ b.
           pure_whole c Q (stmt_tree.While z b at_it) (λ room i i1 blk i2 h i3 word lined. let (u, colon, body_is) = blk in subst (λ l. StmtHere room (stmt_tree.While z b l) i3 i) lined (g.while word h colon body_is))))).good
 
       for_loop-good : (at_it : ℕ) → Good c Q Anywhere (for_loop P body at_it) (for_loop P1 body1 at_it) (WordHere m.For at_it)
       unfolding for_loop
-      for_loop-good at_it = (bind c Q (word_whole c Q) (λ n. bind c Q (expect_whole c Q m.In) (λ _. bind c Q expr (λ z. bind c Q block_behind_colon-whole (λ b.
+      for_loop-good at_it = (bind c Q (word_whole c Q) (λ n. bind c Q (expect_whole c Q m.In) (λ _. bind c Q expr (λ z. bind c Q block_after_colon-whole (λ b.
           pure_whole c Q (stmt_tree.For n z b at_it) (λ room i i1 blk i2 h i3 goes i4 name i5 word lined. let (u, colon, body_is) = blk in subst (λ l. StmtHere room (stmt_tree.For n z b l) i5 i) lined (g.for word name goes h colon body_is))))))).good
 
       -- where these readers pass something
@@ -199,7 +199,7 @@ module _ (c : Cut) (d : ℕ) {e e1 : Level → Reader Expr} {r r1 : Reader Patte
 
         alternatives-good : (z : Expr) (at_it : ℕ) → Good c Q Anywhere (alternatives P body z at_it) (alternatives P1 body1 z at_it) (λ room y r s. (i : List Tok) → IsExpr (room d) (deep room) z i r → WordHere m.Await at_it room y i s)
         unfolding alternatives
-        alternatives-good z at_it = (bind c Q block_behind_colon-whole (λ b.
+        alternatives-good z at_it = (bind c Q block_after_colon-whole (λ b.
             bind c Q (begun_whole c Q m.Or (branch-good m.Or) (branch_strict m.Or) (branch_strict1 m.Or) (branch_of z b at_it ∷ [])) (λ bs.
             bind c Q timeout-whole (λ t.
             pure_whole c Q (stmt_tree.Await bs t at_it) (λ room i i1 over i2 finds i3 blk i4 h i5 word lined.
@@ -210,7 +210,7 @@ module _ (c : Cut) (d : ℕ) {e e1 : Level → Reader Expr} {r r1 : Reader Patte
         awaiting-good : (at_it : ℕ) → Good c Q Anywhere (awaiting P body at_it) (awaiting P1 body1 at_it) (WordHere m.Await at_it)
         unfolding awaiting
         awaiting-good at_it = bind_good c Q {w = m.Newline ∷ []} expr.good (λ z. record {
-          good = behind_good c Q m.Newline
+          good = after_good c Q m.Newline
               (pure_good c Q (stmt_tree.AwaitOne z at_it) (λ room i i1 over i2 h i3 word lined. subst (λ l. StmtHere room (stmt_tree.AwaitOne z l) i3 i) lined (g.await_one word h over)))
               (good_on c Q (λ i ok. tt) (alternatives-good z at_it));
           makes = record { of = λ wide n s few. (stmt_tree.AwaitOne z at_it, λ i h i1 word lined. subst (λ l. StmtHere (room_of c.most wide n) (stmt_tree.AwaitOne z l) i1 s) lined (g.await_one word h (at refl))) };

@@ -32,7 +32,7 @@ module _ (c : Cut) (Q : Type 0) (N : ℕ) (o o1 : Outer) (Parameter : Rule Param
     (message_keeps1 : (at_it : ℕ) (i : List Tok) (y : MessageDecl × List Tok) → message o1 at_it i ≡ Ok y → length y.1 ≤ length i)
     (class_keeps1 : (at_it : ℕ) (i : List Tok) (y : ClassTree × List Tok) → class o1 at_it i ≡ Ok y → length y.1 ≤ length i) where
   module _ (k : ChannelKind) where
-    -- behind those found come these messages and classes, and `main`
+    -- after those found come these messages and classes, and `main`
     abbrev RestOf : List MessageDecl → List ClassTree → Rule Tree
     RestOf xs cs room z i s = s ≡ [] → (ms : List MessageDecl) × (ds : List ClassTree) × (ls : List MainLine) × (r : List Tok)
         × (z ≡ record { kind = k; messages = xs ++ ms; classes = cs ++ ds; main = ls }) × IsDecls room N (Parameter room) ms ds i r × IsMain room N ls r []

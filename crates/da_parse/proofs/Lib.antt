@@ -11,9 +11,14 @@ pub mod FaultStmts
 pub mod FaultWhole
 pub mod FirstFaults
 pub mod FirstOnce
+pub mod FirstTyped
+pub mod GivenTypes
 pub mod Lines
+pub mod LooseAnswers
+pub mod OpenParams
 pub mod ParseFirst
 pub mod ParseLaws
+pub mod SameReaders
 pub mod ShorterStmts
 pub mod SoundMembers
 pub mod SoundPrograms
@@ -21,3 +26,4 @@ pub mod SoundStmts
 pub mod Spelled
 pub mod WholePrograms
 pub mod WrittenTrees
+pub mod WrittenTypes

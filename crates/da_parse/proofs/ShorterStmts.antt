@@ -13,6 +13,7 @@ use Rattle.da_lang.specs.ExprGrammar.{Deeper, IsPattern, deeper}
 use Rattle.da_lang.specs.StmtGrammar.{IsBlock, IsBranch, IsElse, IsTimeout, IsStmt, BodyIn}
 use Rattle.da_lang.specs.Grammar.{IsParam, IsFrom, IsAt, IsMember, IsCount, IsMline, IsParams, IsMessage, IsClass}
 use Rattle.da_phrases.specs.Reader.{mark}
+use Rattle.da_parse.specs.Parameters.{IsLooseParam, ParamBy}
 use Rattle.da_phrases.proofs.Laws.{Shrinks, Begins, is_next}
 use Rattle.da_phrases.proofs.Steps.{mark-Named, shorter-At, shorter-Named, shorter-Number}
 use Rattle.da_phrases.proofs.Firsts.{next-At}
@@ -70,7 +71,7 @@ begins_stmt m.For = true
 begins_stmt m.Await = true
 begins_stmt _ = false
 
--- a statement goes on with one of these, behind its blocks so far
+-- a statement goes on with one of these, after its blocks so far
 abbrev pub goes_on_stmt : Mark → Bool
 goes_on_stmt m.Elif = true
 goes_on_stmt m.Else = true
@@ -113,8 +114,20 @@ abbrev pub begins_name : Mark → Bool
 begins_name m.Name = true
 begins_name _ = false
 
+pub IsLooseParam-shrinks : (Type_ : Spelling Ty) → Shrinks Type_ → Shrinks (IsLooseParam Type_)
+IsLooseParam-shrinks Type_ shrinks _ i r (IsLooseParam.written n c x) = omega (arith, shorter-Named n, shorter-At c, shrinks _ _ _ x)
+IsLooseParam-shrinks Type_ shrinks _ i r (IsLooseParam.without n) = shorter-Named n
+
+pub ParamBy-shrinks : (loose : Bool) (Type_ : Spelling Ty) → Shrinks Type_ → Shrinks (ParamBy loose Type_)
+ParamBy-shrinks false Type_ shrinks = IsParam-shrinks Type_ shrinks
+ParamBy-shrinks true Type_ shrinks = IsLooseParam-shrinks Type_ shrinks
+
 pub IsParam-begins : (Type_ : Spelling Ty) → Begins begins_name (IsParam Type_)
 IsParam-begins Type_ _ i r (IsParam.param n c x) = next-Named begins_name n
+
+pub IsLooseParam-begins : (Type_ : Spelling Ty) → Begins begins_name (IsLooseParam Type_)
+IsLooseParam-begins Type_ _ i r (IsLooseParam.written n c x) = next-Named begins_name n
+IsLooseParam-begins Type_ _ i r (IsLooseParam.without n) = next-Named begins_name n
 
 pub Named-shrinks : Shrinks Named
 Named-shrinks b i r h = shorter-Named h

@@ -1,5 +1,5 @@
 -- What is read as a member of a class is spelled so.
-use Rattle.std.proofs.Common.{◌≡◌, ℕ, zero, suc, ◌<◌, ◌≤◌, true, List, [], length, Option, Some, None, Ok, refl, subst, arith, inl, inr}
+use Rattle.std.proofs.Common.{◌≡◌, ℕ, zero, suc, ◌<◌, ◌≤◌, Bool, true, false, List, [], length, Option, Some, None, Ok, refl, subst, arith, inl, inr}
 use Rattle.da_values.specs.declared.token.Mark.{Mark}
 use Rattle.da_values.specs.declared.token.Mark.TheVariants as m
 use Rattle.da_values.specs.Marks.{Tok}
@@ -9,7 +9,7 @@ use Rattle.da_lang.specs.declared.tree.PatternTree.{PatternTree}
 use Rattle.da_lang.specs.declared.tree.Stmt.{Stmt}
 use Rattle.da_lang.specs.declared.ty.Ty.{Ty}
 use Rattle.da_lang.specs.Spelling as sp
-use Rattle.da_lang.specs.Spelling.{Spelling, Room, At, Opens, Named, Number, Separated, Closed, Behind, Ended}
+use Rattle.da_lang.specs.Spelling.{Spelling, Room, At, Opens, Named, Number, Separated, Closed, EachAfter, Ended}
 use Rattle.da_lang.specs.TypeGrammar.{TypeIn}
 use Rattle.da_lang.specs.ExprGrammar.{IsPattern, deeper}
 use Rattle.da_lang.specs.StmtGrammar.{IsBlock, BodyIn}
@@ -20,24 +20,26 @@ use Rattle.da_phrases.specs.Lists.{separated}
 use Rattle.da_phrases.specs.Place.{Limit}
 use Rattle.da_phrases.specs.Types.{types, type_in}
 use Rattle.da_phrases.specs.Exprs.{pattern}
-use Rattle.da_parse.specs.Members.{Parts, typed_param, parts_in, params, variable, setup, run, method, definition_by, definition, sender, labels, handler, member_by, member, members}
-use Rattle.da_phrases.proofs.Steps.{behind_ok, word_ok, At-mark, Named-mark}
+use Rattle.da_parse.specs.Parameters as p
+use Rattle.da_parse.specs.Parameters.{IsLooseParam, ParamBy}
+use Rattle.da_parse.specs.Members.{Parts, no_type, typed_param, loose_param, param_by, parts_in, params, variable, setup, run, method, definition_by, definition, sender, labels, handler, member_by, member, members}
+use Rattle.da_phrases.proofs.Steps.{after_ok, word_ok, At-mark, Named-mark}
 use Rattle.da_phrases.proofs.SoundSteps.{reads, made, passes, names, opening_by}
 use Rattle.da_phrases.proofs.SoundTypes.{types-sound, type_there-sound}
 use Rattle.da_phrases.proofs.SoundPlaces.{places-sound, pattern_there-sound}
 use Rattle.da_phrases.proofs.ListSound.{all_separated, all_closed, ended-sound}
-use Rattle.da_parse.proofs.SoundStmts.{same_line, BehindColon, block_there-sound}
+use Rattle.da_parse.proofs.SoundStmts.{same_line, AfterColon, block_there-sound}
 use Rattle.da_phrases.proofs.Laws.{IsSound}
 
 labels-sound : IsSound labels IsAt
 unfolding labels
-labels-sound i y e = elim (behind_ok m.At (separated m.Comma (word m.Name) []) (pure []) i y e) [
+labels-sound i y e = elim (after_ok m.At (separated m.Comma (word m.Name) []) (pure []) i y e) [
   | inl h ↦ g.labels h.1 (all_separated m.Comma (word m.Name) Named word_ok h.0 y h.2)
   | inr h ↦ made IsAt i y h.1 g.no_at
 ]
 
 -- a parameter with its type
-pub typed_param-sound : (inner_ty : Reader Ty) (Type_ : Spelling Ty) → IsSound inner_ty Type_ → IsSound (typed_param inner_ty) (IsParam Type_)
+typed_param-sound : (inner_ty : Reader Ty) (Type_ : Spelling Ty) → IsSound inner_ty Type_ → IsSound (typed_param inner_ty) (IsParam Type_)
 unfolding typed_param
 typed_param-sound inner_ty Type_ type_sound i y e =
     names i _ y e (λ u after_u name e1.
@@ -45,10 +47,26 @@ typed_param-sound inner_ty Type_ type_sound i y e =
     reads (inner_ty after_v) _ y e2 (λ w after_w read last.
     made (IsParam Type_) i y last (g.param name colon (type_sound after_v (w, after_w) read)))))
 
+-- a parameter that may lack its type
+loose_param-sound : (inner_ty : Reader Ty) (Type_ : Spelling Ty) → IsSound inner_ty Type_ → IsSound (loose_param inner_ty) (IsLooseParam Type_)
+unfolding loose_param
+loose_param-sound inner_ty Type_ type_sound i y e =
+    names i _ y e (λ u after_u name e1.
+    elim (after_ok m.Colon (inner_ty >>= λ x. pure (record { name = u; ty = x })) (pure (record { name = u; ty = no_type })) after_u y e1) [
+      | inl h ↦ (
+          reads (inner_ty h.0) _ y h.2 (λ w after_w read last.
+          made (IsLooseParam Type_) i y last (p.written name h.1 (type_sound h.0 (w, after_w) read))))
+      | inr h ↦ made (IsLooseParam Type_) i y h.1 (p.without name)
+    ])
+
+pub param_by-sound : (loose : Bool) (inner_ty : Reader Ty) (Type_ : Spelling Ty) → IsSound inner_ty Type_ → IsSound (param_by loose inner_ty) (ParamBy loose Type_)
+param_by-sound false inner_ty Type_ type_sound = typed_param-sound inner_ty Type_ type_sound
+param_by-sound true inner_ty Type_ type_sound = loose_param-sound inner_ty Type_ type_sound
+
 module _ (s : Parts) (room : Room) (fits : (t : List Tok) → s.place.may_open (length t) ≡ true → room t)
     (Type_ : Spelling Ty) (type_sound : IsSound s.ty Type_) (Parameter : Spelling Param) (param_sound : IsSound s.param Parameter)
     (Pattern : Spelling PatternTree) (pattern_sound : IsSound (pattern s.place) Pattern)
-    (Block : Spelling (List Stmt)) (block_sound : IsSound s.block (BehindColon Block)) where
+    (Block : Spelling (List Stmt)) (block_sound : IsSound s.block (AfterColon Block)) where
   params-sound : IsSound (params s) (IsParams Parameter)
   unfolding params
   params-sound i y e = all_closed m.CloseParen s.param Parameter param_sound i y e
@@ -105,7 +123,7 @@ module _ (s : Parts) (room : Room) (fits : (t : List Tok) → s.place.may_open (
 
   sender-sound : IsSound (sender s) (IsFrom Pattern)
   unfolding sender
-  sender-sound i y e = elim (behind_ok m.From (pattern s.place >>= λ x. pure (Some x)) (pure None) i y e) [
+  sender-sound i y e = elim (after_ok m.From (pattern s.place >>= λ x. pure (Some x)) (pure None) i y e) [
     | inl h ↦ (
         reads (pattern s.place h.0) _ y h.2 (λ u after_u read last.
         made (IsFrom Pattern) i y last (g.from h.1 (pattern_sound h.0 (u, after_u) read))))

@@ -12,12 +12,12 @@ use Rattle.da_lang.specs.declared.tree.Tree.{Tree}
 use Rattle.da_lang.specs.declared.ty.ChannelKind.{ChannelKind}
 use Rattle.da_lang.specs.declared.ty.ChannelKind.TheVariants as kind_of
 use Rattle.da_lang.specs.Spelling as sp
-use Rattle.da_lang.specs.Spelling.{Spelling, Room, At, Opens, Named, Number, Separated, Closed, Behind, Ended}
+use Rattle.da_lang.specs.Spelling.{Spelling, Room, At, Opens, Named, Number, Separated, Closed, EachAfter, Ended}
 use Rattle.da_lang.specs.TypeGrammar.{TypeIn}
 use Rattle.da_lang.specs.ExprGrammar.{IsPattern, deeper}
 use Rattle.da_lang.specs.StmtGrammar.{IsBlock, BodyIn}
 use Rattle.da_lang.specs.Grammar as g
-use Rattle.da_lang.specs.Grammar.{IsParam, IsFrom, IsAt, IsMember, IsCount, IsMline, IsKind, IsTypes, TypedParam, IsParams, IsMessage, IsClass, IsDecls, IsMain, IsProgram, IsTypedProgram}
+use Rattle.da_lang.specs.Grammar.{IsParam, IsFrom, IsAt, IsMember, IsCount, IsMline, IsKind, IsTypes, IsParams, IsMessage, IsClass, IsDecls, IsMain, IsProgram}
 use Rattle.da_phrases.specs.declared.place.Level.TheVariants as level
 use Rattle.da_phrases.specs.Reader as reader
 use Rattle.da_phrases.specs.Reader.{mark, text, rest, sees, Reading, Reader, continued, ◌>>=◌, ◌>>◌, pure, refuse, expect, word, number}
@@ -26,20 +26,21 @@ use Rattle.da_phrases.specs.Place.{Limit, at_most_32}
 use Rattle.da_phrases.specs.Types.{types, type_at, type_below}
 use Rattle.da_phrases.specs.Exprs.{at_depth}
 use Rattle.da_parse.specs.Stmts.{block_at, body_below}
-use Rattle.da_parse.specs.Members.{typed_param, members}
-use Rattle.da_parse.specs.Programs.{Outer, outer_in, typed_in, outermost, count, kind_from, one_of, kind, finish, header_end, message, class, new_line, argument, setup_line, line_by, main_line, main, program_end, decls_by, decls_from, decls, program}
-use Rattle.da_phrases.proofs.Steps.{chosen_value, behind_ok, number_ok, opening_ok, left, At-mark, Named-mark}
+use Rattle.da_parse.specs.Members.{param_by, members}
+use Rattle.da_parse.specs.Parameters.{ParameterBy, IsProgramBy}
+use Rattle.da_parse.specs.Programs.{Outer, outer_in, outer_by, outermost, count, kind_from, one_of, kind, finish, header_end, message, class, new_line, argument, setup_line, line_by, main_line, main, program_end, decls_by, decls_from, decls, program}
+use Rattle.da_phrases.proofs.Steps.{chosen_value, after_ok, number_ok, opening_ok, left, At-mark, Named-mark}
 use Rattle.da_phrases.proofs.SoundSteps.{reads, made, passes, names, opening_by}
 use Rattle.da_phrases.proofs.SoundTypes.{types-sound}
 use Rattle.da_phrases.proofs.ListSound.{all_closed, all_behind, ended-sound}
 use Rattle.da_parse.proofs.SoundStmts.{same_line}
-use Rattle.da_parse.proofs.SoundMembers.{typed_param-sound, members_there-sound}
+use Rattle.da_parse.proofs.SoundMembers.{param_by-sound, members_there-sound}
 use Rattle.da_phrases.proofs.SoundPlaces.{places-sound}
 use Rattle.da_phrases.proofs.Laws.{IsSound, Sounds}
 
 count-sound : IsSound count IsCount
 unfolding count
-count-sound i y e = elim (behind_ok m.Comma (number >>= λ n. pure (Some n)) (pure None) i y e) [
+count-sound i y e = elim (after_ok m.Comma (number >>= λ n. pure (Some n)) (pure None) i y e) [
   | inl h ↦ (
       reads (number h.0) _ y h.2 (λ u after_u read last.
       made IsCount i y last (g.count h.1 (number_ok h.0 (u, after_u) read))))
@@ -53,7 +54,7 @@ OneOf k other false i r = At other i r
 
 one_of-sound : (k other : Mark) → IsSound (one_of k other) (OneOf k other)
 unfolding one_of
-one_of-sound k other i y e = elim (behind_ok k (pure true) (expect other >> pure false) i y e) [
+one_of-sound k other i y e = elim (after_ok k (pure true) (expect other >> pure false) i y e) [
   | inl h ↦ made (OneOf k other) i y h.2 h.1
   | inr h ↦ (
       passes other i _ y h.1 (λ after_u passed last.
@@ -68,7 +69,7 @@ kinds false false t r s q z a b c d = g.unordered_unreliable a b c d
 
 kind-sound : IsSound kind IsKind
 unfolding kind
-kind-sound i y e = elim (behind_ok m.Channel (one_of m.Fifo m.Unordered >>= λ fifo. one_of m.Reliable m.Unreliable >>= λ reliable. expect m.Newline >> pure (kind_from fifo reliable)) (pure kind_of.UnorderedUnreliable) i y e) [
+kind-sound i y e = elim (after_ok m.Channel (one_of m.Fifo m.Unordered >>= λ fifo. one_of m.Reliable m.Unreliable >>= λ reliable. expect m.Newline >> pure (kind_from fifo reliable)) (pure kind_of.UnorderedUnreliable) i y e) [
   | inl h ↦ (
       let (r, there, e1) = h in
       reads (one_of m.Fifo m.Unordered r) _ y e1 (λ u after_u fifo e2.
@@ -225,14 +226,14 @@ module _ (limit : Limit) (room : ℕ → Room) (fits : (d : ℕ) (t : List Tok) 
     members = members_there-sound limit room fits param Parameter param_sound (f - 1) n 1 (omega (arith, some, few));
   }
 
-  -- where each parameter has its type
-  pub program_in-sound : (f n : ℕ) → 1 ≤ f → f ≤ n → (i : List Tok) (y : Tree × List Tok) → program (typed_in limit f) i ≡ Ok y → IsTypedProgram room n y.0 i × (y.1 ≡ [])
-  program_in-sound f n some few i y e =
-      let param = typed_param (types limit (f - 1) 2) in
-      let param_sound : IsSound param (TypedParam room n) = typed_param-sound (types limit (f - 1) 2) (TypeIn room n 2) (types-sound limit room fits (f - 1) n 2 (omega (arith, few))) in
-      program-sound (typed_in limit f) room n (TypedParam room n) (outer_sound param (TypedParam room n) param_sound f n some few) i y e
+  -- where parameters may lack their types or may not
+  pub program_in-sound : (loose : Bool) (f n : ℕ) → 1 ≤ f → f ≤ n → (i : List Tok) (y : Tree × List Tok) → program (outer_by loose limit f) i ≡ Ok y → IsProgramBy loose room n y.0 i × (y.1 ≡ [])
+  program_in-sound loose f n some few i y e =
+      let param = param_by loose (types limit (f - 1) 2) in
+      let param_sound : IsSound param (ParameterBy loose room n) = param_by-sound loose (types limit (f - 1) 2) (TypeIn room n 2) (types-sound limit room fits (f - 1) n 2 (omega (arith, few))) in
+      program-sound (outer_by loose limit f) room n (ParameterBy loose room n) (outer_sound param (ParameterBy loose room n) param_sound f n some few) i y e
 
 -- the reader of the code is one of these
-pub outermost_is : outermost ≡ typed_in at_most_32 32
+pub outermost_is : (loose : Bool) → outermost loose ≡ outer_by loose at_most_32 32
 unfolding at_depth type_at type_below block_at body_below
-outermost_is = refl
+outermost_is loose = refl

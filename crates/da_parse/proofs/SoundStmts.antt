@@ -16,20 +16,20 @@ use Rattle.da_lang.specs.StmtGrammar as g
 use Rattle.da_lang.specs.StmtGrammar.{IsBlock, IsBranch, IsElse, IsTimeout, IsStmt, BodyIn}
 use Rattle.da_phrases.specs.declared.place.Level.TheVariants as level
 use Rattle.da_phrases.specs.Reader as reader
-use Rattle.da_phrases.specs.Reader.{mark, text, rest, sees, Reading, Reader, continued, ◌>>=◌, ◌>>◌, pure, refuse, expect, word, behind}
+use Rattle.da_phrases.specs.Reader.{mark, text, rest, sees, Reading, Reader, continued, ◌>>=◌, ◌>>◌, pure, refuse, expect, word, after_token}
 use Rattle.da_phrases.specs.Lists.{begun}
 use Rattle.da_phrases.specs.Place.{Limit, Place}
 use Rattle.da_phrases.specs.Exprs.{place, expression}
-use Rattle.da_parse.specs.Stmts.{branch_of, in_parens, arguments, assigned, changed, called, named, sending, output, passing, label, simple_by, block, block_behind_colon, branch, otherwise, timeout, conditional, while_loop, for_loop, alternatives, awaiting, stmt_by, stmt, stmts, bodies}
-use Rattle.da_phrases.proofs.Steps.{behind_ok, At-mark, Named-mark}
+use Rattle.da_parse.specs.Stmts.{branch_of, in_parens, arguments, assigned, changed, called, named, sending, output, passing, label, simple_by, block, block_after_colon, branch, otherwise, timeout, conditional, while_loop, for_loop, alternatives, awaiting, stmt_by, stmt, stmts, bodies}
+use Rattle.da_phrases.proofs.Steps.{after_ok, At-mark, Named-mark}
 use Rattle.da_phrases.proofs.SoundSteps.{reads, made, passes, names, opening_by}
 use Rattle.da_phrases.proofs.SoundPlaces.{places-sound, expression_there-sound}
 use Rattle.da_phrases.proofs.ListSound.{IsSoundAt, all_closed, begun-sound, ended-sound}
 use Rattle.da_phrases.proofs.Laws.{IsSound, Sounds}
 
--- what stands behind a colon
-abbrev pub BehindColon : {A : Type 0} → Spelling A → Spelling A
-BehindColon G x i r = (s : List Tok) × At m.Colon i s × G x s r
+-- what stands after a colon
+abbrev pub AfterColon : {A : Type 0} → Spelling A → Spelling A
+AfterColon G x i r = (s : List Tok) × At m.Colon i s × G x s r
 
 -- the line of the next token, as the readers and as the grammar say it
 pub same_line : (i : List Tok) → reader.line i ≡ sp.line i
@@ -57,7 +57,7 @@ module _ (p : Place) (room : Room) (deep : Deeper) (sounds : Sounds p room deep)
 
   changed-sound : (b : List ℕ) (t s i : List Tok) (y : Stmt × List Tok) → Named b t s → At m.Dot s i → changed p b (sp.line t) i ≡ Ok y → IsStmt room deep Body y.0 t y.1
   unfolding changed
-  changed-sound b t s i y name dot e = elim (behind_ok m.Add (in_parens p >>= λ x. expect m.Newline >> pure (stmt_tree.Add b x (sp.line t))) (expect m.Del >> (in_parens p >>= λ x. expect m.Newline >> pure (stmt_tree.Del b x (sp.line t)))) i y e) [
+  changed-sound b t s i y name dot e = elim (after_ok m.Add (in_parens p >>= λ x. expect m.Newline >> pure (stmt_tree.Add b x (sp.line t))) (expect m.Del >> (in_parens p >>= λ x. expect m.Newline >> pure (stmt_tree.Del b x (sp.line t)))) i y e) [
     | inl h ↦ (
         let (r, adds, e1) = h in
         reads (in_parens p r) _ y e1 (λ u after_u read e2.
@@ -88,9 +88,9 @@ module _ (p : Place) (room : Room) (deep : Deeper) (sounds : Sounds p room deep)
 
   named-sound : (b : List ℕ) (t i : List Tok) (y : Stmt × List Tok) → Named b t i → named p b (sp.line t) i ≡ Ok y → IsStmt room deep Body y.0 t y.1
   unfolding named
-  named-sound b t i y name e = elim (behind_ok m.Assign (assigned p b (sp.line t)) (behind m.Dot (changed p b (sp.line t)) (called p b (sp.line t))) i y e) [
+  named-sound b t i y name e = elim (after_ok m.Assign (assigned p b (sp.line t)) (after_token m.Dot (changed p b (sp.line t)) (called p b (sp.line t))) i y e) [
     | inl h ↦ assigned-sound b t i h.0 y name h.1 h.2
-    | inr h ↦ elim (behind_ok m.Dot (changed p b (sp.line t)) (called p b (sp.line t)) i y h.1) [
+    | inr h ↦ elim (after_ok m.Dot (changed p b (sp.line t)) (called p b (sp.line t)) i y h.1) [
       | inl d ↦ changed-sound b t i d.0 y name d.1 d.2
       | inr d ↦ called-sound b t i y name d.1
     ]
@@ -143,9 +143,9 @@ module _ (p : Place) (room : Room) (deep : Deeper) (sounds : Sounds p room deep)
       opening_by p.may_open room sounds.fits m.Indent after_u _ y e1 (λ after_v opened e2.
       g.block over opened (body_sound after_v y e2)))
 
-  pub block_behind_colon-sound : IsSound (block_behind_colon p body) (BehindColon (IsBlock room deep Body))
-  unfolding block_behind_colon
-  block_behind_colon-sound i y e =
+  pub block_after_colon-sound : IsSound (block_after_colon p body) (AfterColon (IsBlock room deep Body))
+  unfolding block_after_colon
+  block_after_colon-sound i y e =
       passes m.Colon i _ y e (λ after_u colon e1.
       (after_u, colon, block-sound after_u y e1))
 
@@ -153,28 +153,28 @@ module _ (p : Place) (room : Room) (deep : Deeper) (sounds : Sounds p room deep)
   unfolding branch
   branch-sound k i y there e =
       reads (expression p (rest i)) _ y e (λ u after_u read e1.
-      reads (block_behind_colon p body after_u) _ y e1 (λ v after_v does last.
-      let (r, colon, b) = block_behind_colon-sound after_u (v, after_v) does in
+      reads (block_after_colon p body after_u) _ y e1 (λ v after_v does last.
+      let (r, colon, b) = block_after_colon-sound after_u (v, after_v) does in
       subst (λ (z : Branch × List Tok). IsBranch room deep Body k z.0 i z.1) (cc (same_line i)) (g.branch there (expression_sound (rest i) (u, after_u) read) colon b)))
 
   otherwise-sound : IsSound (otherwise p body) (IsElse room deep Body)
   unfolding otherwise
-  otherwise-sound i y e = elim (behind_ok m.Else (block_behind_colon p body >>= λ b. pure (Some b)) (pure None) i y e) [
+  otherwise-sound i y e = elim (after_ok m.Else (block_after_colon p body >>= λ b. pure (Some b)) (pure None) i y e) [
     | inl h ↦ (
         let (r, there, e1) = h in
-        reads (block_behind_colon p body r) _ y e1 (λ u after_u read last.
-        let (s, colon, b) = block_behind_colon-sound r (u, after_u) read in
+        reads (block_after_colon p body r) _ y e1 (λ u after_u read last.
+        let (s, colon, b) = block_after_colon-sound r (u, after_u) read in
         made (IsElse room deep Body) i y last (g.otherwise there colon b)))
     | inr h ↦ made (IsElse room deep Body) i y h.1 g.no_else
   ]
 
   timeout-sound : IsSound (timeout p body) (IsTimeout room deep Body)
   unfolding timeout
-  timeout-sound i y e = elim (behind_ok m.Timeout (block_behind_colon p body >>= λ b. pure (Some (roll-TimeoutTree (record { body = b; line = reader.line i })))) (pure None) i y e) [
+  timeout-sound i y e = elim (after_ok m.Timeout (block_after_colon p body >>= λ b. pure (Some (roll-TimeoutTree (record { body = b; line = reader.line i })))) (pure None) i y e) [
     | inl h ↦ (
         let (r, there, e1) = h in
-        reads (block_behind_colon p body r) _ y e1 (λ u after_u read last.
-        let (s, colon, b) = block_behind_colon-sound r (u, after_u) read in
+        reads (block_after_colon p body r) _ y e1 (λ u after_u read last.
+        let (s, colon, b) = block_after_colon-sound r (u, after_u) read in
         subst (λ (z : Option TimeoutTree × List Tok). IsTimeout room deep Body z.0 i z.1) (cc (same_line i)) (g.timeout there colon b)))
     | inr h ↦ made (IsTimeout room deep Body) i y h.1 g.no_timeout
   ]
@@ -192,8 +192,8 @@ module _ (p : Place) (room : Room) (deep : Deeper) (sounds : Sounds p room deep)
   unfolding while_loop
   while_loop-sound t i y there e =
       reads (expression p i) _ y e (λ u after_u read e1.
-      reads (block_behind_colon p body after_u) _ y e1 (λ v after_v does last.
-      let (r, colon, b) = block_behind_colon-sound after_u (v, after_v) does in
+      reads (block_after_colon p body after_u) _ y e1 (λ v after_v does last.
+      let (r, colon, b) = block_after_colon-sound after_u (v, after_v) does in
       made (IsStmt room deep Body) t y last (g.while there (expression_sound i (u, after_u) read) colon b)))
 
   for_loop-sound : (t i : List Tok) (y : Stmt × List Tok) → At m.For t i → for_loop p body (sp.line t) i ≡ Ok y → IsStmt room deep Body y.0 t y.1
@@ -202,17 +202,17 @@ module _ (p : Place) (room : Room) (deep : Deeper) (sounds : Sounds p room deep)
       names i _ y e (λ u after_u name e1.
       passes m.In after_u _ y e1 (λ after_v goes e2.
       reads (expression p after_v) _ y e2 (λ w after_w read e3.
-      reads (block_behind_colon p body after_w) _ y e3 (λ x after_x does last.
-      let (r, colon, b) = block_behind_colon-sound after_w (x, after_x) does in
+      reads (block_after_colon p body after_w) _ y e3 (λ x after_x does last.
+      let (r, colon, b) = block_after_colon-sound after_w (x, after_x) does in
       made (IsStmt room deep Body) t y last (g.for there name goes (expression_sound after_v (w, after_w) read) colon b)))))
 
   alternatives-sound : (x : Expr) (t s i : List Tok) (y : Stmt × List Tok) → At m.Await t s → IsExpr room deep x s i → alternatives p body x (sp.line t) i ≡ Ok y → IsStmt room deep Body y.0 t y.1
   unfolding alternatives
   alternatives-sound x t s i y there cond e =
-      reads (block_behind_colon p body i) _ y e (λ u after_u does e1.
+      reads (block_after_colon p body i) _ y e (λ u after_u does e1.
       reads (begun m.Or (branch p body) (branch_of x u (sp.line t) ∷ []) after_u) _ y e1 (λ v after_v others e2.
       reads (timeout p body after_v) _ y e2 (λ w after_w over last.
-      let (r, colon, b) = block_behind_colon-sound i (u, after_u) does in
+      let (r, colon, b) = block_after_colon-sound i (u, after_u) does in
       let (bs, is, spelled) = begun-sound m.Or (branch p body) (IsBranch room deep Body m.Or) (branch-sound m.Or) (branch_of x u (sp.line t) ∷ []) after_u (v, after_v) others in
       subst (λ (z : Stmt × List Tok). IsStmt room deep Body z.0 t z.1) (cc) (g.await (g.branch there cond colon b) spelled (timeout-sound after_v (w, after_w) over)))))
 
@@ -221,7 +221,7 @@ module _ (p : Place) (room : Room) (deep : Deeper) (sounds : Sounds p room deep)
   awaiting-sound t i y there e =
       reads (expression p i) _ y e (λ u after_u read e1.
       let x = expression_sound i (u, after_u) read in
-      elim (behind_ok m.Newline (pure (stmt_tree.AwaitOne u (sp.line t))) (alternatives p body u (sp.line t)) after_u y e1) [
+      elim (after_ok m.Newline (pure (stmt_tree.AwaitOne u (sp.line t))) (alternatives p body u (sp.line t)) after_u y e1) [
         | inl h ↦ made (IsStmt room deep Body) t y h.2 (g.await_one there x h.1)
         | inr h ↦ alternatives-sound u t i after_u y there x h.1
       ])
@@ -252,8 +252,8 @@ module _ (limit : Limit) (room : ℕ → Room) (fits : (d : ℕ) (t : List Tok) 
       stmts-sound (place limit f d) (room d) (deeper room n (suc d)) (places-sound limit room fits f n d less) (expression_there-sound limit room fits f n d less)
       (bodies limit f (suc d)) (BodyIn room n (suc d)) (bodies-sound f n (suc d) less) i y e
 
-  -- a block where d things are open, behind its colon
-  pub block_there-sound : (f n d : ℕ) → f ≤ n → IsSound (block_behind_colon (place limit f d) (bodies limit f (suc d))) (BehindColon (IsBlock (room d) (deeper room n (suc d)) (BodyIn room n (suc d))))
+  -- a block where d things are open, after its colon
+  pub block_there-sound : (f n d : ℕ) → f ≤ n → IsSound (block_after_colon (place limit f d) (bodies limit f (suc d))) (AfterColon (IsBlock (room d) (deeper room n (suc d)) (BodyIn room n (suc d))))
   block_there-sound f n d few =
-      block_behind_colon-sound (place limit f d) (room d) (deeper room n (suc d)) (places-sound limit room fits f n d few) (expression_there-sound limit room fits f n d few)
+      block_after_colon-sound (place limit f d) (room d) (deeper room n (suc d)) (places-sound limit room fits f n d few) (expression_there-sound limit room fits f n d few)
       (bodies limit f (suc d)) (BodyIn room n (suc d)) (bodies-sound f n (suc d) few)

@@ -1,5 +1,5 @@
 -- How the members of a class are read.
-use Rattle.std.specs.Prelude.{ℕ, suc, List, [], Option, Some, None}
+use Rattle.std.specs.Prelude.{ℕ, suc, Bool, true, false, List, [], Option, Some, None}
 use Rattle.da_values.specs.declared.token.Mark.{Mark}
 use Rattle.da_values.specs.declared.token.Mark.TheVariants as m
 use Rattle.da_lang.specs.declared.tree.Member.{Member}
@@ -8,14 +8,15 @@ use Rattle.da_lang.specs.declared.tree.Param.{Param}
 use Rattle.da_lang.specs.declared.tree.PatternTree.{PatternTree}
 use Rattle.da_lang.specs.declared.tree.Stmt.{Stmt}
 use Rattle.da_lang.specs.declared.ty.Ty.{Ty}
-use Rattle.da_phrases.specs.Reader.{Reader, ◌>>=◌, ◌>>◌, pure, refuse, past, taking, by_mark, at_line, behind, expect, word}
+use Rattle.da_lang.specs.declared.ty.Ty.TheVariants as ty_tree
+use Rattle.da_phrases.specs.Reader.{Reader, ◌>>=◌, ◌>>◌, pure, refuse, past, taking, by_mark, at_line, after_token, expect, word}
 use Rattle.da_phrases.specs.Lists.{separated, closed, ended}
 use Rattle.da_phrases.specs.Place.{Limit, Place, opening}
 use Rattle.da_phrases.specs.Exprs.{place, at_depth, pattern}
-use Rattle.da_parse.specs.Stmts.{bodies, block_behind_colon, block_at}
+use Rattle.da_parse.specs.Stmts.{bodies, block_after_colon, block_at}
 use Rattle.da_phrases.specs.Types.{types, type_in, type_at, type_below}
 
--- what members are made of: a type, a parameter in parentheses, and a block behind its colon
+-- what members are made of: a type, a parameter in parentheses, and a block after its colon
 pub record Parts : Type 0 where
   pub place : Place
   pub ty : Reader Ty
@@ -30,16 +31,31 @@ typed_param inner_ty = do
   x ← inner_ty
   pure (record { name = n; ty = x })
 
+-- the type of a parameter that has none; no tokens spell it
+abbrev pub no_type : Ty
+no_type = ty_tree.Tuple []
+
+-- a parameter that may lack its type
+unfoldable pub loose_param : Reader Ty → Reader Param
+loose_param inner_ty = do
+  n ← word m.Name
+  after_token m.Colon (inner_ty >>= λ x. pure (record { name = n; ty = x })) (pure (record { name = n; ty = no_type }))
+
+-- a parameter, which may lack its type or may not
+abbrev pub param_by : Bool → Reader Ty → Reader Param
+param_by false inner_ty = typed_param inner_ty
+param_by true inner_ty = loose_param inner_ty
+
 -- where d things are open, by a rule of how many may be and one of parameters; the first number bounds how many more there are
 abbrev pub parts_in : Limit → Reader Param → ℕ → ℕ → Parts
-parts_in limit param f d = record { place = place limit f d; ty = type_in (limit d) (types limit f (suc d)); param = param; block = block_behind_colon (place limit f d) (bodies limit f (suc d)) }
+parts_in limit param f d = record { place = place limit f d; ty = type_in (limit d) (types limit f (suc d)); param = param; block = block_after_colon (place limit f d) (bodies limit f (suc d)) }
 
--- where d things are open, of which there are at most 32
-abbrev pub parts_at : ℕ → Parts
-parts_at d = record { place = at_depth d; ty = type_at d; param = typed_param (type_below d); block = block_at d }
+-- where d things are open, of which there are at most 32, and parameters may lack their types or may not
+abbrev pub parts_at : Bool → ℕ → Parts
+parts_at loose d = record { place = at_depth d; ty = type_at d; param = param_by loose (type_below d); block = block_at d }
 
 module _ (s : Parts) where
-  -- behind `(`
+  -- after `(`
   unfoldable pub params : Reader (List Param)
   params = closed m.CloseParen s.param []
 
@@ -72,7 +88,7 @@ module _ (s : Parts) where
     b ← s.block
     pure (member_tree.Method name ps b at)
 
-  -- behind `def`
+  -- after `def`
   abbrev pub definition_by : ℕ → Option Mark → Reader Member
   definition_by at (Some m.Setup) = past (setup at)
   definition_by at (Some m.Run) = past (run at)
@@ -82,13 +98,13 @@ module _ (s : Parts) where
   unfoldable pub definition : ℕ → Reader Member
   definition at = by_mark (definition_by at)
 
-  -- behind the pattern of the message
+  -- after the pattern of the message
   unfoldable pub sender : Reader (Option PatternTree)
-  sender = behind m.From (pattern s.place >>= λ x. pure (Some x)) (pure None)
+  sender = after_token m.From (pattern s.place >>= λ x. pure (Some x)) (pure None)
 
--- behind the pattern of the sender
+-- after the pattern of the sender
 unfoldable pub labels : Reader (List (List ℕ))
-labels = behind m.At (separated m.Comma (word m.Name) []) (pure [])
+labels = after_token m.At (separated m.Comma (word m.Name) []) (pure [])
 
 module _ (s : Parts) where
   unfoldable pub handler : ℕ → Reader Member

@@ -1,5 +1,5 @@
 -- What parsing answers.
-use Rattle.std.specs.Prelude.{◌≡◌, ℕ, ◌≤◌, max, ◌-◌, List, [], ◌∷◌, length, drop, Result, Ok, Err}
+use Rattle.std.specs.Prelude.{◌≡◌, ℕ, ◌≤◌, Bool, false, max, ◌-◌, List, [], ◌∷◌, length, drop, Result, Ok, Err}
 use Rattle.da_values.specs.Marks.{Tok}
 use Rattle.da_values.specs.TokenFacts.{line_count}
 use Rattle.da_lang.specs.declared.tree.Tree.{Tree}
@@ -27,9 +27,13 @@ abbrev pub answer : List Tok → Reading Tree → Result Tree ParseFault
 answer tokens (Ok (tree, rest)) = Ok tree
 answer tokens (Err stop) = Err (fault_of tokens stop)
 
--- the tree that the tokens spell, or the place of the first fault
-unfoldable pub parsed : List Tok → Result Tree ParseFault
-parsed tokens = answer tokens (program outermost tokens)
+-- the tree that the tokens spell, or the place of the first fault, where parameters may lack their types or may not
+unfoldable pub parsed_by : Bool → List Tok → Result Tree ParseFault
+parsed_by loose tokens = answer tokens (program (outermost loose) tokens)
+
+-- where each has it
+abbrev pub parsed : List Tok → Result Tree ParseFault
+parsed = parsed_by false
 
 -- a call answers this, unless memory is refused
 abbrev pub Answers : Result Tree ParseFault → Result Tree ParseFault → Type 0

@@ -13,12 +13,12 @@ use Rattle.da_lang.specs.declared.ty.ChannelKind.{ChannelKind}
 use Rattle.da_lang.specs.declared.ty.ChannelKind.TheVariants as kind_of
 use Rattle.da_lang.specs.declared.ty.Ty.{Ty}
 use Rattle.da_phrases.specs.declared.place.Level.TheVariants as level
-use Rattle.da_phrases.specs.Reader.{Reader, ◌>>=◌, ◌>>◌, pure, refuse, past, taking, by_mark, at_line, behind, expect, word, number}
+use Rattle.da_phrases.specs.Reader.{Reader, ◌>>=◌, ◌>>◌, pure, refuse, past, taking, by_mark, at_line, after_token, expect, word, number}
 use Rattle.da_phrases.specs.Lists.{begun, closed, ended}
 use Rattle.da_phrases.specs.Place.{Limit, Place, opening}
 use Rattle.da_phrases.specs.Exprs.{place, at_depth}
 use Rattle.da_phrases.specs.Types.{types, type_below}
-use Rattle.da_parse.specs.Members.{Parts, typed_param, parts_in, parts_at, members}
+use Rattle.da_parse.specs.Members.{Parts, param_by, parts_in, parts_at, members}
 
 -- what programs are made of: where nothing is open, with a type in parentheses, and where one thing is
 pub record Outer : Type 0 where
@@ -30,16 +30,16 @@ pub record Outer : Type 0 where
 abbrev pub outer_in : Limit → Reader Param → ℕ → Outer
 outer_in limit param f = record { place = place limit f 0; inner_ty = types limit f 1; inside = parts_in limit param (f - 1) 1 }
 
--- where each parameter has its type
-abbrev pub typed_in : Limit → ℕ → Outer
-typed_in limit f = outer_in limit (typed_param (types limit (f - 1) 2)) f
+-- where parameters may lack their types or may not
+abbrev pub outer_by : Bool → Limit → ℕ → Outer
+outer_by loose limit f = outer_in limit (param_by loose (types limit (f - 1) 2)) f
 
--- at most 32 things are open
-abbrev pub outermost : Outer
-outermost = record { place = at_depth 0; inner_ty = type_below 0; inside = parts_at 1 }
+-- the same, and at most 32 things are open
+abbrev pub outermost : Bool → Outer
+outermost loose = record { place = at_depth 0; inner_ty = type_below 0; inside = parts_at loose 1 }
 
 unfoldable pub count : Reader (Option ℕ)
-count = behind m.Comma (number >>= λ n. pure (Some n)) (pure None)
+count = after_token m.Comma (number >>= λ n. pure (Some n)) (pure None)
 
 abbrev pub kind_from : Bool → Bool → ChannelKind
 kind_from true true = kind_of.FifoReliable
@@ -49,10 +49,10 @@ kind_from false false = kind_of.UnorderedUnreliable
 
 -- a word, or the other word
 unfoldable pub one_of : Mark → Mark → Reader Bool
-one_of k other = behind k (pure true) (do expect other; pure false)
+one_of k other = after_token k (pure true) (do expect other; pure false)
 
 unfoldable pub kind : Reader ChannelKind
-kind = behind m.Channel (do
+kind = after_token m.Channel (do
   fifo ← one_of m.Fifo m.Unordered
   reliable ← one_of m.Reliable m.Unreliable
   expect m.Newline
@@ -69,7 +69,7 @@ module _ (o : Outer) where
     expect m.Newline
     opening o.place.may_open m.Indent
 
-  -- behind `message`
+  -- after `message`
   unfoldable pub message : ℕ → Reader MessageDecl
   message at = do
     n ← word m.Name
@@ -78,7 +78,7 @@ module _ (o : Outer) where
     expect m.Newline
     pure (record { tag = n; parts = xs; line = at })
 
-  -- behind `class`
+  -- after `class`
   unfoldable pub class : ℕ → Reader ClassTree
   class at = do
     n ← word m.Name
@@ -88,7 +88,7 @@ module _ (o : Outer) where
     ms ← members o.inside
     pure (record { name = n; members = ms; line = at })
 
-  -- behind a name
+  -- after a name
   unfoldable pub new_line : List ℕ → ℕ → Reader MainLine
   new_line n at = do
     expect m.Assign
@@ -104,7 +104,7 @@ module _ (o : Outer) where
   abbrev pub argument : Reader Expr
   argument = past (o.inside.place.expr level.Disj)
 
-  -- behind `setup`
+  -- after `setup`
   unfoldable pub setup_line : ℕ → Reader MainLine
   setup_line at = do
     opening o.inside.place.may_open m.OpenParen
@@ -131,7 +131,7 @@ module _ (o : Outer) where
     header_end
     ended main_line
 
-  -- behind the messages and classes
+  -- after the messages and classes
   unfoldable pub program_end : ChannelKind → List MessageDecl → List ClassTree → Reader Tree
   program_end k xs cs = do
     ls ← main
@@ -144,7 +144,7 @@ module _ (o : Outer) (k : ChannelKind) where
   decls_by next xs cs (Some m.Class) = at_line (λ at. past (class o at >>= λ c. next xs (cs ++ c ∷ [])))
   decls_by next xs cs _ = program_end o k xs cs
 
-  -- messages and classes behind those found, and the rest of the program
+  -- messages and classes after those found, and the rest of the program
   unfoldable pub decls_from : ℕ → List MessageDecl → List ClassTree → Reader Tree
   decls_from zero xs cs = program_end o k xs cs
   decls_from (suc n) xs cs = by_mark (decls_by (decls_from n) xs cs)

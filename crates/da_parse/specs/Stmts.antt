@@ -8,7 +8,7 @@ use Rattle.da_lang.specs.declared.tree.Stmt.{Stmt}
 use Rattle.da_lang.specs.declared.tree.Stmt.TheVariants as stmt_tree
 use Rattle.da_lang.specs.declared.tree.TimeoutTree.{TimeoutTree, roll-TimeoutTree}
 use Rattle.da_phrases.specs.declared.place.Level.TheVariants as level
-use Rattle.da_phrases.specs.Reader.{Reader, ◌>>=◌, ◌>>◌, pure, refuse, past, taking, by_mark, at_line, behind, expect, word}
+use Rattle.da_phrases.specs.Reader.{Reader, ◌>>=◌, ◌>>◌, pure, refuse, past, taking, by_mark, at_line, after_token, expect, word}
 use Rattle.da_phrases.specs.Lists.{begun, ended, closed}
 use Rattle.da_phrases.specs.Place.{Limit, Place, at_most_32, opening}
 use Rattle.da_phrases.specs.Exprs.{place, at_depth, expression}
@@ -26,24 +26,24 @@ module _ (p : Place) where
     expect m.CloseParen
     pure x
 
-  abbrev pub behind_paren : Reader (List Expr)
-  behind_paren = closed m.CloseParen (p.expr level.Disj) []
+  abbrev pub after_paren : Reader (List Expr)
+  after_paren = closed m.CloseParen (p.expr level.Disj) []
 
   unfoldable pub arguments : Reader (List Expr)
   arguments = do
     opening p.may_open m.OpenParen
-    behind_paren
+    after_paren
 
-  -- behind `NAME =`
+  -- after `NAME =`
   unfoldable pub assigned : List ℕ → ℕ → Reader Stmt
   assigned name at = do
     x ← expression p
     expect m.Newline
     pure (stmt_tree.Assign name x at)
 
-  -- behind `NAME.`
+  -- after `NAME.`
   unfoldable pub changed : List ℕ → ℕ → Reader Stmt
-  changed name at = behind m.Add (do x ← in_parens; expect m.Newline; pure (stmt_tree.Add name x at)) (do expect m.Del; x ← in_parens; expect m.Newline; pure (stmt_tree.Del name x at))
+  changed name at = after_token m.Add (do x ← in_parens; expect m.Newline; pure (stmt_tree.Add name x at)) (do expect m.Del; x ← in_parens; expect m.Newline; pure (stmt_tree.Del name x at))
 
   unfoldable pub called : List ℕ → ℕ → Reader Stmt
   called name at = do
@@ -51,9 +51,9 @@ module _ (p : Place) where
     expect m.Newline
     pure (stmt_tree.Call name xs at)
 
-  -- behind a name
+  -- after a name
   unfoldable pub named : List ℕ → ℕ → Reader Stmt
-  named name at = behind m.Assign (assigned name at) (behind m.Dot (changed name at) (called name at))
+  named name at = after_token m.Assign (assigned name at) (after_token m.Dot (changed name at) (called name at))
 
   unfoldable pub sending : ℕ → Reader Stmt
   sending at = do
@@ -92,15 +92,15 @@ module _ (p : Place) where
 
 -- the reader of the statements in a block, up to its end
 module _ (p : Place) (body : Reader (List Stmt)) where
-  -- behind the colon
+  -- after the colon
   unfoldable pub block : Reader (List Stmt)
   block = do
     expect m.Newline
     opening p.may_open m.Indent
     body
 
-  unfoldable pub block_behind_colon : Reader (List Stmt)
-  block_behind_colon = do
+  unfoldable pub block_after_colon : Reader (List Stmt)
+  block_after_colon = do
     expect m.Colon
     block
 
@@ -108,14 +108,14 @@ module _ (p : Place) (body : Reader (List Stmt)) where
   unfoldable pub branch : Reader Branch
   branch = at_line (λ at. past (do
     x ← expression p
-    b ← block_behind_colon
+    b ← block_after_colon
     pure (branch_of x b at)))
 
   unfoldable pub otherwise : Reader (Option (List Stmt))
-  otherwise = behind m.Else (block_behind_colon >>= λ b. pure (Some b)) (pure None)
+  otherwise = after_token m.Else (block_after_colon >>= λ b. pure (Some b)) (pure None)
 
   unfoldable pub timeout : Reader (Option TimeoutTree)
-  timeout = at_line (λ at. behind m.Timeout (block_behind_colon >>= λ b. pure (Some (roll-TimeoutTree (record { body = b; line = at })))) (pure None))
+  timeout = at_line (λ at. after_token m.Timeout (block_after_colon >>= λ b. pure (Some (roll-TimeoutTree (record { body = b; line = at })))) (pure None))
 
   unfoldable pub conditional : ℕ → Reader Stmt
   conditional at = do
@@ -127,7 +127,7 @@ module _ (p : Place) (body : Reader (List Stmt)) where
   unfoldable pub while_loop : ℕ → Reader Stmt
   while_loop at = do
     x ← expression p
-    b ← block_behind_colon
+    b ← block_after_colon
     pure (stmt_tree.While x b at)
 
   unfoldable pub for_loop : ℕ → Reader Stmt
@@ -135,13 +135,13 @@ module _ (p : Place) (body : Reader (List Stmt)) where
     name ← word m.Name
     expect m.In
     x ← expression p
-    b ← block_behind_colon
+    b ← block_after_colon
     pure (stmt_tree.For name x b at)
 
-  -- behind the condition of the first alternative
+  -- after the condition of the first alternative
   unfoldable pub alternatives : Expr → ℕ → Reader Stmt
   alternatives x at = do
-    b ← block_behind_colon
+    b ← block_after_colon
     alts ← begun m.Or branch (branch_of x b at ∷ [])
     t ← timeout
     pure (stmt_tree.Await alts t at)
@@ -149,7 +149,7 @@ module _ (p : Place) (body : Reader (List Stmt)) where
   unfoldable pub awaiting : ℕ → Reader Stmt
   awaiting at = do
     x ← expression p
-    behind m.Newline (pure (stmt_tree.AwaitOne x at)) (alternatives x at)
+    after_token m.Newline (pure (stmt_tree.AwaitOne x at)) (alternatives x at)
 
   abbrev pub stmt_by : ℕ → Option Mark → Reader Stmt
   stmt_by at (Some m.If) = conditional at
@@ -178,4 +178,4 @@ body_at d = stmts (at_depth d) (body_below d)
 
 -- a block where d things are open
 unfoldable pub block_at : ℕ → Reader (List Stmt)
-block_at d = block_behind_colon (at_depth d) (body_below d)
+block_at d = block_after_colon (at_depth d) (body_below d)

@@ -1,22 +1,22 @@
 //! The members of a class.
-ghost use Rattle.std.specs.Prelude.{[], ◌∷◌, ◌≡◌, ◌≤◌, ◌<◌};
+ghost use Rattle.std.specs.Prelude.{false, [], ◌∷◌, ◌≡◌, ◌≤◌, ◌<◌};
 ghost use Rattle.da_phrases.specs.Lists.{separated};
 ghost use Rattle.da_parse.specs.Members as spec;
-ghost use Rattle.da_parse.specs.Members.{parts_at, typed_param};
+ghost use Rattle.da_parse.specs.Members.{parts_at};
 ghost use Rattle.da_phrases.specs.Reader.{Reads, word};
 ghost use Rattle.da_phrases.specs.Types.{type_below};
 
 use crate::stmts::block_at;
-use da_lang::{Member, Name, Param, PatternTree};
+use da_lang::{Member, Name, Param, PatternTree, Ty};
 use da_phrases::{Cursor, Stop, opening, pattern_at, type_at};
 use da_values::{List, Mark, copy_bytes};
 use std::alloc::Global;
 
-/// A parameter, in parentheses that were opened where `depth` things are open.
+/// A parameter with its type, in parentheses that were opened where `depth` things are open.
 #[tactic(auto, unfolding(crate::specs::Members::typed_param), using(da_phrases::proofs::Depth::type_there))]
-fn param(alloc: Global, tokens: &mut Cursor<'_>, depth: usize) -> Result<Param, Stop>
+fn typed_param(alloc: Global, tokens: &mut Cursor<'_>, depth: usize) -> Result<Param, Stop>
     requires { depth < 32 }
-    ensures { Reads (typed_param (type_below depth) tokens.old) result tokens.new }
+    ensures { Reads (spec.typed_param (type_below depth) tokens.old) result tokens.new }
 {
     let name = tokens.word(alloc, Mark::Name)?;
     tokens.expect(Mark::Colon)?;
@@ -24,15 +24,47 @@ fn param(alloc: Global, tokens: &mut Cursor<'_>, depth: usize) -> Result<Param, 
     Ok(Param { name, ty })
 }
 
+/// The same, where the type may be missing. Then it is the tuple of no parts, which no tokens spell.
+#[tactic(auto, unfolding(crate::specs::Members::loose_param), using(da_phrases::proofs::Depth::type_there))]
+fn loose_param(alloc: Global, tokens: &mut Cursor<'_>, depth: usize) -> Result<Param, Stop>
+    requires { depth < 32 }
+    ensures { Reads (spec.loose_param (type_below depth) tokens.old) result tokens.new }
+{
+    let name = tokens.word(alloc, Mark::Name)?;
+    if !tokens.eat(Mark::Colon) {
+        let ty = Ty::Tuple(List::new(alloc));
+        return Ok(Param { name, ty });
+    }
+    let ty = type_at(alloc, tokens, depth + 1)?;
+    Ok(Param { name, ty })
+}
+
+/// A parameter, whose type may be missing if `loose`.
+fn param(alloc: Global, tokens: &mut Cursor<'_>, depth: usize, loose: bool) -> Result<Param, Stop>
+    requires { depth < 32 }
+    ensures { Reads (spec.param_by loose (type_below depth) tokens.old) result tokens.new }
+{
+    if loose {
+        loose_param(alloc, tokens, depth)
+    } else {
+        typed_param(alloc, tokens, depth)
+    }
+}
+
 /// One or more parameters with commas between.
 #[tactic(auto, using(da_phrases::proofs::Loops::separated_loop))]
-fn some_params(alloc: Global, tokens: &mut Cursor<'_>, depth: usize) -> Result<List<Param>, Stop>
+fn some_params(
+    alloc: Global,
+    tokens: &mut Cursor<'_>,
+    depth: usize,
+    loose: bool,
+) -> Result<List<Param>, Stop>
     requires { depth < 32 }
-    ensures { Reads (separated Mark.Comma (typed_param (type_below depth)) [] tokens.old) result tokens.new }
+    ensures { Reads (separated Mark.Comma (spec.param_by loose (type_below depth)) [] tokens.old) result tokens.new }
 {
     let mut found = List::new(alloc);
     for _turn in 0..tokens.left() {
-        found.push(param(alloc, tokens, depth)?)?;
+        found.push(param(alloc, tokens, depth, loose)?)?;
         if !tokens.eat(Mark::Comma) {
             return Ok(found);
         }
@@ -40,25 +72,30 @@ fn some_params(alloc: Global, tokens: &mut Cursor<'_>, depth: usize) -> Result<L
     Err(tokens.refuse())
 }
 
-/// Parameters behind `(`, up to `)`.
+/// Parameters after `(`, up to `)`.
 #[tactic(auto, unfolding(crate::specs::Members::params, da_phrases::specs::Lists::closed))]
-fn params(alloc: Global, tokens: &mut Cursor<'_>, depth: usize) -> Result<List<Param>, Stop>
+fn params(
+    alloc: Global,
+    tokens: &mut Cursor<'_>,
+    depth: usize,
+    loose: bool,
+) -> Result<List<Param>, Stop>
     requires { depth < 32 }
-    ensures { Reads (spec.params (parts_at depth) tokens.old) result tokens.new }
+    ensures { Reads (spec.params (parts_at loose depth) tokens.old) result tokens.new }
 {
     if tokens.eat(Mark::CloseParen) {
         return Ok(List::new(alloc));
     }
-    let all = some_params(alloc, tokens, depth)?;
+    let all = some_params(alloc, tokens, depth, loose)?;
     tokens.expect(Mark::CloseParen)?;
     Ok(all)
 }
 
-/// What stands behind `var`.
+/// What stands after `var`.
 #[tactic(auto, unfolding(crate::specs::Members::variable))]
 fn variable(alloc: Global, tokens: &mut Cursor<'_>, depth: usize, line: u32) -> Result<Member, Stop>
     requires { depth ≤ 32 }
-    ensures { Reads (spec.variable (parts_at depth) line tokens.old) result tokens.new }
+    ensures { Reads (spec.variable (parts_at false depth) line tokens.old) result tokens.new }
 {
     let name = tokens.word(alloc, Mark::Name)?;
     tokens.expect(Mark::Colon)?;
@@ -67,21 +104,27 @@ fn variable(alloc: Global, tokens: &mut Cursor<'_>, depth: usize, line: u32) -> 
     Ok(Member::Var { name, ty, line })
 }
 
-/// What stands behind `def setup`.
+/// What stands after `def setup`.
 #[tactic(auto, unfolding(crate::specs::Members::setup))]
-fn setup(alloc: Global, tokens: &mut Cursor<'_>, depth: usize, line: u32) -> Result<Member, Stop>
-    ensures { Reads (spec.setup (parts_at depth) line tokens.old) result tokens.new }
+fn setup(
+    alloc: Global,
+    tokens: &mut Cursor<'_>,
+    depth: usize,
+    loose: bool,
+    line: u32,
+) -> Result<Member, Stop>
+    ensures { Reads (spec.setup (parts_at loose depth) line tokens.old) result tokens.new }
 {
     opening(tokens, Mark::OpenParen, depth)?;
-    let params = params(alloc, tokens, depth)?;
+    let params = params(alloc, tokens, depth, loose)?;
     let body = block_at(alloc, tokens, depth)?;
     Ok(Member::Setup { params, body, line })
 }
 
-/// What stands behind `def run`.
+/// What stands after `def run`.
 #[tactic(auto, unfolding(crate::specs::Members::run))]
 fn run(alloc: Global, tokens: &mut Cursor<'_>, depth: usize, line: u32) -> Result<Member, Stop>
-    ensures { Reads (spec.run (parts_at depth) line tokens.old) result tokens.new }
+    ensures { Reads (spec.run (parts_at false depth) line tokens.old) result tokens.new }
 {
     opening(tokens, Mark::OpenParen, depth)?;
     tokens.expect(Mark::CloseParen)?;
@@ -89,19 +132,20 @@ fn run(alloc: Global, tokens: &mut Cursor<'_>, depth: usize, line: u32) -> Resul
     Ok(Member::Run { body, line })
 }
 
-/// What stands behind `def` and a name.
+/// What stands after `def` and a name.
 #[tactic(auto, unfolding(crate::specs::Members::method))]
 fn method(
     alloc: Global,
     tokens: &mut Cursor<'_>,
     depth: usize,
+    loose: bool,
     name: Name,
     line: u32,
 ) -> Result<Member, Stop>
-    ensures { Reads (spec.method (parts_at depth) name line tokens.old) result tokens.new }
+    ensures { Reads (spec.method (parts_at loose depth) name line tokens.old) result tokens.new }
 {
     opening(tokens, Mark::OpenParen, depth)?;
-    let params = params(alloc, tokens, depth)?;
+    let params = params(alloc, tokens, depth, loose)?;
     let body = block_at(alloc, tokens, depth)?;
     Ok(Member::Method {
         name,
@@ -111,20 +155,21 @@ fn method(
     })
 }
 
-/// What stands behind `def`.
-#[tactic(auto, unfolding(crate::specs::Members::definition))]
+/// What stands after `def`.
+#[tactic(auto, unfolding(crate::specs::Members::definition), using(crate::proofs::SameReaders::run_same))]
 fn definition(
     alloc: Global,
     tokens: &mut Cursor<'_>,
     depth: usize,
+    loose: bool,
     line: u32,
 ) -> Result<Member, Stop>
-    ensures { Reads (spec.definition (parts_at depth) line tokens.old) result tokens.new }
+    ensures { Reads (spec.definition (parts_at loose depth) line tokens.old) result tokens.new }
 {
     match tokens.mark() {
         Some(Mark::Setup) => {
             tokens.take();
-            setup(alloc, tokens, depth, line)
+            setup(alloc, tokens, depth, loose, line)
         }
         Some(Mark::Run) => {
             tokens.take();
@@ -132,7 +177,7 @@ fn definition(
         }
         Some(Mark::Name) => {
             let name = copy_bytes(alloc, tokens.take())?;
-            method(alloc, tokens, depth, name, line)
+            method(alloc, tokens, depth, loose, name, line)
         }
         _ => Err(tokens.refuse()),
     }
@@ -142,7 +187,7 @@ fn definition(
 #[tactic(auto, unfolding(crate::specs::Members::sender))]
 fn sender(alloc: Global, tokens: &mut Cursor<'_>, depth: usize) -> Result<Option<PatternTree>, Stop>
     requires { depth ≤ 32 }
-    ensures { Reads (spec.sender (parts_at depth) tokens.old) result tokens.new }
+    ensures { Reads (spec.sender (parts_at false depth) tokens.old) result tokens.new }
 {
     if !tokens.eat(Mark::From) {
         return Ok(None);
@@ -176,11 +221,11 @@ fn labels(alloc: Global, tokens: &mut Cursor<'_>) -> Result<List<Name>, Stop>
     names(alloc, tokens)
 }
 
-/// What stands behind `receive`.
+/// What stands after `receive`.
 #[tactic(auto, unfolding(crate::specs::Members::handler))]
 fn handler(alloc: Global, tokens: &mut Cursor<'_>, depth: usize, line: u32) -> Result<Member, Stop>
     requires { depth ≤ 32 }
-    ensures { Reads (spec.handler (parts_at depth) line tokens.old) result tokens.new }
+    ensures { Reads (spec.handler (parts_at false depth) line tokens.old) result tokens.new }
 {
     let message = pattern_at(alloc, tokens, depth)?;
     let from = sender(alloc, tokens, depth)?;
@@ -196,10 +241,10 @@ fn handler(alloc: Global, tokens: &mut Cursor<'_>, depth: usize, line: u32) -> R
 }
 
 /// A member of a class.
-#[tactic(auto, unfolding(crate::specs::Members::member))]
-fn member(alloc: Global, tokens: &mut Cursor<'_>, depth: usize) -> Result<Member, Stop>
+#[tactic(auto, unfolding(crate::specs::Members::member), using(crate::proofs::SameReaders::same_members))]
+fn member(alloc: Global, tokens: &mut Cursor<'_>, depth: usize, loose: bool) -> Result<Member, Stop>
     requires { depth ≤ 32 }
-    ensures { Reads (spec.member (parts_at depth) tokens.old) result tokens.new }
+    ensures { Reads (spec.member (parts_at loose depth) tokens.old) result tokens.new }
 {
     let line = tokens.line();
     match tokens.mark() {
@@ -209,7 +254,7 @@ fn member(alloc: Global, tokens: &mut Cursor<'_>, depth: usize) -> Result<Member
         }
         Some(Mark::Def) => {
             tokens.take();
-            definition(alloc, tokens, depth, line)
+            definition(alloc, tokens, depth, loose, line)
         }
         Some(Mark::Receive) => {
             tokens.take();
@@ -219,15 +264,20 @@ fn member(alloc: Global, tokens: &mut Cursor<'_>, depth: usize) -> Result<Member
     }
 }
 
-/// The members of a class and its end.
+/// The members of a class and its end; parameters may lack their types if `loose`.
 #[tactic(auto, unfolding(crate::specs::Members::members), using(da_phrases::proofs::Loops::ended_loop))]
-pub fn members(alloc: Global, tokens: &mut Cursor<'_>, depth: usize) -> Result<List<Member>, Stop>
+pub fn members(
+    alloc: Global,
+    tokens: &mut Cursor<'_>,
+    depth: usize,
+    loose: bool,
+) -> Result<List<Member>, Stop>
     requires { depth ≤ 32 }
-    ensures { Reads (spec.members (parts_at depth) tokens.old) result tokens.new }
+    ensures { Reads (spec.members (parts_at loose depth) tokens.old) result tokens.new }
 {
     let mut found = List::new(alloc);
     for _turn in 0..tokens.left() {
-        found.push(member(alloc, tokens, depth)?)?;
+        found.push(member(alloc, tokens, depth, loose)?)?;
         if tokens.eat(Mark::Dedent) {
             return Ok(found);
         }

@@ -1,5 +1,5 @@
 //! Programs.
-ghost use Rattle.std.specs.Prelude.{[], ◌∷◌, ◌≡◌, ◌≤◌, ◌<◌};
+ghost use Rattle.std.specs.Prelude.{false, [], ◌∷◌, ◌≡◌, ◌≤◌, ◌<◌};
 ghost use Rattle.da_phrases.specs.Lists.{begun, ended};
 ghost use Rattle.da_parse.specs.Programs as spec;
 ghost use Rattle.da_parse.specs.Programs.{outermost};
@@ -14,17 +14,17 @@ use std::alloc::Global;
 /// A colon, the end of the line and the beginning of a block, where nothing is open.
 #[tactic(auto, unfolding(crate::specs::Programs::header_end))]
 fn header_end(tokens: &mut Cursor<'_>) -> Result<(), Stop>
-    ensures { Reads (spec.header_end outermost tokens.old) result tokens.new }
+    ensures { Reads (spec.header_end (outermost false) tokens.old) result tokens.new }
 {
     tokens.expect(Mark::Colon)?;
     tokens.expect(Mark::Newline)?;
     opening(tokens, Mark::Indent, 0)
 }
 
-/// What stands behind `message`.
+/// What stands after `message`.
 #[tactic(auto, unfolding(crate::specs::Programs::message))]
 fn message(alloc: Global, tokens: &mut Cursor<'_>, line: u32) -> Result<MessageDecl, Stop>
-    ensures { Reads (spec.message outermost line tokens.old) result tokens.new }
+    ensures { Reads (spec.message (outermost false) line tokens.old) result tokens.new }
 {
     let tag = tokens.word(alloc, Mark::Name)?;
     opening(tokens, Mark::OpenParen, 0)?;
@@ -33,16 +33,16 @@ fn message(alloc: Global, tokens: &mut Cursor<'_>, line: u32) -> Result<MessageD
     Ok(MessageDecl { tag, parts, line })
 }
 
-/// What stands behind `class`.
-#[tactic(auto, unfolding(crate::specs::Programs::class))]
-fn class(alloc: Global, tokens: &mut Cursor<'_>, line: u32) -> Result<ClassTree, Stop>
-    ensures { Reads (spec.class outermost line tokens.old) result tokens.new }
+/// What stands after `class`.
+#[tactic(auto, unfolding(crate::specs::Programs::class), using(crate::proofs::SameReaders::header_end_same))]
+fn class(alloc: Global, tokens: &mut Cursor<'_>, loose: bool, line: u32) -> Result<ClassTree, Stop>
+    ensures { Reads (spec.class (outermost loose) line tokens.old) result tokens.new }
 {
     let name = tokens.word(alloc, Mark::Name)?;
     tokens.expect(Mark::Extends)?;
     tokens.expect(Mark::Process)?;
     header_end(tokens)?;
-    let members = members(alloc, tokens, 1)?;
+    let members = members(alloc, tokens, 1, loose)?;
     Ok(ClassTree {
         name,
         members,
@@ -61,10 +61,10 @@ fn count(tokens: &mut Cursor<'_>) -> Result<Option<u64>, Stop>
     Ok(Some(tokens.number()?))
 }
 
-/// What stands behind a name in `main`.
+/// What stands after a name in `main`.
 #[tactic(auto, unfolding(crate::specs::Programs::new_line))]
 fn new_line(alloc: Global, tokens: &mut Cursor<'_>, name: Name, line: u32) -> Result<MainLine, Stop>
-    ensures { Reads (spec.new_line outermost name line tokens.old) result tokens.new }
+    ensures { Reads (spec.new_line (outermost false) name line tokens.old) result tokens.new }
 {
     tokens.expect(Mark::Assign)?;
     tokens.expect(Mark::New)?;
@@ -84,7 +84,7 @@ fn new_line(alloc: Global, tokens: &mut Cursor<'_>, name: Name, line: u32) -> Re
 /// An argument of `setup`, with the comma before it, which is the next token.
 #[tactic(auto, using(da_phrases::proofs::Depth::expr_there))]
 fn argument(alloc: Global, tokens: &mut Cursor<'_>) -> Result<Expr, Stop>
-    ensures { Reads (spec.argument outermost tokens.old) result tokens.new }
+    ensures { Reads (spec.argument (outermost false) tokens.old) result tokens.new }
 {
     tokens.take();
     expr_at(alloc, tokens, 2, Level::Disj)
@@ -93,7 +93,7 @@ fn argument(alloc: Global, tokens: &mut Cursor<'_>) -> Result<Expr, Stop>
 /// Arguments, each with a comma before it.
 #[tactic(auto, using(da_phrases::proofs::Loops::begun_loop))]
 fn setup_args(alloc: Global, tokens: &mut Cursor<'_>) -> Result<List<Expr>, Stop>
-    ensures { Reads (begun Mark.Comma (spec.argument outermost) [] tokens.old) result tokens.new }
+    ensures { Reads (begun Mark.Comma (spec.argument (outermost false)) [] tokens.old) result tokens.new }
 {
     let mut found = List::new(alloc);
     for _turn in 0..tokens.left() {
@@ -105,10 +105,10 @@ fn setup_args(alloc: Global, tokens: &mut Cursor<'_>) -> Result<List<Expr>, Stop
     Ok(found)
 }
 
-/// What stands behind `setup` in `main`.
+/// What stands after `setup` in `main`.
 #[tactic(auto, unfolding(crate::specs::Programs::setup_line))]
 fn setup_line(alloc: Global, tokens: &mut Cursor<'_>, line: u32) -> Result<MainLine, Stop>
-    ensures { Reads (spec.setup_line outermost line tokens.old) result tokens.new }
+    ensures { Reads (spec.setup_line (outermost false) line tokens.old) result tokens.new }
 {
     opening(tokens, Mark::OpenParen, 1)?;
     let name = tokens.word(alloc, Mark::Name)?;
@@ -121,7 +121,7 @@ fn setup_line(alloc: Global, tokens: &mut Cursor<'_>, line: u32) -> Result<MainL
 /// A line of `main`.
 #[tactic(auto, unfolding(crate::specs::Programs::main_line))]
 fn main_line(alloc: Global, tokens: &mut Cursor<'_>) -> Result<MainLine, Stop>
-    ensures { Reads (spec.main_line outermost tokens.old) result tokens.new }
+    ensures { Reads (spec.main_line (outermost false) tokens.old) result tokens.new }
 {
     let line = tokens.line();
     match tokens.mark() {
@@ -140,7 +140,7 @@ fn main_line(alloc: Global, tokens: &mut Cursor<'_>) -> Result<MainLine, Stop>
 /// The lines of `main` and its end.
 #[tactic(auto, using(da_phrases::proofs::Loops::ended_loop))]
 fn main_lines(alloc: Global, tokens: &mut Cursor<'_>) -> Result<List<MainLine>, Stop>
-    ensures { Reads (ended (spec.main_line outermost) tokens.old) result tokens.new }
+    ensures { Reads (ended (spec.main_line (outermost false)) tokens.old) result tokens.new }
 {
     let mut found = List::new(alloc);
     for _turn in 0..tokens.left() {
@@ -155,7 +155,7 @@ fn main_lines(alloc: Global, tokens: &mut Cursor<'_>) -> Result<List<MainLine>, 
 /// `main`.
 #[tactic(auto, unfolding(crate::specs::Programs::main))]
 fn main_body(alloc: Global, tokens: &mut Cursor<'_>) -> Result<List<MainLine>, Stop>
-    ensures { Reads (spec.main outermost tokens.old) result tokens.new }
+    ensures { Reads (spec.main (outermost false) tokens.old) result tokens.new }
 {
     tokens.expect(Mark::Def)?;
     tokens.expect(Mark::Main)?;
@@ -202,16 +202,17 @@ fn kind(tokens: &mut Cursor<'_>) -> Result<ChannelKind, Stop>
     Ok(kind_from(fifo, reliable))
 }
 
-/// `main`, behind which no token is left, with what stands before it.
-#[tactic(auto, unfolding(crate::specs::Programs::program_end))]
+/// `main`, after which no token is left, with what stands before it.
+#[tactic(auto, unfolding(crate::specs::Programs::program_end), using(crate::proofs::SameReaders::main_same))]
 fn program_end(
     alloc: Global,
     tokens: &mut Cursor<'_>,
+    loose: bool,
     kind: ChannelKind,
     messages: List<MessageDecl>,
     classes: List<ClassTree>,
 ) -> Result<Tree, Stop>
-    ensures { Reads (spec.program_end outermost kind messages classes tokens.old) result tokens.new }
+    ensures { Reads (spec.program_end (outermost loose) kind messages classes tokens.old) result tokens.new }
 {
     let main = main_body(alloc, tokens)?;
     if tokens.left() != 0 {
@@ -225,10 +226,15 @@ fn program_end(
     })
 }
 
-/// What stands behind the `channel` line.
-#[tactic(auto, using(crate::proofs::Decls::decls_loop))]
-fn decls(alloc: Global, tokens: &mut Cursor<'_>, kind: ChannelKind) -> Result<Tree, Stop>
-    ensures { Reads (spec.decls outermost kind tokens.old) result tokens.new }
+/// What stands after the `channel` line.
+#[tactic(auto, using(crate::proofs::Decls::decls_loop, crate::proofs::SameReaders::message_same))]
+fn decls(
+    alloc: Global,
+    tokens: &mut Cursor<'_>,
+    loose: bool,
+    kind: ChannelKind,
+) -> Result<Tree, Stop>
+    ensures { Reads (spec.decls (outermost loose) kind tokens.old) result tokens.new }
 {
     let mut messages = List::new(alloc);
     let mut classes = List::new(alloc);
@@ -241,19 +247,19 @@ fn decls(alloc: Global, tokens: &mut Cursor<'_>, kind: ChannelKind) -> Result<Tr
             }
             Some(Mark::Class) => {
                 tokens.take();
-                classes.push(class(alloc, tokens, line)?)?;
+                classes.push(class(alloc, tokens, loose, line)?)?;
             }
-            _ => return program_end(alloc, tokens, kind, messages, classes),
+            _ => return program_end(alloc, tokens, loose, kind, messages, classes),
         }
     }
-    program_end(alloc, tokens, kind, messages, classes)
+    program_end(alloc, tokens, loose, kind, messages, classes)
 }
 
-/// The program that the tokens spell.
+/// The program that the tokens spell; its parameters may lack their types if `loose`.
 #[tactic(auto, unfolding(crate::specs::Programs::program))]
-pub fn program(alloc: Global, tokens: &mut Cursor<'_>) -> Result<Tree, Stop>
-    ensures { Reads (spec.program outermost tokens.old) result tokens.new }
+pub fn program(alloc: Global, tokens: &mut Cursor<'_>, loose: bool) -> Result<Tree, Stop>
+    ensures { Reads (spec.program (outermost loose) tokens.old) result tokens.new }
 {
     let kind = kind(tokens)?;
-    decls(alloc, tokens, kind)
+    decls(alloc, tokens, loose, kind)
 }

@@ -50,11 +50,11 @@ fn pattern_below(alloc: Global, tokens: &mut Cursor<'_>, depth: usize) -> Result
     pattern_at(alloc, tokens, depth)
 }
 
-/// Arguments behind `(`.
+/// Arguments after `(`.
 #[tactic(auto, using(da_phrases::proofs::Depth::expr_there, da_phrases::proofs::Depth::pattern_there))]
-fn behind_paren(alloc: Global, tokens: &mut Cursor<'_>, depth: usize) -> Result<List<Expr>, Stop>
+fn after_paren(alloc: Global, tokens: &mut Cursor<'_>, depth: usize) -> Result<List<Expr>, Stop>
     requires { depth < 32 }
-    ensures { Reads (spec.behind_paren (at_depth depth) tokens.old) result tokens.new }
+    ensures { Reads (spec.after_paren (at_depth depth) tokens.old) result tokens.new }
 {
     Rules {
         alloc,
@@ -71,10 +71,10 @@ fn arguments(alloc: Global, tokens: &mut Cursor<'_>, depth: usize) -> Result<Lis
     ensures { Reads (spec.arguments (at_depth depth) tokens.old) result tokens.new }
 {
     opening(tokens, Mark::OpenParen, depth)?;
-    behind_paren(alloc, tokens, depth)
+    after_paren(alloc, tokens, depth)
 }
 
-/// What stands behind `NAME =`.
+/// What stands after `NAME =`.
 #[tactic(auto, unfolding(crate::specs::Stmts::assigned))]
 fn assigned(
     alloc: Global,
@@ -91,7 +91,7 @@ fn assigned(
     Ok(Stmt::Assign { name, value, line })
 }
 
-/// What stands behind `NAME.`
+/// What stands after `NAME.`
 #[tactic(auto, unfolding(crate::specs::Stmts::changed))]
 fn changed(
     alloc: Global,
@@ -113,7 +113,7 @@ fn changed(
     Ok(Stmt::Del { name, value, line })
 }
 
-/// What stands behind the name of a method.
+/// What stands after the name of a method.
 #[tactic(auto, unfolding(crate::specs::Stmts::called))]
 fn called(
     alloc: Global,
@@ -129,7 +129,7 @@ fn called(
     Ok(Stmt::Call { name, args, line })
 }
 
-/// What stands behind a name.
+/// What stands after a name.
 #[tactic(auto, unfolding(crate::specs::Stmts::named))]
 fn named(
     alloc: Global,
@@ -150,7 +150,7 @@ fn named(
     called(alloc, tokens, depth, name, line)
 }
 
-/// What stands behind `send`.
+/// What stands after `send`.
 #[tactic(auto, unfolding(crate::specs::Stmts::sending))]
 fn sending(alloc: Global, tokens: &mut Cursor<'_>, depth: usize, line: u32) -> Result<Stmt, Stop>
     requires { depth ≤ 32 }
@@ -163,7 +163,7 @@ fn sending(alloc: Global, tokens: &mut Cursor<'_>, depth: usize, line: u32) -> R
     Ok(Stmt::Send { message, to, line })
 }
 
-/// What stands behind `output`.
+/// What stands after `output`.
 #[tactic(auto, unfolding(crate::specs::Stmts::output))]
 fn output(alloc: Global, tokens: &mut Cursor<'_>, depth: usize, line: u32) -> Result<Stmt, Stop>
     ensures { Reads (spec.output (at_depth depth) line tokens.old) result tokens.new }
@@ -173,7 +173,7 @@ fn output(alloc: Global, tokens: &mut Cursor<'_>, depth: usize, line: u32) -> Re
     Ok(Stmt::Output { value, line })
 }
 
-/// What stands behind `pass`.
+/// What stands after `pass`.
 #[tactic(auto, unfolding(crate::specs::Stmts::passing))]
 fn passing(tokens: &mut Cursor<'_>, line: u32) -> Result<Stmt, Stop>
     ensures { Reads (spec.passing line tokens.old) result tokens.new }
@@ -182,7 +182,7 @@ fn passing(tokens: &mut Cursor<'_>, line: u32) -> Result<Stmt, Stop>
     Ok(Stmt::Pass { line })
 }
 
-/// What stands behind `--`.
+/// What stands after `--`.
 #[tactic(auto, unfolding(crate::specs::Stmts::label))]
 fn label(alloc: Global, tokens: &mut Cursor<'_>, line: u32) -> Result<Stmt, Stop>
     ensures { Reads (spec.label line tokens.old) result tokens.new }

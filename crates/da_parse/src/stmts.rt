@@ -32,10 +32,10 @@ impl<B: Fn(Global, &mut Cursor<'_>, usize) -> Result<List<Stmt>, Stop>> Layer<B>
     }
 
     /// A block, with the colon before it.
-    #[tactic(auto, unfolding(crate::specs::Stmts::block_behind_colon, crate::specs::Stmts::block))]
+    #[tactic(auto, unfolding(crate::specs::Stmts::block_after_colon, crate::specs::Stmts::block))]
     pub fn block(&self, tokens: &mut Cursor<'_>) -> Result<List<Stmt>, Stop>
         requires holds { HoldsBody self.now.depth (B.pre self.now.body) (B.post self.now.body) }
-        ensures { Reads (spec.block_behind_colon (at_depth self.now.depth) (body_below self.now.depth) tokens.old) result tokens.new }
+        ensures { Reads (spec.block_after_colon (at_depth self.now.depth) (body_below self.now.depth) tokens.old) result tokens.new }
     {
         tokens.expect(Mark::Colon)?;
         tokens.expect(Mark::Newline)?;
@@ -57,7 +57,7 @@ impl<B: Fn(Global, &mut Cursor<'_>, usize) -> Result<List<Stmt>, Stop>> Layer<B>
         Ok(Branch { cond, body, line })
     }
 
-    /// Further branches, each begun by a token of this mark, behind those found.
+    /// Further branches, each begun by a token of this mark, after those found.
     #[tactic(auto, using(da_phrases::proofs::Loops::begun_loop))]
     fn branches(
         &self,
@@ -122,7 +122,7 @@ impl<B: Fn(Global, &mut Cursor<'_>, usize) -> Result<List<Stmt>, Stop>> Layer<B>
         })
     }
 
-    /// What stands behind `while`.
+    /// What stands after `while`.
     #[tactic(auto, unfolding(crate::specs::Stmts::while_loop))]
     fn while_loop(&self, tokens: &mut Cursor<'_>, line: u32) -> Result<Stmt, Stop>
         requires holds { HoldsBody self.now.depth (B.pre self.now.body) (B.post self.now.body) }
@@ -134,7 +134,7 @@ impl<B: Fn(Global, &mut Cursor<'_>, usize) -> Result<List<Stmt>, Stop>> Layer<B>
         Ok(Stmt::While { cond, body, line })
     }
 
-    /// What stands behind `for`.
+    /// What stands after `for`.
     #[tactic(auto, unfolding(crate::specs::Stmts::for_loop))]
     fn for_loop(&self, tokens: &mut Cursor<'_>, line: u32) -> Result<Stmt, Stop>
         requires holds { HoldsBody self.now.depth (B.pre self.now.body) (B.post self.now.body) }
@@ -153,7 +153,7 @@ impl<B: Fn(Global, &mut Cursor<'_>, usize) -> Result<List<Stmt>, Stop>> Layer<B>
         })
     }
 
-    /// What stands behind the condition of the first alternative of an `await`.
+    /// What stands after the condition of the first alternative of an `await`.
     #[tactic(auto, unfolding(crate::specs::Stmts::alternatives))]
     fn alternatives(
         &self,
@@ -177,7 +177,7 @@ impl<B: Fn(Global, &mut Cursor<'_>, usize) -> Result<List<Stmt>, Stop>> Layer<B>
         })
     }
 
-    /// What stands behind `await`.
+    /// What stands after `await`.
     #[tactic(auto, unfolding(crate::specs::Stmts::awaiting))]
     fn awaiting(&self, tokens: &mut Cursor<'_>, line: u32) -> Result<Stmt, Stop>
         requires holds { HoldsBody self.now.depth (B.pre self.now.body) (B.post self.now.body) }
