@@ -2,7 +2,7 @@ pub mod AnewLaws
 pub mod ChangeLaws
 pub mod ChoiceLaws
 pub mod CodeLemmas
-pub mod FrontKeys
+pub mod PrefixKeys
 pub mod GroupLaws
 pub mod HolderLaws
 pub mod KeyLaws

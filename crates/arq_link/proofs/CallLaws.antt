@@ -14,12 +14,12 @@ use Rattle.arq_link.proofs.ListLaws.{Each, at_end, each_of_one, each_in_both, ea
 use Rattle.arq_link.proofs.NetLaws.{gave_more, no_event, one_gift, one_delivery, touch, kept_is, within, touched, untouched}
 use Rattle.arq_link.proofs.PeerLaws.{fits_given, fits_unnumbered, fits_handed, fits_acknowledged}
 
--- all is well behind the turn, and the frames in front of each of its gifts are sound where it is cut there
+-- all is well after the turn, and the frames before each of its gifts are sound where it is cut there
 pub record Serves (count : ℕ) (net : Net) (p : ℕ) (call : Call) (turn : Turn) : Type 0 where
   pub whole : IsWell count (after_turn net p call turn)
   pub part : (given : ℕ) → given < length turn.gifts → AreSound count net.ends net.events (take given turn.gifts)
 
--- nothing is in front of a gift that is alone
+-- nothing is before a gift that is alone
 in_front_of_one : (P : Gift → Type 0) (gift : Gift) (given : ℕ) → given < 1 → Each P (take given (gift ∷ []))
 in_front_of_one P gift zero before x has = absurd has
 in_front_of_one P gift (suc given) before x has = absurd (omega (arith, before))

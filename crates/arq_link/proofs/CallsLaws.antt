@@ -34,7 +34,7 @@ record Shown (r : Retelling) (entries : List LinkEntry) : Type 0 where
   told_are : r.told ≡ Bound port r.me count ∷ talk
   stage : Stage r (new_endpoint count) since talk
 
--- one entry more behind the binding
+-- one entry more after the binding
 further : (entries before since : List LinkEntry) (binding entry : LinkEntry) → entries ≡ before ++ binding ∷ since
     → entries ++ entry ∷ [] ≡ before ++ binding ∷ (since ++ entry ∷ [])
 further entries before since binding entry is = ap (λ (l : List LinkEntry). l ++ entry ∷ []) is ∙ append_assoc before (binding ∷ since) (entry ∷ [])

@@ -84,19 +84,19 @@ pub header_read : (bytes unmarked behind rest payload senders numbers : List ℕ
     → bytes ≡ header_bytes kind sender number ++ payload
 header_read bytes unmarked behind rest payload senders numbers kind sender number each mark kinded two two_is eight eight_is =
     all ∙ ap (λ (l : List ℕ). 68 ∷ 65 ∷ 2 ∷ kind ∷ l)
-    (two_read behind senders rest sender behind_fits (omega (arith, two.2)) two.0 two.1 two_is
+    (two_read behind senders rest sender after_fits (omega (arith, two.2)) two.0 two.1 two_is
     ∙ ap (λ (l : List ℕ). to_be_bytes w16 sender ++ l)
     (eight_read rest numbers payload number rest_fits (omega (arith, eight.2)) eight.0 eight.1 eight_is))
   where
     all : bytes ≡ 68 ∷ 65 ∷ 2 ∷ kind ∷ behind
     all = mark ∙ ap (λ (l : List ℕ). 68 ∷ 65 ∷ 2 ∷ l) kinded
 
-    behind_fits : (i : ℕ) → get_or behind i 0 < 256
-    behind_fits i = subst (λ (l : List ℕ). get_or l (suc (suc (suc (suc i)))) 0 < 256) all (each (suc (suc (suc (suc i))))).fits
+    after_fits : (i : ℕ) → get_or behind i 0 < 256
+    after_fits i = subst (λ (l : List ℕ). get_or l (suc (suc (suc (suc i)))) 0 < 256) all (each (suc (suc (suc (suc i))))).fits
 
     rest_fits : (i : ℕ) → get_or rest i 0 < 256
     rest_fits i = let there : get_or rest i 0 ≡ get_or behind (2 + i) 0 = ap (λ (l : List ℕ). get_or l i 0) two.1 ∙ get_or-drop 2 behind i 0 in
-        omega (arith, there, behind_fits (2 + i))
+        omega (arith, there, after_fits (2 + i))
 
 pub data_read : (bytes payload : List ℕ) (letter sender number : ℕ) (kind : FrameKind) → bytes ≡ header_bytes letter sender number ++ payload
     → letter ≡ 0 → kind ≡ kinds.Data → bytes ≡ frame_bytes (frame_of_kind kind sender number (drop 14 bytes))

@@ -34,7 +34,7 @@ module _ (me : ℕ) (now later : Endpoint) (told : List LinkEntry) (answer : Lin
       ap (λ b. fold goes_on (owing b (next ∷ gifts)) (map gift_entry (next ∷ gifts)))
       (and_true due _ (gift_of gift gift.to (frame_bytes gift.frame) refl refl)) ∙ paid due next gifts
 
-  -- behind some of the gifts
+  -- after some of the gifts
   paid_part : (due : Bool) (gifts : List Gift) (k : ℕ) → k < length gifts
       → ((fold goes_on (owing due gifts) (take k (map gift_entry gifts))).told ≡ told)
       × ((fold goes_on (owing due gifts) (take k (map gift_entry gifts))).due ≡ due)

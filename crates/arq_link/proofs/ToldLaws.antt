@@ -1,4 +1,4 @@
--- What a reliable link tells behind its calls.
+-- What a reliable link tells after its calls.
 use Rattle.std.specs.Prelude.{◌≡◌, ℕ, zero, suc, ◌<◌, true, false, List, [], ◌∷◌, ◌++◌, filter, length, map, take, Option, Some, None, refl}
 use Rattle.std.specs.Option.{option_map}
 use Rattle.std.proofs.Common.{inl, inr, sym, ap, ◌∙◌, subst, append-nil}

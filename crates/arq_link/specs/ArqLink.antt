@@ -35,7 +35,7 @@ module _ {D : Type 0} {B : _} where
   abbrev pub Tells : ArqLink D B → Type 0
   Tells link = link.telling ≡ Whole
 
-  -- a call has failed, behind which it tells what it told before, and nothing from the next one on
+  -- a call has failed, after which it tells what it told before, and nothing from the next one on
   abbrev pub HasFailed : (old new : ArqLink D B) → Type 0
   HasFailed old new = new.telling ≡ after_failure old.telling
 

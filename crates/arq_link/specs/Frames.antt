@@ -53,6 +53,6 @@ abbrev pub frame_of_kind : FrameKind → (sender number : ℕ) → (payload : Li
 frame_of_kind kinds.Data sender number payload = Data sender number payload
 frame_of_kind kinds.Acknowledgement sender number payload = Acknowledgement sender number
 
--- the frame with this header, and with this behind it where it is data
+-- the frame with this header, and with this after it where it is data
 abbrev pub frame_with : Header → (payload : List ℕ) → Frame
 frame_with header payload = frame_of_kind header.kind header.sender header.number payload

@@ -46,7 +46,7 @@ after_turn net p call turn = record {
   events = net.events ++ events_of p call turn.delivers;
 }
 
--- the inner link fails in it behind so many gifts: the peers stay
+-- the inner link fails in it after so many gifts: the peers stay
 abbrev pub after_cut : Net → (p : ℕ) → Turn → (given : ℕ) → Net
 after_cut net p turn given = record {
   ends = put net.ends p (record { peers = (net.ends p).peers; idle = turn.after.idle });

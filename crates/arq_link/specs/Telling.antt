@@ -27,7 +27,7 @@ gift_entry gift = Gave gift.to (frame_bytes gift.frame)
 
 -- THE ENTRIES OF THE INNER LINK, one after the other
 
--- What is made of the entries so far: of which process they are, its endpoint behind the calls that are whole, and what these
+-- What is made of the entries so far: of which process they are, its endpoint after the calls that are whole, and what these
 -- calls told. Of a call that is not whole these gifts are owed still; then it leads to another endpoint, and tells its answer.
 -- All is due as long as each gift was the one that was due, and no answer came while gifts were owed.
 pub record Retelling : Type 0 where
@@ -75,7 +75,7 @@ abbrev pub is_only_gift : List Gift → (to : ℕ) → List ℕ → Bool
 is_only_gift [] to bytes = false
 is_only_gift (gift ∷ gifts) to bytes = is_gift gift to bytes && are_none gifts
 
--- a gift that no answer owes is that of a payload, which stands behind the header
+-- a gift that no answer owes is that of a payload, which stands after the header
 abbrev pub gave_on : Retelling → List Gift → (to : ℕ) → List ℕ → Retelling
 gave_on r [] to bytes =
     settled (r.due && is_only_gift (give_turn r.me r.endpoint to (drop 14 bytes)).gifts to bytes) r.me

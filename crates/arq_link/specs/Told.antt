@@ -8,7 +8,7 @@ use Rattle.arq_link.specs.declared.telling.Telling.TheVariants.{Unbound, Whole, 
 use Rattle.arq_link.specs.Endpoint.{Endpoint}
 use Rattle.arq_link.specs.Telling.{TellsOf, TellsOf-prop, TellsDue, TellsDue-prop, retold}
 
--- what is told, where the inner link tells this
+-- the content, where that of the inner link is this
 abbrev pub told_by : Telling → Option (List LinkEntry) → Option (List LinkEntry)
 told_by Unbound entries = option_map (λ _. []) entries
 told_by Whole entries = option_map retold entries
@@ -16,23 +16,23 @@ told_by (Failed false) entries = option_map (λ _. []) entries
 told_by (Failed true) entries = option_map retold entries
 told_by Silent entries = None
 
--- behind a call that succeeded
+-- after a call that succeeded
 abbrev pub after_call : Telling → Telling
 after_call Whole = Whole
 after_call _ = Silent
 
--- behind a binding that succeeded
+-- after a binding that succeeded
 abbrev pub after_binding : Telling → Telling
 after_binding Unbound = Whole
 after_binding _ = Silent
 
--- behind a call that failed
+-- after a call that failed
 abbrev pub after_failure : Telling → Telling
 after_failure Unbound = Failed false
 after_failure Whole = Failed true
 after_failure _ = Silent
 
--- the endpoint of this process is the one to which what the inner link tells leads; behind a failure all was due
+-- the endpoint of this process is the one to which what the inner link tells leads; after a failure all was due
 abbrev pub Agrees : Telling → (me : ℕ) → Endpoint → Option (List LinkEntry) → Type 0
 Agrees Unbound me endpoint entries = ⊤
 Agrees Whole me endpoint entries = TellsOf me endpoint entries

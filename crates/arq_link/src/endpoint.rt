@@ -314,7 +314,7 @@ fn is_expected(number: u64, expected: u64) -> bool
     number == expected && number < NUMBER_LIMIT
 }
 
-// The payload of data of so many bytes goes to the front.
+// The payload of data of so many bytes goes to the start of the buffer.
 fn to_front(buf: &mut [u8], len: usize) -> Taken
     requires { (HEADER_LEN ≤ len) × (len ≤ length buf.old) }
     ensures is { answer_of result buf.new ≡ LinkAnswer.Datagram (drop 14 (take len buf.old)) }

@@ -1,4 +1,4 @@
-//! Frames: a header of 14 bytes, and behind it the payload of data.
+//! Frames: a header of 14 bytes, and after it the payload of data.
 ghost use Rattle.arq_link.specs.Endpoint.{Acknowledgement, Data, Frame};
 ghost use Rattle.arq_link.specs.Frames.{frame_bytes, frame_of, frame_with, mark};
 ghost use Rattle.std.specs.Int.{to_be_bytes, w16, w64};
@@ -41,7 +41,7 @@ pub(crate) fn read_header(bytes: &[u8]) -> Option<Header>
         ((frame : Frame) → bytes.now ≡ frame_bytes frame → ⊥)
         (λ header. bytes.now ≡ frame_bytes (frame_with header (drop 14 bytes.now))) }
 {
-    let rest = behind_mark(bytes)?;
+    let rest = after_mark(bytes)?;
     let (kind, rest) = rest.split_first()?;
     let (sender, rest) = rest.split_first_chunk::<2>()?;
     let (number, payload) = rest.split_first_chunk::<8>()?;
@@ -58,7 +58,7 @@ pub(crate) fn read_header(bytes: &[u8]) -> Option<Header>
 }
 
 // What follows the mark of a frame, or nothing where the bytes begin otherwise.
-fn behind_mark(bytes: &[u8]) -> Option<&[u8]>
+fn after_mark(bytes: &[u8]) -> Option<&[u8]>
     ensures { MatchOption result
         ((rest : Bytes ℕ) → bytes.now ≡ mark ++ rest → ⊥)
         (λ rest. bytes.now ≡ mark ++ rest.now) }

@@ -1,8 +1,8 @@
 //! How long a reliable link tells what it does.
-ghost use Rattle.arq_link.specs.Told.{after_binding as binding_lem, after_call as call_lem, after_failure as failure_lem};
+ghost use Rattle.arq_link.specs.Told.{after_binding as binding_def, after_call as call_def, after_failure as failure_def};
 ghost use Rattle.std.specs.Prelude.{◌≡◌};
 
-/// What a link tells, where the link under it tells anything. It tells no more behind a failure than before it, and nothing
+/// What a link tells, where the link under it tells anything. It tells no more after a failure than before it, and nothing
 /// from the next call on.
 #[derive(Clone, Copy, Debug, PartialEq, Eq)]
 pub(crate) enum Telling {
@@ -17,9 +17,9 @@ pub(crate) enum Telling {
 }
 
 impl Telling {
-    /// Behind a call that succeeded.
+    /// After a call that succeeded.
     pub(crate) fn after_call(self) -> Telling
-        ensures { result ≡ call_lem self }
+        ensures { result ≡ call_def self }
     {
         match self {
             Telling::Whole => Telling::Whole,
@@ -27,9 +27,9 @@ impl Telling {
         }
     }
 
-    /// Behind a binding that succeeded.
+    /// After a binding that succeeded.
     pub(crate) fn after_binding(self) -> Telling
-        ensures { result ≡ binding_lem self }
+        ensures { result ≡ binding_def self }
     {
         match self {
             Telling::Unbound => Telling::Whole,
@@ -37,9 +37,9 @@ impl Telling {
         }
     }
 
-    /// Behind a call that failed.
+    /// After a call that failed.
     pub(crate) fn after_failure(self) -> Telling
-        ensures { result ≡ failure_lem self }
+        ensures { result ≡ failure_def self }
     {
         match self {
             Telling::Unbound => Telling::Failed { bound: false },

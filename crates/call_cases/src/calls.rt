@@ -42,11 +42,11 @@ struct Outside {
 }
 
 /// How a call `KIND OPTIONS | WORDS` ends, and what it writes. The options are `width=16`, `read=0`, `write=0`, `link=0` and
-/// `child=0`, where no others are there. Behind `length` only the number of bytes is told. Behind `link` the link answers by
-/// the datagrams, or, where there are none, by one that is none of a message, and its entries are told. Behind `gifts` it does so
-/// too, and all bytes that it was given are told. Behind `launch` the first child writes the line `end 1` and ends with status 0,
-/// the second writes nothing and ends with 9, and the calls of the spawner are told. Behind `next` it is told whether the next
-/// read of the schedule fails, and behind `udp` the call is over UDP.
+/// `child=0`, where no others are there. After `length` only the number of bytes is told. After `link` the link answers by
+/// the datagrams, or, where there are none, by one that is none of a message, and its entries are told. After `gifts` it does so
+/// too, and all bytes that it was given are told. After `launch` the first child writes the line `end 1` and ends with status 0,
+/// the second writes nothing and ends with 9, and the calls of the spawner are told. After `next` it is told whether the next
+/// read of the schedule fails, and after `udp` the call is over UDP.
 pub fn call_reply<R: Net + AllocGlobal>(
     rt: &R,
     texts: Texts<'_>,

@@ -33,8 +33,8 @@ fn main(rt: HostRuntime) -> anyhow::Result<()> {
     Ok(())
 }
 
-// Tries the calls of a file. Behind `=== program` stands the text of the file `p`, behind `=== schedule` that of `s`, behind each
-// `=== trace` that of `1`, of `2` and so on, behind `=== datagrams` what a link gives, one datagram on a line, and behind `=== calls` each line `CALL ==> WANTED` is one over
+// Tries the calls of a file. After `=== program` stands the text of the file `p`, after `=== schedule` that of `s`, after each
+// `=== trace` that of `1`, of `2` and so on, after `=== datagrams` what a link gives, one datagram on a line, and after `=== calls` each line `CALL ==> WANTED` is one over
 // these; other lines are remarks. The end of the last line of a text does not belong to it.
 fn answer_file<R: rt::Files + Net + Print + AllocGlobal>(rt: &R, name: &str) -> anyhow::Result<()> {
     let path = format!(in rt.alloc(); "{name}.txt")?;

@@ -53,7 +53,7 @@ fn push_escaped(text: &str, bytes: &mut Buf) -> Result<(), NoMemory> {
     Ok(())
 }
 
-// Adds what stands behind a `\`.
+// Adds what stands after a `\`.
 fn push_escape(piece: &[u8], bytes: &mut Buf) -> Result<(), NoMemory> {
     match piece {
         [b'x', high, low, rest @ ..] => {
@@ -61,7 +61,7 @@ fn push_escape(piece: &[u8], bytes: &mut Buf) -> Result<(), NoMemory> {
             bytes.append(rest)
         }
         [letter, rest @ ..] => {
-            bytes.push(escaped(*letter))?;
+            bytes.push(unescape(*letter))?;
             bytes.append(rest)
         }
         [] => Ok(()),
@@ -69,7 +69,7 @@ fn push_escape(piece: &[u8], bytes: &mut Buf) -> Result<(), NoMemory> {
 }
 
 // The byte for the letter of an escape.
-fn escaped(letter: u8) -> u8 {
+fn unescape(letter: u8) -> u8 {
     match letter {
         b'n' => b'\n',
         b'r' => b'\r',

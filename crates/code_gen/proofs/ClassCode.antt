@@ -14,7 +14,7 @@ use Rattle.da_machine.specs.CodeFor.{Has, BlockAt, EnterAt, ExprsAt, StoresAt}
 use Rattle.da_machine.specs.Points.{Point, Points, class_points}
 use Rattle.code_gen.specs.Made.{AreNumbered, Grown, MadeBlock, MadeExprs, MadeHandlers, MadeSetup, MadeSetups, MadeStores, added, block_points, end_of, handler_points}
 use Rattle.code_gen.specs.Open.{HandlersAt, OpenSetups, SetupAt, own_setups}
-use Rattle.code_gen.proofs.ExprCode.{behind_too}
+use Rattle.code_gen.proofs.ExprCode.{after_too}
 use Rattle.code_gen.proofs.Growing.{AreHoles, grown_none, grown_on, put_end, put_grown, put_has, stays_has, then_none}
 use Rattle.code_gen.proofs.Kept.{grown_keeps, kept_block, kept_enter, kept_exprs, kept_stores}
 use Rattle.code_gen.proofs.PointLaws.{after_numbers, front_numbers, grown_both}
@@ -64,7 +64,7 @@ made_setups_after a b c d class ss es ls s first one is =
     let bd = grown_on b c d 0 0 one.grown last in
     record {
       grown = grown_on a b d 0 0 first.grown bd;
-      behind = behind_too a ls (end_of c) first.behind (omega (arith, first.grown.instrs.longer, one.grown.instrs.longer));
+      behind = after_too a ls (end_of c) first.behind (omega (arith, first.grown.instrs.longer, one.grown.instrs.longer));
       stands = subst (λ m. OpenSetups d class (end_of a) (ss ++ s ∷ []) m (es ++ end_of b ∷ []) (ls ++ end_of c ∷ [])) (sym (put_end c d op.End is))
           (setups_after d class (end_of a) ss (end_of b) es ls (setups_stay b d class (end_of a) ss (end_of b) es ls bd first.stands) s (end_of c) (setup_stays c d class (end_of b) s (end_of c) last one.stands) (put_has c d op.End is));
     }

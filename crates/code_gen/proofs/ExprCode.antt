@@ -19,7 +19,7 @@ use Rattle.da_lang.specs.declared.tree.CmpOp.{CmpOp}
 use Rattle.da_lang.specs.Turns.{value_of_arg}
 use Rattle.da_machine.specs.declared.code.Code.{Code}
 use Rattle.da_machine.specs.CodeFor.{Has, jump_at, ExprAt, ExprsAt, TestsAt, PartsAt, StoresAt, FoundAt}
-use Rattle.code_gen.specs.Made.{AreBehind, Grown, MadeDoing, MadeExpr, MadeExprs, MadeFound, MadeParts, MadeStores, added, deciding, end_of, filled, patched}
+use Rattle.code_gen.specs.Made.{AreAfter, Grown, MadeDoing, MadeExpr, MadeExprs, MadeFound, MadeParts, MadeStores, added, deciding, end_of, filled, patched}
 use Rattle.code_gen.proofs.Growing.{AreHoles, fill_end, fill_grown, fill_has, fill_keeps, grown_none, grown_on, holes_may_be, patch_end, patch_grown, patch_has, patch_keeps, put_end, put_grown, put_has, stays_has}
 use Rattle.code_gen.proofs.Kept.{Keeps, grown_keeps, keeps_on, kept_expr, kept_exprs, kept_parts, kept_stores}
 
@@ -45,10 +45,10 @@ made_clock a b is = alone a b _ _ is (λ code at has. ExprAt.clock has)
 pub made_ask : (a b : Code) (n : ℕ) → b ≡ added a (op.Ask n) → MadeExpr a b (ex.Ask n)
 made_ask a b n is = alone a b _ _ is (λ code at has. ExprAt.question has)
 
--- an instruction behind the values of two expressions
-behind_two : (a b c d : Code) (x y : RExpr) (i : Instr) (e : RExpr) → MadeExpr a b x → MadeExpr b c y → d ≡ added c i
+-- an instruction after the values of two expressions
+after_two : (a b c d : Code) (x y : RExpr) (i : Instr) (e : RExpr) → MadeExpr a b x → MadeExpr b c y → d ≡ added c i
     → ((code : Code) (at to end : ℕ) → ExprAt code at x to → ExprAt code to y end → Has code end i → ExprAt code at e (end + 1)) → MadeExpr a d e
-behind_two a b c d x y i e first second is build =
+after_two a b c d x y i e first second is build =
     let last = put_grown c d i is in
     let rest = grown_on b c d 0 0 second.grown last in
     record {
@@ -58,13 +58,13 @@ behind_two a b c d x y i e first second is build =
     }
 
 pub made_range : (a b c d : Code) (x y : RExpr) → MadeExpr a b x → MadeExpr b c y → d ≡ added c op.Range → MadeExpr a d (ex.Range x y)
-made_range a b c d x y first second is = behind_two a b c d x y _ _ first second is (λ code at to end p q has. ExprAt.range p q has)
+made_range a b c d x y first second is = after_two a b c d x y _ _ first second is (λ code at to end p q has. ExprAt.range p q has)
 
 pub made_cmp : (a b c d : Code) (o : CmpOp) (x y : RExpr) → MadeExpr a b x → MadeExpr b c y → d ≡ added c (op.Cmp o) → MadeExpr a d (ex.Cmp o x y)
-made_cmp a b c d o x y first second is = behind_two a b c d x y _ _ first second is (λ code at to end p q has. ExprAt.comparison p q has)
+made_cmp a b c d o x y first second is = after_two a b c d x y _ _ first second is (λ code at to end p q has. ExprAt.comparison p q has)
 
 pub made_member : (a b c d : Code) (x y : RExpr) → MadeExpr a b x → MadeExpr b c y → d ≡ added c op.Member → MadeExpr a d (ex.Member x y)
-made_member a b c d x y first second is = behind_two a b c d x y _ _ first second is (λ code at to end p q has. ExprAt.membership p q has)
+made_member a b c d x y first second is = after_two a b c d x y _ _ first second is (λ code at to end p q has. ExprAt.membership p q has)
 
 pub made_not : (a b c : Code) (x : RExpr) → MadeExpr a b x → c ≡ added b op.Not → MadeExpr a c (ex.Not x)
 made_not a b c x first is =
@@ -139,14 +139,14 @@ made_chain a b c x ps first parts = record {
   stands = ExprAt.chain (kept_expr b c (grown_keeps b c 0 parts.grown) first.stands) parts.stands;
 }
 
--- operands with a hole behind each, where its test comes
+-- operands with a hole after each, where its test comes
 pub data OperandsAt (code : Code) : ℕ → List RExpr → ℕ → List ℕ → Type 0 where
   nothing : {at : ℕ} → OperandsAt code at [] at []
   operand : {at to end : ℕ} {e : RExpr} {es : List RExpr} {holes : List ℕ} → ExprAt code at e to → Has code to op.End → OperandsAt code (to + 1) es end holes → OperandsAt code at (e ∷ es) end (to ∷ holes)
 
 pub record Operands (old new : Code) (es : List RExpr) (holes : List ℕ) : Type 0 where
   pub grown : Grown old new 0
-  pub behind : AreBehind old holes
+  pub behind : AreAfter old holes
   pub stands : OperandsAt new (end_of old) es (end_of new) holes
 
 operands_after : (c : Code) (at : ℕ) (es : List RExpr) (end : ℕ) (holes : List ℕ) → OperandsAt c at es end holes → (e : RExpr) (to : ℕ) → ExprAt c end e to → Has c to op.End → OperandsAt c at (es ++ e ∷ []) (to + 1) (holes ++ to ∷ [])
@@ -158,9 +158,9 @@ operands_stay c d n _ _ _ _ grown (OperandsAt.nothing {at}) = OperandsAt.nothing
 operands_stay c d n _ _ _ _ grown (OperandsAt.operand {at} {to} {end} {e} {es} {holes} x h xs) =
     OperandsAt.operand (kept_expr c d (grown_keeps c d n grown) x) (stays_has c d n to op.End grown h) (operands_stay c d n (to + 1) es end holes grown xs)
 
-pub behind_too : (a : Code) (places : List ℕ) (at : ℕ) → AreBehind a places → end_of a ≤ at → AreBehind a (places ++ at ∷ [])
-behind_too a [] at all here = (here, tt)
-behind_too a (p ∷ places) at all here = (all.0, behind_too a places at all.1 here)
+pub after_too : (a : Code) (places : List ℕ) (at : ℕ) → AreAfter a places → end_of a ≤ at → AreAfter a (places ++ at ∷ [])
+after_too a [] at all here = (here, tt)
+after_too a (p ∷ places) at all here = (all.0, after_too a places at all.1 here)
 
 pub no_operand : (a : Code) (holes : List ℕ) → holes ≡ [] → Operands a a [] holes
 no_operand a holes is = subst (Operands a a []) (sym is) (record { grown = grown_none a; behind = tt; stands = OperandsAt.nothing })
@@ -171,7 +171,7 @@ made_operand a b c d es holes e first value is =
     let rest = grown_on b c d 0 0 value.grown last in
     record {
       grown = grown_on a b d 0 0 first.grown rest;
-      behind = behind_too a holes (end_of c) first.behind (omega (arith, first.grown.instrs.longer, value.grown.instrs.longer));
+      behind = after_too a holes (end_of c) first.behind (omega (arith, first.grown.instrs.longer, value.grown.instrs.longer));
       stands = subst (λ n. OperandsAt d (end_of a) (es ++ e ∷ []) n (holes ++ end_of c ∷ [])) (sym (put_end c d op.End is))
           (operands_after d (end_of a) es (end_of b) holes (operands_stay b d 0 (end_of a) es (end_of b) holes rest first.stands) e (end_of c) (kept_expr c d (grown_keeps c d 0 last) value.stands) (put_has c d op.End is));
     }

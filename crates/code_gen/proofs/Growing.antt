@@ -7,7 +7,7 @@ use Rattle.da_lang.specs.declared.code.Instr.{Instr}
 use Rattle.da_lang.specs.declared.code.Instr.TheVariants as op
 use Rattle.da_machine.specs.declared.code.Code.{Code}
 use Rattle.da_machine.specs.CodeFor.{Has}
-use Rattle.code_gen.specs.Made.{AreBehind, Grown, added, end_of, filled, patched}
+use Rattle.code_gen.specs.Made.{AreAfter, Grown, added, end_of, filled, patched}
 use Rattle.code_gen.proofs.Kept.{Keeps, is_hole, keeps_on}
 use Rattle.code_gen.proofs.Lists.{at_the_end, elsewhere, lies, one_longer, stays_as_it_is, stays_on, stays_where_set, stays_with_more, where_set}
 
@@ -133,7 +133,7 @@ module _ (i : Instr) where
   fill_end c [] = refl
   fill_end c (at ∷ places) = fill_end (patched c at i) places ∙ patch_end c at i
 
-  pub fill_grown : (a c : Code) (n : ℕ) (places : List ℕ) → Grown a c n → AreBehind a places → Grown a (filled c places i) n
+  pub fill_grown : (a c : Code) (n : ℕ) (places : List ℕ) → Grown a c n → AreAfter a places → Grown a (filled c places i) n
   fill_grown a c n [] grown behind = grown
   fill_grown a c n (at ∷ places) grown behind = fill_grown a (patched c at i) n places (patch_grown a c n at i grown behind.0) behind.1
 

@@ -13,9 +13,9 @@ use Rattle.da_lang.specs.declared.program.RBranch.{RBranch}
 use Rattle.da_machine.specs.declared.code.Code.{Code}
 use Rattle.da_machine.specs.CodeFor.{Has, BlockAt, BlocksAt, BranchesAt, FoundAt, ItemAt}
 use Rattle.da_machine.specs.Points.{Points, points_in}
-use Rattle.code_gen.specs.Made.{AreBehind, AreNumbered, Grown, MadeBlock, MadeBlocks, MadeBranches, MadeExpr, MadeFound, MadeItem, added, block_points, branch_points, end_of, patched}
+use Rattle.code_gen.specs.Made.{AreAfter, AreNumbered, Grown, MadeBlock, MadeBlocks, MadeBranches, MadeExpr, MadeFound, MadeItem, added, block_points, branch_points, end_of, patched}
 use Rattle.code_gen.specs.Open.{OpenBlocks, OpenBranches}
-use Rattle.code_gen.proofs.ExprCode.{behind_too}
+use Rattle.code_gen.proofs.ExprCode.{after_too}
 use Rattle.code_gen.proofs.Growing.{AreHoles, grown_none, grown_on, none_then, patch_end, patch_grown, patch_has, patch_keeps, patch_other, put_end, put_grown, put_has, stays_has, then_none}
 use Rattle.code_gen.proofs.Kept.{Keeps, grown_keeps, keeps_on, kept_block, kept_expr, kept_found}
 use Rattle.code_gen.proofs.PointLaws.{after_numbers, front_numbers, grown_both, same_numbers}
@@ -68,13 +68,13 @@ branches_written c d class exit other _ _ _ _ OpenBranches.none keeps all block 
 branches_written c d class exit other _ _ _ _ (OpenBranches.branch {at} {test} {to} {end} {last} {b} {bs} {leaves} x j f y h ys) keeps all block =
     BranchesAt.branch (kept_expr c d keeps x) (keeps.instrs _ _ refl j) (kept_found c d keeps f) (kept_block c d keeps class y) all.0 (branches_written c d class exit other (end + 1) bs last leaves ys keeps all.1 block)
 
-all_behind : (a b : Code) (places : List ℕ) → end_of a ≤ end_of b → AreBehind b places → AreBehind a places
+all_behind : (a b : Code) (places : List ℕ) → end_of a ≤ end_of b → AreAfter b places → AreAfter a places
 all_behind a b [] up all = tt
 all_behind a b (at ∷ places) up all = (omega (arith, up, all.0), all_behind a b places up all.1)
 
-both_behind : (a : Code) (ls ms : List ℕ) → AreBehind a ls → AreBehind a ms → AreBehind a (ls ++ ms)
-both_behind a [] ms first second = second
-both_behind a (l ∷ ls) ms first second = (first.0, both_behind a ls ms first.1 second)
+both_after : (a : Code) (ls ms : List ℕ) → AreAfter a ls → AreAfter a ms → AreAfter a (ls ++ ms)
+both_after a [] ms first second = second
+both_after a (l ∷ ls) ms first second = (first.0, both_after a ls ms first.1 second)
 
 pub made_no_branch : (a : Code) (ls : List ℕ) → ls ≡ [] → MadeBranches a a [] ls
 made_no_branch a ls is = subst (MadeBranches a a []) (sym is) (record { grown = grown_none a; behind = tt; stands = λ class numbered. OpenBranches.none })
@@ -86,7 +86,7 @@ made_branches_after a b c bs cs ls ms first last =
     let qs = flat_map branch_points cs in
     record {
       grown = subst (λ l. Grown a c (length l)) (sym points) (grown_both a b c ps qs first.grown last.grown);
-      behind = both_behind a ls ms first.behind (all_behind a b ms first.grown.instrs.longer last.behind);
+      behind = both_after a ls ms first.behind (all_behind a b ms first.grown.instrs.longer last.behind);
       stands = λ class numbered.
           let all = subst (AreNumbered class (length a.yields)) points numbered in
           branches_after c class (end_of a) bs (end_of b) ls
@@ -132,7 +132,7 @@ made_branch a b c d e f g x test leave next cond is_test is_c row block is_leave
     record {
       grown = subst (λ z. Grown a z (length (branch_points x ++ []))) (sym is_g)
           (patch_grown a f _ test i (subst (λ l. Grown a f (length l)) (sym points) af) (omega (arith, is_test, cond.grown.instrs.longer)));
-      behind = subst (λ m. AreBehind a (m ∷ [])) (sym is_leave) (omega (arith, cond.grown.instrs.longer, end_c, row.grown.instrs.longer, block.grown.instrs.longer), tt);
+      behind = subst (λ m. AreAfter a (m ∷ [])) (sym is_leave) (omega (arith, cond.grown.instrs.longer, end_c, row.grown.instrs.longer, block.grown.instrs.longer), tt);
       stands = λ class numbered.
           let all = subst (AreNumbered class (length a.yields)) points numbered in
           let at_d = same_numbers class a d (branch_points x) (grown_on a b d 0 0 cond.grown (grown_on b c d 0 0 bc row.grown)) all in
@@ -165,7 +165,7 @@ blocks_written c d class _ _ _ _ _ OpenBlocks.none keeps all = BlocksAt.done
 blocks_written c d class _ _ _ _ _ (OpenBlocks.block {at} {end} {last} {body} {bodies} {entries} {leaves} y h ys) keeps all =
     BlocksAt.block (kept_block c d keeps class y) all.0 (blocks_written c d class (end + 1) bodies last entries leaves ys keeps all.1)
 
--- the blocks of the alternatives up to one behind a place
+-- the blocks of the alternatives up to one after a place
 pub blocks_next : (alts : List Alt) (k : ℕ) (a : Alt) → k < length alts → a ≡ get_or alts k a → map (λ x. (out-Alt x).body) (take (k + 1) alts) ≡ map (λ x. (out-Alt x).body) (take k alts) ++ (out-Alt a).body ∷ []
 blocks_next alts k a inside at =
     ap (map (λ x. (out-Alt x).body)) (take_more alts k a inside ∙ ap (λ x. take k alts ++ x ∷ []) (sym at)) ∙ map-append (λ x. (out-Alt x).body) (take k alts) (a ∷ [])
@@ -185,7 +185,7 @@ made_blocks_after a b c d bodies es ls body first block is =
     let bd = then_none b c d (length (block_points body)) block.grown last in
     record {
       grown = subst (λ l. Grown a d (length l)) (sym points) (grown_both a b d ps (block_points body) first.grown bd);
-      behind = behind_too a ls (end_of c) first.behind (omega (arith, first.grown.instrs.longer, block.grown.instrs.longer));
+      behind = after_too a ls (end_of c) first.behind (omega (arith, first.grown.instrs.longer, block.grown.instrs.longer));
       stands = λ class numbered.
           let all = subst (AreNumbered class (length a.yields)) points numbered in
           let before = blocks_stay b d _ class (end_of a) bodies (end_of b) es ls bd (first.stands class (front_numbers class (length a.yields) ps (block_points body) all)) in

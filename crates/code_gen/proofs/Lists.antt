@@ -19,9 +19,9 @@ module _ {A : Type 0} where
   where_joined [] y ys = refl
   where_joined (x ∷ xs) y ys = where_joined xs y ys
 
-  pub behind_front : (xs ys : List A) (k : ℕ) → slice_get (xs ++ ys) (length xs + k) ≡ slice_get ys k
-  behind_front [] ys k = let e : 0 + k ≡ k = omega arith in ap (slice_get ys) e
-  behind_front (x ∷ xs) ys k = let e : length (x ∷ xs) + k ≡ suc (length xs + k) = omega arith in ap (slice_get (x ∷ (xs ++ ys))) e ∙ behind_front xs ys k
+  pub after_front : (xs ys : List A) (k : ℕ) → slice_get (xs ++ ys) (length xs + k) ≡ slice_get ys k
+  after_front [] ys k = let e : 0 + k ≡ k = omega arith in ap (slice_get ys) e
+  after_front (x ∷ xs) ys k = let e : length (x ∷ xs) + k ≡ suc (length xs + k) = omega arith in ap (slice_get (x ∷ (xs ++ ys))) e ∙ after_front xs ys k
 
   pub one_longer : (xs : List A) (y : A) → length (xs ++ y ∷ []) ≡ length xs + 1
   one_longer xs y = omega (arith, length-append xs (y ∷ []))

@@ -114,7 +114,7 @@ await_entered a b c d bodies begun now entry leave body is_entry block is_leave 
   blocks = made_blocks_next awaiting.first b c d bodies begun.entries now.entries begun.leaves now.leaves entry leave body awaiting.blocks is_entry entries block is_leave leaves is_d;
 }
 
--- the jumps behind its blocks, and its yield point
+-- the jumps after its blocks, and its yield point
 pub made_await : (a d f : Code) (bodies : List (List Item)) (begun : OpenAwait) → Awaiting a d bodies begun → f ≡ closed d begun → MadeAwait a f bodies
 made_await a d f bodies begun awaiting is_f =
     let entries = begun.entries in

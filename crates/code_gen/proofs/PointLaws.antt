@@ -17,7 +17,7 @@ use Rattle.da_machine.specs.declared.code.Code.{Code}
 use Rattle.da_machine.specs.Points.{AltPoints, AtAwait, AtLabel, IsNumbered, Point, Points, alt_points_step, branch_points_step, way_of, ways_of, item_points_step, kind_points_step, points_in, points_of}
 use Rattle.code_gen.specs.Made.{AreNumbered, Grown, alt_points, block_points, branch_points}
 use Rattle.code_gen.proofs.Growing.{grown_on}
-use Rattle.code_gen.proofs.Lists.{behind_front, in_front}
+use Rattle.code_gen.proofs.Lists.{after_front, in_front}
 
 -- those of a kind, with the blocks in it as they stand
 abbrev pub points_in_kind : ItemKind-F ItemKind Alt Item RBranch → Points
@@ -112,7 +112,7 @@ points_at i =
     ∙ fold_out-ItemKind Points AltPoints Points Points kind_points_step alt_points_step item_points_step branch_points_step (out-Item i).kind
     ∙ layer (kind_of i)
 
--- the first of numbered points, and those behind them
+-- the first of numbered points, and those after them
 pub front_numbers : (class : Class) (from : ℕ) (ps qs : Points) → AreNumbered class from (ps ++ qs) → AreNumbered class from ps
 front_numbers class from ps qs all = record { few = all.few; each = λ n point there. all.each n point (in_front ps qs n (slice_get_within ps n point there) ∙ there) }
 
@@ -122,7 +122,7 @@ rest_numbers class from ps qs all = record { few = all.few; each = λ n point th
     later : (n : ℕ) (point : Point) → slice_get qs n ≡ Some point → IsNumbered class (from + length ps + n) point
     later n point there =
         let place : from + (length ps + n) ≡ from + length ps + n = omega arith in
-        subst (λ m. IsNumbered class m point) place (all.each (length ps + n) point (behind_front ps qs n ∙ there))
+        subst (λ m. IsNumbered class m point) place (all.each (length ps + n) point (after_front ps qs n ∙ there))
 
 pub after_numbers : (class : Class) (a b : Code) (ps qs : Points) → Grown a b (length ps) → AreNumbered class (length a.yields) (ps ++ qs) → AreNumbered class (length b.yields) qs
 after_numbers class a b ps qs grown all = subst (λ m. AreNumbered class m qs) (sym grown.count) (rest_numbers class (length a.yields) ps qs all)

@@ -76,8 +76,8 @@ abbrev pub alt_points : Alt → Points
 alt_points a = block_points (out-Alt a).body
 
 -- places at which there is something only since the code was this
-abbrev pub AreBehind : Code → List ℕ → Type 0
-AreBehind code places = AllByRecursion (λ at. end_of code ≤ at) places
+abbrev pub AreAfter : Code → List ℕ → Type 0
+AreAfter code places = AllByRecursion (λ at. end_of code ≤ at) places
 
 -- `or`, whose operands decide where they are true, or `and`
 abbrev pub deciding : Bool → List RExpr → RExpr
@@ -146,12 +146,12 @@ pub record MadeLoop (old new : Code) (slot : ℕ) (body : List Item) (line : ℕ
 -- the same of branches and of blocks, whose last jumps are still to be written at the places told
 pub record MadeBranches (old new : Code) (branches : List RBranch) (leaves : List ℕ) : Type 0 where
   pub grown : Grown old new (length (flat_map branch_points branches))
-  pub behind : AreBehind old leaves
+  pub behind : AreAfter old leaves
   pub stands : (class : Class) → AreNumbered class (length old.yields) (flat_map branch_points branches) → OpenBranches new class (end_of old) branches (end_of new) leaves
 
 pub record MadeBlocks (old new : Code) (bodies : List (List Item)) (entries leaves : List ℕ) : Type 0 where
   pub grown : Grown old new (length (flat_map block_points bodies))
-  pub behind : AreBehind old leaves
+  pub behind : AreAfter old leaves
   pub stands : (class : Class) → AreNumbered class (length old.yields) (flat_map block_points bodies) → OpenBlocks new class (end_of old) bodies (end_of new) entries leaves
 
 -- An `await` was begun: its yield point is reserved, its instruction stands, and these of its blocks with their entries.
@@ -163,7 +163,7 @@ pub record Awaiting (old new : Code) (bodies : List (List Item)) (begun : OpenAw
   pub place : begun.at ≡ length old.yields
   pub blocks : MadeBlocks first new bodies begun.entries begun.leaves
 
--- it is ended: each block goes on behind the last one, and the entries are written into the yield point
+-- it is ended: each block goes on after the last one, and the entries are written into the yield point
 abbrev pub closed : Code → OpenAwait → Code
 closed code begun = repointed (filled code begun.leaves (op.Jump (end_of code))) begun.at (record { label = false; entries = begun.entries })
 
@@ -175,7 +175,7 @@ pub record MadeSetup (old new : Code) (class : Class) (call : Option SetupCall) 
 
 pub record MadeSetups (old new : Code) (class : Class) (calls : List (Option SetupCall)) (starts leaves : List ℕ) : Type 0 where
   pub grown : Grown old new 0
-  pub behind : AreBehind old leaves
+  pub behind : AreAfter old leaves
   pub stands : OpenSetups new class (end_of old) calls (end_of new) starts leaves
 
 abbrev pub handler_points : Handler → Points

@@ -32,7 +32,7 @@ module _ (code : Code) (class : Class) where
     none : {at : ℕ} → OpenSetups at [] at [] []
     opening : {at end last : ℕ} {s : Option SetupCall} {ss : List (Option SetupCall)} {entries leaves : List ℕ} → SetupAt at s end → Has code end op.End → OpenSetups (end + 1) ss last entries leaves → OpenSetups at (s ∷ ss) last (at ∷ entries) (end ∷ leaves)
 
-  -- the bodies of handlers with their entries, each with the end behind it
+  -- the bodies of handlers with their entries, each with the end after it
   pub data HandlersAt : ℕ → List Handler → ℕ → List ℕ → Type 0 where
     none : {at : ℕ} → HandlersAt at [] at []
     handler : {at end last : ℕ} {h : Handler} {hs : List Handler} {entries : List ℕ} → BlockAt code class at h.body end → Has code end op.End → HandlersAt (end + 1) hs last entries → HandlersAt at (h ∷ hs) last (at ∷ entries)

@@ -115,7 +115,7 @@ pub fn begin_await(alloc: Global, code: &mut Code) -> Result<OpenAwait, NoMemory
     })
 }
 
-/// Ends an `await`: each of its blocks goes on behind the last one, and its yield point gets their entries.
+/// Ends an `await`: each of its blocks goes on after the last one, and its yield point gets their entries.
 pub fn end_await(begun: OpenAwait, code: &mut Code)
     ensures { code.new ≡ closed code.old begun }
 {

@@ -90,7 +90,7 @@ fn emit_parts(alloc: Global, parts: &[ChainPart], code: &mut Code) -> Result<(),
     Ok(())
 }
 
-// Adds the code of operands each of which decides where it has the given value. The tests have one target, behind the
+// Adds the code of operands each of which decides where it has the given value. The tests have one target, after the
 // operands, so they are written when that is known.
 #[cycle(exprs)]
 fn emit_tests(

@@ -129,7 +129,7 @@ fn emit_loop(
     Ok(())
 }
 
-// Adds the code of branches. Each ends with a hole for the jump behind the last one, and their places are told.
+// Adds the code of branches. Each ends with a hole for the jump past the last one, and their places are told.
 #[cycle(items)]
 fn emit_branches(
     alloc: Global,
@@ -191,7 +191,7 @@ fn emit_timeout(
     Ok(())
 }
 
-// Adds a block of an `await`, with its entry, and a hole for the jump behind the last one.
+// Adds a block of an `await`, with its entry, and a hole for the jump past the last one.
 #[cycle(items)]
 fn emit_entered(
     alloc: Global,

@@ -117,7 +117,7 @@ pub some_if : {A : Type 0} (b : Bool) (x : A) (o : Option A) → is_some (if b t
 some_if true x o = refl
 some_if false x o = refl
 
--- whether a declaration is told, by what the code does
+-- whether a declaration is reported, by what the code does
 pub told_if : (kind : ScopeKind) (line : ℕ) (found last : Option Refusal) (b : Bool) → ((b ≡ true) × (last ≡ telling found (record { kind = kind; line = line } ∷ []))) ⊎ ((b ≡ false) × (last ≡ found)) → last ≡ (if b then telling found (record { kind = kind; line = line } ∷ []) else found)
 told_if kind line found last b (inl h) = h.1 ∙ sym (ap (λ c. if c then telling found (record { kind = kind; line = line } ∷ []) else found) h.0)
 told_if kind line found last b (inr h) = h.1 ∙ sym (ap (λ c. if c then telling found (record { kind = kind; line = line } ∷ []) else found) h.0)

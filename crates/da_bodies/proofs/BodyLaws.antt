@@ -1,4 +1,4 @@
--- What is told of the names of a body, by what is told of its parts.
+-- What is reported of the names of a body, by what is reported of its parts.
 use Rattle.std.specs.Prelude.{◌≡◌, refl, ℕ, ◌+◌, ◌-◌, ◌<◌, length, take, drop, Bool, true, false, List, [], ◌∷◌, ◌++◌, map, flat_map, Option, Some, None, option_to_list, bytes_eq}
 use Rattle.std.specs.List.{list_any}
 use Rattle.std.proofs.Common.{◌∙◌, sym, ap, get_or, append_assoc}
@@ -15,7 +15,7 @@ use Rattle.da_lang.specs.Scopes.{Scope, look, entered, at_line, at_lines}
 use Rattle.da_lang.specs.StmtNames.{refused_in_body}
 use Rattle.da_bodies.specs.BodyView.{place_variables, sender_variables_at, handler_variables_at, told_params, told_place, told_sender, told_body}
 use Rattle.da_bodies.specs.Telling.{Refusal, telling}
-use Rattle.da_bodies.specs.Told.{entered_each, behind, told_kinds, told_part, told_parts}
+use Rattle.da_bodies.specs.Told.{entered_each, after_part_of, told_kinds, told_part, told_parts}
 use Rattle.da_bodies.specs.ToldStmts.{told_block}
 use Rattle.da_bodies.specs.Variables.{named_at, variables_at}
 use Rattle.da_bodies.proofs.PartLaws.{pattern_steady}
@@ -58,9 +58,9 @@ module _ (line : ℕ) where
   unfolding sender_variables_at
   sender_variables-Some p = refl
 
-behind_here : (scope : Scope Role) (part : Part) → behind Local scope part ≡ scope
-unfolding behind
-behind_here scope part = refl
+after_here : (scope : Scope Role) (part : Part) → after_part_of Local scope part ≡ scope
+unfolding after_part_of
+after_here scope part = refl
 
 module _ (line : ℕ) (scope : Scope Role) (found : Option Refusal) where
   pub told_place-Setup : told_place line scope found InSetup ≡ found
@@ -89,8 +89,8 @@ module _ (line : ℕ) (scope : Scope Role) (found : Option Refusal) where
   told_place-Handler message (Some p) labels =
       let f = told_part line Local scope found (pattern_part message) in
       told_parts-cons line Local scope found (pattern_part message) (pattern_part p ∷ []) (pattern_steady p, tt)
-      ∙ told_parts-one line Local (behind Local scope (pattern_part message)) f (pattern_part p)
-      ∙ ap (λ s. told_part line Local s f (pattern_part p)) (behind_here scope (pattern_part message))
+      ∙ told_parts-one line Local (after_part_of Local scope (pattern_part message)) f (pattern_part p)
+      ∙ ap (λ s. told_part line Local s f (pattern_part p)) (after_here scope (pattern_part message))
 
 pub ruleset place_rules = (place_variables-Setup, place_variables-Run, place_variables-Method, place_variables-Handler, told_place-Setup, told_place-Run, told_place-Method, told_place-Handler)
 

@@ -34,6 +34,6 @@ entered_more role name old before now xs i d within so_far step =
     ∙ sym (entered_each-append role (map name (take i xs)) (name (get_or xs i d) ∷ []) old)
     ∙ ap (λ ns. entered_each role ns old) (sym (map-append name (take i xs) (get_or xs i d ∷ [])) ∙ ap (map name) (sym (take_more xs i d within)))
 
--- one part behind another
+-- one part after another
 pub appended_both : {A E : Type 0} (r : Result (Unit {0}) E) (old mid new first second all : List A) → mid ≡ old ++ first → OnOk r (new ≡ mid ++ second) → all ≡ first ++ second → OnOk r (new ≡ old ++ all)
 appended_both r old mid new first second all one two same = on_same r new (mid ++ second) (old ++ all) two (ap (λ m. m ++ second) one ∙ append_assoc old first second ∙ ap (λ m. old ++ m) (sym same))

@@ -1,10 +1,10 @@
--- Which refusal is told depends on what is found alone, and not on the order.
+-- Which refusal is reported depends on what is found alone, and not on the order.
 use Rattle.std.specs.Prelude.{◌≡◌, refl, ℕ, ◌+◌, ◌*◌, ◌<◌, ◌≤◌, nat_lt, ◌==◌, ◌||◌, ◌&&◌, Bool, true, false, if◌then◌else◌, List, [], ◌∷◌, ◌++◌, flat_map, Option, Some, None, Contains, option_map}
 use Rattle.std.proofs.Common.{◌∙◌, ⊎_elim, subst, sym, ap, arith, ltb-true, ltb-false, eqb-true}
 use Rattle.std.proofs.lemmas.Bool.{eqb-false}
 use Rattle.da_lang.specs.NameRules.{rank as name_rank}
 use Rattle.da_lang.specs.Scopes.{Refused, sooner, sooner_of, told}
-use Rattle.da_bodies.specs.declared.least.Fault.{Fault}
+use Rattle.da_bodies.specs.declared.earliest.Fault.{Fault}
 use Rattle.da_bodies.specs.Telling.{Refusal, refusal_of, telling, telling_by}
 use Rattle.da_calls.proofs.CallBounds.{in_first, in_later, in_cases, in_none}
 
@@ -25,7 +25,7 @@ telling-nil = telling_by-nil name_rank
 pub telling-append : (found : Option Refusal) (xs ys : List Refusal) → telling found (xs ++ ys) ≡ telling (telling found xs) ys
 telling-append = telling_by-append name_rank
 
--- nothing is told only where nothing is found
+-- nothing is reported only where nothing is found
 told_none : {K : Type 0} (rank : K → ℕ) (xs : List (Refused K)) → told rank xs ≡ None → xs ≡ []
 told_none rank [] none = refl
 told_none rank (x ∷ xs) none = absurd (cc)

@@ -1,4 +1,4 @@
--- What is told of an expression, a pattern and a generator, by what is told of their parts.
+-- What is reported of an expression, a pattern and a generator, by what is reported of their parts.
 use Rattle.std.specs.Prelude.{◌≡◌, refl, ℕ, ◌+◌, ◌-◌, length, drop, ℤ, Bool, List, [], ◌∷◌, ◌++◌, map, flat_map, Option, Some, None, option_map, option_to_list}
 use Rattle.std.specs.List.{AllByRecursion, fold}
 use Rattle.std.proofs.Common.{◌∙◌, sym, ap, arith, append_assoc, length-append}
@@ -21,7 +21,7 @@ use Rattle.da_lang.specs.ExprNames.{Role, Local, QueryVariable, Part, in_order, 
 use Rattle.da_lang.specs.Scopes.{Scope, look}
 use Rattle.da_lang.proofs.NamesAt as at
 use Rattle.da_bodies.specs.Telling.{Refusal}
-use Rattle.da_bodies.specs.Told.{entered_each, brought_each, behind, behind_all, told_kinds, told_part, told_parts, told_all, told_expr, told_argument, told_link}
+use Rattle.da_bodies.specs.Told.{entered_each, brought_each, after_part_of, behind_all, told_kinds, told_part, told_parts, told_all, told_expr, told_argument, told_link}
 use Rattle.da_bodies.proofs.PartLaws.{Steady, all_append, all_map, all_of, plain_steady, expr_plain, pattern_steady, peer_steady, gen_steady, steady_source}
 use Rattle.da_bodies.proofs.SameLook.{brought_each-nil, brought_each-append}
 use Rattle.da_bodies.proofs.ToldParts.{told_kinds-nil, told_kinds-append, told_parts-nil, told_parts-cons, told_parts-one, told_all-nil, told_all-cons, told_all-one, told_all-snoc, behind_all-nil, behind_all-cons, behind_all-snoc, told_all-exprs}
@@ -124,8 +124,8 @@ gens_then line role scope found [] xs =
     ∙ ap (λ f. fold (told_expr line (behind_all gen_part role scope [])) f xs) (sym (told_all-nil gen_part gen_steady line role scope found))
 gens_then line role scope found (g ∷ gens) xs =
     told_parts-cons line role scope found (gen_part g) (map gen_part gens ++ map names_of xs) (all_gens gens xs)
-    ∙ gens_then line role (behind role scope (gen_part g)) (told_part line role scope found (gen_part g)) gens xs
-    ∙ ap (λ s. fold (told_expr line s) (told_all gen_part line role (behind role scope (gen_part g)) (told_part line role scope found (gen_part g)) gens) xs) (sym (behind_all-cons gen_part gen_steady role scope g gens))
+    ∙ gens_then line role (after_part_of role scope (gen_part g)) (told_part line role scope found (gen_part g)) gens xs
+    ∙ ap (λ s. fold (told_expr line s) (told_all gen_part line role (after_part_of role scope (gen_part g)) (told_part line role scope found (gen_part g)) gens) xs) (sym (behind_all-cons gen_part gen_steady role scope g gens))
     ∙ ap (λ f. fold (told_expr line (behind_all gen_part role scope (g ∷ gens))) f xs) (sym (told_all-cons gen_part gen_steady line role scope found g gens))
 
 listed : (cond : Option Expr) → option_to_list (option_map names_of cond) ≡ map names_of (option_to_list cond)
@@ -230,45 +230,45 @@ binds_of [] = refl
 binds_of (p ∷ ps) = ap (λ ns. (pattern_part p).binds ++ ns) (binds_of ps)
 
 module _ (role : Role) (scope : Scope Role) where
-  behind_is : (p : Part) (ns : List (List ℕ)) → p.binds ≡ ns → behind role scope p ≡ brought_each role ns scope
-  unfolding behind
+  behind_is : (p : Part) (ns : List (List ℕ)) → p.binds ≡ ns → after_part_of role scope p ≡ brought_each role ns scope
+  unfolding after_part_of
   behind_is p ns is = ap (λ b. brought_each role b scope) is
 
-  behind_nothing : (p : Part) → p.binds ≡ [] → behind role scope p ≡ scope
-  behind_nothing p is = behind_is p [] is ∙ brought_each-nil role scope
+  after_nothing : (p : Part) → p.binds ≡ [] → after_part_of role scope p ≡ scope
+  after_nothing p is = behind_is p [] is ∙ brought_each-nil role scope
 
-  pub behind_pattern-Wild : behind role scope (pattern_part pattern.Wild) ≡ scope
-  behind_pattern-Wild = behind_nothing (pattern_part pattern.Wild) (ap (λ (p : Part). p.binds) at.pattern_part-Wild)
+  pub after_pattern-Wild : after_part_of role scope (pattern_part pattern.Wild) ≡ scope
+  after_pattern-Wild = after_nothing (pattern_part pattern.Wild) (ap (λ (p : Part). p.binds) at.pattern_part-Wild)
 
-  pub behind_pattern-Int : (n : ℤ) → behind role scope (pattern_part (pattern.Int n)) ≡ scope
-  behind_pattern-Int n = behind_nothing (pattern_part (pattern.Int n)) (ap (λ (p : Part). p.binds) (at.pattern_part-Int n))
+  pub after_pattern-Int : (n : ℤ) → after_part_of role scope (pattern_part (pattern.Int n)) ≡ scope
+  after_pattern-Int n = after_nothing (pattern_part (pattern.Int n)) (ap (λ (p : Part). p.binds) (at.pattern_part-Int n))
 
-  pub behind_pattern-Text : (bytes : List ℕ) → behind role scope (pattern_part (pattern.Text bytes)) ≡ scope
-  behind_pattern-Text bytes = behind_nothing (pattern_part (pattern.Text bytes)) (ap (λ (p : Part). p.binds) (at.pattern_part-Text bytes))
+  pub after_pattern-Text : (bytes : List ℕ) → after_part_of role scope (pattern_part (pattern.Text bytes)) ≡ scope
+  after_pattern-Text bytes = after_nothing (pattern_part (pattern.Text bytes)) (ap (λ (p : Part). p.binds) (at.pattern_part-Text bytes))
 
-  pub behind_pattern-Truth : (b : Bool) → behind role scope (pattern_part (pattern.Truth b)) ≡ scope
-  behind_pattern-Truth b = behind_nothing (pattern_part (pattern.Truth b)) (ap (λ (p : Part). p.binds) (at.pattern_part-Truth b))
+  pub after_pattern-Truth : (b : Bool) → after_part_of role scope (pattern_part (pattern.Truth b)) ≡ scope
+  after_pattern-Truth b = after_nothing (pattern_part (pattern.Truth b)) (ap (λ (p : Part). p.binds) (at.pattern_part-Truth b))
 
-  pub behind_pattern-Me : behind role scope (pattern_part pattern.Me) ≡ scope
-  behind_pattern-Me = behind_nothing (pattern_part pattern.Me) (ap (λ (p : Part). p.binds) at.pattern_part-Me)
+  pub after_pattern-Me : after_part_of role scope (pattern_part pattern.Me) ≡ scope
+  after_pattern-Me = after_nothing (pattern_part pattern.Me) (ap (λ (p : Part). p.binds) at.pattern_part-Me)
 
-  pub behind_pattern-Equal : (x : Expr) → behind role scope (pattern_part (pattern.Equal x)) ≡ scope
-  behind_pattern-Equal x = behind_nothing (pattern_part (pattern.Equal x)) (ap (λ (p : Part). p.binds) (at.pattern_part-Equal x))
+  pub after_pattern-Equal : (x : Expr) → after_part_of role scope (pattern_part (pattern.Equal x)) ≡ scope
+  after_pattern-Equal x = after_nothing (pattern_part (pattern.Equal x)) (ap (λ (p : Part). p.binds) (at.pattern_part-Equal x))
 
-  pub behind_pattern-Tuple : (ps : List PatternTree) → behind role scope (pattern_part (pattern.Tuple ps)) ≡ behind_all pattern_part role scope ps
+  pub after_pattern-Tuple : (ps : List PatternTree) → after_part_of role scope (pattern_part (pattern.Tuple ps)) ≡ behind_all pattern_part role scope ps
   unfolding behind_all
-  behind_pattern-Tuple ps = behind_is (pattern_part (pattern.Tuple ps)) (flat_map (λ p. (pattern_part p).binds) ps) (ap (λ (p : Part). p.binds) (at.pattern_part-Tuple ps) ∙ binds_of ps)
+  after_pattern-Tuple ps = behind_is (pattern_part (pattern.Tuple ps)) (flat_map (λ p. (pattern_part p).binds) ps) (ap (λ (p : Part). p.binds) (at.pattern_part-Tuple ps) ∙ binds_of ps)
 
-  pub behind_peer-From : (p : PatternTree) → behind role scope (peer_part (peer.From p)) ≡ behind role scope (pattern_part p)
-  behind_peer-From p = ap (behind role scope) (at.peer_part-From p)
+  pub after_peer-From : (p : PatternTree) → after_part_of role scope (peer_part (peer.From p)) ≡ after_part_of role scope (pattern_part p)
+  after_peer-From p = ap (after_part_of role scope) (at.peer_part-From p)
 
-  pub behind_peer-To : (p : PatternTree) → behind role scope (peer_part (peer.To p)) ≡ behind role scope (pattern_part p)
-  behind_peer-To p = ap (behind role scope) (at.peer_part-To p)
+  pub after_peer-To : (p : PatternTree) → after_part_of role scope (peer_part (peer.To p)) ≡ after_part_of role scope (pattern_part p)
+  after_peer-To p = ap (after_part_of role scope) (at.peer_part-To p)
 
-pub behind_pattern-Name : (scope : Scope Role) (name : List ℕ) → behind QueryVariable scope (pattern_part (pattern.Name name)) ≡ (name, QueryVariable) ∷ scope
-behind_pattern-Name scope name = behind_is QueryVariable scope (pattern_part (pattern.Name name)) (name ∷ []) (ap (λ (p : Part). p.binds) (at.pattern_part-Name name))
+pub after_pattern-Name : (scope : Scope Role) (name : List ℕ) → after_part_of QueryVariable scope (pattern_part (pattern.Name name)) ≡ (name, QueryVariable) ∷ scope
+after_pattern-Name scope name = behind_is QueryVariable scope (pattern_part (pattern.Name name)) (name ∷ []) (ap (λ (p : Part). p.binds) (at.pattern_part-Name name))
 
-pub ruleset pattern_rules = (told_pattern-Wild, told_pattern-Int, told_pattern-Text, told_pattern-Truth, told_pattern-Me, told_pattern-Name, told_pattern-Equal, told_pattern-Tuple, behind_pattern-Wild, behind_pattern-Int, behind_pattern-Text, behind_pattern-Truth, behind_pattern-Me, behind_pattern-Name, behind_pattern-Equal, behind_pattern-Tuple)
+pub ruleset pattern_rules = (told_pattern-Wild, told_pattern-Int, told_pattern-Text, told_pattern-Truth, told_pattern-Me, told_pattern-Name, told_pattern-Equal, told_pattern-Tuple, after_pattern-Wild, after_pattern-Int, after_pattern-Text, after_pattern-Truth, after_pattern-Me, after_pattern-Name, after_pattern-Equal, after_pattern-Tuple)
 
 -- generators
 gen_parts : PatternTree → Option PeerTree → SourceTree → List Part
@@ -279,25 +279,25 @@ unfolding gen_parts
 gen_at g = ap gen_part (sym (roll-out-GenTree g)) ∙ at.gen_part-of (out-GenTree g).message (out-GenTree g).peer (out-GenTree g).source
 
 module _ (line : ℕ) (role : Role) (scope : Scope Role) (found : Option Refusal) where
-  told_gen_parts : (message : PatternTree) (other : Option PeerTree) (source : SourceTree) → told_parts line role scope found (gen_parts message other source) ≡ told_part line role (behind_all peer_part role (behind role scope (pattern_part message)) (option_to_list other)) (told_all peer_part line role (behind role scope (pattern_part message)) (told_part line role scope found (pattern_part message)) (option_to_list other)) (source_part source)
+  told_gen_parts : (message : PatternTree) (other : Option PeerTree) (source : SourceTree) → told_parts line role scope found (gen_parts message other source) ≡ told_part line role (behind_all peer_part role (after_part_of role scope (pattern_part message)) (option_to_list other)) (told_all peer_part line role (after_part_of role scope (pattern_part message)) (told_part line role scope found (pattern_part message)) (option_to_list other)) (source_part source)
   unfolding gen_parts
   told_gen_parts message None source =
-      let s = behind role scope (pattern_part message) in
+      let s = after_part_of role scope (pattern_part message) in
       let f = told_part line role scope found (pattern_part message) in
       told_parts-cons line role scope found (pattern_part message) (source_part source ∷ []) (steady_source source, tt)
       ∙ told_parts-one line role s f (source_part source)
       ∙ ap (λ t. told_part line role t f (source_part source)) (sym (behind_all-nil peer_part peer_steady role s))
       ∙ ap (λ u. told_part line role (behind_all peer_part role s []) u (source_part source)) (sym (told_all-nil peer_part peer_steady line role s f))
   told_gen_parts message (Some p) source =
-      let s = behind role scope (pattern_part message) in
+      let s = after_part_of role scope (pattern_part message) in
       let f = told_part line role scope found (pattern_part message) in
       told_parts-cons line role scope found (pattern_part message) (peer_part p ∷ source_part source ∷ []) (peer_steady p, (steady_source source, tt))
       ∙ told_parts-cons line role s f (peer_part p) (source_part source ∷ []) (steady_source source, tt)
-      ∙ told_parts-one line role (behind role s (peer_part p)) (told_part line role s f (peer_part p)) (source_part source)
-      ∙ ap (λ t. told_part line role t (told_part line role s f (peer_part p)) (source_part source)) (sym (behind_all-cons peer_part peer_steady role s p [] ∙ behind_all-nil peer_part peer_steady role (behind role s (peer_part p))))
+      ∙ told_parts-one line role (after_part_of role s (peer_part p)) (told_part line role s f (peer_part p)) (source_part source)
+      ∙ ap (λ t. told_part line role t (told_part line role s f (peer_part p)) (source_part source)) (sym (behind_all-cons peer_part peer_steady role s p [] ∙ behind_all-nil peer_part peer_steady role (after_part_of role s (peer_part p))))
       ∙ ap (λ u. told_part line role (behind_all peer_part role s (p ∷ [])) u (source_part source)) (sym (told_all-one peer_part peer_steady line role s f p))
 
-  pub told_gen : (g : GenTree) → told_part line role scope found (gen_part g) ≡ told_part line role (behind_all peer_part role (behind role scope (pattern_part (out-GenTree g).message)) (option_to_list (out-GenTree g).peer)) (told_all peer_part line role (behind role scope (pattern_part (out-GenTree g).message)) (told_part line role scope found (pattern_part (out-GenTree g).message)) (option_to_list (out-GenTree g).peer)) (source_part (out-GenTree g).source)
+  pub told_gen : (g : GenTree) → told_part line role scope found (gen_part g) ≡ told_part line role (behind_all peer_part role (after_part_of role scope (pattern_part (out-GenTree g).message)) (option_to_list (out-GenTree g).peer)) (told_all peer_part line role (after_part_of role scope (pattern_part (out-GenTree g).message)) (told_part line role scope found (pattern_part (out-GenTree g).message)) (option_to_list (out-GenTree g).peer)) (source_part (out-GenTree g).source)
   unfolding told_part told_parts
   told_gen g = ap (λ (q : Part). told_kinds line found (q.kinds role scope)) (gen_at g) ∙ told_gen_parts (out-GenTree g).message (out-GenTree g).peer (out-GenTree g).source
 
@@ -314,14 +314,14 @@ gen_binds message (Some p) source = ap (λ ns. (pattern_part message).binds ++ (
 pub gen_binds_at : (g : GenTree) → (gen_part g).binds ≡ (pattern_part (out-GenTree g).message).binds ++ flat_map (λ p. (peer_part p).binds) (option_to_list (out-GenTree g).peer)
 gen_binds_at g = ap (λ (p : Part). p.binds) (gen_at g) ∙ gen_binds (out-GenTree g).message (out-GenTree g).peer (out-GenTree g).source
 
-pub behind_gen : (role : Role) (scope : Scope Role) (g : GenTree) → behind role scope (gen_part g) ≡ behind_all peer_part role (behind role scope (pattern_part (out-GenTree g).message)) (option_to_list (out-GenTree g).peer)
-unfolding behind behind_all
-behind_gen role scope g =
+pub after_gen : (role : Role) (scope : Scope Role) (g : GenTree) → after_part_of role scope (gen_part g) ≡ behind_all peer_part role (after_part_of role scope (pattern_part (out-GenTree g).message)) (option_to_list (out-GenTree g).peer)
+unfolding after_part_of behind_all
+after_gen role scope g =
     let v = out-GenTree g in
     ap (λ b. brought_each role b scope) (gen_binds_at g)
     ∙ brought_each-append role (pattern_part v.message).binds (flat_map (λ p. (peer_part p).binds) (option_to_list v.peer)) scope
 
-pub ruleset gen_rules = (told_gen, behind_gen)
+pub ruleset gen_rules = (told_gen, after_gen)
 
 -- peers and sources
 pub told_no_peer : (line : ℕ) (role : Role) (scope : Scope Role) (found : Option Refusal) → told_all peer_part line role scope found [] ≡ found
@@ -330,13 +330,13 @@ told_no_peer = told_all-nil peer_part peer_steady
 pub told_peer : (line : ℕ) (role : Role) (scope : Scope Role) (found : Option Refusal) (p : PeerTree) → told_all peer_part line role scope found (p ∷ []) ≡ told_part line role scope found (peer_part p)
 told_peer = told_all-one peer_part peer_steady
 
-pub behind_no_peer : (role : Role) (scope : Scope Role) → behind_all peer_part role scope [] ≡ scope
-behind_no_peer = behind_all-nil peer_part peer_steady
+pub after_no_peer : (role : Role) (scope : Scope Role) → behind_all peer_part role scope [] ≡ scope
+after_no_peer = behind_all-nil peer_part peer_steady
 
-pub behind_peer : (role : Role) (scope : Scope Role) (p : PeerTree) → behind_all peer_part role scope (p ∷ []) ≡ behind role scope (peer_part p)
-behind_peer role scope p = behind_all-cons peer_part peer_steady role scope p [] ∙ behind_all-nil peer_part peer_steady role (behind role scope (peer_part p))
+pub after_peer : (role : Role) (scope : Scope Role) (p : PeerTree) → behind_all peer_part role scope (p ∷ []) ≡ after_part_of role scope (peer_part p)
+after_peer role scope p = behind_all-cons peer_part peer_steady role scope p [] ∙ behind_all-nil peer_part peer_steady role (after_part_of role scope (peer_part p))
 
-pub ruleset peer_rules = (told_no_peer, told_peer, behind_no_peer, behind_peer, told_peer-From, told_peer-To, behind_peer-From, behind_peer-To)
+pub ruleset peer_rules = (told_no_peer, told_peer, after_no_peer, after_peer, told_peer-From, told_peer-To, after_peer-From, after_peer-To)
 
 pub ruleset source_rules = (told_source-Received, told_source-Sent, told_source-Name)
 
@@ -344,30 +344,30 @@ pub ruleset source_rules = (told_source-Received, told_source-Sent, told_source-
 pub told_patterns-snoc : (line : ℕ) (role : Role) (scope : Scope Role) (found : Option Refusal) (ps : List PatternTree) (p : PatternTree) → told_all pattern_part line role scope found (ps ++ p ∷ []) ≡ told_part line role (behind_all pattern_part role scope ps) (told_all pattern_part line role scope found ps) (pattern_part p)
 told_patterns-snoc = told_all-snoc pattern_part pattern_steady
 
-pub behind_patterns-snoc : (role : Role) (scope : Scope Role) (ps : List PatternTree) (p : PatternTree) → behind_all pattern_part role scope (ps ++ p ∷ []) ≡ behind role (behind_all pattern_part role scope ps) (pattern_part p)
-behind_patterns-snoc = behind_all-snoc pattern_part pattern_steady
+pub after_patterns-snoc : (role : Role) (scope : Scope Role) (ps : List PatternTree) (p : PatternTree) → behind_all pattern_part role scope (ps ++ p ∷ []) ≡ after_part_of role (behind_all pattern_part role scope ps) (pattern_part p)
+after_patterns-snoc = behind_all-snoc pattern_part pattern_steady
 
 pub told_gens-snoc : (line : ℕ) (role : Role) (scope : Scope Role) (found : Option Refusal) (gs : List GenTree) (g : GenTree) → told_all gen_part line role scope found (gs ++ g ∷ []) ≡ told_part line role (behind_all gen_part role scope gs) (told_all gen_part line role scope found gs) (gen_part g)
 told_gens-snoc = told_all-snoc gen_part gen_steady
 
-pub behind_gens-snoc : (role : Role) (scope : Scope Role) (gs : List GenTree) (g : GenTree) → behind_all gen_part role scope (gs ++ g ∷ []) ≡ behind role (behind_all gen_part role scope gs) (gen_part g)
-behind_gens-snoc = behind_all-snoc gen_part gen_steady
+pub after_gens-snoc : (role : Role) (scope : Scope Role) (gs : List GenTree) (g : GenTree) → behind_all gen_part role scope (gs ++ g ∷ []) ≡ after_part_of role (behind_all gen_part role scope gs) (gen_part g)
+after_gens-snoc = behind_all-snoc gen_part gen_steady
 
 pub told_patterns-nil : (line : ℕ) (role : Role) (scope : Scope Role) (found : Option Refusal) → told_all pattern_part line role scope found [] ≡ found
 told_patterns-nil = told_all-nil pattern_part pattern_steady
 
-pub behind_patterns-nil : (role : Role) (scope : Scope Role) → behind_all pattern_part role scope [] ≡ scope
-behind_patterns-nil = behind_all-nil pattern_part pattern_steady
+pub after_patterns-nil : (role : Role) (scope : Scope Role) → behind_all pattern_part role scope [] ≡ scope
+after_patterns-nil = behind_all-nil pattern_part pattern_steady
 
 pub told_gens-nil : (line : ℕ) (role : Role) (scope : Scope Role) (found : Option Refusal) → told_all gen_part line role scope found [] ≡ found
 told_gens-nil = told_all-nil gen_part gen_steady
 
-pub behind_gens-nil : (role : Role) (scope : Scope Role) → behind_all gen_part role scope [] ≡ scope
-behind_gens-nil = behind_all-nil gen_part gen_steady
+pub after_gens-nil : (role : Role) (scope : Scope Role) → behind_all gen_part role scope [] ≡ scope
+after_gens-nil = behind_all-nil gen_part gen_steady
 
-pub ruleset pattern_steps = (told_patterns-snoc, behind_patterns-snoc, told_patterns-nil, behind_patterns-nil)
+pub ruleset pattern_steps = (told_patterns-snoc, after_patterns-snoc, told_patterns-nil, after_patterns-nil)
 
-pub ruleset gen_steps = (told_gens-snoc, behind_gens-snoc, told_gens-nil, behind_gens-nil)
+pub ruleset gen_steps = (told_gens-snoc, after_gens-snoc, told_gens-nil, after_gens-nil)
 
 -- the variables of a query leave it
 sub_back : (a b : ℕ) → (a + b) - b ≡ a
@@ -380,11 +380,11 @@ pushed_by role (n ∷ ns) before scope = pushed_by role ns ((n, role) ∷ before
 pub pushed : (role : Role) (names : List (List ℕ)) (scope : Scope Role) → drop (length (entered_each role names scope) - length scope) (entered_each role names scope) ≡ scope
 pushed role names scope = pushed_by role names [] scope
 
-pub left_behind_gens : (scope : Scope Role) (gens : List GenTree) → drop (length (behind_all gen_part QueryVariable scope gens) - length scope) (behind_all gen_part QueryVariable scope gens) ≡ scope
+pub left_after_gens : (scope : Scope Role) (gens : List GenTree) → drop (length (behind_all gen_part QueryVariable scope gens) - length scope) (behind_all gen_part QueryVariable scope gens) ≡ scope
 unfolding behind_all
-left_behind_gens scope gens = pushed QueryVariable (flat_map (λ g. (gen_part g).binds) gens) scope
+left_after_gens scope gens = pushed QueryVariable (flat_map (λ g. (gen_part g).binds) gens) scope
 
 -- the variables of a handler's patterns do not come into scope in them
-pub behind_local : (scope : Scope Role) (ps : List PatternTree) → behind_all pattern_part Local scope ps ≡ scope
+pub after_local : (scope : Scope Role) (ps : List PatternTree) → behind_all pattern_part Local scope ps ≡ scope
 unfolding behind_all
-behind_local scope ps = refl
+after_local scope ps = refl

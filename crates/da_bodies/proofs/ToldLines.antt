@@ -1,4 +1,4 @@
--- What is told of a statement, by what is told of its parts.
+-- What is reported of a statement, by what is reported of its parts.
 use Rattle.std.specs.Prelude.{◌≡◌, refl, ℕ, ◌+◌, ◌-◌, ◌<◌, length, take, drop, List, [], ◌∷◌, ◌++◌, map, flat_map, Option, Some, None, option_map, option_to_list}
 use Rattle.std.specs.List.{fold}
 use Rattle.std.proofs.Common.{◌∙◌, sym, ap, get_or}
@@ -16,7 +16,7 @@ use Rattle.da_lang.specs.StmtNames.{Refusing, Line, block, block_if, beside, say
 use Rattle.da_lang.proofs.StmtNamesAt as at
 use Rattle.da_bodies.specs.Telling.{Refusal, telling}
 use Rattle.da_bodies.specs.Told.{entered_each, told_kinds, told_expr}
-use Rattle.da_bodies.specs.ToldStmts.{told_stmt, told_branch, told_timeout, told_block, behind_stmts}
+use Rattle.da_bodies.specs.ToldStmts.{told_stmt, told_branch, told_timeout, told_block, after_stmts}
 use Rattle.da_bodies.proofs.SameLook.{SameLook, same_each, entered_each-append}
 use Rattle.da_bodies.proofs.StmtLaws.{body_same}
 use Rattle.da_bodies.proofs.ToldExprs.{pushed}
@@ -155,96 +155,96 @@ told_timeout_of scope found t =
     let v = out-TimeoutTree t in
     ap (λ x. telling found (timeout_of x scope)) (sym (roll-out-TimeoutTree t)) ∙ ap (telling found) (at.timeout_at v.body v.line scope)
 
--- statements behind one another
+-- statements one after another
 pub told_block-nil : (scope : Scope Role) (found : Option Refusal) → told_block scope found [] ≡ found
 unfolding told_block
 told_block-nil scope found = telling-nil found
 
-pub behind_stmts-nil : (scope : Scope Role) → behind_stmts scope [] ≡ scope
-unfolding behind_stmts
-behind_stmts-nil scope = refl
+pub after_stmts-nil : (scope : Scope Role) → after_stmts scope [] ≡ scope
+unfolding after_stmts
+after_stmts-nil scope = refl
 
-pub behind_stmts-append : (scope : Scope Role) (xs ys : List Stmt) → behind_stmts scope (xs ++ ys) ≡ behind_stmts (behind_stmts scope xs) ys
-unfolding behind_stmts
-behind_stmts-append scope xs ys =
+pub after_stmts-append : (scope : Scope Role) (xs ys : List Stmt) → after_stmts scope (xs ++ ys) ≡ after_stmts (after_stmts scope xs) ys
+unfolding after_stmts
+after_stmts-append scope xs ys =
     ap (λ ns. entered_each Local ns scope) (flat_map-append (λ s. (line_of s).binds) xs ys)
     ∙ entered_each-append Local (flat_map (λ s. (line_of s).binds) xs) (flat_map (λ s. (line_of s).binds) ys) scope
 
-told_block-cons : (scope : Scope Role) (found : Option Refusal) (s : Stmt) (body : List Stmt) → told_block scope found (s ∷ body) ≡ told_block (behind_stmts scope (s ∷ [])) (told_stmt scope found s) body
-unfolding told_block told_stmt behind_stmts
+told_block-cons : (scope : Scope Role) (found : Option Refusal) (s : Stmt) (body : List Stmt) → told_block scope found (s ∷ body) ≡ told_block (after_stmts scope (s ∷ [])) (told_stmt scope found s) body
+unfolding told_block told_stmt after_stmts
 told_block-cons scope found s body =
     let binds = (line_of s).binds in
     telling-append found ((line_of s).refuses scope) (block (map line_of body) (entered Local binds scope))
     ∙ ap (telling (telling found ((line_of s).refuses scope))) (body_same body (entered Local binds scope) (entered_each Local binds scope) (same_each Local binds scope))
     ∙ ap (λ ns. telling (telling found ((line_of s).refuses scope)) (block (map line_of body) (entered_each Local ns scope))) (sym (append-nil binds))
 
-pub told_block-snoc : (scope : Scope Role) (found : Option Refusal) (body : List Stmt) (s : Stmt) → told_block scope found (body ++ s ∷ []) ≡ told_stmt (behind_stmts scope body) (told_block scope found body) s
+pub told_block-snoc : (scope : Scope Role) (found : Option Refusal) (body : List Stmt) (s : Stmt) → told_block scope found (body ++ s ∷ []) ≡ told_stmt (after_stmts scope body) (told_block scope found body) s
 told_block-snoc scope found [] s =
-    told_block-cons scope found s [] ∙ told_block-nil (behind_stmts scope (s ∷ [])) (told_stmt scope found s)
-    ∙ ap (λ t. told_stmt t found s) (sym (behind_stmts-nil scope)) ∙ ap (λ f. told_stmt (behind_stmts scope []) f s) (sym (told_block-nil scope found))
+    told_block-cons scope found s [] ∙ told_block-nil (after_stmts scope (s ∷ [])) (told_stmt scope found s)
+    ∙ ap (λ t. told_stmt t found s) (sym (after_stmts-nil scope)) ∙ ap (λ f. told_stmt (after_stmts scope []) f s) (sym (told_block-nil scope found))
 told_block-snoc scope found (x ∷ body) s =
-    told_block-cons scope found x (body ++ s ∷ []) ∙ told_block-snoc (behind_stmts scope (x ∷ [])) (told_stmt scope found x) body s
-    ∙ ap (λ t. told_stmt t (told_block (behind_stmts scope (x ∷ [])) (told_stmt scope found x) body) s) (sym (behind_stmts-append scope (x ∷ []) body))
-    ∙ ap (λ f. told_stmt (behind_stmts scope (x ∷ body)) f s) (sym (told_block-cons scope found x body))
+    told_block-cons scope found x (body ++ s ∷ []) ∙ told_block-snoc (after_stmts scope (x ∷ [])) (told_stmt scope found x) body s
+    ∙ ap (λ t. told_stmt t (told_block (after_stmts scope (x ∷ [])) (told_stmt scope found x) body) s) (sym (after_stmts-append scope (x ∷ []) body))
+    ∙ ap (λ f. told_stmt (after_stmts scope (x ∷ body)) f s) (sym (told_block-cons scope found x body))
 
-pub told_block-more : (old names : Scope Role) (first found last : Option Refusal) (body : List Stmt) (i : ℕ) (s : Stmt) → i < length body → s ≡ get_or body i s → found ≡ told_block old first (take i body) → names ≡ behind_stmts old (take i body) → last ≡ told_stmt names found s → last ≡ told_block old first (take (i + 1) body)
+pub told_block-more : (old names : Scope Role) (first found last : Option Refusal) (body : List Stmt) (i : ℕ) (s : Stmt) → i < length body → s ≡ get_or body i s → found ≡ told_block old first (take i body) → names ≡ after_stmts old (take i body) → last ≡ told_stmt names found s → last ≡ told_block old first (take (i + 1) body)
 told_block-more old names first found last body i s within here told entered step =
     let more : take (i + 1) body ≡ take i body ++ s ∷ [] = take_more body i s within ∙ ap (λ y. take i body ++ y ∷ []) (sym here) in
-    step ∙ ap (λ t. told_stmt t found s) entered ∙ ap (λ f. told_stmt (behind_stmts old (take i body)) f s) told
+    step ∙ ap (λ t. told_stmt t found s) entered ∙ ap (λ f. told_stmt (after_stmts old (take i body)) f s) told
     ∙ sym (told_block-snoc old first (take i body) s) ∙ ap (told_block old first) (sym more)
 
-pub behind_stmts-more : (old names last : Scope Role) (body : List Stmt) (i : ℕ) (s : Stmt) → i < length body → s ≡ get_or body i s → names ≡ behind_stmts old (take i body) → last ≡ behind_stmts names (s ∷ []) → last ≡ behind_stmts old (take (i + 1) body)
-behind_stmts-more old names last body i s within here entered step =
+pub after_stmts-more : (old names last : Scope Role) (body : List Stmt) (i : ℕ) (s : Stmt) → i < length body → s ≡ get_or body i s → names ≡ after_stmts old (take i body) → last ≡ after_stmts names (s ∷ []) → last ≡ after_stmts old (take (i + 1) body)
+after_stmts-more old names last body i s within here entered step =
     let more : take (i + 1) body ≡ take i body ++ s ∷ [] = take_more body i s within ∙ ap (λ y. take i body ++ y ∷ []) (sym here) in
-    step ∙ ap (λ t. behind_stmts t (s ∷ [])) entered ∙ sym (behind_stmts-append old (take i body) (s ∷ [])) ∙ ap (behind_stmts old) (sym more)
+    step ∙ ap (λ t. after_stmts t (s ∷ [])) entered ∙ sym (after_stmts-append old (take i body) (s ∷ [])) ∙ ap (after_stmts old) (sym more)
 
 -- what one statement binds
 module _ (scope : Scope Role) where
-  behind_by : (s : Stmt) (l : Line) → line_of s ≡ l → behind_stmts scope (s ∷ []) ≡ entered_each Local l.binds scope
-  unfolding behind_stmts
-  behind_by s l is = ap (λ ns. entered_each Local ns scope) (append-nil (line_of s).binds) ∙ ap (λ (k : Line). entered_each Local k.binds scope) is
+  after_by : (s : Stmt) (l : Line) → line_of s ≡ l → after_stmts scope (s ∷ []) ≡ entered_each Local l.binds scope
+  unfolding after_stmts
+  after_by s l is = ap (λ ns. entered_each Local ns scope) (append-nil (line_of s).binds) ∙ ap (λ (k : Line). entered_each Local k.binds scope) is
 
-  pub behind-Assign : (name : List ℕ) (x : Expr) (line : ℕ) → behind_stmts scope (stmt.Assign name x line ∷ []) ≡ scope
-  behind-Assign name x line = behind_by (stmt.Assign name x line) _ (at.line_of-Assign name x line)
+  pub behind-Assign : (name : List ℕ) (x : Expr) (line : ℕ) → after_stmts scope (stmt.Assign name x line ∷ []) ≡ scope
+  behind-Assign name x line = after_by (stmt.Assign name x line) _ (at.line_of-Assign name x line)
 
-  pub behind-Add : (name : List ℕ) (x : Expr) (line : ℕ) → behind_stmts scope (stmt.Add name x line ∷ []) ≡ scope
-  behind-Add name x line = behind_by (stmt.Add name x line) _ (at.line_of-Add name x line)
+  pub behind-Add : (name : List ℕ) (x : Expr) (line : ℕ) → after_stmts scope (stmt.Add name x line ∷ []) ≡ scope
+  behind-Add name x line = after_by (stmt.Add name x line) _ (at.line_of-Add name x line)
 
-  pub behind-Del : (name : List ℕ) (x : Expr) (line : ℕ) → behind_stmts scope (stmt.Del name x line ∷ []) ≡ scope
-  behind-Del name x line = behind_by (stmt.Del name x line) _ (at.line_of-Del name x line)
+  pub behind-Del : (name : List ℕ) (x : Expr) (line : ℕ) → after_stmts scope (stmt.Del name x line ∷ []) ≡ scope
+  behind-Del name x line = after_by (stmt.Del name x line) _ (at.line_of-Del name x line)
 
-  pub behind-Send : (x to : Expr) (line : ℕ) → behind_stmts scope (stmt.Send x to line ∷ []) ≡ scope
-  behind-Send x to line = behind_by (stmt.Send x to line) _ (at.line_of-Send x to line)
+  pub behind-Send : (x to : Expr) (line : ℕ) → after_stmts scope (stmt.Send x to line ∷ []) ≡ scope
+  behind-Send x to line = after_by (stmt.Send x to line) _ (at.line_of-Send x to line)
 
-  pub behind-Output : (x : Expr) (line : ℕ) → behind_stmts scope (stmt.Output x line ∷ []) ≡ scope
-  behind-Output x line = behind_by (stmt.Output x line) _ (at.line_of-Output x line)
+  pub behind-Output : (x : Expr) (line : ℕ) → after_stmts scope (stmt.Output x line ∷ []) ≡ scope
+  behind-Output x line = after_by (stmt.Output x line) _ (at.line_of-Output x line)
 
-  pub behind-Pass : (line : ℕ) → behind_stmts scope (stmt.Pass line ∷ []) ≡ scope
-  behind-Pass line = behind_by (stmt.Pass line) _ (at.line_of-Pass line)
+  pub behind-Pass : (line : ℕ) → after_stmts scope (stmt.Pass line ∷ []) ≡ scope
+  behind-Pass line = after_by (stmt.Pass line) _ (at.line_of-Pass line)
 
-  pub behind-Label : (name : List ℕ) (line : ℕ) → behind_stmts scope (stmt.Label name line ∷ []) ≡ scope
-  behind-Label name line = behind_by (stmt.Label name line) _ (at.line_of-Label name line)
+  pub behind-Label : (name : List ℕ) (line : ℕ) → after_stmts scope (stmt.Label name line ∷ []) ≡ scope
+  behind-Label name line = after_by (stmt.Label name line) _ (at.line_of-Label name line)
 
-  pub behind-Call : (name : List ℕ) (xs : List Expr) (line : ℕ) → behind_stmts scope (stmt.Call name xs line ∷ []) ≡ scope
-  behind-Call name xs line = behind_by (stmt.Call name xs line) _ (at.line_of-Call name xs line)
+  pub behind-Call : (name : List ℕ) (xs : List Expr) (line : ℕ) → after_stmts scope (stmt.Call name xs line ∷ []) ≡ scope
+  behind-Call name xs line = after_by (stmt.Call name xs line) _ (at.line_of-Call name xs line)
 
-  pub behind-If : (branches : List Branch) (other : Option (List Stmt)) (line : ℕ) → behind_stmts scope (stmt.If branches other line ∷ []) ≡ scope
-  behind-If branches other line = behind_by (stmt.If branches other line) _ (at.line_of-If branches other line)
+  pub behind-If : (branches : List Branch) (other : Option (List Stmt)) (line : ℕ) → after_stmts scope (stmt.If branches other line ∷ []) ≡ scope
+  behind-If branches other line = after_by (stmt.If branches other line) _ (at.line_of-If branches other line)
 
-  pub behind-While : (x : Expr) (body : List Stmt) (line : ℕ) → behind_stmts scope (stmt.While x body line ∷ []) ≡ scope
-  behind-While x body line = behind_by (stmt.While x body line) _ (at.line_of-While x body line)
+  pub behind-While : (x : Expr) (body : List Stmt) (line : ℕ) → after_stmts scope (stmt.While x body line ∷ []) ≡ scope
+  behind-While x body line = after_by (stmt.While x body line) _ (at.line_of-While x body line)
 
-  pub behind-For : (name : List ℕ) (x : Expr) (body : List Stmt) (line : ℕ) → behind_stmts scope (stmt.For name x body line ∷ []) ≡ scope
-  behind-For name x body line = behind_by (stmt.For name x body line) _ (at.line_of-For name x body line)
+  pub behind-For : (name : List ℕ) (x : Expr) (body : List Stmt) (line : ℕ) → after_stmts scope (stmt.For name x body line ∷ []) ≡ scope
+  behind-For name x body line = after_by (stmt.For name x body line) _ (at.line_of-For name x body line)
 
-  pub behind-AwaitOne : (x : Expr) (line : ℕ) → behind_stmts scope (stmt.AwaitOne x line ∷ []) ≡ entered_each Local (found_names x) scope
-  behind-AwaitOne x line = behind_by (stmt.AwaitOne x line) _ (at.line_of-AwaitOne x line)
+  pub behind-AwaitOne : (x : Expr) (line : ℕ) → after_stmts scope (stmt.AwaitOne x line ∷ []) ≡ entered_each Local (found_names x) scope
+  behind-AwaitOne x line = after_by (stmt.AwaitOne x line) _ (at.line_of-AwaitOne x line)
 
-  pub behind-Await : (branches : List Branch) (late : Option TimeoutTree) (line : ℕ) → behind_stmts scope (stmt.Await branches late line ∷ []) ≡ scope
-  behind-Await branches late line = behind_by (stmt.Await branches late line) _ (at.line_of-Await branches late line)
+  pub behind-Await : (branches : List Branch) (late : Option TimeoutTree) (line : ℕ) → after_stmts scope (stmt.Await branches late line ∷ []) ≡ scope
+  behind-Await branches late line = after_by (stmt.Await branches late line) _ (at.line_of-Await branches late line)
 
 pub ruleset stmt_rules = (told_stmt-Assign, told_stmt-Add, told_stmt-Del, told_stmt-Send, told_stmt-Output, told_stmt-Pass, told_stmt-Label, told_stmt-Call, told_stmt-If, told_else-None, told_else-Some, told_stmt-While, told_stmt-For, told_stmt-AwaitOne, told_stmt-Await, behind-Assign, behind-Add, behind-Del, behind-Send, behind-Output, behind-Pass, behind-Label, behind-Call, behind-If, behind-While, behind-For, behind-AwaitOne, behind-Await)
 
-pub left_behind_stmts : (scope : Scope Role) (body : List Stmt) → drop (length (behind_stmts scope body) - length scope) (behind_stmts scope body) ≡ scope
-unfolding behind_stmts
-left_behind_stmts scope body = pushed Local (flat_map (λ s. (line_of s).binds) body) scope
+pub left_after_stmts : (scope : Scope Role) (body : List Stmt) → drop (length (after_stmts scope body) - length scope) (after_stmts scope body) ≡ scope
+unfolding after_stmts
+left_after_stmts scope body = pushed Local (flat_map (λ s. (line_of s).binds) body) scope

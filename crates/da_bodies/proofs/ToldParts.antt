@@ -1,4 +1,4 @@
--- What is told of parts that stand one behind the other.
+-- What is reported of parts that stand one after the other.
 use Rattle.std.specs.Prelude.{◌≡◌, ℕ, ◌+◌, ◌<◌, length, take, List, [], ◌∷◌, ◌++◌, map, flat_map, Option}
 use Rattle.std.specs.List.{AllByRecursion, fold}
 use Rattle.std.proofs.Common.{◌∙◌, sym, ap, get_or}
@@ -9,7 +9,7 @@ use Rattle.da_lang.specs.declared.tree.Expr.{Expr}
 use Rattle.da_lang.specs.ExprNames.{Role, Local, Part, in_order, brought, names_of}
 use Rattle.da_lang.specs.Scopes.{Scope, at_line}
 use Rattle.da_bodies.specs.Telling.{Refusal, telling}
-use Rattle.da_bodies.specs.Told.{brought_each, behind, behind_all, told_kinds, told_part, told_parts, told_all, told_expr}
+use Rattle.da_bodies.specs.Told.{brought_each, after_part_of, behind_all, told_kinds, told_part, told_parts, told_all, told_expr}
 use Rattle.da_bodies.proofs.PartLaws.{Steady, Plain, all_map, all_of, in_order-same, plain_steady, expr_plain}
 use Rattle.da_bodies.proofs.SameLook.{same_here, same_brought_each, brought_each-nil, brought_each-append}
 use Rattle.da_bodies.proofs.TellingLaws.{telling-nil, telling-append}
@@ -28,51 +28,51 @@ pub told_parts-nil : (line : ℕ) (role : Role) (scope : Scope Role) (found : Op
 unfolding told_parts
 told_parts-nil line role scope found = told_kinds-nil line found
 
-pub told_parts-cons : (line : ℕ) (role : Role) (scope : Scope Role) (found : Option Refusal) (p : Part) (ps : List Part) → AllByRecursion Steady ps → told_parts line role scope found (p ∷ ps) ≡ told_parts line role (behind role scope p) (told_part line role scope found p) ps
-unfolding told_parts told_part behind
+pub told_parts-cons : (line : ℕ) (role : Role) (scope : Scope Role) (found : Option Refusal) (p : Part) (ps : List Part) → AllByRecursion Steady ps → told_parts line role scope found (p ∷ ps) ≡ told_parts line role (after_part_of role scope p) (told_part line role scope found p) ps
+unfolding told_parts told_part after_part_of
 told_parts-cons line role scope found p ps h =
     told_kinds-append line found (p.kinds role scope) (in_order ps role (brought role p.binds scope))
     ∙ ap (told_kinds line (told_kinds line found (p.kinds role scope))) (in_order-same ps h role (brought role p.binds scope) (brought_each role p.binds scope) (same_brought_each role p.binds scope))
 
 pub told_parts-one : (line : ℕ) (role : Role) (scope : Scope Role) (found : Option Refusal) (p : Part) → told_parts line role scope found (p ∷ []) ≡ told_part line role scope found p
-told_parts-one line role scope found p = told_parts-cons line role scope found p [] tt ∙ told_parts-nil line role (behind role scope p) (told_part line role scope found p)
+told_parts-one line role scope found p = told_parts-cons line role scope found p [] tt ∙ told_parts-nil line role (after_part_of role scope p) (told_part line role scope found p)
 
 module _ {A : Type 0} (part : A → Part) (steady : (x : A) → Steady (part x)) where
   pub told_all-nil : (line : ℕ) (role : Role) (scope : Scope Role) (found : Option Refusal) → told_all part line role scope found [] ≡ found
   unfolding told_all
   told_all-nil line role scope found = told_parts-nil line role scope found
 
-  pub told_all-cons : (line : ℕ) (role : Role) (scope : Scope Role) (found : Option Refusal) (x : A) (xs : List A) → told_all part line role scope found (x ∷ xs) ≡ told_all part line role (behind role scope (part x)) (told_part line role scope found (part x)) xs
+  pub told_all-cons : (line : ℕ) (role : Role) (scope : Scope Role) (found : Option Refusal) (x : A) (xs : List A) → told_all part line role scope found (x ∷ xs) ≡ told_all part line role (after_part_of role scope (part x)) (told_part line role scope found (part x)) xs
   unfolding told_all
   told_all-cons line role scope found x xs = told_parts-cons line role scope found (part x) (map part xs) (all_map Steady part xs (all_of (λ y. Steady (part y)) steady xs))
 
   pub told_all-one : (line : ℕ) (role : Role) (scope : Scope Role) (found : Option Refusal) (x : A) → told_all part line role scope found (x ∷ []) ≡ told_part line role scope found (part x)
-  told_all-one line role scope found x = told_all-cons line role scope found x [] ∙ told_all-nil line role (behind role scope (part x)) (told_part line role scope found (part x))
+  told_all-one line role scope found x = told_all-cons line role scope found x [] ∙ told_all-nil line role (after_part_of role scope (part x)) (told_part line role scope found (part x))
 
   pub behind_all-nil : (role : Role) (scope : Scope Role) → behind_all part role scope [] ≡ scope
   unfolding behind_all
   behind_all-nil role scope = brought_each-nil role scope
 
-  pub behind_all-cons : (role : Role) (scope : Scope Role) (x : A) (xs : List A) → behind_all part role scope (x ∷ xs) ≡ behind_all part role (behind role scope (part x)) xs
-  unfolding behind_all behind
+  pub behind_all-cons : (role : Role) (scope : Scope Role) (x : A) (xs : List A) → behind_all part role scope (x ∷ xs) ≡ behind_all part role (after_part_of role scope (part x)) xs
+  unfolding behind_all after_part_of
   behind_all-cons role scope x xs = brought_each-append role (part x).binds (flat_map (λ y. (part y).binds) xs) scope
 
   pub behind_all-append : (role : Role) (scope : Scope Role) (xs ys : List A) → behind_all part role scope (xs ++ ys) ≡ behind_all part role (behind_all part role scope xs) ys
   behind_all-append role scope [] ys = ap (λ s. behind_all part role s ys) (sym (behind_all-nil role scope))
   behind_all-append role scope (x ∷ xs) ys =
-      behind_all-cons role scope x (xs ++ ys) ∙ behind_all-append role (behind role scope (part x)) xs ys
+      behind_all-cons role scope x (xs ++ ys) ∙ behind_all-append role (after_part_of role scope (part x)) xs ys
       ∙ ap (λ s. behind_all part role s ys) (sym (behind_all-cons role scope x xs))
 
-  pub behind_all-snoc : (role : Role) (scope : Scope Role) (xs : List A) (y : A) → behind_all part role scope (xs ++ y ∷ []) ≡ behind role (behind_all part role scope xs) (part y)
-  behind_all-snoc role scope xs y = behind_all-append role scope xs (y ∷ []) ∙ behind_all-cons role (behind_all part role scope xs) y [] ∙ behind_all-nil role (behind role (behind_all part role scope xs) (part y))
+  pub behind_all-snoc : (role : Role) (scope : Scope Role) (xs : List A) (y : A) → behind_all part role scope (xs ++ y ∷ []) ≡ after_part_of role (behind_all part role scope xs) (part y)
+  behind_all-snoc role scope xs y = behind_all-append role scope xs (y ∷ []) ∙ behind_all-cons role (behind_all part role scope xs) y [] ∙ behind_all-nil role (after_part_of role (behind_all part role scope xs) (part y))
 
   pub told_all-append : (line : ℕ) (role : Role) (scope : Scope Role) (found : Option Refusal) (xs ys : List A) → told_all part line role scope found (xs ++ ys) ≡ told_all part line role (behind_all part role scope xs) (told_all part line role scope found xs) ys
   told_all-append line role scope found [] ys =
       ap (λ s. told_all part line role s found ys) (sym (behind_all-nil role scope)) ∙ ap (λ f. told_all part line role (behind_all part role scope []) f ys) (sym (told_all-nil line role scope found))
   told_all-append line role scope found (x ∷ xs) ys =
       told_all-cons line role scope found x (xs ++ ys)
-      ∙ told_all-append line role (behind role scope (part x)) (told_part line role scope found (part x)) xs ys
-      ∙ ap (λ s. told_all part line role s (told_all part line role (behind role scope (part x)) (told_part line role scope found (part x)) xs) ys) (sym (behind_all-cons role scope x xs))
+      ∙ told_all-append line role (after_part_of role scope (part x)) (told_part line role scope found (part x)) xs ys
+      ∙ ap (λ s. told_all part line role s (told_all part line role (after_part_of role scope (part x)) (told_part line role scope found (part x)) xs) ys) (sym (behind_all-cons role scope x xs))
       ∙ ap (λ f. told_all part line role (behind_all part role scope (x ∷ xs)) f ys) (sym (told_all-cons line role scope found x xs))
 
   pub told_all-snoc : (line : ℕ) (role : Role) (scope : Scope Role) (found : Option Refusal) (xs : List A) (y : A) → told_all part line role scope found (xs ++ y ∷ []) ≡ told_part line role (behind_all part role scope xs) (told_all part line role scope found xs) (part y)
@@ -85,18 +85,18 @@ module _ {A : Type 0} (part : A → Part) (steady : (x : A) → Steady (part x))
       step ∙ ap (λ s. told_part line role s found (part x)) entered ∙ ap (λ f. told_part line role (behind_all part role old (take i xs)) f (part x)) told
       ∙ sym (told_all-snoc line role old first (take i xs) x) ∙ ap (told_all part line role old first) (sym more)
 
-  pub behind_all-more : (role : Role) (old names last : Scope Role) (xs : List A) (i : ℕ) (x : A) → i < length xs → x ≡ get_or xs i x → names ≡ behind_all part role old (take i xs) → last ≡ behind role names (part x) → last ≡ behind_all part role old (take (i + 1) xs)
+  pub behind_all-more : (role : Role) (old names last : Scope Role) (xs : List A) (i : ℕ) (x : A) → i < length xs → x ≡ get_or xs i x → names ≡ behind_all part role old (take i xs) → last ≡ after_part_of role names (part x) → last ≡ behind_all part role old (take (i + 1) xs)
   behind_all-more role old names last xs i x within here entered step =
       let more : take (i + 1) xs ≡ take i xs ++ x ∷ [] = take_more xs i x within ∙ ap (λ y. take i xs ++ y ∷ []) (sym here) in
-      step ∙ ap (λ s. behind role s (part x)) entered ∙ sym (behind_all-snoc role old (take i xs) x) ∙ ap (behind_all part role old) (sym more)
+      step ∙ ap (λ s. after_part_of role s (part x)) entered ∙ sym (behind_all-snoc role old (take i xs) x) ∙ ap (behind_all part role old) (sym more)
 
 -- expressions
 pub told_part-expr : (line : ℕ) (role : Role) (scope : Scope Role) (found : Option Refusal) (x : Expr) → told_part line role scope found (names_of x) ≡ told_expr line scope found x
 unfolding told_part told_expr
 told_part-expr line role scope found x = ap (told_kinds line found) ((expr_plain x).kinds role Local scope scope (same_here scope))
 
-pub behind-plain : (role : Role) (scope : Scope Role) (p : Part) → Plain p → behind role scope p ≡ scope
-unfolding behind
+pub behind-plain : (role : Role) (scope : Scope Role) (p : Part) → Plain p → after_part_of role scope p ≡ scope
+unfolding after_part_of
 behind-plain role scope p h = ap (λ b. brought_each role b scope) h.binds ∙ brought_each-nil role scope
 
 expr_steady : (x : Expr) → Steady (names_of x)

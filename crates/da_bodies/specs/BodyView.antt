@@ -1,4 +1,4 @@
--- The bodies of a class as code keeps them, and what is told of their names.
+-- The bodies of a class as code keeps them, and what is reported of their names.
 use Rattle.std.specs.Prelude.{ℕ, List, [], ◌++◌, flat_map, Option, Some, None}
 use Rattle.da_lang.specs.declared.tree.Param.{Param}
 use Rattle.da_lang.specs.declared.tree.PatternTree.{PatternTree}

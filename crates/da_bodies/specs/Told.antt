@@ -1,4 +1,4 @@
--- The names in scope and the refusal that is told, as a text is read on.
+-- The names in scope and the refusal that is reported, as a text is read on.
 use Rattle.std.specs.Prelude.{ℕ, List, [], ◌∷◌, map, flat_map, Option}
 use Rattle.da_lang.specs.declared.refusal.ScopeKind.{ScopeKind}
 use Rattle.da_lang.specs.declared.refusal.ScopeKind.TheVariants as refusal
@@ -18,9 +18,9 @@ abbrev pub brought_each : Role → List (List ℕ) → Scope Role → Scope Role
 brought_each QueryVariable names scope = entered_each QueryVariable names scope
 brought_each role names scope = scope
 
--- the names in scope behind a part
-unfoldable pub behind : Role → Scope Role → Part → Scope Role
-behind role scope part = brought_each role part.binds scope
+-- the names in scope after a part
+unfoldable pub after_part_of : Role → Scope Role → Part → Scope Role
+after_part_of role scope part = brought_each role part.binds scope
 
 -- these kinds are found at a line
 unfoldable pub told_kinds : ℕ → Option Refusal → List ScopeKind → Option Refusal

@@ -1,4 +1,4 @@
--- The names in scope and the refusal that is told, as statements are read on.
+-- The names in scope and the refusal that is reported, as statements are read on.
 use Rattle.std.specs.Prelude.{List, flat_map, Option}
 use Rattle.da_lang.specs.declared.tree.Branch.{Branch}
 use Rattle.da_lang.specs.declared.tree.Stmt.{Stmt}
@@ -21,6 +21,6 @@ told_timeout scope found t = telling found (timeout_of t scope)
 unfoldable pub told_block : Scope Role → Option Refusal → List Stmt → Option Refusal
 told_block scope found body = telling found (refused_in_body body scope)
 
--- the names in scope behind statements of a block
-unfoldable pub behind_stmts : Scope Role → List Stmt → Scope Role
-behind_stmts scope body = entered_each Local (flat_map (λ s. (line_of s).binds) body) scope
+-- the names in scope after statements of a block
+unfoldable pub after_stmts : Scope Role → List Stmt → Scope Role
+after_stmts scope body = entered_each Local (flat_map (λ s. (line_of s).binds) body) scope

@@ -6,8 +6,8 @@ ghost use Rattle.da_bodies.specs.Told.{entered_each};
 ghost use Rattle.da_lang.specs.ExprNames.{Local};
 ghost use Rattle.std.specs.Prelude.{◌≡◌, ◌++◌, IfOk, map, OnOk, option_map};
 
+use crate::earliest::Earliest;
 use crate::expressions::{check_new, check_pattern};
-use crate::least::Least;
 use crate::repeats::{Declared, tell_again};
 use crate::scope::{Names, Role};
 use crate::statements::check_block;
@@ -95,7 +95,7 @@ pub fn check_body<'t>(
     alloc: Global,
     body: Body<'t>,
     names: &mut Names<'t>,
-    least: &mut Least<ScopeKind>,
+    least: &mut Earliest<ScopeKind>,
 ) -> Result<(), NoMemory>
     ensures told { OnOk result (least.new ≡ told_body names.old least.old (body_view body.entry)) }
     ensures same { OnOk result (names.new ≡ names.old) }
@@ -113,7 +113,7 @@ pub fn check_body<'t>(
 }
 
 /// Checks that no parameter takes the name of one in scope.
-fn check_params(params: &[Param], line: u32, names: &Names<'_>, least: &mut Least<ScopeKind>)
+fn check_params(params: &[Param], line: u32, names: &Names<'_>, least: &mut Earliest<ScopeKind>)
     ensures { least.new ≡ told_params line names.now least.old params.now }
 {
     for param in params {
@@ -188,7 +188,7 @@ fn check_place<'t>(
     place: Place<'t>,
     line: u32,
     names: &mut Names<'t>,
-    least: &mut Least<ScopeKind>,
+    least: &mut Earliest<ScopeKind>,
 ) -> Result<(), NoMemory>
     ensures told { OnOk result (least.new ≡ told_place line names.old least.old (place_view place.entry)) }
     ensures same { OnOk result (names.new ≡ names.old) }
@@ -214,7 +214,7 @@ fn check_sender<'t>(
     from: &'t Option<PatternTree>,
     line: u32,
     names: &mut Names<'t>,
-    least: &mut Least<ScopeKind>,
+    least: &mut Earliest<ScopeKind>,
 ) -> Result<(), NoMemory>
     ensures told { OnOk result (least.new ≡ told_sender line names.old least.old from.now) }
     ensures same { OnOk result (names.new ≡ names.old) }

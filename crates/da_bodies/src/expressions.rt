@@ -4,19 +4,19 @@ ghost use Rattle.da_lang.specs.declared.refusal.ScopeKind.TheVariants.{Shadow, U
 ghost use Rattle.da_lang.specs.ExprNames.{Local, QueryVariable, gen_part, is_slot as slot_of, names_of, pattern_part, peer_part, source_part, taken, unless, used};
 ghost use Rattle.da_lang.specs.Scopes.{look};
 ghost use Rattle.da_bodies.specs.ScopeView.{role_of};
-ghost use Rattle.da_bodies.specs.Told.{behind, behind_all, told_all, told_argument, told_expr, told_kinds, told_link, told_part};
+ghost use Rattle.da_bodies.specs.Told.{after_part_of, behind_all, told_all, told_argument, told_expr, told_kinds, told_link, told_part};
 ghost use Rattle.std.specs.List.{fold};
 ghost use Rattle.std.specs.Option.{option_to_list};
 ghost use Rattle.std.specs.Prelude.{◌≡◌, [], ◌∷◌, if◌then◌else◌, option_map, OnOk};
 
-use crate::least::Least;
+use crate::earliest::Earliest;
 use crate::scope::{Names, Role};
 use da_lang::{ChainTree, Expr, GenTree, PatternTree, PeerTree, ScopeKind, SourceTree};
 use da_values::{Boxed, NoMemory};
 
 /// Tells a refusal where something is not allowed.
 #[tactic(auto, unfolding(crate::specs::Told::told_kinds, crate::specs::Telling::telling_by))]
-pub fn tell_unless(allowed: bool, kind: ScopeKind, line: u32, least: &mut Least<ScopeKind>)
+pub fn tell_unless(allowed: bool, kind: ScopeKind, line: u32, least: &mut Earliest<ScopeKind>)
     ensures { least.new ≡ told_kinds line least.old (unless allowed kind) }
 {
     if !allowed {
@@ -45,7 +45,7 @@ fn is_free(found: Option<Role>) -> bool
 }
 
 /// Tells that a new variable takes the name of one in scope.
-pub fn check_new(name: &[u8], line: u32, names: &Names<'_>, least: &mut Least<ScopeKind>)
+pub fn check_new(name: &[u8], line: u32, names: &Names<'_>, least: &mut Earliest<ScopeKind>)
     ensures { least.new ≡ told_kinds line least.old (taken (look names.now name.now)) }
 {
     let free = is_free(names.look(name));
@@ -87,7 +87,7 @@ pub fn check_expr<'t>(
     x: &'t Expr,
     line: u32,
     names: &mut Names<'t>,
-    least: &mut Least<ScopeKind>,
+    least: &mut Earliest<ScopeKind>,
 ) -> Result<(), NoMemory>
     ensures told { OnOk result (least.new ≡ told_expr line names.old least.old x.now) }
     ensures same { OnOk result (names.new ≡ names.old) }
@@ -162,7 +162,7 @@ pub fn check_exprs<'t>(
     xs: &'t [Expr],
     line: u32,
     names: &mut Names<'t>,
-    least: &mut Least<ScopeKind>,
+    least: &mut Earliest<ScopeKind>,
 ) -> Result<(), NoMemory>
     ensures told { OnOk result (least.new ≡ fold (told_expr line names.old) least.old xs.now) }
     ensures same { OnOk result (names.new ≡ names.old) }
@@ -180,7 +180,7 @@ fn check_links<'t>(
     links: &'t [ChainTree],
     line: u32,
     names: &mut Names<'t>,
-    least: &mut Least<ScopeKind>,
+    least: &mut Earliest<ScopeKind>,
 ) -> Result<(), NoMemory>
     ensures told { OnOk result (least.new ≡ fold (told_link line names.old) least.old links.now) }
     ensures same { OnOk result (names.new ≡ names.old) }
@@ -198,7 +198,7 @@ fn check_argument<'t>(
     x: &'t Expr,
     line: u32,
     names: &mut Names<'t>,
-    least: &mut Least<ScopeKind>,
+    least: &mut Earliest<ScopeKind>,
 ) -> Result<(), NoMemory>
     ensures told { OnOk result (least.new ≡ told_argument line names.old least.old x.now) }
     ensures same { OnOk result (names.new ≡ names.old) }
@@ -214,7 +214,7 @@ fn check_condition<'t>(
     cond: &'t Option<Boxed<Expr>>,
     line: u32,
     names: &mut Names<'t>,
-    least: &mut Least<ScopeKind>,
+    least: &mut Earliest<ScopeKind>,
 ) -> Result<(), NoMemory>
     ensures told { OnOk result (least.new ≡ fold (told_expr line names.old) least.old (option_to_list cond.now)) }
     ensures same { OnOk result (names.new ≡ names.old) }
@@ -232,7 +232,7 @@ fn enter_gens<'t>(
     gens: &'t [GenTree],
     line: u32,
     names: &mut Names<'t>,
-    least: &mut Least<ScopeKind>,
+    least: &mut Earliest<ScopeKind>,
 ) -> Result<(), NoMemory>
     ensures told { OnOk result (least.new ≡ told_all gen_part line QueryVariable names.old least.old gens.now) }
     ensures entered { OnOk result (names.new ≡ behind_all gen_part QueryVariable names.old gens.now) }
@@ -250,10 +250,10 @@ fn enter_gen<'t>(
     generator: &'t GenTree,
     line: u32,
     names: &mut Names<'t>,
-    least: &mut Least<ScopeKind>,
+    least: &mut Earliest<ScopeKind>,
 ) -> Result<(), NoMemory>
     ensures told { OnOk result (least.new ≡ told_part line QueryVariable names.old least.old (gen_part generator.now)) }
-    ensures entered { OnOk result (names.new ≡ behind QueryVariable names.old (gen_part generator.now)) }
+    ensures entered { OnOk result (names.new ≡ after_part_of QueryVariable names.old (gen_part generator.now)) }
 {
     enter_pattern(&generator.message, line, names, least)?;
     enter_peer(&generator.peer, line, names, least)?;
@@ -268,7 +268,7 @@ fn enter_peer<'t>(
     peer: &'t Option<PeerTree>,
     line: u32,
     names: &mut Names<'t>,
-    least: &mut Least<ScopeKind>,
+    least: &mut Earliest<ScopeKind>,
 ) -> Result<(), NoMemory>
     ensures told { OnOk result (least.new ≡ told_all peer_part line QueryVariable names.old least.old (option_to_list peer.now)) }
     ensures entered { OnOk result (names.new ≡ behind_all peer_part QueryVariable names.old (option_to_list peer.now)) }
@@ -282,7 +282,7 @@ fn enter_peer<'t>(
 
 /// Checks where the messages or elements of a generator come from.
 #[tactic(auto, using(crate::proofs::ToldExprs::source_rules))]
-fn check_source(source: &SourceTree, line: u32, names: &Names<'_>, least: &mut Least<ScopeKind>)
+fn check_source(source: &SourceTree, line: u32, names: &Names<'_>, least: &mut Earliest<ScopeKind>)
     ensures { least.new ≡ told_part line QueryVariable names.now least.old (source_part source.now) }
 {
     match source {
@@ -302,10 +302,10 @@ fn enter_pattern<'t>(
     pattern: &'t PatternTree,
     line: u32,
     names: &mut Names<'t>,
-    least: &mut Least<ScopeKind>,
+    least: &mut Earliest<ScopeKind>,
 ) -> Result<(), NoMemory>
     ensures told { OnOk result (least.new ≡ told_part line QueryVariable names.old least.old (pattern_part pattern.now)) }
-    ensures entered { OnOk result (names.new ≡ behind QueryVariable names.old (pattern_part pattern.now)) }
+    ensures entered { OnOk result (names.new ≡ after_part_of QueryVariable names.old (pattern_part pattern.now)) }
 {
     match pattern {
         PatternTree::Name(name) => {
@@ -329,7 +329,7 @@ fn enter_patterns<'t>(
     patterns: &'t [PatternTree],
     line: u32,
     names: &mut Names<'t>,
-    least: &mut Least<ScopeKind>,
+    least: &mut Earliest<ScopeKind>,
 ) -> Result<(), NoMemory>
     ensures told { OnOk result (least.new ≡ told_all pattern_part line QueryVariable names.old least.old patterns.now) }
     ensures entered { OnOk result (names.new ≡ behind_all pattern_part QueryVariable names.old patterns.now) }
@@ -347,7 +347,7 @@ pub fn check_pattern<'t>(
     pattern: &'t PatternTree,
     line: u32,
     names: &mut Names<'t>,
-    least: &mut Least<ScopeKind>,
+    least: &mut Earliest<ScopeKind>,
 ) -> Result<(), NoMemory>
     ensures told { OnOk result (least.new ≡ told_part line Local names.old least.old (pattern_part pattern.now)) }
     ensures same { OnOk result (names.new ≡ names.old) }
@@ -373,7 +373,7 @@ fn check_patterns<'t>(
     patterns: &'t [PatternTree],
     line: u32,
     names: &mut Names<'t>,
-    least: &mut Least<ScopeKind>,
+    least: &mut Earliest<ScopeKind>,
 ) -> Result<(), NoMemory>
     ensures told { OnOk result (least.new ≡ told_all pattern_part line Local names.old least.old patterns.now) }
     ensures same { OnOk result (names.new ≡ names.old) }

@@ -5,7 +5,7 @@ ghost use Rattle.da_bodies.specs.Repeats.{declared_in, is_declared, is_seen};
 ghost use Rattle.da_bodies.specs.Telling.{telling};
 ghost use Rattle.std.specs.Prelude.{◌≡◌, ◌||◌, ℕ, List, bytes_eq, false, IfOk, OnOk};
 
-use crate::least::Least;
+use crate::earliest::Earliest;
 use da_lang::ScopeKind;
 use da_values::NoMemory;
 use std::alloc::Global;
@@ -50,7 +50,7 @@ pub fn tell_again(
     alloc: Global,
     declared: &[Declared<'_>],
     kind: ScopeKind,
-    least: &mut Least<ScopeKind>,
+    least: &mut Earliest<ScopeKind>,
 ) -> Result<(), NoMemory>
     ensures { OnOk result (least.new ≡ telling least.old (at_lines kind (again (declared_in declared.now)))) }
 {
@@ -63,7 +63,7 @@ pub fn see_again<'t>(
     alloc: Global,
     declared: &[Declared<'t>],
     kind: ScopeKind,
-    least: &mut Least<ScopeKind>,
+    least: &mut Earliest<ScopeKind>,
 ) -> Result<Seen<'t>, NoMemory>
     ensures told { OnOk result (least.new ≡ telling least.old (at_lines kind (again (declared_in declared.now)))) }
     ensures seen { IfOk result (λ seen. (q : List ℕ) → is_seen seen q ≡ is_declared (declared_in declared.now) q) }

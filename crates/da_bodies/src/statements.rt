@@ -5,13 +5,13 @@ ghost use Rattle.da_lang.specs.StmtNames.{changed};
 ghost use Rattle.da_lang.specs.Scopes.{look};
 ghost use Rattle.da_bodies.specs.ScopeView.{role_of};
 ghost use Rattle.da_bodies.specs.Told.{told_expr, told_kinds};
-ghost use Rattle.da_bodies.specs.ToldStmts.{behind_stmts, told_block, told_branch, told_stmt, told_timeout};
+ghost use Rattle.da_bodies.specs.ToldStmts.{after_stmts, told_block, told_branch, told_stmt, told_timeout};
 ghost use Rattle.std.specs.List.{fold};
 ghost use Rattle.std.specs.Option.{option_to_list};
 ghost use Rattle.std.specs.Prelude.{◌≡◌, [], ◌∷◌, OnOk, option_map};
 
+use crate::earliest::Earliest;
 use crate::expressions::{check_expr, check_exprs, check_new, tell_unless};
-use crate::least::Least;
 use crate::scope::{Names, Role};
 use crate::variables::enter_found;
 use da_lang::{Branch, Expr, ScopeKind, Stmt, TimeoutTree};
@@ -37,7 +37,7 @@ fn check_change<'t>(
     value: &'t Expr,
     line: u32,
     names: &mut Names<'t>,
-    least: &mut Least<ScopeKind>,
+    least: &mut Earliest<ScopeKind>,
 ) -> Result<(), NoMemory>
     ensures told { OnOk result (least.new ≡ told_expr line names.old (told_kinds line least.old (changed (look names.old name.now))) value.now) }
     ensures same { OnOk result (names.new ≡ names.old) }
@@ -47,17 +47,17 @@ fn check_change<'t>(
     check_expr(value, line, names, least)
 }
 
-/// Checks a statement; the variables that it binds for the statements behind it come into scope.
+/// Checks a statement; the variables that it binds for the statements after it come into scope.
 #[cycle(statements)]
 #[tactic(auto, using(crate::proofs::ToldLines::stmt_rules))]
 fn check_stmt<'t>(
     alloc: Global,
     stmt: &'t Stmt,
     names: &mut Names<'t>,
-    least: &mut Least<ScopeKind>,
+    least: &mut Earliest<ScopeKind>,
 ) -> Result<(), NoMemory>
     ensures told { OnOk result (least.new ≡ told_stmt names.old least.old stmt.now) }
-    ensures entered { OnOk result (names.new ≡ behind_stmts names.old (stmt.now ∷ [])) }
+    ensures entered { OnOk result (names.new ≡ after_stmts names.old (stmt.now ∷ [])) }
 {
     match stmt {
         Stmt::Assign { name, value, line } => {
@@ -131,7 +131,7 @@ pub fn check_block<'t>(
     alloc: Global,
     body: &'t [Stmt],
     names: &mut Names<'t>,
-    least: &mut Least<ScopeKind>,
+    least: &mut Earliest<ScopeKind>,
 ) -> Result<(), NoMemory>
     ensures told { OnOk result (least.new ≡ told_block names.old least.old body.now) }
     ensures same { OnOk result (names.new ≡ names.old) }
@@ -150,7 +150,7 @@ fn check_branches<'t>(
     alloc: Global,
     branches: &'t [Branch],
     names: &mut Names<'t>,
-    least: &mut Least<ScopeKind>,
+    least: &mut Earliest<ScopeKind>,
 ) -> Result<(), NoMemory>
     ensures told { OnOk result (least.new ≡ fold (told_branch names.old) least.old branches.now) }
     ensures same { OnOk result (names.new ≡ names.old) }
@@ -168,7 +168,7 @@ fn check_branch<'t>(
     alloc: Global,
     branch: &'t Branch,
     names: &mut Names<'t>,
-    least: &mut Least<ScopeKind>,
+    least: &mut Earliest<ScopeKind>,
 ) -> Result<(), NoMemory>
     ensures told { OnOk result (least.new ≡ told_branch names.old least.old branch.now) }
     ensures same { OnOk result (names.new ≡ names.old) }
@@ -188,7 +188,7 @@ fn check_timeout<'t>(
     alloc: Global,
     timeout: &'t Option<TimeoutTree>,
     names: &mut Names<'t>,
-    least: &mut Least<ScopeKind>,
+    least: &mut Earliest<ScopeKind>,
 ) -> Result<(), NoMemory>
     ensures told { OnOk result (least.new ≡ fold (told_timeout names.old) least.old (option_to_list timeout.now)) }
     ensures same { OnOk result (names.new ≡ names.old) }

@@ -16,7 +16,7 @@ use Rattle.da_lang.specs.Deeds.{Deed, deed, deeds_of, deeds_of_branch, deeds_of_
 use Rattle.da_lang.proofs.DeedsAt as at
 use Rattle.da_calls.specs.CallBodies.{calls_by, some_yield}
 
--- parts behind one another
+-- parts one after another
 pub calls_by-append : (number : List ℕ → Option ℕ) (ds es : List Deed) → calls_by number (ds ++ es) ≡ calls_by number ds ++ calls_by number es
 unfolding calls_by
 calls_by-append number ds es = simp filter_map-append
@@ -33,14 +33,14 @@ pub some_yield-none : some_yield [] ≡ false
 unfolding some_yield
 some_yield-none = refl
 
--- behind a deed that calls nothing, that is no yield point
-calls_behind : (number : List ℕ → Option ℕ) (d : Deed) (ds : List Deed) → called d.does ≡ None → calls_by number (d ∷ ds) ≡ calls_by number ds
+-- after a deed that calls nothing, that is no yield point
+calls_after : (number : List ℕ → Option ℕ) (d : Deed) (ds : List Deed) → called d.does ≡ None → calls_by number (d ∷ ds) ≡ calls_by number ds
 unfolding calls_by
-calls_behind number d ds none = ap (λ o. filter_map number (cons_option o (filter_map (λ e. called e.does) ds))) none
+calls_after number d ds none = ap (λ o. filter_map number (cons_option o (filter_map (λ e. called e.does) ds))) none
 
-yields_behind : (d : Deed) (ds : List Deed) → is_yield d.does ≡ false → some_yield (d ∷ ds) ≡ some_yield ds
+yields_after : (d : Deed) (ds : List Deed) → is_yield d.does ≡ false → some_yield (d ∷ ds) ≡ some_yield ds
 unfolding some_yield
-yields_behind d ds none = ap (λ b. b || list_any (λ e. is_yield e.does) ds) none
+yields_after d ds none = ap (λ b. b || list_any (λ e. is_yield e.does) ds) none
 
 -- the deeds of a whole block
 map_all : {A : Type 0} (f : A → List Deed) (xs : List A) → flat_map (λ ds. ds) (map f xs) ≡ flat_map f xs
@@ -103,7 +103,7 @@ abbrev pub late_deeds : Option TimeoutTree → List Deed
 late_deeds None = []
 late_deeds (Some tree) = deeds_of_timeout tree
 
--- the deeds of the branches, and of what stands behind them
+-- the deeds of the branches, and of what stands after them
 pub if_deeds : (branches : List Branch) (other : Option (List Stmt)) (line : ℕ) → deeds_of (stmt.If branches other line) ≡ deed line Other [] ∷ flat_map deeds_of_branch branches ++ else_deeds other
 if_deeds branches None line = at.deeds_of-If branches None line ∙ ap (λ ds. deed line Other [] ∷ ds ++ []) (map_all deeds_of_branch branches)
 if_deeds branches (Some body) line =
@@ -136,11 +136,11 @@ calls-timeout number tree = ap (calls_by number) (timeout_deeds_are tree)
 
 pub calls-If : (number : List ℕ → Option ℕ) (branches : List Branch) (other : Option (List Stmt)) (line : ℕ) → calls_by number (deeds_of (stmt.If branches other line)) ≡ calls_by number (flat_map deeds_of_branch branches) ++ calls_by number (else_deeds other)
 calls-If number branches other line =
-    ap (calls_by number) (if_deeds branches other line) ∙ calls_behind number (deed line Other []) (flat_map deeds_of_branch branches ++ else_deeds other) refl ∙ calls_by-append number (flat_map deeds_of_branch branches) (else_deeds other)
+    ap (calls_by number) (if_deeds branches other line) ∙ calls_after number (deed line Other []) (flat_map deeds_of_branch branches ++ else_deeds other) refl ∙ calls_by-append number (flat_map deeds_of_branch branches) (else_deeds other)
 
 pub calls-Await : (number : List ℕ → Option ℕ) (alts : List Branch) (timeout : Option TimeoutTree) (line : ℕ) → calls_by number (deeds_of (stmt.Await alts timeout line)) ≡ calls_by number (flat_map deeds_of_branch alts) ++ calls_by number (late_deeds timeout)
 calls-Await number alts timeout line =
-    ap (calls_by number) (await_deeds alts timeout line) ∙ calls_behind number (deed line Awaits []) (flat_map deeds_of_branch alts ++ late_deeds timeout) refl ∙ calls_by-append number (flat_map deeds_of_branch alts) (late_deeds timeout)
+    ap (calls_by number) (await_deeds alts timeout line) ∙ calls_after number (deed line Awaits []) (flat_map deeds_of_branch alts ++ late_deeds timeout) refl ∙ calls_by-append number (flat_map deeds_of_branch alts) (late_deeds timeout)
 
 pub yields-Assign : (name : List ℕ) (x : Expr) (line : ℕ) → some_yield (deeds_of (stmt.Assign name x line)) ≡ false
 unfolding some_yield
@@ -196,9 +196,9 @@ yields-branch branch = ap some_yield (branch_deeds_are branch)
 
 pub yields-If : (branches : List Branch) (other : Option (List Stmt)) (line : ℕ) → some_yield (deeds_of (stmt.If branches other line)) ≡ (some_yield (flat_map deeds_of_branch branches) || some_yield (else_deeds other))
 yields-If branches other line =
-    ap some_yield (if_deeds branches other line) ∙ yields_behind (deed line Other []) (flat_map deeds_of_branch branches ++ else_deeds other) refl ∙ some_yield-append (flat_map deeds_of_branch branches) (else_deeds other)
+    ap some_yield (if_deeds branches other line) ∙ yields_after (deed line Other []) (flat_map deeds_of_branch branches ++ else_deeds other) refl ∙ some_yield-append (flat_map deeds_of_branch branches) (else_deeds other)
 
--- what the first parts of a list call and whether they yield, when the part behind them is counted too
+-- what the first parts of a list call and whether they yield, when the part after them is counted too
 pub calls_more : {A : Type 0} (number : List ℕ → Option ℕ) (f : A → List Deed) (xs : List A) (i : ℕ) (x : A) → i < length xs → x ≡ get_or xs i x → calls_by number (flat_map f (take (i + 1) xs)) ≡ calls_by number (flat_map f (take i xs)) ++ calls_by number (f x)
 calls_more number f xs i x within is =
     ap (λ ys. calls_by number (flat_map f ys)) (take_more xs i x within)

@@ -2,8 +2,8 @@
 use Rattle.std.proofs.Common.{◌≡◌, ◌∙◌, ℕ, zero, suc, ◌+◌, ◌<◌, ◌⊎◌, Bool, true, false, List, [], ◌∷◌, ◌++◌, length, map, replicate, reverse, Contains, ◌≤◌, get_or, set, subst, sym, refl, ap, inl, inr, ⊎_elim, not, append_assoc, arith}
 use Rattle.std.proofs.lemmas.Bool.{cases_eq, cases_lt}
 use Rattle.std.proofs.lemmas.List.{append-nil, get_or_default, length-set, length-append, length-map, length-replicate, get_or-set_same, get_or-set_other, get_or-replicate, get_or_past, reverse-append}
-use Rattle.da_calls.specs.declared.order.Task.{Task}
-use Rattle.da_calls.specs.declared.order.Task.TheVariants.{Enter, Leave}
+use Rattle.da_calls.specs.declared.order.Visit.{Visit}
+use Rattle.da_calls.specs.declared.order.Visit.TheVariants.{Enter, Leave}
 use Rattle.da_calls.specs.CallPaths.{here, on, Graph, next_in, Edge, IsGraph, Leads}
 use Rattle.da_calls.specs.CallOrder.{Same, AreLeft, Leaves}
 use Rattle.da_calls.specs.CallTasks.{entering}
@@ -36,31 +36,31 @@ abbrev pub IsEntered : List Bool → ℕ → Type 0
 IsEntered entered m = get_or entered m false ≡ true
 
 -- entered and not left
-abbrev pub IsOpen : List Task → ℕ → Type 0
+abbrev pub IsOpen : List Visit → ℕ → Type 0
 IsOpen [] m = ⊥
 IsOpen (Enter k ∷ tasks) m = IsOpen tasks m
 IsOpen (Leave k ∷ tasks) m = (k ≡ m) ⊎ IsOpen tasks m
 
 -- to be entered
-abbrev pub Waits : List Task → ℕ → Type 0
+abbrev pub Waits : List Visit → ℕ → Type 0
 Waits [] n = ⊥
 Waits (Enter k ∷ tasks) n = (k ≡ n) ⊎ Waits tasks n
 Waits (Leave k ∷ tasks) n = Waits tasks n
 
 -- one is entered before another is left
-abbrev pub Before : List Task → ℕ → ℕ → Type 0
+abbrev pub Before : List Visit → ℕ → ℕ → Type 0
 Before [] m n = ⊥
 Before (Enter k ∷ tasks) m n = (k ≡ n) ⊎ Before tasks m n
 Before (Leave k ∷ tasks) m n = (k ≡ m → ⊥) × Before tasks m n
 
 -- each open node leads to all those whose tasks come first
-abbrev pub Chained : Graph → List Task → Type 0
+abbrev pub Chained : Graph → List Visit → Type 0
 Chained g [] = Unit {0}
 Chained g (Enter k ∷ tasks) = (k < length g) × ((m : ℕ) → IsOpen tasks m → Leads g m k) × Chained g tasks
 Chained g (Leave k ∷ tasks) = (k < length g) × ((m : ℕ) → IsOpen tasks m → Leads g m k) × (IsOpen tasks k → ⊥) × Chained g tasks
 
 -- between two steps; `done` has the node that was left last at the front, and the nodes below `most` were told of
-pub record Walk (g : Graph) (most : ℕ) (entered : List Bool) (tasks : List Task) (done : List ℕ) : Type 0 where
+pub record Walk (g : Graph) (most : ℕ) (entered : List Bool) (tasks : List Visit) (done : List ℕ) : Type 0 where
   pub sized : length entered ≡ length g
   pub opened : (m : ℕ) → IsOpen tasks m → IsEntered entered m
   pub gone : (m : ℕ) → Contains done m → IsEntered entered m
@@ -93,7 +93,7 @@ exit_of g nodes y x has none (on m k s p) =
     (has_or_not nodes k)
 
 -- the node at the front is left
-module _ (g : Graph) (most : ℕ) (entered : List Bool) (tasks : List Task) (done : List ℕ) (p : ℕ) (w : Walk g most entered (Leave p ∷ tasks) done) where
+module _ (g : Graph) (most : ℕ) (entered : List Bool) (tasks : List Visit) (done : List ℕ) (p : ℕ) (w : Walk g most entered (Leave p ∷ tasks) done) where
   left_passed : (m n : ℕ) → Contains (p ∷ done) m → Edge g m n → IsEntered entered n
   left_passed m n has e =
       ⊎_elim
@@ -157,7 +157,7 @@ module _ (g : Graph) (most : ℕ) (entered : List Bool) (tasks : List Task) (don
   }
 
 -- the node at the front was entered before
-pub passes_it : (g : Graph) (most : ℕ) (entered : List Bool) (tasks : List Task) (done : List ℕ) (x : ℕ) → IsEntered entered x → Walk g most entered (Enter x ∷ tasks) done → Walk g most entered tasks done
+pub passes_it : (g : Graph) (most : ℕ) (entered : List Bool) (tasks : List Visit) (done : List ℕ) (x : ℕ) → IsEntered entered x → Walk g most entered (Enter x ∷ tasks) done → Walk g most entered tasks done
 passes_it g most entered tasks done x is w = record {
   sized = w.sized;
   opened = w.opened;
@@ -173,43 +173,43 @@ passes_it g most entered tasks done x is w = record {
 }
 
 -- the tasks to enter these, the last one first, before others
-abbrev pub pushed : List ℕ → List Task → List Task
+abbrev pub pushed : List ℕ → List Visit → List Visit
 pushed [] tasks = tasks
 pushed (n ∷ ns) tasks = pushed ns (Enter n ∷ tasks)
 
-pub reverse_pushed : (row : List ℕ) (work : List Task) → reverse (work ++ map Enter row) ≡ pushed row (reverse work)
+pub reverse_pushed : (row : List ℕ) (work : List Visit) → reverse (work ++ map Enter row) ≡ pushed row (reverse work)
 reverse_pushed [] work = ap reverse (append-nil work)
 reverse_pushed (n ∷ ns) work =
     ap reverse (sym (append_assoc work (Enter n ∷ []) (map Enter ns))) ∙ reverse_pushed ns (work ++ Enter n ∷ []) ∙ ap (pushed ns) (reverse-append work (Enter n ∷ []))
 
-pushed_open : (row : List ℕ) (tasks : List Task) (m : ℕ) → IsOpen (pushed row tasks) m → IsOpen tasks m
+pushed_open : (row : List ℕ) (tasks : List Visit) (m : ℕ) → IsOpen (pushed row tasks) m → IsOpen tasks m
 pushed_open [] tasks m o = o
 pushed_open (n ∷ ns) tasks m o = pushed_open ns (Enter n ∷ tasks) m o
 
-open_pushed : (row : List ℕ) (tasks : List Task) (m : ℕ) → IsOpen tasks m → IsOpen (pushed row tasks) m
+open_pushed : (row : List ℕ) (tasks : List Visit) (m : ℕ) → IsOpen tasks m → IsOpen (pushed row tasks) m
 open_pushed [] tasks m o = o
 open_pushed (n ∷ ns) tasks m o = open_pushed ns (Enter n ∷ tasks) m o
 
-waits_pushed : (row : List ℕ) (tasks : List Task) (n : ℕ) → Waits tasks n → Waits (pushed row tasks) n
+waits_pushed : (row : List ℕ) (tasks : List Visit) (n : ℕ) → Waits tasks n → Waits (pushed row tasks) n
 waits_pushed [] tasks n t = t
 waits_pushed (k ∷ ks) tasks n t = waits_pushed ks (Enter k ∷ tasks) n (inr t)
 
-before_pushed : (row : List ℕ) (tasks : List Task) (m n : ℕ) → Before tasks m n → Before (pushed row tasks) m n
+before_pushed : (row : List ℕ) (tasks : List Visit) (m n : ℕ) → Before tasks m n → Before (pushed row tasks) m n
 before_pushed [] tasks m n b = b
 before_pushed (k ∷ ks) tasks m n b = before_pushed ks (Enter k ∷ tasks) m n (inr b)
 
-pushed_before : (row : List ℕ) (tasks : List Task) (m n : ℕ) → Contains row n → Before (pushed row tasks) m n
+pushed_before : (row : List ℕ) (tasks : List Visit) (m n : ℕ) → Contains row n → Before (pushed row tasks) m n
 pushed_before [] tasks m n has = absurd (has_none n has)
 pushed_before (k ∷ ks) tasks m n has =
     ⊎_elim (λ same. before_pushed ks (Enter k ∷ tasks) m n (inl same)) (λ h. pushed_before ks (Enter k ∷ tasks) m n h) (has_cases k ks n has)
 
-chained_pushed : (g : Graph) (row : List ℕ) (tasks : List Task) → ((n : ℕ) → Contains row n → (n < length g) × ((m : ℕ) → IsOpen tasks m → Leads g m n)) → Chained g tasks → Chained g (pushed row tasks)
+chained_pushed : (g : Graph) (row : List ℕ) (tasks : List Visit) → ((n : ℕ) → Contains row n → (n < length g) × ((m : ℕ) → IsOpen tasks m → Leads g m n)) → Chained g tasks → Chained g (pushed row tasks)
 chained_pushed g [] tasks each c = c
 chained_pushed g (k ∷ ks) tasks each c =
     chained_pushed g ks (Enter k ∷ tasks) (λ n h. each n (has_later k ks n h)) ((each k (has_first k ks)).0, (each k (has_first k ks)).1, c)
 
 -- the node at the front is entered
-module _ (g : Graph) (most : ℕ) (entered : List Bool) (tasks : List Task) (done : List ℕ) (x : ℕ) (whole : IsGraph g) (new : get_or entered x false ≡ false) (w : Walk g most entered (Enter x ∷ tasks) done) where
+module _ (g : Graph) (most : ℕ) (entered : List Bool) (tasks : List Visit) (done : List ℕ) (x : ℕ) (whole : IsGraph g) (new : get_or entered x false ≡ false) (w : Walk g most entered (Enter x ∷ tasks) done) where
   pub now_entered : IsEntered (set entered x true) x
   now_entered = get_or-set_same entered x true false (omega (arith, w.chained.0, w.sized))
 
@@ -268,7 +268,7 @@ entering_chained : (g : Graph) (count : ℕ) → count ≤ length g → Chained 
 entering_chained g zero h = tt
 entering_chained g (suc n) h = (omega (arith, h), λ m o. absurd (entering_open n m o), entering_chained g n (omega (arith, h)))
 
-pub starts : (g : Graph) (entered : List Bool) (tasks : List Task) → entered ≡ replicate (length g) false → tasks ≡ entering (length g) → Walk g (length g) entered tasks []
+pub starts : (g : Graph) (entered : List Bool) (tasks : List Visit) → entered ≡ replicate (length g) false → tasks ≡ entering (length g) → Walk g (length g) entered tasks []
 starts g entered tasks none wait = subst (λ t. Walk g (length g) entered t []) (sym wait) (record {
   sized = ap length none ∙ length-replicate (length g) false;
   opened = λ m o. absurd (entering_open (length g) m o);
@@ -290,7 +290,7 @@ starts g entered tasks none wait = subst (λ t. Walk g (length g) entered t []) 
     not_one m is = differ (sym (ap (λ e. get_or e m false) none ∙ ⊎_elim (λ h. get_or-replicate (length g) m false false h) (λ h. get_or_past (replicate (length g) false) m false (rw length-replicate h)) (cases_lt m (length g))) ∙ is)
 
 -- no task is left
-pub all_left : (g : Graph) (entered : List Bool) (tasks : List Task) (order : List ℕ) → tasks ≡ [] → Walk g (length g) entered tasks (reverse order) → Leaves g order
+pub all_left : (g : Graph) (entered : List Bool) (tasks : List Visit) (order : List ℕ) → tasks ≡ [] → Walk g (length g) entered tasks (reverse order) → Leaves g order
 all_left g entered tasks order none w = record {
   left = w.left;
   all = λ m h. ⊎_elim (λ is. ⊎_elim (λ o. absurd (subst (λ t. IsOpen t m) none o)) (λ has. has) (w.known m is)) (λ t. absurd (subst (λ t. Waits t m) none t)) (w.coming m h);
@@ -303,27 +303,27 @@ front work rest last same is e = ap reverse is ∙ reverse-append rest (last ∷
 entered_read : (entered : List Bool) (x : ℕ) (b v : Bool) → x < length entered → b ≡ get_or entered x b → b ≡ v → get_or entered x false ≡ v
 entered_read entered x b v within is e = get_or_default entered x false b within ∙ sym is ∙ e
 
-at_front : (g : Graph) (most : ℕ) (entered : List Bool) (work rest : List Task) (done : List ℕ) (last same : Task) → work ≡ rest ++ last ∷ [] → last ≡ same → Walk g most entered (reverse work) done → Walk g most entered (same ∷ reverse rest) done
+at_front : (g : Graph) (most : ℕ) (entered : List Bool) (work rest : List Visit) (done : List ℕ) (last same : Visit) → work ≡ rest ++ last ∷ [] → last ≡ same → Walk g most entered (reverse work) done → Walk g most entered (same ∷ reverse rest) done
 at_front g most entered work rest done last same is e w = subst (λ t. Walk g most entered t done) (front work rest last same is e) w
 
-pub enter_within : (g : Graph) (most : ℕ) (entered : List Bool) (work rest : List Task) (done : List ℕ) (last : Task) (x : ℕ) → work ≡ rest ++ last ∷ [] → last ≡ Enter x → Walk g most entered (reverse work) done → (x < length g) × (x < length entered)
+pub enter_within : (g : Graph) (most : ℕ) (entered : List Bool) (work rest : List Visit) (done : List ℕ) (last : Visit) (x : ℕ) → work ≡ rest ++ last ∷ [] → last ≡ Enter x → Walk g most entered (reverse work) done → (x < length g) × (x < length entered)
 enter_within g most entered work rest done last x is e w =
     let at : Walk g most entered (Enter x ∷ reverse rest) done = at_front g most entered work rest done last (Enter x) is e w in
     let within : x < length g = at.chained.0 in
     (within, omega (arith, within, w.sized))
 
-pub step_leaves : (g : Graph) (most : ℕ) (entered : List Bool) (work rest : List Task) (order longer : List ℕ) (last : Task) (p : ℕ) → work ≡ rest ++ last ∷ [] → last ≡ Leave p → longer ≡ order ++ p ∷ [] → Walk g most entered (reverse work) (reverse order) → Walk g most entered (reverse rest) (reverse longer)
+pub step_leaves : (g : Graph) (most : ℕ) (entered : List Bool) (work rest : List Visit) (order longer : List ℕ) (last : Visit) (p : ℕ) → work ≡ rest ++ last ∷ [] → last ≡ Leave p → longer ≡ order ++ p ∷ [] → Walk g most entered (reverse work) (reverse order) → Walk g most entered (reverse rest) (reverse longer)
 step_leaves g most entered work rest order longer last p is e more w =
     subst (λ d. Walk g most entered (reverse rest) d) (sym (front longer order p p more refl))
     (leaves_it g most entered (reverse rest) (reverse order) p (at_front g most entered work rest (reverse order) last (Leave p) is e w))
 
-pub step_passes : (g : Graph) (most : ℕ) (entered : List Bool) (work rest : List Task) (done : List ℕ) (last : Task) (x : ℕ) (b : Bool) → work ≡ rest ++ last ∷ [] → last ≡ Enter x → b ≡ get_or entered x b → b ≡ true → Walk g most entered (reverse work) done → Walk g most entered (reverse rest) done
+pub step_passes : (g : Graph) (most : ℕ) (entered : List Bool) (work rest : List Visit) (done : List ℕ) (last : Visit) (x : ℕ) (b : Bool) → work ≡ rest ++ last ∷ [] → last ≡ Enter x → b ≡ get_or entered x b → b ≡ true → Walk g most entered (reverse work) done → Walk g most entered (reverse rest) done
 step_passes g most entered work rest done last x b is e read test w =
     passes_it g most entered (reverse rest) done x (entered_read entered x b true (enter_within g most entered work rest done last x is e w).1 read test)
     (at_front g most entered work rest done last (Enter x) is e w)
 
 -- the row of the node, and the tasks with it
-pub record Entered (g : Graph) (entered : List Bool) (work rest longer : List Task) (last : Task) (x : ℕ) (b : Bool) (row : List ℕ) : Type 0 where
+pub record Entered (g : Graph) (entered : List Bool) (work rest longer : List Visit) (last : Visit) (x : ℕ) (b : Bool) (row : List ℕ) : Type 0 where
   pub taken : work ≡ rest ++ last ∷ []
   pub enters : last ≡ Enter x
   pub read : b ≡ get_or entered x b
@@ -331,7 +331,7 @@ pub record Entered (g : Graph) (entered : List Bool) (work rest longer : List Ta
   pub row_is : row ≡ get_or g x row
   pub becomes : longer ≡ (rest ++ Leave x ∷ []) ++ map Enter row
 
-pub step_enters : (g : Graph) (most : ℕ) (entered : List Bool) (work rest longer : List Task) (done : List ℕ) (last : Task) (x : ℕ) (b : Bool) (row : List ℕ) → IsGraph g → Entered g entered work rest longer last x b row → Walk g most entered (reverse work) done → Walk g most (set entered x true) (reverse longer) done
+pub step_enters : (g : Graph) (most : ℕ) (entered : List Bool) (work rest longer : List Visit) (done : List ℕ) (last : Visit) (x : ℕ) (b : Bool) (row : List ℕ) → IsGraph g → Entered g entered work rest longer last x b row → Walk g most entered (reverse work) done → Walk g most (set entered x true) (reverse longer) done
 step_enters g most entered work rest longer done last x b row whole s w =
     let within : (x < length g) × (x < length entered) = enter_within g most entered work rest done last x s.taken s.enters w in
     let row_same : row ≡ next_in g x = row_read g x row within.0 s.row_is in
@@ -340,7 +340,7 @@ step_enters g most entered work rest longer done last x b row whole s w =
     subst (λ t. Walk g most (set entered x true) t done) (sym stack)
     (enters_it g most entered (reverse rest) done x whole (entered_read entered x b false within.1 s.read s.new) (at_front g most entered work rest done last (Enter x) s.taken s.enters w))
 
-pub step_fewer : (g : Graph) (most : ℕ) (entered : List Bool) (work rest longer : List Task) (done : List ℕ) (last : Task) (x : ℕ) (b : Bool) (row : List ℕ) → Entered g entered work rest longer last x b row → Walk g most entered (reverse work) done → length longer + left not (set entered x true) g < length work + left not entered g
+pub step_fewer : (g : Graph) (most : ℕ) (entered : List Bool) (work rest longer : List Visit) (done : List ℕ) (last : Visit) (x : ℕ) (b : Bool) (row : List ℕ) → Entered g entered work rest longer last x b row → Walk g most entered (reverse work) done → length longer + left not (set entered x true) g < length work + left not entered g
 step_fewer g most entered work rest longer done last x b row s w =
     let within : (x < length g) × (x < length entered) = enter_within g most entered work rest done last x s.taken s.enters w in
     let row_same : row ≡ next_in g x = row_read g x row within.0 s.row_is in

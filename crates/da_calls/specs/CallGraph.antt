@@ -9,7 +9,7 @@ use Rattle.da_calls.specs.CallMethods.{Numbering, numbered}
 use Rattle.da_calls.specs.CallNames.{number_in}
 use Rattle.da_calls.specs.CallPaths.{mark, IsMarked}
 
--- the methods by their numbers, each behind those that it calls, where no call leads back
+-- the methods by their numbers, each after those that it calls, where no call leads back
 pub record IsOrdered (c : ClassTree) (methods : List Body) (number : List ℕ → Option ℕ) (order : List ℕ) : Type 0 where
   pub all : (k : ℕ) → k < length methods → Contains order k
   pub within : (i : ℕ) → i < length order → slice_index order i < length methods

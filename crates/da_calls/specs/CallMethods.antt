@@ -24,6 +24,6 @@ pub record Numbering (bodies methods : List Body) (number : List ℕ → Option 
   pub within : (name : List ℕ) (k : ℕ) → number name ≡ Some k → k < length methods
   pub named : (k : ℕ) → k < length methods → (name : List ℕ) × (number name ≡ Some k)
 
--- a body was added behind others
+-- a body was added after others
 pub record AddsMethod (body : Body) (old : List Body) (number : List ℕ → Option ℕ) (new : List Body) (now : List ℕ → Option ℕ) : Type 0 where
   pub behind : (before : List Body) → Numbering before old number → Numbering (before ++ body ∷ []) new now

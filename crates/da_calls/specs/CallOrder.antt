@@ -11,7 +11,7 @@ abbrev pub IsSealed : Graph → List ℕ → Type 0
 IsSealed g nodes =
     (x y : ℕ) → Contains nodes x → (Contains nodes y → ⊥) → Leads g x y → (z : ℕ) × (Contains nodes z → ⊥) × Same g x z
 
--- a node that is left behind earlier ones
+-- a node that is left after earlier ones
 pub record IsLeft (g : Graph) (earlier : List ℕ) (node : ℕ) : Type 0 where
   pub within : node < length g
   pub fresh : Contains earlier node → ⊥

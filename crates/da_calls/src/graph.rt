@@ -90,7 +90,7 @@ impl<'t> CallGraph<'t> {
         }
     }
 
-    /// All numbers of methods, each behind those of the methods that it calls, where no call leads back.
+    /// All numbers of methods, each after those of the methods that it calls, where no call leads back.
     pub fn order(&self) -> &[usize]
         requires { IsCallGraph self.now }
         ensures { IsOrdered self.now.class.now (methods_in self.now) (number_of self.now) result.now }

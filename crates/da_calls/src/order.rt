@@ -9,7 +9,7 @@ use std::alloc::Global;
 
 /// What a walk has still to do.
 #[derive(Clone, Copy, Debug, PartialEq, Eq)]
-enum Task {
+enum Visit {
     /// Enter a node, if it was not entered before.
     Enter(usize),
     /// Leave a node: all that it goes to were entered.
@@ -26,11 +26,11 @@ pub fn leaving_order(alloc: Global, graph: &[List<usize>]) -> Result<List<usize>
     let mut order = List::new(alloc);
     while let Some(task) = work.pop() {
         match task {
-            Task::Leave(node) => order.push(node)?,
-            Task::Enter(node) => {
+            Visit::Leave(node) => order.push(node)?,
+            Visit::Enter(node) => {
                 if !entered[node] {
                     entered[node] = true;
-                    work.push(Task::Leave(node))?;
+                    work.push(Visit::Leave(node))?;
                     enter_all(graph[node].as_slice(), &mut work)?;
                 }
             }
@@ -40,12 +40,12 @@ pub fn leaving_order(alloc: Global, graph: &[List<usize>]) -> Result<List<usize>
 }
 
 /// The tasks to enter so many nodes.
-fn all_waiting(alloc: Global, count: usize) -> Result<List<Task>, NoMemory>
+fn all_waiting(alloc: Global, count: usize) -> Result<List<Visit>, NoMemory>
     ensures { IfOk result (λ work. reverse work ≡ entering count) }
 {
     let mut work = List::new(alloc);
     for node in 0..count {
-        work.push(Task::Enter(node))?;
+        work.push(Visit::Enter(node))?;
     }
     Ok(work)
 }
@@ -61,11 +61,11 @@ fn none_entered(alloc: Global, count: usize) -> Result<Vec<bool>, NoMemory>
 }
 
 /// Adds that nodes are to be entered.
-fn enter_all(nodes: &[usize], work: &mut List<Task>) -> Result<(), NoMemory>
-    ensures { OnOk result (work.new ≡ work.old ++ map Task.Enter nodes.now) }
+fn enter_all(nodes: &[usize], work: &mut List<Visit>) -> Result<(), NoMemory>
+    ensures { OnOk result (work.new ≡ work.old ++ map Visit.Enter nodes.now) }
 {
     for node in nodes {
-        work.push(Task::Enter(*node))?;
+        work.push(Visit::Enter(*node))?;
     }
     Ok(())
 }

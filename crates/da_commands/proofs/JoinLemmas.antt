@@ -24,7 +24,7 @@ use Rattle.da_commands.specs.declared.joining.TracesFault.TheVariants as fault
 use Rattle.da_commands.specs.declared.status.RefusedKind.{RefusedKind}
 use Rattle.da_commands.specs.declared.status.Status.{Status}
 use Rattle.da_commands.specs.declared.status.Status.TheVariants.{Memory, ReadFault, WriteFault}
-use Rattle.da_commands.specs.JoinReplies.{IsJoin, IsJoined, IsLeastBad, JoinReply, SpellTraces, bad, good}
+use Rattle.da_commands.specs.JoinReplies.{IsJoin, IsJoined, IsEarliestBad, JoinReply, SpellTraces, bad, good}
 use Rattle.da_commands.specs.JoinSteps.{AddsTrace, AreRead, AreWhole, IsNoTrace}
 use Rattle.da_commands.specs.Replies.{IsAnswer, IsEnd, IsRefused, MayReadTraces, TraceReadCause}
 use Rattle.da_commands.specs.Told.{Begins, Gains, HasReplied, OfAllTold, OfTold}
@@ -42,7 +42,7 @@ pub of_all_map : (tolds : List (Option (List ℕ))) (P Q : List (List ℕ) → T
 of_all_map [] P Q go holds = go [] holds
 of_all_map (told ∷ tolds) P Q go holds = of_map told _ _ (λ text. of_all_map tolds (λ texts. P (text ∷ texts)) (λ texts. Q (text ∷ texts)) (λ texts. go (text ∷ texts))) holds
 
--- what holds of the texts of which those that were read are the fronts
+-- what holds of the texts of which those that were read are prefixes
 pub of_all_read : (tolds : List (Option (List ℕ))) (P : List (List ℕ) → Type 0) (limit : ℕ) (texts : List (List ℕ)) → AreWhole limit tolds texts
     → ((wholes : List (List ℕ)) → texts ≡ map (take (limit + 1)) wholes → P wholes) → OfAllTold tolds P
 of_all_read [] P limit [] whole holds = holds [] refl
@@ -109,7 +109,7 @@ module _ (front : List ℕ → List ℕ) (spells : (p : ℕ) (whole : List ℕ) 
   fronts_spelled p (whole ∷ wholes) [] spelled = absurd spelled
   fronts_spelled p (whole ∷ wholes) (trace ∷ traces) (first, others) = (spells p whole trace first, fronts_spelled (p + 1) wholes traces others)
 
-  fronts_bad : (p : ℕ) (wholes : List (List ℕ)) (q line : ℕ) → IsLeastBad p (map front wholes) q line → IsLeastBad p wholes q line
+  fronts_bad : (p : ℕ) (wholes : List (List ℕ)) (q line : ℕ) → IsEarliestBad p (map front wholes) q line → IsEarliestBad p wholes q line
   fronts_bad p [] q line never = elim never [ ]
   fronts_bad p (whole ∷ wholes) _ _ (bad _ _ _ line is) = bad p whole wholes line (wrong p whole line is)
   fronts_bad p (whole ∷ wholes) _ _ (good _ _ trace _ q line spelled later) = good p whole trace wholes q line (spells p whole trace spelled) (fronts_bad (p + 1) wholes q line later)
@@ -118,8 +118,8 @@ module _ (texts wholes : List (List ℕ)) (are : texts ≡ map (take (trace_limi
   pub spell_wholes : (traces : List (List Action)) → SpellTraces 1 texts traces → SpellTraces 1 wholes traces
   spell_wholes traces spelled = fronts_spelled (take (trace_limit + 1)) spelled_within bad_within 1 wholes traces (subst (λ xs. SpellTraces 1 xs traces) are spelled)
 
-  pub bad_wholes : (q line : ℕ) → IsLeastBad 1 texts q line → IsLeastBad 1 wholes q line
-  bad_wholes q line is = fronts_bad (take (trace_limit + 1)) spelled_within bad_within 1 wholes q line (subst (λ xs. IsLeastBad 1 xs q line) are is)
+  pub bad_wholes : (q line : ℕ) → IsEarliestBad 1 texts q line → IsEarliestBad 1 wholes q line
+  bad_wholes q line is = fronts_bad (take (trace_limit + 1)) spelled_within bad_within 1 wholes q line (subst (λ xs. IsEarliestBad 1 xs q line) are is)
 
 -- THE LOOP THAT READS THEM
 
@@ -132,16 +132,16 @@ spelled_on p (x ∷ xs) (y ∷ ys) text trace (first, others) is =
     let moved : p + length (x ∷ xs) ≡ p + 1 + length xs = omega (arith) in
     (first, spelled_on (p + 1) xs ys text trace others (subst (λ n. SpellsTrace n text trace) moved is))
 
-bad_behind : (p : ℕ) (texts : List (List ℕ)) (traces : List (List Action)) (text : List ℕ) (after : List (List ℕ)) (q line : ℕ) → SpellTraces p texts traces → q ≡ p + length texts → IsBadTrace q text line
-    → IsLeastBad p (texts ++ text ∷ after) q line
-bad_behind p [] [] text after q line spelled is wrong =
+bad_after : (p : ℕ) (texts : List (List ℕ)) (traces : List (List Action)) (text : List ℕ) (after : List (List ℕ)) (q line : ℕ) → SpellTraces p texts traces → q ≡ p + length texts → IsBadTrace q text line
+    → IsEarliestBad p (texts ++ text ∷ after) q line
+bad_after p [] [] text after q line spelled is wrong =
     let same : q ≡ p = omega (arith, is) in
-    subst (λ n. IsLeastBad p (text ∷ after) n line) (sym same) (bad p text after line (subst (λ n. IsBadTrace n text line) same wrong))
-bad_behind p [] (y ∷ ys) text after q line spelled is wrong = absurd spelled
-bad_behind p (x ∷ xs) [] text after q line spelled is wrong = absurd spelled
-bad_behind p (x ∷ xs) (y ∷ ys) text after q line (first, others) is wrong =
+    subst (λ n. IsEarliestBad p (text ∷ after) n line) (sym same) (bad p text after line (subst (λ n. IsBadTrace n text line) same wrong))
+bad_after p [] (y ∷ ys) text after q line spelled is wrong = absurd spelled
+bad_after p (x ∷ xs) [] text after q line spelled is wrong = absurd spelled
+bad_after p (x ∷ xs) (y ∷ ys) text after q line (first, others) is wrong =
     let moved : q ≡ p + 1 + length xs = omega (arith, is) in
-    good p x y (xs ++ text ∷ after) q line first (bad_behind (p + 1) xs ys text after q line others moved wrong)
+    good p x y (xs ++ text ∷ after) q line first (bad_after (p + 1) xs ys text after q line others moved wrong)
 
 few_on : (traces : List (List Action)) (trace : List Action) → AllByRecursion (λ (t : List Action). length t ≤ trace_limit) traces → length trace ≤ trace_limit
     → AllByRecursion (λ (t : List Action). length t ≤ trace_limit) (traces ++ trace ∷ [])
@@ -300,7 +300,7 @@ module _ (texts : List (List ℕ)) (i : ℕ) (text : List ℕ) (inside : i < len
   read_bad old (fault.BadLine q line) read (same, wrong) =
       let split : take i texts ++ text ∷ drop (suc i) texts ≡ texts =
       sym (ap (λ l. take i texts ++ l) (drop-cons texts i text inside ∙ ap (λ x. x ∷ drop (suc i) texts) (sym is))) ∙ take-append-drop i texts in
-      subst (λ xs. IsLeastBad 1 xs q line) split (bad_behind 1 (take i texts) old text (drop (suc i) texts) q line read.0 (same ∙ place_is) (subst (λ n. IsBadTrace n text line) (sym same) wrong))
+      subst (λ xs. IsEarliestBad 1 xs q line) split (bad_after 1 (take i texts) old text (drop (suc i) texts) q line read.0 (same ∙ place_is) (subst (λ n. IsBadTrace n text line) (sym same) wrong))
 
 pub read_whole : (texts : List (List ℕ)) (i : ℕ) (traces : List (List Action)) → length texts ≤ i → AreRead (take i texts) (Ok traces) → AreRead texts (Ok traces)
 read_whole texts i traces over read = subst (λ xs. AreRead xs (Ok traces)) (take_all i texts over) read

@@ -31,7 +31,7 @@ none_launched file name setting told taken = of_any file _ (λ text. reply.early
 
 -- A REFUSAL
 
--- its line was written, or a front of it
+-- its line was written, or a prefix of it
 pub launch_refused : (kind : RefusedKind) (line : ℕ) (text name : List ℕ) (setting : LaunchSetting) (told : Option (List SpawnEntry)) (before after : Option (List ℕ)) (status : Status) → Refuses text kind line
     → HasSaid (Refused kind line) (refused_text kind line) status before after → HasLaunchEnd text name setting status told told before after
 launch_refused kind line text name setting told before after status refuses (said is written) =

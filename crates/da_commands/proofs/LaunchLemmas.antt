@@ -6,15 +6,15 @@ use Rattle.da_outside.specs.declared.spawner.Child.{Child}
 use Rattle.da_outside.specs.declared.spawner.Ended.{Ended}
 use Rattle.da_outside.specs.declared.spawner.SpawnEntry.{SpawnEntry}
 use Rattle.da_outside.specs.declared.spawner.SpawnEntry.TheVariants.{Start, Finish}
-use Rattle.da_outside.specs.Outside.{Appends, AppendsFront, HasCause, Rose}
+use Rattle.da_outside.specs.Outside.{Appends, AppendsPrefix, HasCause, Rose}
 use Rattle.da_outside.specs.Spawner.{Tells}
-use Rattle.da_outside.proofs.OutsideLemmas.{appends_none, appends_then, front_before, front_behind, front_none, front_whole}
+use Rattle.da_outside.proofs.OutsideLemmas.{appends_none, appends_then, prefix_before, prefix_after, prefix_none, prefix_whole}
 use Rattle.da_commands.specs.declared.starting.Started.TheVariants as children
 use Rattle.da_commands.specs.declared.status.Status.{Status}
 use Rattle.da_commands.specs.declared.status.Status.TheVariants.{ChildFault, ChildStatus, Done, Memory, WriteFault}
 use Rattle.da_commands.specs.Launching.{FinishReply, HasChildCause, LaunchBegan, LaunchReply, child_text, children_status, children_text, finishes, starts}
 use Rattle.da_commands.specs.Launching as reply
-use Rattle.da_commands.specs.LaunchSteps.{FinishBegan, HasFinished, HasFinishedRest, HasRun, HasStarted, IsFinishEnd, numbers, status_behind}
+use Rattle.da_commands.specs.LaunchSteps.{FinishBegan, HasFinished, HasFinishedRest, HasRun, HasStarted, IsFinishEnd, numbers, status_after}
 
 -- LISTS
 
@@ -78,17 +78,17 @@ text_then k (x ∷ xs) ys =
 pub text_more : (k : ℕ) (xs : List Ended) (x : Ended) → children_text k (xs ++ x ∷ []) ≡ children_text k xs ++ child_text (k + length xs) x
 text_more k xs x = text_then k xs (x ∷ []) ∙ ap (λ l. children_text k xs ++ l) (append-nil (child_text (k + length xs) x))
 
-pub status_more : (k : ℕ) (xs : List Ended) (x : Ended) → children_status k (xs ++ x ∷ []) ≡ status_behind (children_status k xs) (k + length xs) x.status
-status_more k [] x = let same : k ≡ k + 0 = omega arith in ap (λ n. status_behind Done n x.status) same
+pub status_more : (k : ℕ) (xs : List Ended) (x : Ended) → children_status k (xs ++ x ∷ []) ≡ status_after (children_status k xs) (k + length xs) x.status
+status_more k [] x = let same : k ≡ k + 0 = omega arith in ap (λ n. status_after Done n x.status) same
 status_more k (y ∷ ys) x = by_first (y.status == 0) (status_more (k + 1) ys x)
   where
     next : k + 1 + length ys ≡ k + length (y ∷ ys)
     next = omega arith
 
-    by_first : (b : Bool) → children_status (k + 1) (ys ++ x ∷ []) ≡ status_behind (children_status (k + 1) ys) (k + 1 + length ys) x.status
+    by_first : (b : Bool) → children_status (k + 1) (ys ++ x ∷ []) ≡ status_after (children_status (k + 1) ys) (k + 1 + length ys) x.status
         → (if b then children_status (k + 1) (ys ++ x ∷ []) else ChildStatus k y.status)
-        ≡ status_behind (if b then children_status (k + 1) ys else ChildStatus k y.status) (k + length (y ∷ ys)) x.status
-    by_first true rest = rest ∙ ap (λ n. status_behind (children_status (k + 1) ys) n x.status) next
+        ≡ status_after (if b then children_status (k + 1) ys else ChildStatus k y.status) (k + length (y ∷ ys)) x.status
+    by_first true rest = rest ∙ ap (λ n. status_after (children_status (k + 1) ys) n x.status) next
     by_first false rest = refl
 
 -- a status that a whole reply may have
@@ -161,9 +161,9 @@ module _ (list : List ℕ) (told_before : Option (List SpawnEntry)) (before : Op
     pub status_is : status ≡ children_status 1 ends
     pub written : Appends before now (children_text 1 ends)
 
-  -- they are the first ones of a reply, of whose bytes a front was written
+  -- they are the first ones of a reply, of whose bytes a prefix was written
   began_ended : (left : List ℕ) (ends : List Ended) (told_now : Option (List SpawnEntry)) (now : Option (List ℕ)) → FinishedSoFar list left (map Some ends) told_before told_now
-      → AppendsFront before now (children_text 1 ends) → FinishBegan list told_before told_now before now
+      → AppendsPrefix before now (children_text 1 ends) → FinishBegan list told_before told_now before now
   began_ended left ends told_now now so_far written =
       let all : List Ended = ends ++ fill (length left) in
       let size : length all ≡ length list = omega (arith, length-append ends (fill (length left)), filled (length left), so_far.sizes, length_map (λ (e : Ended). Some e) ends) in
@@ -176,7 +176,7 @@ module _ (list : List ℕ) (told_before : Option (List SpawnEntry)) (before : Op
         bytes = children_text 1 all;
         reply = subst (λ c. FinishReply list c (children_status 1 all) (children_text 1 all)) calls (reply.ended all size);
         told = so_far.told;
-        written = subst (AppendsFront before now) (sym (text_then 1 ends (fill (length left)))) (front_before before now (children_text 1 ends) (children_text (1 + length ends) (fill (length left))) written);
+        written = subst (AppendsPrefix before now) (sym (text_then 1 ends (fill (length left)))) (prefix_before before now (children_text 1 ends) (children_text (1 + length ends) (fill (length left))) written);
       }
 
   pub came_first : (left : List ℕ) → left ≡ list → Came left 0 Done told_before before
@@ -201,33 +201,33 @@ module _ (list : List ℕ) (told_before : Option (List SpawnEntry)) (before : Op
         ap (λ n. children_text 1 came.ends ++ child_text n end) same ∙ sym (text_more 1 came.ends end)
 
     pub came_on : (place code : ℕ) (end : Ended) (told_after : Option (List SpawnEntry)) (after : Option (List ℕ)) → place ≡ process + 1 → end.status ≡ code
-        → Tells told_now told_after (Finish child (Some end) ∷ []) → Appends now after (child_text place end) → Came left place (status_behind status place code) told_after after
+        → Tells told_now told_after (Finish child (Some end) ∷ []) → Appends now after (child_text place end) → Came left place (status_after status place code) told_after after
     came_on place code end told_after after is code_is told written =
         let same : place ≡ 1 + length came.ends = omega (arith, is, came.process_is) in
         record {
           ends = came.ends ++ end ∷ [];
           so_far = ended_more end told_after told;
           process_is = omega (arith, is, came.process_is, length-append came.ends (end ∷ []));
-          status_is = ap (λ s. status_behind s place code) came.status_is ∙ ap (λ n. status_behind (children_status 1 came.ends) n code) same
-              ∙ ap (λ c. status_behind (children_status 1 came.ends) (1 + length came.ends) c) (sym code_is) ∙ sym (status_more 1 came.ends end);
+          status_is = ap (λ s. status_after s place code) came.status_is ∙ ap (λ n. status_after (children_status 1 came.ends) n code) same
+              ∙ ap (λ c. status_after (children_status 1 came.ends) (1 + length came.ends) c) (sym code_is) ∙ sym (status_more 1 came.ends end);
           written = subst (Appends before after) (text_is place end is) (appends_then before now after (children_text 1 came.ends) (child_text place end) came.written written);
         }
 
     -- what was written of the last one was cut short
     pub came_cut : (place : ℕ) (end : Ended) (told_after : Option (List SpawnEntry)) (after : Option (List ℕ)) → place ≡ process + 1 → Tells told_now told_after (Finish child (Some end) ∷ [])
-        → AppendsFront now after (child_text place end) → FinishBegan list told_before told_after before after
+        → AppendsPrefix now after (child_text place end) → FinishBegan list told_before told_after before after
     came_cut place end told_after after is told written =
         began_ended left (came.ends ++ end ∷ []) told_after after (ended_more end told_after told)
-        (subst (AppendsFront before after) (text_is place end is) (front_behind before now after (children_text 1 came.ends) (child_text place end) came.written written))
+        (subst (AppendsPrefix before after) (text_is place end is) (prefix_after before now after (children_text 1 came.ends) (child_text place end) came.written written))
 
     -- memory was refused
     pub came_memory : (place : ℕ) (told_after : Option (List SpawnEntry)) (after : Option (List ℕ)) → place ≡ process + 1
-        → ((told_after ≡ told_now) × (after ≡ now)) ⊎ ((end : Ended) × Tells told_now told_after (Finish child (Some end) ∷ []) × AppendsFront now after (child_text place end))
+        → ((told_after ≡ told_now) × (after ≡ now)) ⊎ ((end : Ended) × Tells told_now told_after (Finish child (Some end) ∷ []) × AppendsPrefix now after (child_text place end))
         → FinishBegan list told_before told_after before after
     came_memory place told_after after is (inr (end, told, written)) = came_cut place end told_after after is told written
     came_memory place told_after after is (inl (told, same)) =
         subst (λ t. FinishBegan list told_before t before after) (sym told) (subst (λ a. FinishBegan list told_before told_now before a) (sym same)
-        (began_ended (child ∷ left) came.ends told_now now came.so_far (front_whole before now (children_text 1 came.ends) came.written)))
+        (began_ended (child ∷ left) came.ends told_now now came.so_far (prefix_whole before now (children_text 1 came.ends) came.written)))
 
     -- it could not be finished, and the others were finished with nothing written
     pub came_failed : (told_failed told_after : Option (List SpawnEntry)) (after : Option (List ℕ)) (result : Status) → Tells told_now told_failed (Finish child None ∷ []) → after ≡ now
@@ -266,7 +266,7 @@ module _ (list : List ℕ) (told_before : Option (List SpawnEntry)) (before : Op
               bytes = children_text 1 came.ends;
               reply = subst (λ c. FinishReply list c ChildFault (children_text 1 came.ends)) joined (reply.unfinished came.ends (others ++ fillers) whole);
               told = told others next;
-              written = front_whole before after (children_text 1 came.ends) written;
+              written = prefix_whole before after (children_text 1 came.ends) written;
             }
 
         by_status : (status : Status) → HasFinishedRest left status told_failed told_after → HasFinished list status told_before told_after before after
@@ -328,7 +328,7 @@ module _ (words : ℕ → List (List ℕ)) (count : ℕ) (list : List Child) (a 
   pub started_memory : length list ≤ count → c ≡ b → HasStarted words count children.Memory a c
   started_memory few same = (numbers list, omega (arith, few, length_map (λ (x : Child). x.number) list), subst (λ t. Tells a t (starts words 1 (numbers list))) (sym same) before)
 
-  -- or behind it
+  -- or after it
   pub started_lost : (child : Child) (place : ℕ) → length list ≡ place → place < count → Tells b c (Start (words (place + 1)) (Some child.number) ∷ []) → HasStarted words count children.Memory a c
   started_lost child place size few next =
       (numbers (list ++ child ∷ []), omega (arith, size, few, length_map (λ (x : Child). x.number) (list ++ child ∷ []), length-append list (child ∷ [])), started_more words list child place a b c size before next)
@@ -408,7 +408,7 @@ module _ (words : ℕ → List (List ℕ)) (count : ℕ) (told_before told_now t
             bytes = [];
             reply = subst (λ c. LaunchReply words count c ChildFault []) joined (reply.unstarted (numbers list) (ends ++ fillers) few whole);
             told = told ends next;
-            written = front_whole before after [] none;
+            written = prefix_whole before after [] none;
           }
 
       by_status : (status : Status) → HasFinishedRest (numbers list) status told_now told_after → HasRun words count status told_before told_after before after
@@ -435,7 +435,7 @@ ran_memory words count told_before told_after taken (list, few, told) =
       reply = subst (λ c. LaunchReply words count c (children_status 1 (fill count)) (children_text 1 (fill count))) joined
           (reply.started (list ++ zeros) rest (children_status 1 (fill count)) (children_text 1 (fill count)) whole (reply.ended (fill count) size));
       told = told;
-      written = front_none taken (children_text 1 (fill count));
+      written = prefix_none taken (children_text 1 (fill count));
     }
 
 -- WHERE A CHILD FAILED

@@ -22,7 +22,7 @@ use Rattle.da_types.proofs.resolved.FewProcesses.{few_processes}
 use Rattle.da_types.proofs.sound.AcceptedSound.{filled_procs}
 use Rattle.node_run.specs.declared.outcome.NodeOutcome.{NodeOutcome}
 use Rattle.node_run.specs.declared.outcome.NodeOutcome.TheVariants as outcome
-use Rattle.node_run.specs.NodeCall.{GivesPackets, HasEnded, HasRun, IsPacketOf, WasCut, WroteAll, WroteFront, WroteGiven, end_for}
+use Rattle.node_run.specs.NodeCall.{GivesPackets, HasEnded, HasRun, IsPacketOf, WasCut, WroteAll, WrotePrefix, WroteGiven, end_for}
 use Rattle.node_run.specs.NodeRun.{GoesOn, Node, NodeEnd, NodeRun, Round, event_round, gifts, stays, delivers, hears, talk_of}
 use Rattle.node_run.proofs.TalkLaws.{gains_nothing, gains_then}
 use Rattle.da_commands.specs.declared.status.RefusedKind.{RefusedKind}
@@ -62,7 +62,7 @@ none_given me told = record { talk = []; told = gains_nothing told; packets = Al
 
 -- A REFUSAL
 
--- its line was written, or a front of it
+-- its line was written, or a prefix of it
 pub served_refused : (kind : RefusedKind) (line : ℕ) (text : List ℕ) (setting : NodeSetting) (told : Option (List LinkEntry)) (before after : Option (List ℕ)) (status : Status) → NodeRefuses text setting kind line
     → HasSaid (Refused kind line) (refused_text kind line) status before after → HasServed text setting status told told before after
 served_refused kind line text setting told before after status refuses (said is written) =
@@ -81,7 +81,7 @@ module _ (program : Program) (text : List ℕ) (setting : NodeSetting) (may : Ma
   pub served_unbound : (taken : Option (List ℕ)) → link.Gains told_before told_now [] → HasServed text setting LinkFault told_before told_now taken taken
   served_unbound taken same = reply.unbound program may same (appends_none taken)
 
-  -- behind it the node ran, or was cut short
+  -- after it the node ran, or was cut short
   pub served_bound : (count : ℕ) (told_after : Option (List LinkEntry)) (before after : Option (List ℕ)) (status : Status) → count ≡ length program.procs
       → link.Gains told_before told_now (Bound setting.port setting.me count ∷ [])
       → RunsBound program setting status told_now told_after before after → HasServed text setting status told_before told_after before after
@@ -132,11 +132,11 @@ run_binds run =
     subst (λ rounds. filter is_binding (talk_of rounds) ≡ []) (sym run.rounds_are) whole
 
 front_binds : (talk untold : List LinkEntry) → filter is_binding (talk ++ untold) ≡ [] → filter is_binding talk ≡ []
-front_binds talk untold none = no_front (filter is_binding talk) (filter is_binding untold) (sym (filter-append is_binding talk untold) ∙ none)
+front_binds talk untold none = no_prefix (filter is_binding talk) (filter is_binding untold) (sym (filter-append is_binding talk untold) ∙ none)
   where
-    no_front : (xs ys : List LinkEntry) → xs ++ ys ≡ [] → xs ≡ []
-    no_front [] ys is = refl
-    no_front (x ∷ xs) ys is = absurd (let clash : x ∷ (xs ++ ys) ≡ [] = is in cc)
+    no_prefix : (xs ys : List LinkEntry) → xs ++ ys ≡ [] → xs ≡ []
+    no_prefix [] ys is = refl
+    no_prefix (x ∷ xs) ys is = absurd (let clash : x ∷ (xs ++ ys) ≡ [] = is in cc)
 
 -- what a link gained is what it carries
 pub carries_as : (before now : Option (List LinkEntry)) (talk bindings : List LinkEntry) → link.Gains before now talk → filter is_binding talk ≡ bindings → link.Carries before now bindings
@@ -165,7 +165,7 @@ module _ (program : Program) (me idle turns : ℕ) (told_before told_after : Opt
       → (HasEnded how → HasRun program me idle turns (end_for how) told_before told_after before after)
       → (how ≡ outcome.WriteFault → WasCut program me idle turns told_before told_after before after WroteGiven)
       → (how ≡ outcome.LinkFault → WasCut program me idle turns told_before told_after before after WroteAll)
-      → (how ≡ outcome.Memory → WasCut program me idle turns told_before told_after before after WroteFront)
+      → (how ≡ outcome.Memory → WasCut program me idle turns told_before told_after before after WrotePrefix)
       → link.Carries told_before told_after []
   node_binds outcome.Done ran write link memory = ran_binds _ (ran tt)
   node_binds outcome.Faulted ran write link memory = ran_binds _ (ran tt)
@@ -173,7 +173,7 @@ module _ (program : Program) (me idle turns : ℕ) (told_before told_after : Opt
   node_binds outcome.Spent ran write link memory = ran_binds _ (ran tt)
   node_binds outcome.LinkFault ran write link memory = cut_binds WroteAll (link refl)
   node_binds outcome.WriteFault ran write link memory = cut_binds WroteGiven (write refl)
-  node_binds outcome.Memory ran write link memory = cut_binds WroteFront (memory refl)
+  node_binds outcome.Memory ran write link memory = cut_binds WrotePrefix (memory refl)
 
 module _ (program : Program) (setting : NodeSetting) (count : ℕ) (same : count ≡ length program.procs) where
   -- it was bound, and then a node ran over it
@@ -225,7 +225,7 @@ pub node_runs : (program : Program) (setting : NodeSetting) (how : NodeOutcome) 
     → (HasEnded how → HasRun program setting.me setting.idle setting.turns (end_for how) told_before told_after before after)
     → (how ≡ outcome.WriteFault → WasCut program setting.me setting.idle setting.turns told_before told_after before after WroteGiven)
     → (how ≡ outcome.LinkFault → WasCut program setting.me setting.idle setting.turns told_before told_after before after WroteAll)
-    → (how ≡ outcome.Memory → WasCut program setting.me setting.idle setting.turns told_before told_after before after WroteFront)
+    → (how ≡ outcome.Memory → WasCut program setting.me setting.idle setting.turns told_before told_after before after WrotePrefix)
     → RunsBound program setting (status_of_node how) told_before told_after before after
 node_runs program setting outcome.Done told_before told_after before after ran write link memory = (_, refl, ran tt)
 node_runs program setting outcome.Faulted told_before told_after before after ran write link memory = (_, refl, ran tt)

@@ -6,7 +6,7 @@ use Rattle.da_lang.specs.declared.program.Program.{Program}
 use Rattle.da_lang.specs.declared.tree.Tree.{Tree}
 use Rattle.da_lang.specs.Limits.{Resolves}
 use Rattle.da_lang.specs.Typing.{Typed}
-use Rattle.da_outside.specs.Outside.{Appends, AppendsFront, HasCause, IsWhole, Rose}
+use Rattle.da_outside.specs.Outside.{Appends, AppendsPrefix, HasCause, IsWhole, Rose}
 use Rattle.da_outside.proofs.OutsideLemmas.{cause_as}
 use Rattle.da_core.specs.PlanLimit.{nodes_fault}
 use Rattle.da_system.specs.declared.system.System.{System}
@@ -27,7 +27,7 @@ use Rattle.da_commands.specs.declared.status.Status.TheVariants.{Done, Forbidden
 use Rattle.da_commands.specs.declared.words.Task.{Task}
 use Rattle.da_commands.specs.declared.words.Task.TheVariants.{Check, Plan, Stress}
 use Rattle.da_values.proofs.Numerals.{decimal_injective_wide}
-use Rattle.da_commands.specs.Replies.{TaskReply, carried_out, declined, IsAnswer, IsAsking, IsCarriedOut, IsEnd, IsRefused, IsReplay, MayRead, ReadCause, ReplayReply, refused, answered, RunReply, bad_schedule, ran, RunsWhole, ended_by, run_status, run_text, task_text, words_of}
+use Rattle.da_commands.specs.Replies.{TaskReply, executed, declined, IsAnswer, IsAsking, IsExecuted, IsEnd, IsRefused, IsReplay, MayRead, ReadCause, ReplayReply, refused, answered, RunReply, bad_schedule, ran, RunsWhole, ended_by, run_status, run_text, task_text, words_of}
 use Rattle.da_commands.specs.Endings.{status_of_run}
 use Rattle.da_commands.specs.Told.{Gains, HasReplied, HasSaid, OfTold, said, unsaid}
 use Rattle.da_commands.specs.Verdict.{Accepts, HasTree, IsRefusedAs, Refuses, program_limit}
@@ -137,8 +137,8 @@ unwritten_run outcome.Memory is = absurd (let clash : Memory ≡ WriteFault = is
 pub run_cause : (how : Outcome) (before now : ℕ) → HasCause before now (how ≡ outcome.WriteFault) → HasCause before now (status_of_run how ≡ WriteFault)
 run_cause how before now cause = cause_as before now (λ is. ap status_of_run is) (unwritten_run how) cause
 
--- what a run says: its status and bytes, or a front of these
-module _ (status : Status) (bytes : List ℕ) (before after : Option (List ℕ)) (front : AppendsFront before after bytes) where
+-- what a run says: its status and bytes, or a prefix of these
+module _ (status : Status) (bytes : List ℕ) (before after : Option (List ℕ)) (front : AppendsPrefix before after bytes) where
   run_said : (how : Outcome) → (HasEnded how → (status_of_run how ≡ status) × Appends before after bytes) → HasSaid status bytes (status_of_run how) before after
   run_said outcome.Done ended = said (ended tt).0 (ended tt).1
   run_said (outcome.Forbidden i) ended = said (ended tt).0 (ended tt).1
@@ -148,18 +148,18 @@ module _ (status : Status) (bytes : List ℕ) (before after : Option (List ℕ))
 module _ (program p : Program) (opened : System) (same : p ≡ program) (stands : Stands opened (start program)) where
   -- the replay of a system in its opening is the run of the program
   pub replayed : (events : List Event) (how : Outcome) (left : System) (before after : Option (List ℕ)) → (HasEnded how → Whichever opened (λ s. HasRun p s events how left before after))
-      → Whichever opened (λ s. AppendsFront before after (text_on p s events)) → HasSaid (run_status program events) (run_text program events) (status_of_run how) before after
+      → Whichever opened (λ s. AppendsPrefix before after (text_on p s events)) → HasSaid (run_status program events) (run_text program events) (status_of_run how) before after
   replayed events how left before after runs front =
-      run_said (run_status program events) (run_text program events) before after (subst (λ q. AppendsFront before after (text_on q (start program) events)) same (front (start program) stands)) how
+      run_said (run_status program events) (run_text program events) before after (subst (λ q. AppendsPrefix before after (text_on q (start program) events)) same (front (start program) stands)) how
       (λ ended.
       let has : HasRun program (start program) events how left before after = subst (λ q. HasRun q (start program) events how left before after) same (runs ended (start program) stands) in
       (stopped_so how (src_run program events).stop has.outcome_is, has.written))
 
   -- and what is told of a generated schedule is told of the program
   pub stressed : (first most : ℕ) (how : Outcome) (left : System) (before after : Option (List ℕ)) → (HasEnded how → Whichever opened (λ s. HasPicked p s first most left before after)) → (HasEnded how → how ≡ outcome.Done)
-      → Whichever opened (λ s. AppendsFront before after (stress_text_from p s first most)) → HasSaid Done (stress_text program first most) (status_of_run how) before after
+      → Whichever opened (λ s. AppendsPrefix before after (stress_text_from p s first most)) → HasSaid Done (stress_text program first most) (status_of_run how) before after
   stressed first most how left before after runs done front =
-      run_said Done (stress_text program first most) before after (subst (λ q. AppendsFront before after (stress_text_from q (start program) first most)) same (front (start program) stands)) how
+      run_said Done (stress_text program first most) before after (subst (λ q. AppendsPrefix before after (stress_text_from q (start program) first most)) same (front (start program) stands)) how
       (λ ended.
       let has : HasPicked program (start program) first most left before after = subst (λ q. HasPicked q (start program) first most left before after) same (runs ended (start program) stands) in
       (ap status_of_run (done ended), has.written))
@@ -168,14 +168,14 @@ module _ (program p : Program) (opened : System) (same : p ≡ program) (stands 
 
 carried_reply : (task : Task) (t : List ℕ) (program : Program) (status : Status) (bytes : List ℕ) → Accepts t program → TaskReply task t status bytes → (status ≡ Done) × (bytes ≡ task_text task program)
 carried_reply task t program _ _ accepts (declined kind line refuses) = absurd (accepted_or_not t program kind line accepts refuses)
-carried_reply task t program _ _ accepts (carried_out other also) = (refl, ap (task_text task) (accepts_one t program other accepts also))
+carried_reply task t program _ _ accepts (executed other also) = (refl, ap (task_text task) (accepts_one t program other accepts also))
 
-pub is_carried_out : (task : Task) (told : Option (List ℕ)) (t : List ℕ) (program : Program) (status : Status) (before after : Option (List ℕ)) → told ≡ Some t → Accepts t program → IsEnd status
-    → (status ≡ ReadFault → ⊥) → (status ≡ WriteFault → ⊥) → OfTold told (λ t. HasReplied (TaskReply task t) status before after) → IsCarriedOut task program status before after
-is_carried_out task told t program status before after told_t accepts ends read write replies =
+pub is_executed : (task : Task) (told : Option (List ℕ)) (t : List ℕ) (program : Program) (status : Status) (before after : Option (List ℕ)) → told ≡ Some t → Accepts t program → IsEnd status
+    → (status ≡ ReadFault → ⊥) → (status ≡ WriteFault → ⊥) → OfTold told (λ t. HasReplied (TaskReply task t) status before after) → IsExecuted task program status before after
+is_executed task told t program status before after told_t accepts ends read write replies =
     either (quiet_replied (TaskReply task t) before after status ends read write (of_known told (λ t. HasReplied (TaskReply task t) status before after) t told_t replies))
   where
-    either : (status ≡ Memory) ⊎ Gains (TaskReply task t) status before after → IsCarriedOut task program status before after
+    either : (status ≡ Memory) ⊎ Gains (TaskReply task t) status before after → IsExecuted task program status before after
     either (inl memory) = inl memory
     either (inr gains) =
         let (status_is, bytes_are) = carried_reply task t program status gains.bytes accepts gains.reply in

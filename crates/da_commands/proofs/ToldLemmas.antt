@@ -4,7 +4,7 @@ use Rattle.std.specs.Prelude.{Option, Some, None, Result, Ok, Err}
 use Rattle.da_outside.specs.declared.outside.Trouble.{Trouble}
 use Rattle.da_outside.specs.declared.outside.Trouble.TheVariants.{Failed}
 use Rattle.da_outside.specs.Outside.{HasCause, IsWhole}
-use Rattle.da_outside.proofs.OutsideLemmas.{appends_none, cause_as, front_none, no_cause}
+use Rattle.da_outside.proofs.OutsideLemmas.{appends_none, cause_as, prefix_none, no_cause}
 use Rattle.da_commands.specs.declared.status.Status.{Status}
 use Rattle.da_commands.specs.declared.status.Status.TheVariants.{BadSchedule, BadTrace, ChildFault, ChildStatus, Done, Faulted, Forbidden, Idle, LinkFault, Memory, NoJoin, ReadFault, Refused, Spent, Words, WriteFault}
 use Rattle.da_commands.specs.declared.words.Task.{Task}
@@ -29,7 +29,7 @@ pub of_any : (told : Option (List ℕ)) (P : List ℕ → Type 0) → ((text : L
 of_any None P every = ([], every [])
 of_any (Some text) P every = every text
 
--- what holds of the text of which what was read is the front
+-- what holds of the text of which what was read is a prefix
 pub of_read : (told : Option (List ℕ)) (P : List ℕ → Type 0) (limit : ℕ) (text : List ℕ) → IsWhole told limit text → ((whole : List ℕ) → text ≡ take (limit + 1) whole → P whole) → OfTold told P
 of_read None P limit text few holds = (text, holds text (sym (take_all (limit + 1) text few)))
 of_read (Some whole) P limit text is holds = holds whole is
@@ -87,7 +87,7 @@ answer_cause status before now answer cause = cause_as before now (λ never. abs
 
 -- WHAT WAS WRITTEN, where memory was refused before
 pub memory_said : (status : Status) (bytes : List ℕ) (taken : Option (List ℕ)) → HasSaid status bytes Memory taken taken
-memory_said status bytes taken = unsaid tt (front_none taken bytes)
+memory_said status bytes taken = unsaid tt (prefix_none taken bytes)
 
 pub begins_nothing : (Reply : Status → List ℕ → Type 0) (x : Option (List ℕ)) → Begins Reply x x
 begins_nothing Reply x = inl (appends_none x)
@@ -141,7 +141,7 @@ module _ (Reply : Status → List ℕ → Type 0) (before after : Option (List �
   whole_replied (BadTrace process line) answer replied = replied
   whole_replied NoJoin answer replied = replied
 
-  -- what is no answer has at most a front
+  -- what is no answer has at most a prefix
   pub begun_replied : (status : Status) → (IsAnswer status → ⊥) → HasReplied Reply status before after → Begins Reply before after
   begun_replied ReadFault never replied = replied
   begun_replied WriteFault never replied = replied

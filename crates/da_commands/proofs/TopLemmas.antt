@@ -5,8 +5,8 @@ use Rattle.da_values.proofs.Numerals.{decimal_injective_wide}
 use Rattle.da_lang.specs.declared.program.Program.{Program}
 use Rattle.da_lang.specs.declared.ty.ChannelKind.{ChannelKind}
 use Rattle.da_outside.specs.declared.link.LinkEntry.{LinkEntry}
-use Rattle.da_outside.specs.Outside.{Appends, AppendsFront}
-use Rattle.da_outside.proofs.OutsideLemmas.{front_whole}
+use Rattle.da_outside.specs.Outside.{Appends, AppendsPrefix}
+use Rattle.da_outside.proofs.OutsideLemmas.{prefix_whole}
 use Rattle.da_commands.specs.declared.status.Status.{Status}
 use Rattle.da_commands.specs.declared.status.Status.TheVariants.{ChildFault, LinkFault, Memory, ReadFault, WriteFault}
 use Rattle.da_commands.specs.declared.words.NodeSetting.{NodeSetting}
@@ -149,6 +149,6 @@ pub said_whole : (status : Status) (bytes : List ℕ) (result : Status) (before 
 said_whole status bytes result before after (said is written) answer = (is, written)
 said_whole status bytes result before after (unsaid cut front) answer = absurd (unwritten_or_answer result cut answer)
 
-pub said_front : (status : Status) (bytes : List ℕ) (result : Status) (before after : Option (List ℕ)) → HasSaid status bytes result before after → AppendsFront before after bytes
-said_front status bytes result before after (said is written) = front_whole before after bytes written
+pub said_front : (status : Status) (bytes : List ℕ) (result : Status) (before after : Option (List ℕ)) → HasSaid status bytes result before after → AppendsPrefix before after bytes
+said_front status bytes result before after (said is written) = prefix_whole before after bytes written
 said_front status bytes result before after (unsaid cut front) = front

@@ -28,16 +28,16 @@ SpellTraces p (text ∷ texts) (trace ∷ traces) = SpellsTrace p text trace × 
 SpellTraces p _ _ = ⊥
 
 -- of the texts of the processes p, p + 1, .. that of process q is the first that is no trace, by this line
-pub data IsLeastBad : ℕ → List (List ℕ) → ℕ → ℕ → Type 0 where
-  bad : (p : ℕ) (text : List ℕ) (texts : List (List ℕ)) (line : ℕ) → IsBadTrace p text line → IsLeastBad p (text ∷ texts) p line
-  good : (p : ℕ) (text : List ℕ) (trace : List Action) (texts : List (List ℕ)) (q line : ℕ) → SpellsTrace p text trace → IsLeastBad (p + 1) texts q line
-      → IsLeastBad p (text ∷ texts) q line
+pub data IsEarliestBad : ℕ → List (List ℕ) → ℕ → ℕ → Type 0 where
+  bad : (p : ℕ) (text : List ℕ) (texts : List (List ℕ)) (line : ℕ) → IsBadTrace p text line → IsEarliestBad p (text ∷ texts) p line
+  good : (p : ℕ) (text : List ℕ) (trace : List Action) (texts : List (List ℕ)) (q line : ℕ) → SpellsTrace p text trace → IsEarliestBad (p + 1) texts q line
+      → IsEarliestBad p (text ∷ texts) q line
 
 -- THE REPLY
 
 -- the status and the bytes with which an accepted program answers as many traces as it has processes
 pub data JoinedReply (program : Program) (texts : List (List ℕ)) : Status → List ℕ → Type 0 where
-  bad_trace : (p line : ℕ) → IsLeastBad 1 texts p line → JoinedReply program texts (BadTrace p line) (badtrace_text p line)
+  bad_trace : (p line : ℕ) → IsEarliestBad 1 texts p line → JoinedReply program texts (BadTrace p line) (badtrace_text p line)
   joined : (traces : List (List Action)) (events : List Event) → SpellTraces 1 texts traces → Joined program traces events → All HasNames events
       → JoinedReply program texts Done (schedule_text events)
   blocked : (traces : List (List Action)) (blocks : List (ℕ × ℕ)) → SpellTraces 1 texts traces → NoneJoins program traces → AreBlocks program traces blocks

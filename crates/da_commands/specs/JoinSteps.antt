@@ -7,7 +7,7 @@ use Rattle.sched_text.specs.TraceText.{IsBadTrace, SpellsTrace, trace_limit}
 use Rattle.trace_join.specs.declared.fault.Block.{Block}
 use Rattle.da_commands.specs.declared.joining.TracesFault.{TracesFault}
 use Rattle.da_commands.specs.declared.joining.TracesFault.TheVariants.{BadLine, Memory}
-use Rattle.da_commands.specs.JoinReplies.{IsLeastBad, SpellTraces}
+use Rattle.da_commands.specs.JoinReplies.{IsEarliestBad, SpellTraces}
 
 -- these texts are read where those are told: each is whole, or goes one byte past the limit
 abbrev pub AreWhole : ℕ → List (Option (List ℕ)) → List (List ℕ) → Type 0
@@ -28,7 +28,7 @@ IsNoTrace p text Memory = Unit {0}
 -- what a reader of traces answers
 abbrev pub AreRead : List (List ℕ) → Result (List (List Action)) TracesFault → Type 0
 AreRead texts (Ok traces) = SpellTraces 1 texts traces × AllByRecursion (λ trace. length trace ≤ trace_limit) traces
-AreRead texts (Err (BadLine process line)) = IsLeastBad 1 texts process line
+AreRead texts (Err (BadLine process line)) = IsEarliestBad 1 texts process line
 AreRead texts (Err Memory) = Unit {0}
 
 -- a process that is blocked, and the line of its trace at which it is

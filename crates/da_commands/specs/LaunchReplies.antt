@@ -2,7 +2,7 @@
 use Rattle.std.specs.Prelude.{◌≡◌, ◌≤◌, ℕ, ◌⊎◌, List, [], ◌∷◌, length, codes, decimal, Option}
 use Rattle.da_lang.specs.declared.program.Program.{Program}
 use Rattle.da_outside.specs.declared.spawner.SpawnEntry.{SpawnEntry}
-use Rattle.da_outside.specs.Outside.{Appends, AppendsFront}
+use Rattle.da_outside.specs.Outside.{Appends, AppendsPrefix}
 use Rattle.da_outside.specs.Spawner.{Tells}
 use Rattle.da_commands.specs.declared.status.RefusedKind.{RefusedKind}
 use Rattle.da_commands.specs.declared.status.Status.{Status}
@@ -46,12 +46,12 @@ pub data HasLaunched (text name : List ℕ) (setting : LaunchSetting) (status : 
       → Tells told_before told_after calls → Appends before after bytes
       → HasLaunched text name setting status told_before told_after before after
 
--- A read or a write failed, or memory was refused. No child was started, and nothing was written or a front of a refusal; or
+-- A read or a write failed, or memory was refused. No child was started, and nothing was written or a prefix of a refusal; or
 -- the launch was cut short.
 pub data LaunchStopped (text name : List ℕ) (setting : LaunchSetting) (told_before told_after : Option (List SpawnEntry)) (before after : Option (List ℕ)) : Type 0 where
   early : Tells told_before told_after [] → Appends before after [] → LaunchStopped text name setting told_before told_after before after
   refusing : (kind : RefusedKind) (line : ℕ) → Refuses text kind line → Tells told_before told_after []
-      → AppendsFront before after (refused_text kind line) → LaunchStopped text name setting told_before told_after before after
+      → AppendsPrefix before after (refused_text kind line) → LaunchStopped text name setting told_before told_after before after
   running : (program : Program) → Accepts text program
       → LaunchBegan (child_words name setting) (length program.procs) told_before told_after before after
       → LaunchStopped text name setting told_before told_after before after

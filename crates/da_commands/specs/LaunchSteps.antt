@@ -4,7 +4,7 @@ use Rattle.da_outside.specs.declared.spawner.Child.{Child}
 use Rattle.da_outside.specs.declared.spawner.Ended.{Ended}
 use Rattle.da_outside.specs.declared.spawner.SpawnEntry.{SpawnEntry}
 use Rattle.da_outside.specs.declared.spawner.SpawnEntry.TheVariants.{Start, Finish}
-use Rattle.da_outside.specs.Outside.{Appends, AppendsFront}
+use Rattle.da_outside.specs.Outside.{Appends, AppendsPrefix}
 use Rattle.da_outside.specs.Spawner.{Tells}
 use Rattle.da_commands.specs.declared.finishing.FinishFault.{FinishFault}
 use Rattle.da_commands.specs.declared.finishing.FinishFault.TheVariants as fault
@@ -39,10 +39,10 @@ HasFinishedOne child k (Ok status) told_before told_after before after =
 HasFinishedOne child k (Err fault.Child) told_before told_after before after =
     Tells told_before told_after (Finish child None ∷ []) × (after ≡ before)
 HasFinishedOne child k (Err fault.Write) told_before told_after before after =
-    (end : Ended) × Tells told_before told_after (Finish child (Some end) ∷ []) × AppendsFront before after (child_text k end)
+    (end : Ended) × Tells told_before told_after (Finish child (Some end) ∷ []) × AppendsPrefix before after (child_text k end)
 HasFinishedOne child k (Err fault.Memory) told_before told_after before after =
     ((told_after ≡ told_before) × (after ≡ before))
-    ⊎ ((end : Ended) × Tells told_before told_after (Finish child (Some end) ∷ []) × AppendsFront before after (child_text k end))
+    ⊎ ((end : Ended) × Tells told_before told_after (Finish child (Some end) ∷ []) × AppendsPrefix before after (child_text k end))
 
 -- what comes of finishing these children where nothing is written
 abbrev pub HasFinishedRest : List ℕ → Status → Option (List SpawnEntry) → Option (List SpawnEntry) → Type 0
@@ -52,12 +52,12 @@ HasFinishedRest list Memory told_before told_after =
     (ends : List (Option Ended)) × (length ends ≤ length list) × Tells told_before told_after (finishes list ends)
 HasFinishedRest list status told_before told_after = ⊥
 
--- the status with which children end, behind one that ended with this code
-abbrev pub status_behind : Status → ℕ → ℕ → Status
-status_behind Done child code = if code == 0 then Done else ChildStatus child code
-status_behind status child code = status
+-- the status with which children end, after one that ended with this code
+abbrev pub status_after : Status → ℕ → ℕ → Status
+status_after Done child code = if code == 0 then Done else ChildStatus child code
+status_after status child code = status
 
--- The finishing of these children was cut short: these were the first calls of a reply, and a front of its bytes was written.
+-- The finishing of these children was cut short: these were the first calls of a reply, and a prefix of its bytes was written.
 pub record FinishBegan (list : List ℕ) (told_before told_after : Option (List SpawnEntry)) (before after : Option (List ℕ)) : Type 0 where
   pub calls : List SpawnEntry
   pub more : List SpawnEntry
@@ -65,7 +65,7 @@ pub record FinishBegan (list : List ℕ) (told_before told_after : Option (List 
   pub bytes : List ℕ
   pub reply : FinishReply list (calls ++ more) status bytes
   pub told : Tells told_before told_after calls
-  pub written : AppendsFront before after bytes
+  pub written : AppendsPrefix before after bytes
 
 -- what comes of finishing these children
 abbrev pub HasFinished : List ℕ → Status → Option (List SpawnEntry) → Option (List SpawnEntry) → Option (List ℕ) → Option (List ℕ) → Type 0

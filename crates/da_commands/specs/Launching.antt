@@ -3,7 +3,7 @@ use Rattle.std.specs.Prelude.{◌≡◌, ◌<◌, ◌≤◌, ℕ, ◌+◌, ◌==
 use Rattle.da_outside.specs.declared.spawner.Ended.{Ended}
 use Rattle.da_outside.specs.declared.spawner.SpawnEntry.{SpawnEntry}
 use Rattle.da_outside.specs.declared.spawner.SpawnEntry.TheVariants.{Start, Finish}
-use Rattle.da_outside.specs.Outside.{AppendsFront, Rose}
+use Rattle.da_outside.specs.Outside.{AppendsPrefix, Rose}
 use Rattle.da_outside.specs.Spawner.{Tells}
 use Rattle.da_commands.specs.declared.status.Status.{Status}
 use Rattle.da_commands.specs.declared.status.Status.TheVariants.{ChildFault, ChildStatus, Done, Memory}
@@ -45,7 +45,7 @@ children_status k (end ∷ ends) = if end.status == 0 then children_status (k + 
 
 -- THE REPLY
 
--- What comes where these children are finished one by one. Each is finished in any case. Behind one at which that failed
+-- What comes where these children are finished one by one. Each is finished in any case. After one at which that failed
 -- nothing is written.
 pub data FinishReply (children : List ℕ) : List SpawnEntry → Status → List ℕ → Type 0 where
   ended : (ends : List Ended) → length ends ≡ length children
@@ -53,7 +53,7 @@ pub data FinishReply (children : List ℕ) : List SpawnEntry → Status → List
   unfinished : (ends : List Ended) (others : List (Option Ended)) → length ends + 1 + length others ≡ length children
       → FinishReply children (finishes children (map Some ends ++ None ∷ others)) ChildFault (children_text 1 ends)
 
--- The calls, the status and the bytes of a launch of so many processes, whose children are started with these words. Behind a
+-- The calls, the status and the bytes of a launch of so many processes, whose children are started with these words. After a
 -- start that failed those that were started are finished, and nothing is written.
 pub data LaunchReply (words : ℕ → List (List ℕ)) (count : ℕ) : List SpawnEntry → Status → List ℕ → Type 0 where
   started : (children : List ℕ) (calls : List SpawnEntry) (status : Status) (bytes : List ℕ) → length children ≡ count
@@ -61,7 +61,7 @@ pub data LaunchReply (words : ℕ → List (List ℕ)) (count : ℕ) : List Spaw
   unstarted : (children : List ℕ) (ends : List (Option Ended)) → length children < count → length ends ≡ length children
       → LaunchReply words count (starts words 1 children ++ Start (words (length children + 1)) None ∷ finishes children ends) ChildFault []
 
--- A launch was cut short: these were the first calls of a reply, and a front of its bytes was written.
+-- A launch was cut short: these were the first calls of a reply, and a prefix of its bytes was written.
 pub record LaunchBegan (words : ℕ → List (List ℕ)) (count : ℕ) (told_before told_after : Option (List SpawnEntry)) (before after : Option (List ℕ)) : Type 0 where
   pub calls : List SpawnEntry
   pub more : List SpawnEntry
@@ -69,7 +69,7 @@ pub record LaunchBegan (words : ℕ → List (List ℕ)) (count : ℕ) (told_bef
   pub bytes : List ℕ
   pub reply : LaunchReply words count (calls ++ more) status bytes
   pub told : Tells told_before told_after calls
-  pub written : AppendsFront before after bytes
+  pub written : AppendsPrefix before after bytes
 
 -- A count tells of a child at which a call failed: it does not fall, that status comes only where it rose, and where it rose it is
 -- that status, or memory was refused afterwards.

@@ -5,8 +5,8 @@ use Rattle.da_lang.specs.declared.ty.ChannelKind.{ChannelKind}
 use Rattle.da_outside.specs.declared.link.LinkEntry.{LinkEntry}
 use Rattle.da_outside.specs.declared.link.LinkEntry.TheVariants.{Bound}
 use Rattle.da_outside.specs.Link as link
-use Rattle.da_outside.specs.Outside.{Appends, AppendsFront}
-use Rattle.node_run.specs.NodeCall.{HasRun, WasCut, WroteAll, WroteFront, WroteGiven}
+use Rattle.da_outside.specs.Outside.{Appends, AppendsPrefix}
+use Rattle.node_run.specs.NodeCall.{HasRun, WasCut, WroteAll, WrotePrefix, WroteGiven}
 use Rattle.node_run.specs.NodeRun.{NodeEnd, Round}
 use Rattle.node_run.specs.NodeRun as by
 use Rattle.da_commands.specs.declared.status.RefusedKind.{RefusedKind}
@@ -18,7 +18,7 @@ use Rattle.da_commands.specs.Lines.{refused_text}
 use Rattle.da_commands.specs.Verdict.{Accepts, Refuses}
 
 -- the numbers of a setting are within their ranges
-pub record IsWithin (setting : NodeSetting) : Type 0 where
+pub record SettingInRange (setting : NodeSetting) : Type 0 where
   pub port : (1024 ≤ setting.port) × (setting.port ≤ 65000)
   pub me : (1 ≤ setting.me) × (setting.me ≤ 64)
   pub idle : (1 ≤ setting.idle) × (setting.idle ≤ 1000000000)
@@ -30,7 +30,7 @@ pub record IsSetting (setting : NodeSetting) (port me idle turns : List ℕ) : T
   pub me_is : me ≡ decimal setting.me
   pub idle_is : idle ≡ decimal setting.idle
   pub turns_is : turns ≡ decimal setting.turns
-  pub within : IsWithin setting
+  pub within : SettingInRange setting
 
 -- the words ask to run a node of the program of this name
 abbrev pub IsNode : List (List ℕ) → List ℕ → NodeSetting → Type 0
@@ -89,14 +89,14 @@ pub data LinkFailed (text : List ℕ) (setting : NodeSetting) (told_before told_
       → LinkFailed text setting told_before told_after before after
   running : WasCutBound text setting told_before told_after before after WroteAll → LinkFailed text setting told_before told_after before after
 
--- A read or a write failed, or memory was refused. Nothing was written and the link was not bound, or a front of a refusal was
+-- A read or a write failed, or memory was refused. Nothing was written and the link was not bound, or a prefix of a refusal was
 -- written. Or the node was cut short: where a write failed, the packets of each round that was begun were given.
 pub data HasStopped (text : List ℕ) (setting : NodeSetting) (status : Status) (told_before told_after : Option (List LinkEntry)) (before after : Option (List ℕ)) : Type 0 where
   early : link.Gains told_before told_after [] → Appends before after [] → HasStopped text setting status told_before told_after before after
   refusing : (kind : RefusedKind) (line : ℕ) → NodeRefuses text setting kind line → link.Gains told_before told_after []
-      → AppendsFront before after (refused_text kind line) → HasStopped text setting status told_before told_after before after
+      → AppendsPrefix before after (refused_text kind line) → HasStopped text setting status told_before told_after before after
   writing : status ≡ WriteFault → WasCutBound text setting told_before told_after before after WroteGiven → HasStopped text setting status told_before told_after before after
-  running : status ≡ Memory → WasCutBound text setting told_before told_after before after WroteFront → HasStopped text setting status told_before told_after before after
+  running : status ≡ Memory → WasCutBound text setting told_before told_after before after WrotePrefix → HasStopped text setting status told_before told_after before after
 
 -- a link was not bound, or once: for this process of the program of the text
 abbrev pub BindsOnce : List ℕ → NodeSetting → Option (List LinkEntry) → Option (List LinkEntry) → Type 0

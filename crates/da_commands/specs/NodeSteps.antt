@@ -3,7 +3,7 @@ use Rattle.std.specs.Prelude.{◌≡◌, ◌⊎◌, ℕ, List, [], ◌∷◌, Op
 use Rattle.da_lang.specs.declared.program.Program.{Program}
 use Rattle.da_outside.specs.declared.link.LinkEntry.{LinkEntry}
 use Rattle.da_outside.specs.Link.{Carries}
-use Rattle.node_run.specs.NodeCall.{HasRun, WasCut, WroteAll, WroteFront, WroteGiven}
+use Rattle.node_run.specs.NodeCall.{HasRun, WasCut, WroteAll, WrotePrefix, WroteGiven}
 use Rattle.node_run.specs.NodeRun.{NodeEnd}
 use Rattle.da_commands.specs.declared.status.Status.{Status}
 use Rattle.da_commands.specs.declared.status.Status.TheVariants.{ChildFault, LinkFault, Memory, ReadFault, WriteFault}
@@ -36,7 +36,7 @@ RunsBound program setting LinkFault told_before told_after before after =
 RunsBound program setting WriteFault told_before told_after before after =
     WasCut program setting.me setting.idle setting.turns told_before told_after before after WroteGiven
 RunsBound program setting Memory told_before told_after before after =
-    WasCut program setting.me setting.idle setting.turns told_before told_after before after WroteFront
+    WasCut program setting.me setting.idle setting.turns told_before told_after before after WrotePrefix
 RunsBound program setting ReadFault told_before told_after before after = ⊥
 RunsBound program setting ChildFault told_before told_after before after = ⊥
 RunsBound program setting status told_before told_after before after =

@@ -63,11 +63,11 @@ task_text (Stress start most) program = stress_text program start most
 -- the status and the bytes with which a task on a program's text is answered
 pub data TaskReply (task : Task) (text : List ℕ) : Status → List ℕ → Type 0 where
   declined : (kind : RefusedKind) (line : ℕ) → Refuses text kind line → TaskReply task text (Refused kind line) (refused_text kind line)
-  carried_out : (program : Program) → Accepts text program → TaskReply task text Done (task_text task program)
+  executed : (program : Program) → Accepts text program → TaskReply task text Done (task_text task program)
 
 -- the task was carried out on the program, and what is answered was written; or memory was refused
-abbrev pub IsCarriedOut : Task → Program → Status → Option (List ℕ) → Option (List ℕ) → Type 0
-IsCarriedOut task program status before after =
+abbrev pub IsExecuted : Task → Program → Status → Option (List ℕ) → Option (List ℕ) → Type 0
+IsExecuted task program status before after =
     (status ≡ Memory) ⊎ ((status ≡ Done) × Appends before after (task_text task program))
 
 -- a status that tells of an answer, and not of a fault or of want of memory
@@ -97,13 +97,13 @@ words_of Plan program = codes "plan" ∷ program ∷ []
 words_of (Stress start most) program = codes "stress" ∷ program ∷ decimal start ∷ decimal most ∷ []
 
 -- the numbers of a task are within their ranges
-abbrev pub IsWithin : Task → Type 0
-IsWithin (Stress start most) = (start < 2 ^ 48) × (1 ≤ most) × (most ≤ 1000000)
-IsWithin _ = Unit {0}
+abbrev pub TaskInRange : Task → Type 0
+TaskInRange (Stress start most) = (start < 2 ^ 48) × (1 ≤ most) × (most ≤ 1000000)
+TaskInRange _ = Unit {0}
 
 -- the words ask for this task on this name
 abbrev pub IsAsking : List (List ℕ) → Task → List ℕ → Type 0
-IsAsking words task program = (words ≡ words_of task program) × IsWithin task
+IsAsking words task program = (words ≡ words_of task program) × TaskInRange task
 
 -- the words ask for nothing that is known
 abbrev pub IsOther : List (List ℕ) → Type 0

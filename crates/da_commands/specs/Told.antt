@@ -1,6 +1,6 @@
 -- What is said of texts that are told, and what a sink gained of a reply.
 use Rattle.std.specs.Prelude.{◌≡◌, ℕ, ◌⊎◌, List, [], ◌∷◌, Option, Some, None}
-use Rattle.da_outside.specs.Outside.{Appends, AppendsFront}
+use Rattle.da_outside.specs.Outside.{Appends, AppendsPrefix}
 use Rattle.da_commands.specs.declared.status.Status.{Status}
 use Rattle.da_commands.specs.declared.status.Status.TheVariants.{ReadFault, WriteFault, Memory, LinkFault, ChildFault}
 
@@ -20,11 +20,11 @@ pub record Gains (Reply : Status → List ℕ → Type 0) (status : Status) (bef
   pub reply : Reply status bytes
   pub written : Appends before after bytes
 
--- it gained nothing, or a front of the bytes of a reply
+-- it gained nothing, or a prefix of the bytes of a reply
 abbrev pub Begins : (Status → List ℕ → Type 0) → Option (List ℕ) → Option (List ℕ) → Type 0
-Begins Reply before after = Appends before after [] ⊎ ((status : Status) × (bytes : List ℕ) × Reply status bytes × AppendsFront before after bytes)
+Begins Reply before after = Appends before after [] ⊎ ((status : Status) × (bytes : List ℕ) × Reply status bytes × AppendsPrefix before after bytes)
 
--- by the status of a call: the bytes of a reply, or nothing or a front of them where it was cut short
+-- by the status of a call: the bytes of a reply, or nothing or a prefix of them where it was cut short
 abbrev pub HasReplied : (Status → List ℕ → Type 0) → Status → Option (List ℕ) → Option (List ℕ) → Type 0
 HasReplied Reply ReadFault before after = Begins Reply before after
 HasReplied Reply WriteFault before after = Begins Reply before after
@@ -39,7 +39,7 @@ IsUnwritten WriteFault = Unit {0}
 IsUnwritten Memory = Unit {0}
 IsUnwritten _ = ⊥
 
--- A call writes these bytes to end with this status: it does, or it was cut short behind a front of them.
+-- A call writes these bytes to end with this status: it does, or it was cut short after a prefix of them.
 pub data HasSaid (status : Status) (bytes : List ℕ) (result : Status) (before after : Option (List ℕ)) : Type 0 where
   said : result ≡ status → Appends before after bytes → HasSaid status bytes result before after
-  unsaid : IsUnwritten result → AppendsFront before after bytes → HasSaid status bytes result before after
+  unsaid : IsUnwritten result → AppendsPrefix before after bytes → HasSaid status bytes result before after

@@ -66,20 +66,20 @@ kind_after lex.BadIndent = kind_is.Indent
 kind_after lex.BadToken = kind_is.Token
 kind_after lex.Unclosed = kind_is.Unclosed
 
--- the tree of the text breaks a rule of names: this is the one that is told
+-- the tree of the text breaks a rule of names: this is the one that is reported
 pub record IsMisnamed (text : List ℕ) (kind : ScopeKind) (line : ℕ) : Type 0 where
   pub tree : Tree
   pub has : HasTree text tree
   pub is : name_fault tree ≡ Some (record { kind = kind; line = line })
 
--- it breaks no rule of names, and exceeds a limit: this is the one that is told
+-- it breaks no rule of names, and exceeds a limit: this is the one that is reported
 pub record IsTooLarge (text : List ℕ) (which : LimitKind) (line : ℕ) : Type 0 where
   pub tree : Tree
   pub has : HasTree text tree
   pub named : name_refusals tree ≡ []
   pub is : limit_fault tree ≡ Some (record { kind = which; line = line })
 
--- it has a program, and this is the least line of it that breaks a rule of types
+-- it has a program, and this is the earliest line of it that breaks a rule of types
 pub record IsMistyped (text : List ℕ) (line : ℕ) : Type 0 where
   pub tree : Tree
   pub has : HasTree text tree
@@ -87,7 +87,7 @@ pub record IsMistyped (text : List ℕ) (line : ℕ) : Type 0 where
   pub resolves : Resolves tree resolved
   pub is : type_fault resolved ≡ Some line
 
--- it has a program that keeps the rules of types, and this is the least line of a class of it whose plan has too many nodes
+-- it has a program that keeps the rules of types, and this is the earliest line of a class of it whose plan has too many nodes
 pub record IsOverplanned (text : List ℕ) (line : ℕ) : Type 0 where
   pub tree : Tree
   pub has : HasTree text tree

@@ -1,5 +1,5 @@
 //! The lines that end a call, and the statuses of calls whose parts ended so.
-ghost use Rattle.da_commands.specs.Endings.{status_of_node as status_of_node_lem, status_of_run as status_of_run_lem};
+ghost use Rattle.da_commands.specs.Endings.{status_of_node as status_of_node_def, status_of_run as status_of_run_def};
 ghost use Rattle.da_commands.specs.Lines.{badline_text, badtrace_text, refused_text};
 ghost use Rattle.da_commands.specs.Replies.{IsAnswer, IsEnd};
 ghost use Rattle.da_commands.specs.Told.{HasSaid};
@@ -15,7 +15,7 @@ use std::alloc::Global;
 
 /// The status of a call whose run ended so.
 pub fn status_of_run(outcome: Outcome) -> Status
-    ensures { result ≡ status_of_run_lem outcome }
+    ensures { result ≡ status_of_run_def outcome }
 {
     match outcome {
         Outcome::Done => Status::Done,
@@ -27,7 +27,7 @@ pub fn status_of_run(outcome: Outcome) -> Status
 
 /// The status of a call whose node ended so.
 pub fn status_of_node(outcome: NodeOutcome) -> Status
-    ensures { result ≡ status_of_node_lem outcome }
+    ensures { result ≡ status_of_node_def outcome }
 {
     match outcome {
         NodeOutcome::Done => Status::Done,

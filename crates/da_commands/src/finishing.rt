@@ -1,10 +1,10 @@
 //! The ends of the children of a launch: each is waited for, and what it gave is written.
-ghost use Rattle.da_outside.specs.Outside.{Appends, AppendsFront, HasCause};
+ghost use Rattle.da_outside.specs.Outside.{Appends, AppendsPrefix, HasCause};
 ghost use Rattle.da_outside.specs.Spawner.{Tells};
 ghost use Rattle.da_outside.specs.declared.spawner.Child.{Child as ChildOf};
 ghost use Rattle.da_outside.specs.declared.spawner.Ended.{Ended as EndedOf};
 ghost use Rattle.da_outside.specs.declared.spawner.SpawnEntry.{SpawnEntry};
-ghost use Rattle.da_commands.specs.LaunchSteps.{HasFinished, HasFinishedOne, HasFinishedRest, IsFinishEnd, numbers, status_behind};
+ghost use Rattle.da_commands.specs.LaunchSteps.{HasFinished, HasFinishedOne, HasFinishedRest, IsFinishEnd, numbers, status_after};
 ghost use Rattle.da_commands.specs.Launching.{HasChildCause};
 ghost use Rattle.std.specs.Prelude.{ℕ, ◌≡◌, ◌≤◌, ◌∷◌, ◌++◌, [], List as ListOf, MatchOption, None, Option, IfOk, IsErrOf, OnErr, OnOk, codes, decimal, length};
 
@@ -40,7 +40,7 @@ impl From<NoMemory> for FinishFault {
 }
 
 /// Finishes these children one by one, and writes of each what it gave. The first that ended with another status than 0 gives
-/// the status. Behind one that cannot be finished nothing is written, and the others are finished all the same.
+/// the status. After one that cannot be finished nothing is written, and the others are finished all the same.
 pub fn finish_all<K: Sink, S: Spawner>(
     alloc: Global,
     list: List<Child>,
@@ -130,7 +130,7 @@ fn finish_one<K: Sink, S: Spawner>(
     }
 }
 
-// The line in front of what a child wrote.
+// The line before what a child wrote.
 fn push_opening(process: u16, text: &mut Buf) -> Result<(), NoMemory>
     ensures { OnOk result (text.new ≡ text.old ++ codes "node " ++ decimal process ++ codes "\n") }
 {
@@ -139,7 +139,7 @@ fn push_opening(process: u16, text: &mut Buf) -> Result<(), NoMemory>
     text.append(b"\n")
 }
 
-// The line behind it.
+// The line after it.
 fn push_closing(process: u16, code: u8, text: &mut Buf) -> Result<(), NoMemory>
     ensures { OnOk result (text.new ≡ text.old ++ codes "status " ++ decimal process ++ codes " " ++ decimal code ++ codes "\n") }
 {
@@ -150,9 +150,9 @@ fn push_closing(process: u16, code: u8, text: &mut Buf) -> Result<(), NoMemory>
     text.append(b"\n")
 }
 
-// The status with which children end, behind one with this code.
+// The status with which children end, after one with this code.
 fn first_of(status: Status, child: u16, code: u8) -> Status
-    ensures { result ≡ status_behind status child code }
+    ensures { result ≡ status_after status child code }
 {
     match status {
         Status::Done if code != 0 => Status::ChildStatus {

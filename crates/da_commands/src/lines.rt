@@ -1,6 +1,6 @@
 //! The lines by which a program is accepted or refused, and by which a schedule or traces are refused or joined.
 ghost use Rattle.da_commands.specs.JoinSteps.{blocked_at};
-ghost use Rattle.da_commands.specs.Lines.{accepted_text, badline_text, badtrace_text, blocked_line, refused_text, refused_word as refused_word_lem, schedule_text};
+ghost use Rattle.da_commands.specs.Lines.{accepted_text, badline_text, badtrace_text, blocked_line, refused_text, refused_word as refused_word_def, schedule_text};
 ghost use Rattle.std.specs.List.{flat_map};
 ghost use Rattle.std.specs.Prelude.{◌≡◌, ◌++◌, IfOk, OnOk, map};
 
@@ -13,7 +13,7 @@ use trace_join::Block;
 
 // The word for a kind of refusal.
 fn refused_word(kind: RefusedKind) -> &'static [u8]
-    ensures { result.now ≡ refused_word_lem kind }
+    ensures { result.now ≡ refused_word_def kind }
 {
     match kind {
         RefusedKind::Size => b"size",

@@ -5,7 +5,7 @@ ghost use Rattle.da_lang.specs.declared.ty.ChannelKind.{ChannelKind};
 ghost use Rattle.da_outside.specs.Link.{Carries};
 ghost use Rattle.da_outside.specs.Outside.{HasCause, Rose};
 ghost use Rattle.da_commands.specs.Links.{told_over};
-ghost use Rattle.da_commands.specs.NodeReplies.{BindsOnce, HasKind, IsWithin};
+ghost use Rattle.da_commands.specs.NodeReplies.{BindsOnce, HasKind, SettingInRange};
 ghost use Rattle.da_commands.specs.NodeSteps.{BindsFor, HasServed, RunsBound, RunsProgram};
 ghost use Rattle.da_commands.specs.Told.{OfTold};
 ghost use Rattle.node_run.specs.NodeCall.{GivesPackets};
@@ -32,7 +32,7 @@ pub fn run_node<F: Files, K: Sink, L: Link>(
     out: &mut K,
     link: &mut ArqLink<L>,
 ) -> Status
-    requires { IsWithin setting }
+    requires { SettingInRange setting }
     ensures served { OfTold (F.told files.old program.now)
         (λ t. (kind : ChannelKind) → HasKind t kind → HasServed t setting result (told_over L.told kind link.old) (told_over L.told kind link.new) (K.taken out.old) (K.taken out.new)) }
     ensures packets { OfTold (F.told files.old program.now)
@@ -64,7 +64,7 @@ fn answer_text<K: Sink, L: Link>(
     out: &mut K,
     link: &mut ArqLink<L>,
 ) -> Status
-    requires { IsWithin setting }
+    requires { SettingInRange setting }
     ensures served { (t : List ℕ) → text.now ≡ take (PROGRAM_LIMIT + 1) t → (kind : ChannelKind) → HasKind t kind
         → HasServed t setting result (told_over L.told kind link.old) (told_over L.told kind link.new) (K.taken out.old) (K.taken out.new) }
     ensures packets { (t : List ℕ) → text.now ≡ take (PROGRAM_LIMIT + 1) t → (kind : ChannelKind) → HasKind t kind
@@ -96,7 +96,7 @@ fn answer_program<K: Sink, L: Link>(
 ) -> Status
     requires compiled { IsCompiled compiled.now }
     requires few { length (program_of compiled.now).procs ≤ 64 }
-    requires within { IsWithin setting }
+    requires within { SettingInRange setting }
     ensures runs { RunsProgram (program_of compiled.now) setting result
         (told_over L.told (program_of compiled.now).kind link.old) (told_over L.told (program_of compiled.now).kind link.new) (K.taken out.old) (K.taken out.new) }
     ensures packets { GivesPackets setting.me
@@ -129,7 +129,7 @@ fn run_over<K: Sink, L: Link>(
 ) -> Status
     requires compiled { IsCompiled compiled.now }
     requires few { length (program_of compiled.now).procs ≤ 64 }
-    requires within { IsWithin setting }
+    requires within { SettingInRange setting }
     requires there { setting.me ≤ length (program_of compiled.now).procs }
     ensures runs { RunsProgram (program_of compiled.now) setting result (L.told link.old) (L.told link.new) (K.taken out.old) (K.taken out.new) }
     ensures packets { GivesPackets setting.me (L.told link.old) (L.told link.new) }
@@ -158,7 +158,7 @@ fn run_bound<K: Sink, L: Link>(
     link: &mut L,
 ) -> Status
     requires compiled { IsCompiled compiled.now }
-    requires within { IsWithin setting }
+    requires within { SettingInRange setting }
     requires there { setting.me ≤ length (program_of compiled.now).procs }
     requires bound { L.count link.old ≡ length (program_of compiled.now).procs }
     ensures runs { RunsBound (program_of compiled.now) setting result (L.told link.old) (L.told link.new) (K.taken out.old) (K.taken out.new) }

@@ -14,7 +14,7 @@ pub enum RefusedKind {
     /// A line is set in by a width at which no open block stands.
     #[error("the indentation is that of no open block")]
     Indent,
-    /// No token is spelled so. An integer past the limit is none, and neither is one with a zero in front.
+    /// No token is spelled so. An integer past the limit is none, and neither is one with a leading zero.
     #[error("no token is spelled like this: texts stand in single quotes, integers have no leading zero and are at most 9223372036854775807")]
     Token,
     /// A text literal or a bracket is not closed.
@@ -29,7 +29,7 @@ pub enum RefusedKind {
     /// A name is not in scope for its use, or no label has it.
     #[error("a name is not in scope here, or cannot be used in this way")]
     Unknown,
-    /// A name is declared twice, or a label is named twice behind one `at`.
+    /// A name is declared twice, or a label is named twice after one `at`.
     #[error("this name is declared already")]
     Twice,
     /// A variable has the name of one in scope.

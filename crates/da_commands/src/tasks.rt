@@ -19,7 +19,7 @@ use std::alloc::Global;
 
 /// Reads the program, and refuses it or carries out the task on it.
 #[tactic(auto, using(crate::proofs::ToldLemmas::none_carried))]
-pub fn carry_out<F: Files, K: Sink>(
+pub fn execute<F: Files, K: Sink>(
     alloc: Global,
     task: Task,
     program: &str,

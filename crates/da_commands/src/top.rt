@@ -4,14 +4,14 @@ ghost use Rattle.arq_link.specs.Calls.{Retells};
 ghost use Rattle.da_lang.specs.declared.event.Event.{Event};
 ghost use Rattle.da_lang.specs.declared.program.Program.{Program};
 ghost use Rattle.da_lang.specs.declared.ty.ChannelKind.{ChannelKind};
-ghost use Rattle.da_outside.specs.Outside.{Appends, AppendsFront, HasCause, Rose};
+ghost use Rattle.da_outside.specs.Outside.{Appends, AppendsPrefix, HasCause, Rose};
 ghost use Rattle.da_values.specs.Sets.{Has};
 ghost use Rattle.da_commands.specs.JoinReplies.{IsJoin, IsJoined, JoinReply};
 ghost use Rattle.da_commands.specs.LaunchReplies.{HasLaunched, IsLaunch, IsLaunchAnswer, IsLaunched, LaunchStopped};
 ghost use Rattle.da_commands.specs.Launching.{HasChildCause};
 ghost use Rattle.da_commands.specs.Links.{told_over};
 ghost use Rattle.da_commands.specs.NodeReplies.{BindsOnce, HasAnswered, HasKind, HasStopped, IsNode, IsServed, LinkFailed};
-ghost use Rattle.da_commands.specs.Replies.{HasReadCause, IsAnswer, IsAsking, IsCarriedOut, IsOther, IsReplay, ReplayReply, RunsWhole, TaskReply};
+ghost use Rattle.da_commands.specs.Replies.{HasReadCause, IsAnswer, IsAsking, IsExecuted, IsOther, IsReplay, ReplayReply, RunsWhole, TaskReply};
 ghost use Rattle.da_commands.specs.declared.words.LaunchSetting.{LaunchSetting};
 ghost use Rattle.da_commands.specs.declared.words.NodeSetting.{NodeSetting};
 ghost use Rattle.da_commands.specs.declared.words.Task.{Task};
@@ -28,7 +28,7 @@ use crate::launching::launch;
 use crate::noding::run_node;
 use crate::replaying::replay;
 use crate::status::Status;
-use crate::tasks::carry_out;
+use crate::tasks::execute;
 use crate::words::{Command, command_of};
 use arq_link::ArqLink;
 use da_outside::{Files, Link, Sink, Spawner};
@@ -58,9 +58,9 @@ pub fn dalgo<F: Files, K: Sink, L: Link, S: Spawner>(
     // `check`, `plan` and `stress` are answered in the same way by the program's text alone.
     ensures answers { (task : Task) (p : List ℕ) → IsAsking (map string_bytes words.now) task p → IsAnswer result
         → OfTold (F.told files.old p) (λ t. Gains (TaskReply task t) result (K.taken out.old) (K.taken out.new)) }
-    ensures carried_out { (task : Task) (p t : List ℕ) (program : Program) → IsAsking (map string_bytes words.now) task p → F.told files.old p ≡ Some t → Accepts t program
+    ensures executed { (task : Task) (p t : List ℕ) (program : Program) → IsAsking (map string_bytes words.now) task p → F.told files.old p ≡ Some t → Accepts t program
         → (Rose (F.faults files.old p) (F.faults files.new p) → ⊥) → (Rose (K.faults out.old) (K.faults out.new) → ⊥)
-        → IsCarriedOut task program result (K.taken out.old) (K.taken out.new) }
+        → IsExecuted task program result (K.taken out.old) (K.taken out.new) }
 
     // A node answers by the program's text and by what its link answers, which is the inner link where the channels of the program
     // keep no order and may lose and double messages, else the reliable link over it. That link is bound once, unless the program
@@ -98,7 +98,7 @@ pub fn dalgo<F: Files, K: Sink, L: Link, S: Spawner>(
     // A launch answers by the program's text and by what its spawner answers. Unless the program is refused, a child is started for
     // each process, with the words of its node, and each child is finished, in the order of their numbers; the bytes and the
     // status are those of the reply to these calls. Where a write failed or memory was refused, a telling spawner tells the
-    // first calls of a reply, and the sink gained a front of its bytes.
+    // first calls of a reply, and the sink gained a prefix of its bytes.
     ensures launch { (p : List ℕ) (setting : LaunchSetting) → IsLaunch (map string_bytes words.now) p setting → IsLaunchAnswer result
         → OfTold (F.told files.old p) (λ t. HasLaunched t p setting result (S.told children.old) (S.told children.new) (K.taken out.old) (K.taken out.new)) }
     ensures launch_stopped { (p : List ℕ) (setting : LaunchSetting) → IsLaunch (map string_bytes words.now) p setting → (IsLaunchAnswer result → ⊥)
@@ -116,12 +116,12 @@ pub fn dalgo<F: Files, K: Sink, L: Link, S: Spawner>(
     ensures words { IsOther (map string_bytes words.now) → IsAnswer result → (result ≡ Status.Words) × Appends (K.taken out.old) (K.taken out.new) (codes "words\n") }
     ensures only_words { result ≡ Status.Words → IsOther (map string_bytes words.now) }
 
-    // Where a write failed or memory was refused, the sink gained a front of the bytes of a reply, or nothing.
+    // Where a write failed or memory was refused, the sink gained a prefix of the bytes of a reply, or nothing.
     ensures begun { (p q : List ℕ) → IsReplay (map string_bytes words.now) p q → (IsAnswer result → ⊥)
         → OfTold (F.told files.old p) (λ t. OfTold (F.told files.old q) (λ s. Begins (ReplayReply t s) (K.taken out.old) (K.taken out.new))) }
     ensures begun_task { (task : Task) (p : List ℕ) → IsAsking (map string_bytes words.now) task p → (IsAnswer result → ⊥)
         → OfTold (F.told files.old p) (λ t. Begins (TaskReply task t) (K.taken out.old) (K.taken out.new)) }
-    ensures begun_words { IsOther (map string_bytes words.now) → (IsAnswer result → ⊥) → AppendsFront (K.taken out.old) (K.taken out.new) (codes "words\n") }
+    ensures begun_words { IsOther (map string_bytes words.now) → (IsAnswer result → ⊥) → AppendsPrefix (K.taken out.old) (K.taken out.new) (codes "words\n") }
 
     // A join answers by the texts of the program and of the traces.
     ensures joins { (p : List ℕ) (traces : List (List ℕ)) → IsJoin (map string_bytes words.now) p traces → IsAnswer result
@@ -152,7 +152,7 @@ pub fn dalgo<F: Files, K: Sink, L: Link, S: Spawner>(
 {
     match command_of(words) {
         Command::Replay(names) => replay(alloc, names.program, names.schedule, files, out),
-        Command::Carry { task, program } => carry_out(alloc, task, program, files, out),
+        Command::Carry { task, program } => execute(alloc, task, program, files, out),
         Command::Node { setting, program } => run_node(alloc, setting, program, files, out, link),
         Command::Launch { setting, program } => launch(
             alloc, setting, program, files, out, children,

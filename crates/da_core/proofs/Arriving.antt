@@ -13,7 +13,7 @@ use Rattle.da_lang.specs.declared.program.Handler.{Handler}
 use Rattle.da_lang.specs.declared.program.Program.{Program}
 use Rattle.da_lang.specs.Labels.{is_open}
 use Rattle.da_lang.specs.Matching.{Row}
-use Rattle.da_lang.specs.Runs.{Halt, AtYield, UsedUp, Faults, Ran, behind, max_turns, run_to_yield}
+use Rattle.da_lang.specs.Runs.{Halt, AtYield, UsedUp, Faults, Ran, ran_after, max_turns, run_to_yield}
 use Rattle.da_lang.specs.Shaped.{IsTask, ShapedData, ShapedTasks}
 use Rattle.da_lang.specs.Steps.{after_halt, handle, try_handler}
 use Rattle.da_lang.specs.Turns.{bind_all, do_all}
@@ -25,9 +25,9 @@ use Rattle.da_types.proofs.shaped.TasksKept.{do_all_tasks, handler_item}
 use Rattle.da_machine.specs.declared.machine.Machine.{Machine}
 use Rattle.da_machine.specs.declared.machine.Stop.{Stop}
 use Rattle.da_machine.specs.CodeFor.{CodeFor}
-use Rattle.da_machine.specs.RunsTo.{IsFront}
-use Rattle.da_machine.proofs.Fronts.{front_as, front_before, part_front_of}
-use Rattle.da_machine.specs.Stops.{IsReady, IsRun, IsStop}
+use Rattle.da_machine.specs.RunsTo.{AddsPrefix}
+use Rattle.da_machine.proofs.Prefixes.{prefix_as, prefix_before, part_prefix_of}
+use Rattle.da_machine.specs.Stops.{CanRun, IsRun, IsStop}
 use Rattle.da_core.specs.declared.deliveries.Delivery.{Delivery}
 use Rattle.da_core.specs.declared.deliveries.Handled.{Handled}
 use Rattle.da_core.specs.declared.deliveries.Handled.TheVariants as handled
@@ -46,16 +46,16 @@ same_run ran other is = record { data' = ap (λ (r : Ran). r.data') is; actions 
 then_alike : (a b c : Ran) → IsAlike a b → IsAlike b c → IsAlike a c
 then_alike a b c one two = record { data' = one.data' ∙ two.data'; actions = one.actions ∙ two.actions; halt = one.halt ∙ two.halt }
 
-behind_both : (actions more : List Action) (ran other : Ran) → IsAlike ran (behind more other) → IsAlike (behind actions ran) (behind (actions ++ more) other)
-behind_both actions more ran other is = record {
+after_both : (actions more : List Action) (ran other : Ran) → IsAlike ran (ran_after more other) → IsAlike (ran_after actions ran) (ran_after (actions ++ more) other)
+after_both actions more ran other is = record {
   data' = is.data';
   actions = ap (λ xs. actions ++ xs) is.actions ∙ sym (append_assoc actions more other.actions);
   halt = is.halt;
 }
 
--- a front of the actions of a handler was added, whatever comes behind it
+-- a prefix of the actions of a handler was added, whatever comes after it
 abbrev pub TriedPart : Delivery → Handler → ℕ → Known → List Action → Type 0
-TriedPart x h n old new = Whoever x old (λ p d. (go : ℕ → Data → Ran) → IsFront old.actions new (tried x h n d go).actions)
+TriedPart x h n old new = Whoever x old (λ p d. (go : ℕ → Data → Ran) → AddsPrefix old.actions new (tried x h n d go).actions)
 
 -- ONE HANDLER WHOSE PATTERNS DO NOT MATCH
 
@@ -73,10 +73,10 @@ not_tried x h n known none p d may = record {
 
 -- how the run of a body stops as a machine does
 module _ (x : Delivery) (ran : Ran) (turns : ℕ) (m : Machine) (count : turns ≡ ran.turns) (go : ℕ → Data → Ran) where
-  passes : (stop : Stop) → handled_as stop turns ≡ handled.Through turns → IsAlike (behind ran.actions (go ran.turns ran.data')) (goes_on (handled_as stop turns) ran.actions ran.data' go)
+  passes : (stop : Stop) → handled_as stop turns ≡ handled.Through turns → IsAlike (ran_after ran.actions (go ran.turns ran.data')) (goes_on (handled_as stop turns) ran.actions ran.data' go)
   passes stop is =
-      subst (λ answer. IsAlike (behind ran.actions (go ran.turns ran.data')) (goes_on answer ran.actions ran.data' go)) (sym is)
-      (same_run (behind ran.actions (go ran.turns ran.data')) (behind ran.actions (go turns ran.data')) (ap (λ k. behind ran.actions (go k ran.data')) (sym count)))
+      subst (λ answer. IsAlike (ran_after ran.actions (go ran.turns ran.data')) (goes_on answer ran.actions ran.data' go)) (sym is)
+      (same_run (ran_after ran.actions (go ran.turns ran.data')) (ran_after ran.actions (go turns ran.data')) (ap (λ k. ran_after ran.actions (go k ran.data')) (sym count)))
 
   as_stopped : (stop : Stop) (halt : Halt) → ran.halt ≡ halt → IsStop x.code.now.code x.class.now stop m ran.todo halt → IsAlike (after_halt halt ran go) (goes_on (handled_as stop turns) ran.actions ran.data' go)
   as_stopped stop AtYield is stops = passes stop (ap (λ s. handled_as s turns) stops.1)
@@ -85,7 +85,7 @@ module _ (x : Delivery) (ran : Ran) (turns : ℕ) (m : Machine) (count : turns �
       subst (λ s. IsAlike ran (goes_on (handled_as s turns) ran.actions ran.data' go)) (sym stops)
       (record { data' = refl; actions = refl; halt = is })
 
--- behind a body its actions stand first
+-- after a body its actions stand first
 body_first : (halt : Halt) (ran : Ran) (go : ℕ → Data → Ran) → (more : List Action) × ((after_halt halt ran go).actions ≡ ran.actions ++ more)
 body_first AtYield ran go = ((go ran.turns ran.data').actions, refl)
 body_first UsedUp ran go = ((go ran.turns ran.data').actions, refl)
@@ -112,7 +112,7 @@ module _ (x : Delivery) (h : Handler) (entry n : ℕ) (old : Known) (p : Program
   tasks : ShapedTasks p class now.me todo
   tasks = do_all_tasks p class now.me h.body [] (λ j k. handler_item class h j there.among k) (All-nil (IsTask p class now.me))
 
-  pub ready : (m : Machine) → m.place ≡ entry → m.loops ≡ [] → IsReady p class x.code.now.code m now todo
+  pub ready : (m : Machine) → m.place ≡ entry → m.loops ≡ [] → CanRun p class x.code.now.code m now todo
   ready m place loops = record {
     accepted = may.accepted;
     knows = shaped;
@@ -124,7 +124,7 @@ module _ (x : Delivery) (h : Handler) (entry n : ℕ) (old : Known) (p : Program
   left : LeavesShaped p class now.me ran.data' ran.todo ran.actions
   left = (keeps_shaped p may.accepted).runs class n now todo shaped tasks
 
-  -- the handler is tried as the run of its body and what comes behind it
+  -- the handler is tried as the run of its body and what comes after it
   tried_as : (go : ℕ → Data → Ran) → tried x h n d go ≡ after_halt ran.halt ran go
   tried_as go = ap (λ found. try_handler class h n d found go) matches
 
@@ -150,11 +150,11 @@ module _ (x : Delivery) (h : Handler) (entry n : ℕ) (old : Known) (p : Program
           (as_stopped x ran m.turns m run.turns go stop ran.halt refl run.stops);
     }
 
-  pub tried_part : (new : List Action) → IsFront bound.actions new ran.actions → (go : ℕ → Data → Ran) → IsFront old.actions new (tried x h n d go).actions
+  pub tried_part : (new : List Action) → AddsPrefix bound.actions new ran.actions → (go : ℕ → Data → Ran) → AddsPrefix old.actions new (tried x h n d go).actions
   tried_part new front go =
       let (rest, first) = body_first ran.halt ran go in
-      front_as old.actions new (ran.actions ++ rest) (tried x h n d go).actions (sym first ∙ sym (ap (λ (r : Ran). r.actions) (tried_as go)))
-      (front_before old.actions new ran.actions rest (subst (λ xs. IsFront xs new ran.actions) stays front))
+      prefix_as old.actions new (ran.actions ++ rest) (tried x h n d go).actions (sym first ∙ sym (ap (λ (r : Ran). r.actions) (tried_as go)))
+      (prefix_before old.actions new ran.actions rest (subst (λ xs. AddsPrefix xs new ran.actions) stays front))
 
 -- ALL OF THEM
 
@@ -191,7 +191,7 @@ pub record CameBy (p : Program) (x : Delivery) (left : List Handler) (n : ℕ) (
   pub mine : now.answers.me ≡ first.answers.me
   pub actions : List Action
   pub added : now.actions ≡ first.actions ++ actions
-  pub rest : IsAlike (all_handled x d) (behind actions (rest_handled x left n so_far))
+  pub rest : IsAlike (all_handled x d) (ran_after actions (rest_handled x left n so_far))
 
 -- and for each.
 pub record Came (x : Delivery) (left : List Handler) (entries : List ℕ) (n : ℕ) (first now : Known) : Type 0 where
@@ -217,8 +217,8 @@ module _ (x : Delivery) (first now : Known) (n : ℕ) (p : Program) (d : Data) w
     actions = by.actions;
     added = by.added;
     rest =
-        then_alike all (behind by.actions (rest_handled x (h ∷ hs) n by.so_far)) (behind by.actions (rest_handled x hs n by.so_far)) by.rest
-        (same_run _ _ (ap (λ l. behind by.actions (handle x.class.now (val_of x.message.now) x.from l n by.so_far)) (but_closed x h hs closed)));
+        then_alike all (ran_after by.actions (rest_handled x (h ∷ hs) n by.so_far)) (ran_after by.actions (rest_handled x hs n by.so_far)) by.rest
+        (same_run _ _ (ap (λ l. ran_after by.actions (handle x.class.now (val_of x.message.now) x.from l n by.so_far)) (but_closed x h hs closed)));
   }
 
   module _ (h : Handler) (hs : List Handler) (by : CameBy p x (h ∷ hs) n d first now) (is_open_here : is_open x.label h ≡ true) where
@@ -252,14 +252,14 @@ module _ (x : Delivery) (first now : Known) (n : ℕ) (p : Program) (d : Data) w
       next_tried : rest_handled x (h ∷ hs) n by.so_far ≡ next_run
       next_tried = by_first ∙ in_time n next_run _ early
 
-      next_rest : IsAlike all (behind by.actions next_run)
+      next_rest : IsAlike all (ran_after by.actions next_run)
       next_rest =
-          then_alike all (behind by.actions (rest_handled x (h ∷ hs) n by.so_far)) (behind by.actions next_run) by.rest
-          (same_run _ _ (ap (behind by.actions) next_tried))
+          then_alike all (ran_after by.actions (rest_handled x (h ∷ hs) n by.so_far)) (ran_after by.actions next_run) by.rest
+          (same_run _ _ (ap (ran_after by.actions) next_tried))
 
-      one_part : (new : List Action) → ((go : ℕ → Data → Ran) → IsFront now.actions new (tried x h (n + 1) by.so_far go).actions) → IsFront first.actions new all.actions
+      one_part : (new : List Action) → ((go : ℕ → Data → Ran) → AddsPrefix now.actions new (tried x h (n + 1) by.so_far go).actions) → AddsPrefix first.actions new all.actions
       one_part new front =
-          part_front_of first.actions now.actions new all.actions next_run.actions (by.actions, by.added, next_rest.actions) (front go)
+          part_prefix_of first.actions now.actions new all.actions next_run.actions (by.actions, by.added, next_rest.actions) (front go)
 
       module _ (next : Known) (answer : Handled) (one : HasTried p x h (n + 1) by.so_far now next answer) where
         added : next.actions ≡ first.actions ++ (by.actions ++ one.actions)
@@ -273,8 +273,8 @@ module _ (x : Delivery) (first now : Known) (n : ℕ) (p : Program) (d : Data) w
           actions = by.actions ++ one.actions;
           added = added;
           rest =
-              then_alike all (behind by.actions next_run) (behind (by.actions ++ one.actions) (go turns one.after)) next_rest
-              (behind_both by.actions one.actions next_run (go turns one.after)
+              then_alike all (ran_after by.actions next_run) (ran_after (by.actions ++ one.actions) (go turns one.after)) next_rest
+              (after_both by.actions one.actions next_run (go turns one.after)
               (subst (λ a. IsAlike next_run (goes_on a one.actions one.after go)) is (one.run go)));
         }
 
@@ -313,7 +313,7 @@ module _ (x : Delivery) (first now : Known) (n : ℕ) where
       too_long past p d may = one_too_long x first now n p d h hs (came.each p d may) is_open_here past
 
       module _ (early : n < max_turns) where
-        pub handled_part : (new : List Action) → TriedPart x h (n + 1) now new → Whoever x first (λ p d. IsFront first.actions new (all_handled x d).actions)
+        pub handled_part : (new : List Action) → TriedPart x h (n + 1) now new → Whoever x first (λ p d. AddsPrefix first.actions new (all_handled x d).actions)
         handled_part new front p d may = let by = came.each p d may in one_part x first now n p d h hs by is_open_here early new (front p by.so_far by.may)
 
         module _ (next : Known) (answer : Handled) (one : Whoever x now (λ p d. HasTried p x h (n + 1) d now next answer)) where
@@ -351,7 +351,7 @@ came_first x first can these entries hs es =
       };
     }))
 
--- in front of a handler and its entry
+-- before a handler and its entry
 pub came_here : (x : Delivery) (left hs : List Handler) (entries es : List ℕ) (h : Handler) (e n : ℕ) (first now : Known) → left ≡ h ∷ hs → entries ≡ e ∷ es
     → Came x left entries n first now → Came x (h ∷ hs) (e ∷ es) n first now
 came_here x left hs entries es h e n first now is those came =

@@ -10,8 +10,8 @@ use Rattle.da_lang.specs.declared.program.Program.{Program}
 use Rattle.da_lang.specs.Matching.{Row}
 use Rattle.da_lang.specs.Queries.{least_row, query_value, shown_set}
 use Rattle.da_lang.specs.World.{Data}
-use Rattle.da_machine.specs.RunsTo.{IsFront}
-use Rattle.da_machine.proofs.Fronts.{IsPart, part_front, part_then, part_whole}
+use Rattle.da_machine.specs.RunsTo.{AddsPrefix}
+use Rattle.da_machine.proofs.Prefixes.{IsPart, part_prefix, part_then, part_whole}
 use Rattle.query_plan.specs.Told.{IsPlanOf, TellsQuery}
 use Rattle.quant_norm.proofs.ClassLaw.{class_law}
 use Rattle.delta_rules.specs.Keeping.{Keeps}
@@ -47,7 +47,7 @@ module _ (known : Known) (p : Program) (class : Class) (d : Data) (knows : Knows
 abbrev answer : Class → Data → ℕ → Action
 answer class d n = Answer d.me n (shown_set class.queries n d)
 
--- those behind so many queries
+-- those after so many queries
 abbrev answers_left : Class → Data → ℕ → List Action
 answers_left class d place = map (answer class d) (range_with_len (place + 1) (length class.queries - place))
 
@@ -82,11 +82,11 @@ all_answered known old now place past so_far p class d knows =
     part_whole old now now (answers d.me class.queries d) (answers_left class d place) (so_far p class d knows)
     (sym (append-nil now) ∙ sym (ap (λ n. now ++ map (answer class d) (range_with_len (place + 1) n)) none))
 
--- a front of them was told
+-- a prefix of them was told
 abbrev pub AnswersPart : Known → List Action → List Action → Type 0
-AnswersPart known old new = Each known (λ p class d. IsFront old new (answers d.me class.queries d))
+AnswersPart known old new = Each known (λ p class d. AddsPrefix old new (answers d.me class.queries d))
 
-pub answers_front : (known : Known) (old now new : List Action) (place : ℕ) → new ≡ now → HasAnswered known old now place → AnswersPart known old new
-answers_front known old now new place stays so_far p class d knows =
+pub answers_prefix : (known : Known) (old now new : List Action) (place : ℕ) → new ≡ now → HasAnswered known old now place → AnswersPart known old new
+answers_prefix known old now new place stays so_far p class d knows =
     let (told, is, whole) = so_far p class d knows in
-    part_front old new (answers d.me class.queries d) (answers_left class d place) (told, stays ∙ is, whole)
+    part_prefix old new (answers d.me class.queries d) (answers_left class d place) (told, stays ∙ is, whole)

@@ -55,7 +55,7 @@ none_left (s ∷ ss) [] d is = refl
 none_left (s ∷ ss) (v ∷ vs) d (inl is) = absurd (let none : ◌≡◌ {A = List ℕ} (s ∷ ss) [] = is in cc)
 none_left (s ∷ ss) (v ∷ vs) d (inr is) = absurd (let none : ◌≡◌ {A = List Value} (v ∷ vs) [] = is in cc)
 
--- behind the last slot or the last part
+-- after the last slot or the last part
 pub binds_end : (slots left : List ℕ) (row : List Val) (parts : List Value) (first now : Known) → (left ≡ []) ⊎ (parts ≡ []) → Binds slots row left (vals parts) first now → Becomes first now (bind_all slots row)
 binds_end slots left row parts first now past so_far p class d knows =
     let by = so_far p class d knows in

@@ -53,7 +53,7 @@ module _ (p : Program) (codes : List ClassCode) (n : ℕ) (code : ClassCode) (ar
     each = λ k class there less. by_place k class there (k == n) refl less;
   }
 
--- THE LEAST LINE SO FAR
+-- THE EARLIEST LINE SO FAR
 
 is_least : (a b : ℕ) → least_of a (Some b) ≡ min a b
 is_least a b = grind arith
@@ -85,7 +85,7 @@ module _ (classes : List Class) (n : ℕ) (class : Class) (there : slice_get cla
 
 -- THE WAY THROUGH THE CLASSES
 
--- The least line of those among the first classes that have too many nodes. Where there is none, each of them has its code.
+-- The earliest line of those among the first classes that have too many nodes. Where there is none, each of them has its code.
 pub record Came (p : Program) (codes : List ClassCode) (found : Option ℕ) (n : ℕ) : Type 0 where
   pub so_far : found ≡ least (large_lines (take n p.classes))
   pub coded : found ≡ None → AreCoded p codes n

@@ -1,4 +1,4 @@
--- What a core stands for behind a delivery.
+-- What a core stands for after a delivery.
 use Rattle.std.proofs.Common.{◌≡◌, ℕ, List, [], ◌∷◌, ◌++◌, take, Option, Some, None, refl, sym, ap, ◌∙◌, subst}
 use Rattle.std.specs.Prelude.{◌↔◌, Bool, false, true, IsSome, is_some, map}
 use Rattle.std.specs.List.{filter}
@@ -20,9 +20,9 @@ use Rattle.da_lang.specs.World.{Data, World, Phase, New, Waiting, Ended, Faulted
 use Rattle.da_lang.proofs.MoveLaws.{step_delivers}
 use Rattle.da_types.specs.KeepsShaped.{StepsShaped}
 use Rattle.da_machine.specs.declared.machine.Machine.{Machine}
-use Rattle.da_machine.specs.RunsTo.{IsFront}
+use Rattle.da_machine.specs.RunsTo.{AddsPrefix}
 use Rattle.da_machine.proofs.EntryLaws.{at_point}
-use Rattle.da_machine.proofs.Fronts.{same_front}
+use Rattle.da_machine.proofs.Prefixes.{same_prefix}
 use Rattle.da_core.specs.declared.compiled.ClassCode.{ClassCode}
 use Rattle.da_core.specs.declared.process.Core.{Core}
 use Rattle.da_core.specs.declared.deliveries.Delivery.{Delivery}
@@ -42,10 +42,10 @@ use Rattle.da_core.proofs.Laws.{class_has, keeps_shaped}
 use Rattle.da_core.proofs.Moving.{stops_so}
 
 -- the machine stays where it stands, and the process waits there where no handler faults
-at_behind : (p : Program) (class : Class) (code : ClassCode) (m : Machine) (w : World) (halt : Halt) → IsWaiting class code.code m w.todo → IsAt p class code.code m w (phase_after halt)
-at_behind p class code m w AtYield is = is
-at_behind p class code m w UsedUp is = tt
-at_behind p class code m w (Faults kind line) is = tt
+at_after : (p : Program) (class : Class) (code : ClassCode) (m : Machine) (w : World) (halt : Halt) → IsWaiting class code.code m w.todo → IsAt p class code.code m w (phase_after halt)
+at_after p class code m w AtYield is = is
+at_after p class code m w UsedUp is = tt
+at_after p class code m w (Faults kind line) is = tt
 
 -- which messages arrive
 module _ (core : Core) (w : World) (s : StandsFor core w) (m : Val) (from time : ℕ) where
@@ -103,7 +103,7 @@ module _ (core : Core) (w : World) (s : StandsFor core w) (m : Val) (from time :
     where
       of : (r : Option Stepped) → proc_step (program_of core) w (Deliver m from time) ≡ r → HasBegun core w (Deliver m from time) out out
       of None none = absurd (arrives_there some none)
-      of (Some after) leads = record { after = after; leads = leads; front = same_front out out after.actions refl }
+      of (Some after) leads = record { after = after; leads = leads; front = same_prefix out out after.actions refl }
 
 -- its class is there
 pub no_class : (core : Core) (w : World) → StandsFor core w → None ≡ class_of (program_of core) core.known.answers.me → ⊥
@@ -250,7 +250,7 @@ module _ (core : Core) (w : World) (s : StandsFor core w) (x : Delivery)
           let both : ◌≡◌ {A = Option Class} (Some shaped.shaped.class) (Some class) = sym shaped.shaped.knows.is_class ∙ ap (class_of p) shaped.same ∙ is_class in
           cc
 
-      -- what the process knows behind the delivery and how it stands, where the actions are given back
+      -- what the process knows after the delivery and how it stands, where the actions are given back
       module _ (known : Known) (spot : Place) (taken : HasTakenIn x.message.now p x time d w.todo old known spot) where
         module _ (empty : List Action) (none : empty ≡ []) (new : Core) (is_new : new ≡ record core { known = record known { actions = empty }; place = spot; spent = false }) where
           pub stands_after : StandsFor new after.world
@@ -265,7 +265,7 @@ module _ (core : Core) (w : World) (s : StandsFor core w) (x : Delivery)
             stands = with_actions known p class ran.data' taken.known empty;
             no_actions = none;
             place = taken.stands;
-            at = at_behind p class code core.machine after.world ran.halt waits_here;
+            at = at_after p class code core.machine after.world ran.halt waits_here;
           })
 
           pub has_made : (out given : List Action) → own ≡ out → given ≡ known.actions → (answer : Stopped) → answer ≡ stopped_at spot
@@ -279,7 +279,7 @@ module _ (core : Core) (w : World) (s : StandsFor core w) (x : Delivery)
             added = back ∙ taken.actions ∙ ap (λ xs. own ++ xs) (sym told) ∙ ap (λ xs. xs ++ after.actions) from;
           }
 
-      pub has_begun : (out given left : List Action) → own ≡ out → given ≡ left → IsFront own left (delivery_actions x.message.now x time core.known.answers.me ran)
+      pub has_begun : (out given left : List Action) → own ≡ out → given ≡ left → AddsPrefix own left (delivery_actions x.message.now x time core.known.answers.me ran)
           → HasBegun core w (arrival x.message.now x.from time) out given
       has_begun out given left from back (n, is) = record {
         after = after;

@@ -42,7 +42,7 @@ use Rattle.da_core.specs.declared.place.Place.{Place}
 use Rattle.da_core.specs.declared.place.Place.TheVariants as place
 use Rattle.da_core.specs.declared.waits.Alternative.{Alternative}
 use Rattle.da_core.specs.declared.waits.Wait.{Wait}
-use Rattle.da_core.specs.Begins.{CanMove, MayRun, alternative_at, alternative_of, begin_at, behind_turn, bound_by, entry_behind, entry_of, flag_told, if_flag, label_of, may_time_out, point_of, some_told, timeout_at, wait_at, wait_behind}
+use Rattle.da_core.specs.Begins.{CanMove, MayRun, alternative_at, alternative_of, begin_at, behind_turn, bound_by, entry_after, entry_of, flag_told, if_flag, label_of, may_time_out, point_of, some_told, timeout_at, wait_at, wait_behind}
 use Rattle.da_core.specs.Compiled.{IsCodeFor, IsCompiled, code_at, code_of, program_of as compiled_program}
 use Rattle.da_core.specs.Known.{Each}
 use Rattle.da_core.specs.StandsFor.{Awaits, BeginsWith, IsAt, IsLabelled, IsPlace, IsWaiting, StandsFor, last_number, program_of}
@@ -73,7 +73,7 @@ module _ (c : Compiled) (class : Class) (code : ClassCode) (is : IsCompiled c) w
 
 -- ENTRIES
 
--- the block of an alternative stands at its place among the blocks of an `await`, and that for a timeout behind them
+-- the block of an alternative stands at its place among the blocks of an `await`, and that for a timeout after them
 alt_body_at : (alts : List Alt) (more : List (List Item)) (n : ℕ) (a : Alt) → slice_get alts n ≡ Some a → slice_get (map (λ x. (out-Alt x).body) alts ++ more) n ≡ Some (out-Alt a).body
 alt_body_at [] more n a there = absurd (let none : ◌≡◌ {A = Option Alt} None (Some a) = there in cc)
 alt_body_at (b ∷ alts) more zero a there = ap (option_map (λ x. (out-Alt x).body)) there
@@ -121,7 +121,7 @@ module _ (code : Code) (class : Class) (number : ℕ) (loops : List (List Val)) 
       (subst (λ ls. AwaitPoint rest ls late before) those (subst (λ tasks. AwaitPoint tasks others late before) tail point)))
 
 pub entry_is : (code : Code) (at number n entry : ℕ) (point : YieldPoint) → HasInstr code at (op.Yield number) → slice_get code.yields number ≡ Some point → slice_get point.entries n ≡ Some entry
-    → entry_behind code at n ≡ Some entry
+    → entry_after code at n ≡ Some entry
 entry_is code at number n entry point here there stands = ap (λ i. entry_of (point_of code i) n) here ∙ ap (λ x. entry_of x n) there ∙ stands
 
 -- THE ROW THAT IS BOUND
@@ -177,7 +177,7 @@ alternative_there class code at own alts timed label stands is n =
     subst (λ o. Together (IsAlternative class) o (slice_get alts n)) (sym (ap (λ o. alternative_of o n) stands))
     (zipped_at (IsAlternative class) own.alternatives alts is.alternatives n)
 
--- behind the last one there is none
+-- after the last one there is none
 no_further : (class : Class) (code : ClassCode) (at : ℕ) (own : Wait) (alts : List Alt) (timed : Bool) (label : Option ℕ) → wait_at code at ≡ Some own → IsWait class own alts timed label
     → alternative_at code at (suc (length alts)) ≡ None
 no_further class code at own alts timed label stands is =
@@ -218,14 +218,14 @@ module _ (class : Class) (d : Data) (code : ClassCode) (at count : ℕ) (own : W
   late_so : late ≡ may_time_out class d (wait_at code at)
   late_so = late_is ∙ ap (λ b. own.has_timeout && not b) told_is ∙ ap (may_time_out class d) there
 
-  by_late : timeout_at class d code at count ≡ (if late then behind_turn (entry_behind code.code at count) else None)
-  by_late = ap (λ b. if b then behind_turn (entry_behind code.code at count) else None) (sym late_so)
+  by_late : timeout_at class d code at count ≡ (if late then behind_turn (entry_after code.code at count) else None)
+  by_late = ap (λ b. if b then behind_turn (entry_after code.code at count) else None) (sym late_so)
 
-  pub timeout_goes : late ≡ true → (found : Option Begin) → found ≡ behind_turn (entry_behind code.code at count) → found ≡ timeout_at class d code at count
-  timeout_goes is found goes = goes ∙ sym (by_late ∙ ap (λ b. if b then behind_turn (entry_behind code.code at count) else None) is)
+  pub timeout_goes : late ≡ true → (found : Option Begin) → found ≡ behind_turn (entry_after code.code at count) → found ≡ timeout_at class d code at count
+  timeout_goes is found goes = goes ∙ sym (by_late ∙ ap (λ b. if b then behind_turn (entry_after code.code at count) else None) is)
 
   pub timeout_stays : late ≡ false → None ≡ timeout_at class d code at count
-  timeout_stays is = sym (by_late ∙ ap (λ b. if b then behind_turn (entry_behind code.code at count) else None) is)
+  timeout_stays is = sym (by_late ∙ ap (λ b. if b then behind_turn (entry_after code.code at count) else None) is)
 
 -- its flag tells whether its condition holds
 flag_holds : (class : Class) (d : Data) (own : Option Alternative) (a : Option Alt) → Together (IsAlternative class) own a
@@ -304,10 +304,10 @@ module _ (core : Core) (w : World) (s : StandsFor core w) where
     may = may 0 (record { entry = m.place; turns = 0 }) d (first_tasks p s.class d.me) refl refl s.knows (omega arith) (first_shaped p s.class d.me) at;
   }
 
-  begins_at_label : w.phase ≡ Waiting → IsLabelled w.todo → IsWaiting s.class s.code.code m w.todo → IsBegin 0 (behind_turn (entry_behind s.code.code m.place 0))
+  begins_at_label : w.phase ≡ Waiting → IsLabelled w.todo → IsWaiting s.class s.code.code m w.todo → IsBegin 0 (behind_turn (entry_after s.code.code m.place 0))
   begins_at_label waits (l, begins) at =
       let (entry, there, code_for) = label_entry s.code.code s.class at.number m.loops w.todo (at_point s.code.code s.class m.place m.loops w.todo at.code_for at.number at.there) begins.item begins.rest l begins.first begins.is in
-      let goes : entry_behind s.code.code m.place 0 ≡ Some entry = entry_is s.code.code m.place at.number 0 entry (record { label = true; entries = entry ∷ [] }) at.there there refl in
+      let goes : entry_after s.code.code m.place 0 ≡ Some entry = entry_is s.code.code m.place at.number 0 entry (record { label = true; entries = entry ∷ [] }) at.there there refl in
       let start : Begin = record { entry = entry; turns = 1 } in
       let can : CanMove core w (move_step 0) 0 s.code start = record {
         place = code_for_class.0;
@@ -347,7 +347,7 @@ module _ (core : Core) (w : World) (s : StandsFor core w) where
 
     -- the entry of a block of the `await`
     entry_of_block : (n : ℕ) (body : List Item) → slice_get (blocks_in (kind.Await alts timeout label)) n ≡ Some body
-        → (entry : ℕ) × (entry_behind s.code.code m.place n ≡ Some entry) × CodeFor s.code.code s.class entry m.loops (do_all body b.rest)
+        → (entry : ℕ) × (entry_after s.code.code m.place n ≡ Some entry) × CodeFor s.code.code s.class entry m.loops (do_all body b.rest)
     entry_of_block n body there =
         let point = stands_here in
         let (entry, stands, code_for) = point.each.stands n body there in
@@ -369,7 +369,7 @@ module _ (core : Core) (w : World) (s : StandsFor core w) where
         found_bound p s.class (out-Alt a).found (out-Alt a).binds d s.knows
         (λ query row finds found. alt_row_fits p s.class d (is_whole p s.compiled.accepted) s.knows b.item stands alts a query row b.is (has_at alts n a there) finds found)
 
-    takes : (n : ℕ) (a : Alt) → slice_get alts n ≡ Some a → holds_now a ≡ true → IsBegin (suc n) (behind_turn (entry_behind s.code.code m.place n))
+    takes : (n : ℕ) (a : Alt) → slice_get alts n ≡ Some a → holds_now a ≡ true → IsBegin (suc n) (behind_turn (entry_after s.code.code m.place n))
     takes n a there true' =
         let (entry, goes, code_for) = entry_of_block n (out-Alt a).body (alt_body_at alts (option_to_list timeout) n a there) in
         let (own, stands, is) = waits_here in
@@ -390,24 +390,24 @@ module _ (core : Core) (w : World) (s : StandsFor core w) where
         } in
         subst (λ found. IsBegin (suc n) (behind_turn found)) (sym goes) can
 
-    by_flag : (n : ℕ) (a : Alt) (flag : Bool) → slice_get alts n ≡ Some a → holds_now a ≡ flag → IsBegin (suc n) (if_flag (Some flag) (behind_turn (entry_behind s.code.code m.place n)))
+    by_flag : (n : ℕ) (a : Alt) (flag : Bool) → slice_get alts n ≡ Some a → holds_now a ≡ flag → IsBegin (suc n) (if_flag (Some flag) (behind_turn (entry_after s.code.code m.place n)))
     by_flag n a true there is = takes n a there is
     by_flag n a false there is = not_now n a there is
 
     by_alternative : (n : ℕ) (found : Option Alt) → slice_get alts n ≡ found
-        → IsBegin (suc n) (if_flag (option_map holds_now found) (behind_turn (entry_behind s.code.code m.place n)))
+        → IsBegin (suc n) (if_flag (option_map holds_now found) (behind_turn (entry_after s.code.code m.place n)))
     by_alternative n None there = no_alternative n there
     by_alternative n (Some a) there = by_flag n a (holds_now a) there refl
 
-    begins_at_await : (n : ℕ) → IsBegin (suc n) (if_flag (told_at n) (behind_turn (entry_behind s.code.code m.place n)))
+    begins_at_await : (n : ℕ) → IsBegin (suc n) (if_flag (told_at n) (behind_turn (entry_after s.code.code m.place n)))
     begins_at_await n =
-        subst (λ flag. IsBegin (suc n) (if_flag flag (behind_turn (entry_behind s.code.code m.place n)))) (sym (flag_is n)) (by_alternative n (slice_get alts n) refl)
+        subst (λ flag. IsBegin (suc n) (if_flag flag (behind_turn (entry_after s.code.code m.place n)))) (sym (flag_is n)) (by_alternative n (slice_get alts n) refl)
 
     none_at_await : proc_step p w (move_step 0) ≡ None
     none_at_await = rw (s.knows.is_class, waits, b.first, b.is) refl
 
     -- the time runs out where no alternative may be taken
-    runs_out : (body : List Item) → timeout ≡ Some body → list_any holds_now alts ≡ false → IsTimeout count (behind_turn (entry_behind s.code.code m.place count))
+    runs_out : (body : List Item) → timeout ≡ Some body → list_any holds_now alts ≡ false → IsTimeout count (behind_turn (entry_after s.code.code m.place count))
     runs_out body timed none' =
         let late : kind_of b.item ≡ kind.Await alts (Some body) label = b.is ∙ ap (λ t. kind.Await alts t label) timed in
         let last : slice_get (blocks_in (kind.Await alts timeout label)) count ≡ Some body =
@@ -433,7 +433,7 @@ module _ (core : Core) (w : World) (s : StandsFor core w) where
         subst (λ found. IsTimeout count (behind_turn found)) (sym goes) can
 
     timeout_by : (late : Option (List Item)) (some : Bool) → timeout ≡ late → list_any holds_now alts ≡ some
-        → IsTimeout count (if is_some late && not some then behind_turn (entry_behind s.code.code m.place count) else None)
+        → IsTimeout count (if is_some late && not some then behind_turn (entry_after s.code.code m.place count) else None)
     timeout_by None some timed is = rw (s.knows.is_class, waits, b.first, b.is, timed) refl
     timeout_by (Some body) true timed is = rw (s.knows.is_class, waits, b.first, b.is, timed, is) refl
     timeout_by (Some body) false timed is = runs_out body timed is
@@ -444,7 +444,7 @@ module _ (core : Core) (w : World) (s : StandsFor core w) where
         let same : may_time_out s.class d (wait_at s.code m.place) ≡ (is_some timeout && not (list_any holds_now alts)) =
         ap (may_time_out s.class d) stands ∙ ap (λ b. b && not (some_told s.class d own.alternatives)) is.timed_is
         ∙ ap (λ b. is_some timeout && not b) (flags_hold s.class d own.alternatives alts is.alternatives) in
-        subst (λ b. IsTimeout count (if b then behind_turn (entry_behind s.code.code m.place count) else None)) (sym same)
+        subst (λ b. IsTimeout count (if b then behind_turn (entry_after s.code.code m.place count) else None)) (sym same)
         (timeout_by timeout (list_any holds_now alts) refl refl)
 
   begins_by : (place : Place) (phase : Phase) (k : ℕ) → w.phase ≡ phase → IsPlace w.todo place phase → IsAt p s.class s.code.code m w phase

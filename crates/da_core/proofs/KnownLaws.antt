@@ -79,7 +79,7 @@ all_held known (p, class, d, knows) = knows.held
 
 -- UPDATES
 
--- the answers and their pool are now those behind an update
+-- the answers and their pool are now those after an update
 module _ (known : Known) (new : Answers) (pool : Cells) (clock : ℕ) (actions : List Action) (laid : IsLaid new pool known.plan.now.nodes) (held : HoldsAll pool (ids_of_answers new)) where
   abbrev now : Known
   now = record known { answers = new; pool = pool; clock = clock; actions = actions }

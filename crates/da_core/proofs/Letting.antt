@@ -46,7 +46,7 @@ decides_first x me these patterns hs ps all = record {
   rest = ap (λ l. taken_by (may_match me (val_of x.message.now) x.from) x.label l) (sym hs);
 }
 
--- in front of a handler and its patterns
+-- before a handler and its patterns
 module _ (x : Delivery) (me : ℕ) (held : Bool) (left hs : List Handler) (ps qs : List Opened) (h : Handler) (q : Opened) (is : left ≡ h ∷ hs) (those : ps ≡ q ∷ qs) (now : Decides x me held left ps) where
   abbrev matches : Handler → Bool
   matches = may_match me (val_of x.message.now) x.from
@@ -82,7 +82,7 @@ module _ (x : Delivery) (me : ℕ) (held : Bool) (left hs : List Handler) (ps qs
     rest = rest_is ∙ other_one matches (is_open x.label) h hs held (is_open x.label h) (asked b is_so ∙ false') refl;
   }
 
--- behind the last one
+-- after the last one
 pub by_none : (x : Delivery) (me : ℕ) (held : Bool) (left : List Handler) (ps : List Opened) → (left ≡ []) ⊎ (ps ≡ []) → Decides x me held left ps
     → not held ≡ taken_by (may_match me (val_of x.message.now) x.from) x.label x.class.now.handlers
 by_none x me held left ps (inl is) now =

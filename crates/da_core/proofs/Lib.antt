@@ -6,7 +6,7 @@ pub mod Compiling
 pub mod DefaultForms
 pub mod Delivering
 pub mod Entering
-pub mod Fronts
+pub mod Prefixes
 pub mod KeptLaw
 pub mod KnownLaws
 pub mod HeldIds

@@ -87,7 +87,7 @@ message_of messages (kept.Proc process ∷ rest) = rw (val.outs-Tuple (val.Proc 
 message_of messages (kept.Tuple parts ∷ rest) = rw (val.outs-Tuple (val.Tuple parts ∷ vals rest)) (rw (val.outs-Tuple parts) refl)
 message_of messages (kept.Set elements ∷ rest) = rw (val.outs-Tuple (val.Set elements ∷ vals rest)) (rw (val.outs-Set elements) refl)
 
--- the values behind the tag are those of the message that was found
+-- the values after the tag are those of the message that was found
 pub found_parts : (messages : List MessageDecl) (parts : List Value) (first : Value) (tag : List ℕ) (m : MessageDecl) (types : List Ty) (b : Bool)
     → 1 ≤ length parts → first ≡ get_or parts 0 first → first ≡ kept.Text tag → Some m ≡ find (λ d. bytes_eq d.tag tag) messages → types ≡ m.parts
     → b ≡ all_of (map is_of types) (vals (take (length parts - 1) (drop 1 parts))) → b ≡ is_declared messages (val.Tuple (vals parts))

@@ -1,4 +1,4 @@
--- What a core stands for behind a move.
+-- What a core stands for after a move.
 use Rattle.std.proofs.Common.{◌≡◌, ℕ, List, [], ◌++◌, length, map, take, refl, sym, ap, ◌∙◌, subst}
 use Rattle.std.specs.Prelude.{Option, false, sum}
 use Rattle.da_values.specs.declared.val.Val.{Val}
@@ -12,7 +12,7 @@ use Rattle.da_lang.specs.Steps.{Step, moved, phase_after}
 use Rattle.da_lang.specs.World.{Data, Task, World, Phase, New, Waiting, Ended, Faulted, class_of}
 use Rattle.da_types.specs.KeepsShaped.{LeavesShaped}
 use Rattle.da_machine.specs.declared.machine.Machine.{Machine}
-use Rattle.da_machine.specs.RunsTo.{IsFront}
+use Rattle.da_machine.specs.RunsTo.{AddsPrefix}
 use Rattle.query_plan.specs.declared.plan.Plan.{Plan}
 use Rattle.row_pool.specs.Cells.{Cells}
 use Rattle.row_pool.specs.InUse.{AreHeld, InUse, IsCounted}
@@ -24,7 +24,7 @@ use Rattle.da_core.specs.declared.moves.Begin.{Begin}
 use Rattle.da_core.specs.declared.place.Place.{Place}
 use Rattle.da_core.specs.declared.place.Place.TheVariants as place
 use Rattle.da_core.specs.declared.place.Stopped.{Stopped}
-use Rattle.da_core.specs.Begins.{CanMove, HasRun, IsBehind, MayRun, move_actions}
+use Rattle.da_core.specs.Begins.{CanMove, HasRun, IsAfter, MayRun, move_actions}
 use Rattle.da_core.specs.Compiled.{code_of}
 use Rattle.da_core.specs.HeldCells.{AreHeldCells, HeldCells}
 use Rattle.da_core.specs.Made.{HasBegun, HasMade, phase_at, phase_of, stopped_at}
@@ -61,10 +61,10 @@ module _ (p : Program) (class : Class) (code : ClassCode) (known : Known) (m : M
 
 -- WHERE THE PROCESS STANDS
 
-at_behind : (p : Program) (class : Class) (code : ClassCode) (m : Machine) (w : World) (halt : Halt) → IsBehind class code m w.todo (phase_after halt) → IsAt p class code.code m w (phase_after halt)
-at_behind p class code m w AtYield is = is
-at_behind p class code m w UsedUp is = tt
-at_behind p class code m w (Faults kind line) is = tt
+at_after : (p : Program) (class : Class) (code : ClassCode) (m : Machine) (w : World) (halt : Halt) → IsAfter class code m w.todo (phase_after halt) → IsAt p class code.code m w (phase_after halt)
+at_after p class code m w AtYield is = is
+at_after p class code m w UsedUp is = tt
+at_after p class code m w (Faults kind line) is = tt
 
 phase_is : (todo : List Task) (place : Place) (phase : Phase) → IsPlace todo place phase → phase ≡ phase_at place
 phase_is todo place.New New is = refl
@@ -113,7 +113,7 @@ pub tells_answers : (core : Core) (w : World) (s : StandsFor core w)
     → answers w.data'.me s.class.queries w.data' ≡ answers_of w.data'.me (class_of (program_of core) w.data'.me) w.data'
 tells_answers core w s = sym (ap (λ class. answers_of w.data'.me class w.data') s.knows.is_class)
 
--- a front of the actions that are due was added, whatever the world is
+-- a prefix of the actions that are due was added, whatever the world is
 abbrev pub MovedPart : Core → ℕ → ClassCode → Begin → List Action → List Action → Type 0
 MovedPart core k code begin out given = Whichever core (λ w. (step : Step) → CanMove core w step k code begin → HasBegun core w step out given)
 
@@ -133,7 +133,7 @@ module _ (core : Core) (w : World) (s : StandsFor core w) (step : Step) (k : ℕ
   left : LeavesShaped p can.class can.d.me ran.data' ran.todo ran.actions
   left = leaves p can.class code core.known core.machine k begin can.d can.todo can.may
 
-  -- the process before the move with the actions of the caller; the process, the machine and its place behind the move, where
+  -- the process before the move with the actions of the caller; the process, the machine and its place after the move, where
   -- the actions are given back
   module _ (own : List Action) (known : Known) (m : Machine) (spot : Place) (run : HasRun p can.class code can.d.me k ran (record core.known { actions = own }) known m spot) where
     module _ (empty : List Action) (none : empty ≡ []) (new : Core)
@@ -151,7 +151,7 @@ module _ (core : Core) (w : World) (s : StandsFor core w) (step : Step) (k : ℕ
             stands = with_actions known p can.class ran.data' run.known empty;
             no_actions = none;
             place = run.stands;
-            at = at_behind p can.class code m after ran.halt run.behind;
+            at = at_after p can.class code m after ran.halt run.behind;
           })
 
       pub has_made : (out given : List Action) → own ≡ out → given ≡ known.actions → (answer : Stopped) → answer ≡ stopped_at spot → HasMade core w step new answer out given
@@ -164,7 +164,7 @@ module _ (core : Core) (w : World) (s : StandsFor core w) (step : Step) (k : ℕ
         added = back ∙ run.actions ∙ ap (λ x. own ++ move_actions x k ran) can.mine ∙ ap (λ xs. xs ++ move_actions me k ran) from;
       }
 
-  pub has_begun : (own out given told : List Action) → own ≡ out → given ≡ told → IsFront own told (move_actions can.d.me k ran) → HasBegun core w step out given
+  pub has_begun : (own out given told : List Action) → own ≡ out → given ≡ told → AddsPrefix own told (move_actions can.d.me k ran) → HasBegun core w step out given
   has_begun own out given told from back (n, is) = record {
     after = moved me k ran;
     leads = can.leads;

@@ -12,8 +12,8 @@ use Rattle.da_lang.specs.declared.program.Class.{Class}
 use Rattle.da_lang.specs.declared.program.Program.{Program}
 use Rattle.da_lang.specs.Turns.{later, sending, sent_at, sent_to}
 use Rattle.da_lang.specs.World.{Data}
-use Rattle.da_machine.specs.RunsTo.{IsFront}
-use Rattle.da_machine.proofs.Fronts.{IsPart, front_as, front_before, none_told, part_front_of, part_then, part_whole}
+use Rattle.da_machine.specs.RunsTo.{AddsPrefix}
+use Rattle.da_machine.proofs.Prefixes.{IsPart, prefix_as, prefix_before, none_told, part_prefix_of, part_then, part_whole}
 use Rattle.da_core.specs.declared.known.Known.{Known}
 use Rattle.da_core.specs.Known.{Becomes, Each, Knows, KnowsSome}
 use Rattle.da_core.proofs.KnownLaws.{clock_is, me_is}
@@ -67,17 +67,17 @@ sends_on m ps to left first now next so_far sends told p class d knows =
     }
 
 -- memory was refused while the message went to the next one
-pub sends_front : (m : Val) (ps : List ℕ) (to : ℕ) (left : List ℕ) (first now next : Known) → Sends m ps (to ∷ left) first now
-    → IsFront now.actions next.actions (Sent now.answers.me to (later now.clock) (value_of m) ∷ [])
-    → Each first (λ p class d. IsFront first.actions next.actions (sending d.me m ps d.clock))
-sends_front m ps to left first now next so_far front p class d knows =
+pub sends_prefix : (m : Val) (ps : List ℕ) (to : ℕ) (left : List ℕ) (first now next : Known) → Sends m ps (to ∷ left) first now
+    → AddsPrefix now.actions next.actions (Sent now.answers.me to (later now.clock) (value_of m) ∷ [])
+    → Each first (λ p class d. AddsPrefix first.actions next.actions (sending d.me m ps d.clock))
+sends_prefix m ps to left first now next so_far front p class d knows =
     let by = so_far p class d knows in
     let due = sending by.so_far.me m left (later by.so_far.clock) in
     let told = Sent now.answers.me to (later now.clock) (value_of m) in
     let rest = sending by.so_far.me m (to ∷ left) by.so_far.clock in
-    part_front_of first.actions now.actions next.actions (sending d.me m ps d.clock) rest by.told
-    (front_as now.actions next.actions (told ∷ due) rest (ap (λ (a : Action). a ∷ due) (told_as now p class by.so_far by.knows to (value_of m)))
-    (front_before now.actions next.actions (told ∷ []) due front))
+    part_prefix_of first.actions now.actions next.actions (sending d.me m ps d.clock) rest by.told
+    (prefix_as now.actions next.actions (told ∷ due) rest (ap (λ (a : Action). a ∷ due) (told_as now p class by.so_far by.knows to (value_of m)))
+    (prefix_before now.actions next.actions (told ∷ []) due front))
 
 -- OVER A LIST OF PROCESSES, where the one at a place is the next
 
@@ -95,11 +95,11 @@ module _ (m : Value) (processes : List Value) (k : ℕ) (v : Value) (to : ℕ) (
       → Sends (val_of m) ps (map proc_of (vals (drop (k + 1) processes))) first next
   sends_next sends told = sends_on (val_of m) ps to (map proc_of (vals (drop (k + 1) processes))) first now next to_this sends (told ∙ ap (λ xs. now.actions ++ xs) (kept (later now.clock)))
 
-  pub sends_stop : IsFront now.actions next.actions (Sent now.answers.me to (later now.clock) m ∷ []) → Each first (λ p class d. IsFront first.actions next.actions (sending d.me (val_of m) ps d.clock))
+  pub sends_stop : AddsPrefix now.actions next.actions (Sent now.answers.me to (later now.clock) m ∷ []) → Each first (λ p class d. AddsPrefix first.actions next.actions (sending d.me (val_of m) ps d.clock))
   sends_stop front =
-      sends_front (val_of m) ps to (map proc_of (vals (drop (k + 1) processes))) first now next to_this (subst (λ due. IsFront now.actions next.actions due) (kept (later now.clock)) front)
+      sends_prefix (val_of m) ps to (map proc_of (vals (drop (k + 1) processes))) first now next to_this (subst (λ due. AddsPrefix now.actions next.actions due) (kept (later now.clock)) front)
 
--- BEHIND THE LAST ONE
+-- AFTER THE LAST ONE
 
 module _ (m : Val) (processes : List Value) (k : ℕ) (ps : List ℕ) (first now : Known) (past : length processes ≤ k) (so_far : Sends m ps (map proc_of (vals (drop k processes))) first now) where
   none_left : Sends m ps [] first now
@@ -129,6 +129,6 @@ module _ (m : Value) (to : ℕ) (first next : Known) where
   one_told told p class d knows =
       told ∙ ap (λ xs. first.actions ++ xs) (as_kept (later first.clock) ∙ ap (λ (a : Action). a ∷ []) (told_as first p class d knows to (value_of (val_of m))))
 
-  pub one_stopped : IsFront first.actions next.actions (Sent first.answers.me to (later first.clock) m ∷ []) → Each first (λ p class d. IsFront first.actions next.actions (sending d.me (val_of m) (to ∷ []) d.clock))
+  pub one_stopped : AddsPrefix first.actions next.actions (Sent first.answers.me to (later first.clock) m ∷ []) → Each first (λ p class d. AddsPrefix first.actions next.actions (sending d.me (val_of m) (to ∷ []) d.clock))
   one_stopped front =
-      sends_front (val_of m) (to ∷ []) to [] first first next to_one (subst (λ due. IsFront first.actions next.actions due) (as_kept (later first.clock)) front)
+      sends_prefix (val_of m) (to ∷ []) to [] first first next to_one (subst (λ due. AddsPrefix first.actions next.actions due) (as_kept (later first.clock)) front)

@@ -14,8 +14,8 @@ use Rattle.da_machine.specs.declared.code.YieldPoint.{YieldPoint}
 use Rattle.da_machine.specs.declared.machine.Machine.{Machine}
 use Rattle.da_machine.specs.declared.machine.Stop.{Stop}
 use Rattle.da_machine.specs.Entries.{IsPoint}
-use Rattle.da_machine.specs.RunsTo.{IsFront}
-use Rattle.da_machine.proofs.Fronts.{front_before, part_front, part_front_of}
+use Rattle.da_machine.specs.RunsTo.{AddsPrefix}
+use Rattle.da_machine.proofs.Prefixes.{prefix_before, part_prefix, part_prefix_of}
 use Rattle.da_machine.specs.Stops.{IsStop}
 use Rattle.da_machine.proofs.EntryLaws.{at_point}
 use Rattle.query_plan.specs.Questions.{norm_class}
@@ -107,7 +107,7 @@ module _ (class : Class) (code : ClassCode) (waits : code.waits ≡ waits_of cla
   pub told : (old acts closing : List Action) (t : Action) → ((old ++ t ∷ []) ++ acts) ++ closing ≡ old ++ ((t ∷ acts) ++ closing)
   told old acts closing t = append_assoc (old ++ t ∷ []) acts closing ∙ append_assoc old (t ∷ []) (acts ++ closing)
 
-  -- the process before the run, behind the run of the code, and behind the move; the machine and the stop of the run
+  -- the process before the run, after the run of the code, and after the move; the machine and the stop of the run
   module _ (p : Program) (me k : ℕ) (d : Data) (todo : List Task) (acts : List Action) (old known new : Known) (m : Machine) (answer : Stop) (spot : Place)
       (knows : Knows known p class d) (mine : d.me ≡ me) (told_so_far : known.actions ≡ (old.actions ++ action.Took me k ∷ []) ++ acts) where
     known_me : known.answers.me ≡ me
@@ -151,10 +151,10 @@ module _ (class : Class) (code : ClassCode) (waits : code.waits ≡ waits_of cla
 -- WHERE MEMORY WAS REFUSED
 
 -- in the midst of the run
-pub run_front : (old new acts closing : List Action) (t : Action) → IsFront (old ++ t ∷ []) new acts → IsFront old new ((t ∷ acts) ++ closing)
-run_front old new acts closing t front = front_before old new (t ∷ acts) closing (part_front_of old (old ++ t ∷ []) new (t ∷ acts) acts (t ∷ [], refl, refl) front)
+pub run_prefix : (old new acts closing : List Action) (t : Action) → AddsPrefix (old ++ t ∷ []) new acts → AddsPrefix old new ((t ∷ acts) ++ closing)
+run_prefix old new acts closing t front = prefix_before old new (t ∷ acts) closing (part_prefix_of old (old ++ t ∷ []) new (t ∷ acts) acts (t ∷ [], refl, refl) front)
 
--- behind it
-pub stop_front : (old now new acts closing : List Action) (t : Action) → now ≡ (old ++ t ∷ []) ++ acts → new ≡ now → IsFront old new ((t ∷ acts) ++ closing)
-stop_front old now new acts closing t is stays =
-    part_front old new ((t ∷ acts) ++ closing) closing (t ∷ acts, stays ∙ is ∙ append_assoc old (t ∷ []) acts, refl)
+-- after it
+pub stop_prefix : (old now new acts closing : List Action) (t : Action) → now ≡ (old ++ t ∷ []) ++ acts → new ≡ now → AddsPrefix old new ((t ∷ acts) ++ closing)
+stop_prefix old now new acts closing t is stays =
+    part_prefix old new ((t ∷ acts) ++ closing) closing (t ∷ acts, stays ∙ is ∙ append_assoc old (t ∷ []) acts, refl)

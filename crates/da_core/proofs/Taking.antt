@@ -1,4 +1,4 @@
--- The arrival of a message: what the process knows and how it stands behind the handlers.
+-- The arrival of a message: what the process knows and how it stands after the handlers.
 use Rattle.std.proofs.Common.{◌≡◌, ℕ, List, [], ◌∷◌, ◌++◌, sym, ap, ◌∙◌, subst, append_assoc, append-nil}
 use Rattle.da_values.specs.Value.{val_of}
 use Rattle.da_lang.specs.declared.event.Action.{Action}
@@ -9,8 +9,8 @@ use Rattle.da_lang.specs.Runs.{Halt, AtYield, Faults, Ran}
 use Rattle.da_lang.specs.Steps.{closing, phase_after}
 use Rattle.da_lang.specs.World.{Data, Task}
 use Rattle.da_types.proofs.shaped.DataKept.{received_shaped}
-use Rattle.da_machine.specs.RunsTo.{IsFront}
-use Rattle.da_machine.proofs.Fronts.{front_before}
+use Rattle.da_machine.specs.RunsTo.{AddsPrefix}
+use Rattle.da_machine.proofs.Prefixes.{prefix_before}
 use Rattle.da_core.specs.declared.compiled.ClassCode.{ClassCode}
 use Rattle.da_core.specs.declared.deliveries.Delivery.{Delivery}
 use Rattle.da_core.specs.declared.deliveries.Handled.{Handled}
@@ -22,22 +22,22 @@ use Rattle.da_core.specs.Begins.{HasStopped, MayStop}
 use Rattle.da_core.specs.Known.{Becomes, Knows, KnowsSome}
 use Rattle.da_core.specs.StandsFor.{IsPlace}
 use Rattle.da_core.proofs.KnownLaws.{me_is, with_actions}
-use Rattle.da_core.proofs.Stopping.{has_point, place_there, run_front, stop_front}
+use Rattle.da_core.proofs.Stopping.{has_point, place_there, run_prefix, stop_prefix}
 
 -- what is kept before the message arrives stands for a process
 pub may_know : (x : Delivery) (time at : ℕ) (old : Known) (p : Program) (d : Data) (todo : List Task) → MayTakeIn p x time at old d todo → KnowsSome old
 may_know x time at old p d todo may = (p, x.class.now, d, may.can.knows)
 
--- a front of the actions that are due was added, whatever the process is
+-- a prefix of the actions that are due was added, whatever the process is
 abbrev pub TakenPart : Delivery → ℕ → ℕ → Known → List Action → Type 0
 TakenPart x time at old new =
-    (p : Program) (d : Data) (todo : List Task) → MayTakeIn p x time at old d todo → IsFront old.actions new (delivery_actions untold x time old.answers.me (all_handled x (received x time d)))
+    (p : Program) (d : Data) (todo : List Task) → MayTakeIn p x time at old d todo → AddsPrefix old.actions new (delivery_actions untold x time old.answers.me (all_handled x (received x time d)))
 
-pub received_front : (x : Delivery) (time : ℕ) (old : Known) (d : Data) (new : List Action) → IsFront old.actions new (action.Got old.answers.me x.from time untold ∷ [])
-    → IsFront old.actions new (delivery_actions untold x time old.answers.me (all_handled x (received x time d)))
-received_front x time old d new front =
+pub received_prefix : (x : Delivery) (time : ℕ) (old : Known) (d : Data) (new : List Action) → AddsPrefix old.actions new (action.Got old.answers.me x.from time untold ∷ [])
+    → AddsPrefix old.actions new (delivery_actions untold x time old.answers.me (all_handled x (received x time d)))
+received_prefix x time old d new front =
     let ran = all_handled x (received x time d) in
-    front_before old.actions new (action.Got old.answers.me x.from time untold ∷ []) (ran.actions ++ closing old.answers.me ran.halt) front
+    prefix_before old.actions new (action.Got old.answers.me x.from time untold ∷ []) (ran.actions ++ closing old.answers.me ran.halt) front
 
 -- the process before the message arrives, and when it has joined the history
 module _ (x : Delivery) (time at : ℕ) (old : Known) (p : Program) (d : Data) (todo : List Task) (may : MayTakeIn p x time at old d todo) (got : Known)
@@ -70,16 +70,16 @@ module _ (x : Delivery) (time at : ℕ) (old : Known) (p : Program) (d : Data) (
   pub can_then : CanHandle x got
   can_then = (p, received x time d, may_then)
 
-  pub handled_front : (new : List Action) → Whoever x got (λ p d. IsFront got.actions new (all_handled x d).actions) → IsFront old.actions new (delivery_actions untold x time old.answers.me ran)
-  handled_front new front =
-      run_front old.actions new ran.actions (closing old.answers.me ran.halt) first
-      (subst (λ xs. IsFront xs new ran.actions) told (front p (received x time d) may_then))
+  pub handled_prefix : (new : List Action) → Whoever x got (λ p d. AddsPrefix got.actions new (all_handled x d).actions) → AddsPrefix old.actions new (delivery_actions untold x time old.answers.me ran)
+  handled_prefix new front =
+      run_prefix old.actions new ran.actions (closing old.answers.me ran.halt) first
+      (subst (λ xs. AddsPrefix xs new ran.actions) told (front p (received x time d) may_then))
 
   pub may_stop : (answer : Handled) → MayStop code (stop_of answer may.number)
   may_stop (handled.Through turns) = has_point code class may.number may.point.0 may.waits todo may.point.1
   may_stop (handled.Fault kind line) = tt
 
-  -- behind the handlers
+  -- after the handlers
   module _ (now : Known) (answer : Handled) (handlers : Whoever x got (λ p d. HasHandled p x (all_handled x d) got now answer)) where
     had : HasHandled p x ran got now answer
     had = handlers p (received x time d) may_then
@@ -90,8 +90,8 @@ module _ (x : Delivery) (time at : ℕ) (old : Known) (p : Program) (d : Data) (
     so_far : now.actions ≡ (old.actions ++ first ∷ []) ++ ran.actions
     so_far = had.actions ∙ ap (λ xs. xs ++ ran.actions) told
 
-    pub stop_front_of : (new : List Action) → new ≡ now.actions → IsFront old.actions new (delivery_actions untold x time old.answers.me ran)
-    stop_front_of new stays = stop_front old.actions now.actions new ran.actions (closing old.answers.me ran.halt) first so_far stays
+    pub stop_prefix_of : (new : List Action) → new ≡ now.actions → AddsPrefix old.actions new (delivery_actions untold x time old.answers.me ran)
+    stop_prefix_of new stays = stop_prefix old.actions now.actions new ran.actions (closing old.answers.me ran.halt) first so_far stays
 
     closed : (new : Known) (halt : Halt) → ran.halt ≡ halt → new.actions ≡ now.actions ++ closing old.answers.me halt → new.actions ≡ old.actions ++ delivery_actions untold x time old.answers.me ran
     closed new halt is closes =

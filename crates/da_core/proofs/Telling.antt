@@ -7,7 +7,7 @@ use Rattle.da_lang.specs.declared.event.Action.TheVariants as action
 use Rattle.da_lang.specs.declared.program.Program.{Program}
 use Rattle.da_lang.specs.Steps.{closing, proc_step}
 use Rattle.da_lang.specs.World.{Data, Task, World, class_of}
-use Rattle.da_machine.specs.RunsTo.{IsFront}
+use Rattle.da_machine.specs.RunsTo.{AddsPrefix}
 use Rattle.da_core.specs.declared.compiled.ClassCode.{ClassCode}
 use Rattle.da_core.specs.declared.deliveries.Delivery.{Delivery}
 use Rattle.da_core.specs.declared.known.Known.{Known}
@@ -22,7 +22,7 @@ use Rattle.da_core.specs.StandsFor.{StandsFor, Whichever, program_of}
 use Rattle.da_core.proofs.Delivering.{has_begun, has_made, may_take_in}
 use Rattle.da_core.proofs.KnownLaws.{with_actions}
 
--- behind the end there is nothing to take the place of
+-- after the end there is nothing to take the place of
 pub put_past : {A : Type 0} (xs : List A) (at : ℕ) (x : A) → length xs ≤ at → slice_set xs at x ≡ xs
 put_past [] at x past = refl
 put_past (y ∷ xs) zero x past = absurd (omega (arith, past))
@@ -36,7 +36,7 @@ put_nowhere : {A : Type 0} (xs : List A) (new : A) → slice_set (xs ++ []) (len
 put_nowhere [] new = refl
 put_nowhere (x ∷ xs) new = ap (λ l. x ∷ l) (put_nowhere xs new)
 
--- a front of the actions that are due, with the first one told
+-- a prefix of the actions that are due, with the first one told
 put_front : {A : Type 0} (xs ys : List A) (old new : A) (n : ℕ) → slice_set (xs ++ take n (old ∷ ys)) (length xs) new ≡ xs ++ take n (new ∷ ys)
 put_front xs ys old new zero = put_nowhere xs new
 put_front xs ys old new (suc n) = put_first xs (take n ys) old new
@@ -56,7 +56,7 @@ told_again p x time d todo old known spot m taken =
 pub labelled_so : (x : Delivery) (code : ClassCode) (at : ℕ) (label : Option ℕ) → x.code.now ≡ code → x.label ≡ label → label ≡ label_of (wait_at code at) → x.label ≡ label_of (wait_at x.code.now at)
 labelled_so x code at label is that found = that ∙ found ∙ ap (λ (c : ClassCode). label_of (wait_at c at)) (sym is)
 
--- a front of the actions that are due was added, whatever the world is
+-- a prefix of the actions that are due was added, whatever the world is
 abbrev pub ArrivedPart : Core → Value → ℕ → ℕ → List Action → List Action → Type 0
 ArrivedPart core m from time out given = Whichever core (λ w. HasBegun core w (arrival m from time) out given)
 
@@ -100,7 +100,7 @@ module _ (core : Core) (w : World) (s : StandsFor core w) (x : Delivery) (time :
         empty none new is_new out given same (back ∙ put_so known.actions (length own)) answer is))
 
     pub took_part : (told out given : List Action) → own ≡ out → given ≡ slice_set told (length own) (action.Got me from time m)
-        → IsFront own told (delivery_actions untold x time me (all_handled x (received x time w.data'))) → HasBegun core w (arrival m from time) out given
+        → AddsPrefix own told (delivery_actions untold x time me (all_handled x (received x time w.data'))) → HasBegun core w (arrival m from time) out given
     took_part told out given same back (n, is) =
         let ran = all_handled x (received x time w.data') in
         let front = put_front own (ran.actions ++ closing me ran.halt) (action.Got me x.from time untold) (action.Got me x.from time x.message.now) n in

@@ -125,7 +125,7 @@ await_parts k alts lent timeout body label own has inside flags left is one some
     ∙ ap (λ w. (record { alternatives = own; has_timeout = has; label = label } ∷ w) ++ (items_take body taken.left).waits) (sym three)
     ∙ ap (λ l. (record { alternatives = own; has_timeout = has; label = label } ∷ inside) ++ (items_take body l).waits) (sym four)
 
--- where nothing comes behind the alternatives
+-- where nothing comes after the alternatives
 pub await_alone : (k : ItemKind) (alts lent : List Alt) (timeout : Option (List Item)) (label : Option ℕ) (own : List Alternative) (has : Bool) (inside old new : Waits) (flags : List ℕ) → k ≡ it.Await alts timeout label → lent ≡ alts
     → timeout ≡ None → has ≡ is_some timeout → own ≡ (alts_taken (map alt_take lent) flags).own → inside ≡ (alts_taken (map alt_take lent) flags).inside
     → new ≡ old ++ (record { alternatives = own; has_timeout = has; label = label } ∷ inside) → new ≡ old ++ (kind_take k flags).waits
@@ -136,7 +136,7 @@ await_alone k alts lent timeout label own has inside old new flags is one none t
 
 -- ON THE WAY THROUGH A LIST
 
--- What is waited for so far, behind what was there before, and the flags that are left: what comes of the parts that are left
+-- What is waited for so far, after what was there before, and the flags that are left: what comes of the parts that are left
 -- makes it up to the whole.
 pub record Came (takes : List Take) (whole : Taken) (old now : Waits) (left : List ℕ) : Type 0 where
   pub so_far : now ++ (all_taken takes left).waits ≡ old ++ whole.waits

@@ -14,7 +14,7 @@ use Rattle.da_lang.specs.declared.code.Instr.TheVariants as op
 use Rattle.da_lang.specs.Accepted.{IsAccepted}
 use Rattle.da_lang.specs.Labels.{is_open}
 use Rattle.da_lang.specs.Matching.{Row, matched_entry}
-use Rattle.da_lang.specs.Runs.{Halt, AtYield, Faults, Ran, behind}
+use Rattle.da_lang.specs.Runs.{Halt, AtYield, Faults, Ran, ran_after}
 use Rattle.da_lang.specs.Shaped.{IsEntry, ShapedData}
 use Rattle.da_lang.specs.Steps.{Step, Deliver, closing, handle, phase_after, received_at, try_handler}
 use Rattle.da_lang.specs.World.{Data, Entry, Task}
@@ -75,7 +75,7 @@ pub record HasEntry (x : Delivery) (h : Handler) (entry : ℕ) : Type 0 where
 abbrev pub row_for : Delivery → Handler → Data → Option Row
 row_for x h d = matched_entry d h.message h.from (val_of x.message.now) x.from []
 
--- the run of one handler, tried in turn n, and of what comes behind it
+-- the run of one handler, tried in turn n, and of what comes after it
 abbrev pub tried : Delivery → Handler → ℕ → Data → (ℕ → Data → Ran) → Ran
 tried x h n d go = try_handler x.class.now h n d (row_for x h d) go
 
@@ -107,12 +107,12 @@ pub record IsAlike (ran other : Ran) : Type 0 where
   pub actions : ran.actions ≡ other.actions
   pub halt : ran.halt ≡ other.halt
 
--- behind one handler: what comes behind it where it came through with so many turns, and else its fault
+-- after one handler: what comes after it where it came through with so many turns, and else its fault
 abbrev pub goes_on : Handled → List Action → Data → (ℕ → Data → Ran) → Ran
-goes_on (handled.Through turns) actions d go = behind actions (go turns d)
+goes_on (handled.Through turns) actions d go = ran_after actions (go turns d)
 goes_on (handled.Fault kind line) actions d go = record { data' = d; todo = []; actions = actions; turns = 0; halt = Faults kind line }
 
--- a handler was tried in turn n of a process that knew d: whatever comes behind it, the run is this one
+-- a handler was tried in turn n of a process that knew d: whatever comes after it, the run is this one
 pub record HasTried (p : Program) (x : Delivery) (h : Handler) (n : ℕ) (d : Data) (old new : Known) (answer : Handled) : Type 0 where
   pub mine : new.answers.me ≡ old.answers.me
   pub after : Data
@@ -135,12 +135,12 @@ untold = kept.Proc 0
 abbrev pub received : Delivery → ℕ → Data → Data
 received x time d = received_at (val_of x.message.now) x.from time d
 
--- how the process stops behind the handlers that waits at this yield point
+-- how the process stops after the handlers that waits at this yield point
 abbrev pub stop_of : Handled → ℕ → Stop
 stop_of (handled.Through turns) number = stop.Yield number
 stop_of (handled.Fault kind line) number = stop.Fault kind line
 
--- the process that waits with this to do may take in the message: it stands in front of a yield point of its class
+-- the process that waits with this to do may take in the message: it stands before a yield point of its class
 pub record MayTakeIn (p : Program) (x : Delivery) (time at : ℕ) (known : Known) (d : Data) (todo : List Task) : Type 0 where
   pub can : MayHandle p x known d
   pub waits : x.code.now.waits ≡ waits_of x.class.now (norm_class x.class.now).flags

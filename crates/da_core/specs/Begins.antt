@@ -1,4 +1,4 @@
--- How a move goes on in the code, and how the process stands behind it.
+-- How a move goes on in the code, and how the process stands after it.
 use Rattle.std.specs.Prelude.{◌≡◌, ℕ, zero, suc, ◌≤◌, ◌<◌, Bool, true, false, not, ◌&&◌, if◌then◌else◌, List, [], ◌∷◌, ◌++◌, length, Option, Some, None, slice_get}
 use Rattle.std.specs.List.{list_any}
 use Rattle.std.specs.Option.{option_map}
@@ -49,8 +49,8 @@ entry_of None n = None
 entry_of (Some point) n = slice_get point.entries n
 
 -- entry n, counted from 0, of the yield point that stands at a place
-abbrev pub entry_behind : Code → ℕ → ℕ → Option ℕ
-entry_behind code at n = entry_of (point_of code (slice_get code.instrs at)) n
+abbrev pub entry_after : Code → ℕ → ℕ → Option ℕ
+entry_after code at n = entry_of (point_of code (slice_get code.instrs at)) n
 
 -- the yield point itself was the first turn
 abbrev pub behind_turn : Option ℕ → Option Begin
@@ -96,12 +96,12 @@ flag_told class d alternative = option_map (λ a. has_row (node_rows d (norm_cla
 -- where the move of this number goes on at an `await`, if it is allowed
 abbrev pub begin_at_await : Class → Data → ClassCode → ℕ → ℕ → Option Begin
 begin_at_await class d code at zero = None
-begin_at_await class d code at (suc n) = if_flag (flag_told class d (alternative_at code at (suc n))) (behind_turn (entry_behind code.code at n))
+begin_at_await class d code at (suc n) = if_flag (flag_told class d (alternative_at code at (suc n))) (behind_turn (entry_after code.code at n))
 
 -- where it goes on, if it is allowed, for a process of the class that knows d and stands so
 abbrev pub begin_at : Class → Data → ClassCode → ℕ → Place → ℕ → Option Begin
 begin_at class d code at place.New zero = Some (record { entry = at; turns = 0 })
-begin_at class d code at place.Label zero = behind_turn (entry_behind code.code at 0)
+begin_at class d code at place.Label zero = behind_turn (entry_after code.code at 0)
 begin_at class d code at (place.Await count) k = begin_at_await class d code at k
 begin_at class d code at _ k = None
 
@@ -116,9 +116,9 @@ abbrev pub may_time_out : Class → Data → Option Wait → Bool
 may_time_out class d None = false
 may_time_out class d (Some wait) = wait.has_timeout && not (some_told class d wait.alternatives)
 
--- where it goes on at an `await` of so many alternatives, if it is allowed: its entry stands behind theirs
+-- where it goes on at an `await` of so many alternatives, if it is allowed: its entry stands after theirs
 abbrev pub timeout_at : Class → Data → ClassCode → ℕ → ℕ → Option Begin
-timeout_at class d code at count = if may_time_out class d (wait_at code at) then behind_turn (entry_behind code.code at count) else None
+timeout_at class d code at count = if may_time_out class d (wait_at code at) then behind_turn (entry_after code.code at count) else None
 
 -- THE LEAST ROW
 
@@ -153,9 +153,9 @@ pub record CanMove (core : Core) (w : World) (step : Step) (k : ℕ) (code : Cla
   pub leads : proc_step (program_of core) w step ≡ Some (moved w.data'.me k (run_to_yield class begin.turns d todo))
   pub may : MayRun (program_of core) class code core.known core.machine k begin d todo
 
--- HOW THE PROCESS STANDS BEHIND IT
+-- HOW THE PROCESS STANDS AFTER IT
 
--- the code stopped in front of a yield point that is there, with what is waited for at it; or it did not stop in front of one
+-- the code stopped before a yield point that is there, with what is waited for at it; or it did not stop before one
 pub record HasPoint (code : ClassCode) (number : ℕ) : Type 0 where
   pub point : YieldPoint
   pub wait : Wait
@@ -191,7 +191,7 @@ HasStopped code old new (stop.Yield number) stands = (new ≡ old) × StandsAt c
 HasStopped code old new stop.Ended stands = (new ≡ with_action old (action.End old.answers.me)) × (stands ≡ place.Ended)
 HasStopped code old new (stop.Fault kind line) stands = (new ≡ with_action old (action.Fault old.answers.me kind line)) × (stands ≡ place.Faulted)
 
--- the process stands there behind an event
+-- the process stands there after an event
 abbrev pub settled : Core → Place → Core
 settled core stands = record core { place = stands; spent = false }
 
@@ -199,14 +199,14 @@ settled core stands = record core { place = stands; spent = false }
 abbrev pub move_actions : ℕ → ℕ → Ran → List Action
 move_actions me k ran = action.Took me k ∷ ran.actions ++ closing me ran.halt
 
--- where the machine stands behind a move
-abbrev pub IsBehind : Class → ClassCode → Machine → List Task → Phase → Type 0
-IsBehind class code m todo Waiting = IsWaiting class code.code m todo
-IsBehind class code m todo _ = Unit {0}
+-- where the machine stands after a move
+abbrev pub IsAfter : Class → ClassCode → Machine → List Task → Phase → Type 0
+IsAfter class code m todo Waiting = IsWaiting class code.code m todo
+IsAfter class code m todo _ = Unit {0}
 
 -- the run was made, and the process knows and stands as it leaves it
 pub record HasRun (p : Program) (class : Class) (code : ClassCode) (me k : ℕ) (ran : Ran) (old new : Known) (m : Machine) (place : Place) : Type 0 where
   pub known : Knows new p class ran.data'
   pub actions : new.actions ≡ old.actions ++ move_actions me k ran
   pub stands : IsPlace ran.todo place (phase_after ran.halt)
-  pub behind : IsBehind class code m ran.todo (phase_after ran.halt)
+  pub behind : IsAfter class code m ran.todo (phase_after ran.halt)

@@ -28,6 +28,6 @@ KnowsSome known = (p : Program) × (class : Class) × (d : Data) × Knows known 
 abbrev pub Each : Known → (Program → Class → Data → Type 0) → Type 0
 Each known holds = (p : Program) (class : Class) (d : Data) → Knows known p class d → holds p class d
 
--- where it stood for a process, it stands for the same one behind this step
+-- where it stood for a process, it stands for the same one after this step
 abbrev pub Becomes : Known → Known → (Data → Data) → Type 0
 Becomes old new step = Each old (λ p class d. Knows new p class (step d))

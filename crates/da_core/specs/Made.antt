@@ -3,7 +3,7 @@ use Rattle.std.specs.Prelude.{◌≡◌, List, ◌++◌, Some}
 use Rattle.da_lang.specs.declared.event.Action.{Action}
 use Rattle.da_lang.specs.Steps.{Step, Stepped, proc_step}
 use Rattle.da_lang.specs.World.{World, Phase, New, Waiting, Ended, Faulted}
-use Rattle.da_machine.specs.RunsTo.{IsFront}
+use Rattle.da_machine.specs.RunsTo.{AddsPrefix}
 use Rattle.da_core.specs.declared.process.Core.{Core}
 use Rattle.da_core.specs.declared.place.Place.{Place}
 use Rattle.da_core.specs.declared.place.Place.TheVariants as place
@@ -40,8 +40,8 @@ pub record HasMade (core : Core) (w : World) (step : Step) (new : Core) (answer 
   pub stopped : phase_of answer ≡ after.world.phase
   pub added : new_out ≡ old_out ++ after.actions
 
--- the step was allowed, and a front of its actions was added
+-- the step was allowed, and a prefix of its actions was added
 pub record HasBegun (core : Core) (w : World) (step : Step) (old_out new_out : List Action) : Type 0 where
   pub after : Stepped
   pub leads : proc_step (program_of core) w step ≡ Some after
-  pub front : IsFront old_out new_out after.actions
+  pub front : AddsPrefix old_out new_out after.actions

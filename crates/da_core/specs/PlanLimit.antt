@@ -14,7 +14,7 @@ most_nodes = 4096
 abbrev pub is_large : Class → Bool
 is_large class = nat_lt most_nodes (length (norm_class class).nodes)
 
--- the lines of such classes, and the least of them, if there is one
+-- the lines of such classes, and the earliest of them, if there is one
 abbrev pub large_lines : List Class → List ℕ
 large_lines classes = map (λ c. c.line) (filter is_large classes)
 

@@ -64,7 +64,7 @@ IsPlace todo place.Ended Ended = Unit {0}
 IsPlace todo place.Faulted Faulted = Unit {0}
 IsPlace todo place phase = ⊥
 
--- The machine stands in front of a yield point, and the code there stands for what is to do. So the alternatives, the block for
+-- The machine stands before a yield point, and the code there stands for what is to do. So the alternatives, the block for
 -- a timeout and the label are those of the yield point.
 pub record IsWaiting (class : Class) (code : Code) (m : Machine) (todo : List Task) : Type 0 where
   pub number : ℕ

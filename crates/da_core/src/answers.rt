@@ -2,7 +2,7 @@
 ghost use Rattle.da_core.specs.Known.{Each, KnowsSome};
 ghost use Rattle.da_core.specs.Told.{answers};
 ghost use Rattle.da_lang.specs.Queries.{least_row, query_value, shown_set};
-ghost use Rattle.da_machine.specs.RunsTo.{IsFront};
+ghost use Rattle.da_machine.specs.RunsTo.{AddsPrefix};
 ghost use Rattle.da_values.specs.Value.{val_of};
 ghost use Rattle.std.specs.Prelude.{◌≡◌, ◌+◌, ◌++◌, IfOk, OnErr, OnOk};
 
@@ -39,8 +39,8 @@ pub fn tell_answers(known: &Known<'_>, out: &mut List<Action>) -> Result<(), NoM
     requires { KnowsSome known.now }
     ensures told { OnOk result (Each known.now (λ p class d.
         out.new ≡ out.old ++ answers d.me class.queries d)) }
-    ensures front { OnErr result (Each known.now (λ p class d.
-        IsFront out.old out.new (answers d.me class.queries d))) }
+    ensures prefix { OnErr result (Each known.now (λ p class d.
+        AddsPrefix out.old out.new (answers d.me class.queries d))) }
 {
     let count = known.plan.queries.len();
     for place in 0..count {

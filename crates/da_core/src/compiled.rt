@@ -1,6 +1,6 @@
 //! A program with the code and the plans of its classes.
-ghost use Rattle.da_core.specs.Compiled.{IsCodeFor, IsCompiled, code_of as code_lem, count_of as count_lem, program_of, rank_in, start_in};
-ghost use Rattle.da_core.specs.Opened.{opened as opened_lem};
+ghost use Rattle.da_core.specs.Compiled.{IsCodeFor, IsCompiled, code_of as code_def, count_of as count_def, program_of, rank_in, start_in};
+ghost use Rattle.da_core.specs.Opened.{opened as opened_def};
 ghost use Rattle.da_core.specs.PlanLimit.{is_large, nodes_fault};
 ghost use Rattle.da_lang.specs.Typing.{least_of};
 ghost use Rattle.da_lang.specs.World.{at_number, class_of};
@@ -40,7 +40,7 @@ pub struct Compiled {
     pub(crate) codes: List<ClassCode>,
 }
 
-/// Compiles a program. `TooMany` comes exactly where the plan of a class has too many nodes, with the least line of such a
+/// Compiles a program. `TooMany` comes exactly where the plan of a class has too many nodes, with the earliest line of such a
 /// class, and `Memory` only for want of memory.
 pub fn compile(alloc: Global, t: Typed) -> Result<Compiled, PlanFault>
     ensures compiled { IfOk result IsCompiled }
@@ -113,7 +113,7 @@ fn code_with(alloc: Global, t: &Typed, place: usize, plan: Plan) -> Result<Class
 
 // The opened patterns of the handlers of the class at this place.
 fn opened_in(alloc: Global, t: &Typed, place: usize) -> Result<List<Opened>, NoMemory>
-    ensures { IfOk result (λ opened. (class : ClassOf) → slice_get t.now.classes place ≡ Some class → opened ≡ map opened_lem class.handlers) }
+    ensures { IfOk result (λ opened. (class : ClassOf) → slice_get t.now.classes place ≡ Some class → opened ≡ map opened_def class.handlers) }
 {
     match t.program().classes.get(place) {
         Some(class) => opened_of(alloc, class.handlers.as_slice()),
@@ -144,7 +144,7 @@ impl Compiled {
 
     // The code of the class of a process, or `None` where there is none.
     pub(crate) fn code_of(&self, me: u16) -> Option<&ClassCode>
-        ensures { option_copied result ≡ code_lem self.now me }
+        ensures { option_copied result ≡ code_def self.now me }
     {
         let decl = numbered(&self.typed.program().procs, me)?;
         self.codes.get(usize::from(decl.class))
@@ -161,7 +161,7 @@ impl Compiled {
 
     // Where the code begins of what the process has to do at first, or `None` where there is no such process.
     pub(crate) fn start_of(&self, me: u16) -> Option<u64>
-        ensures { result ≡ start_in (program_of self.now) (code_lem self.now me) me }
+        ensures { result ≡ start_in (program_of self.now) (code_def self.now me) me }
     {
         let code = self.code_of(me)?;
         let rank = self.rank(me)?;
@@ -181,7 +181,7 @@ impl Compiled {
 
 // How many of these processes are of the class at this place.
 fn count_of(procs: &[ProcDecl], class: u16) -> usize
-    ensures { result ≡ count_lem class procs.now }
+    ensures { result ≡ count_def class procs.now }
 {
     let mut count = 0;
     for decl in procs {

@@ -1,5 +1,5 @@
 //! The arrival of a message: the history first, then the handlers in text order.
-ghost use Rattle.da_core.specs.Arrivals.{CanHandle, HasEntry, HasHandled, HasTakenIn, HasTried, MayTakeIn, Whoever, all_handled, delivery_actions, handled_as, received, row_for as row_lem, stop_of, tried, untold};
+ghost use Rattle.da_core.specs.Arrivals.{CanHandle, HasEntry, HasHandled, HasTakenIn, HasTried, MayTakeIn, Whoever, all_handled, delivery_actions, handled_as, received, row_for as row_def, stop_of, tried, untold};
 ghost use Rattle.da_core.specs.Known.{Each};
 ghost use Rattle.da_lang.specs.Matching.{matched_entry};
 ghost use Rattle.da_lang.specs.Runs.{Ran, max_turns};
@@ -8,7 +8,7 @@ ghost use Rattle.da_lang.specs.declared.code.Instr.TheVariants as op;
 ghost use Rattle.da_lang.specs.declared.program.Program.{Program};
 ghost use Rattle.da_machine.specs.CodeFor.{Has};
 ghost use Rattle.da_machine.specs.declared.machine.Stop.TheVariants as stop;
-ghost use Rattle.da_machine.specs.RunsTo.{IsFront};
+ghost use Rattle.da_machine.specs.RunsTo.{AddsPrefix};
 ghost use Rattle.da_values.specs.Value.{val_of};
 ghost use Rattle.std.specs.Prelude.{◌≡◌, ◌≤◌, [], ℕ, IfOk, List, OnErr, Some};
 
@@ -58,7 +58,7 @@ pub fn take_in(
     ensures part { OnErr result ((p : Program) (d : Data) (todo : List Task)
         → MayTakeIn p delivery.now time at known.old d todo
         → let ran = all_handled delivery.now (received delivery.now time d) in
-        IsFront known.old.actions known.new.actions (delivery_actions untold delivery.now time known.old.answers.me ran)) }
+        AddsPrefix known.old.actions known.new.actions (delivery_actions untold delivery.now time known.old.answers.me ran)) }
 {
     known.receive(delivery.message, delivery.from, time)?;
     let answer = handle_all(delivery, known)?;
@@ -69,7 +69,7 @@ pub fn take_in(
     }
 }
 
-// How the process stops behind the handlers that waits at the yield point at a place.
+// How the process stops after the handlers that waits at the yield point at a place.
 fn stop_behind(answer: Handled, code: &Code, at: u64) -> Stop
     requires { (number : ℕ) × Has code.now at (op.Yield number) }
     ensures { (number : ℕ) → Has code.now at (op.Yield number) → result ≡ stop_of answer number }
@@ -97,7 +97,7 @@ fn handle_all(delivery: &Delivery<'_>, known: &mut Known<'_>) -> Result<Handled,
     ensures runs { IfOk result (λ answer. Whoever delivery.now known.old (λ p d.
         HasHandled p delivery.now (all_handled delivery.now d) known.old known.new answer)) }
     ensures part { OnErr result (Whoever delivery.now known.old (λ p d.
-        IsFront known.old.actions known.new.actions (all_handled delivery.now d).actions)) }
+        AddsPrefix known.old.actions known.new.actions (all_handled delivery.now d).actions)) }
 {
     let mut turns = 0;
     let handlers = delivery.class.handlers.as_slice();
@@ -135,7 +135,7 @@ fn try_handler(
     ensures tried { IfOk result (λ answer. Whoever delivery.now known.old (λ p d.
         HasTried p delivery.now handler.now turns d known.old known.new answer)) }
     ensures part { OnErr result (Whoever delivery.now known.old (λ p d. (go : ℕ → Data → Ran)
-        → IsFront known.old.actions known.new.actions (tried delivery.now handler.now turns d go).actions)) }
+        → AddsPrefix known.old.actions known.new.actions (tried delivery.now handler.now turns d go).actions)) }
 {
     let row = row_for(handler, delivery.message, delivery.from, known)?;
     match row {
@@ -155,12 +155,12 @@ fn run_handler(
 ) -> Result<Handled, NoMemory>
     requires can { CanHandle delivery.now known.old }
     requires there { HasEntry delivery.now handler.now entry }
-    requires matches { Each known.old (λ p class d. row_lem delivery.now handler.now d ≡ Some row.now) }
+    requires matches { Each known.old (λ p class d. row_def delivery.now handler.now d ≡ Some row.now) }
     requires early { turns ≤ max_turns }
     ensures tried { IfOk result (λ answer. Whoever delivery.now known.old (λ p d.
         HasTried p delivery.now handler.now turns d known.old known.new answer)) }
     ensures part { OnErr result (Whoever delivery.now known.old (λ p d. (go : ℕ → Data → Ran)
-        → IsFront known.old.actions known.new.actions (tried delivery.now handler.now turns d go).actions)) }
+        → AddsPrefix known.old.actions known.new.actions (tried delivery.now handler.now turns d go).actions)) }
 {
     bind(handler.binds.as_slice(), row, known)?;
     let mut machine = Machine::new(known.alloc, entry);

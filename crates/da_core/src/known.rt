@@ -6,7 +6,7 @@ ghost use Rattle.da_lang.specs.Steps.{received_at};
 ghost use Rattle.da_lang.specs.Turns.{bind_all, later, sent_at, with_element, without_element};
 ghost use Rattle.da_lang.specs.World.{put_slot};
 ghost use Rattle.da_lang.specs.declared.event.Action.TheVariants as action;
-ghost use Rattle.da_machine.specs.RunsTo.{IsFront};
+ghost use Rattle.da_machine.specs.RunsTo.{AddsPrefix};
 ghost use Rattle.da_values.specs.Value.{val_of};
 ghost use Rattle.std.specs.Prelude.{◌≡◌, [], ◌∷◌, ◌++◌, OnErr, OnOk};
 
@@ -37,12 +37,12 @@ pub struct Known<'c> {
 impl Known<'_> {
     /// Takes in a message: the clock rises above its own time and the carried one, the message joins the history, and its arrival
     /// is told, with process 0, which is no process, in the place of the message.
-    #[tactic(auto, using(crate::proofs::Fronts::no_front))]
+    #[tactic(auto, using(crate::proofs::Prefixes::no_prefix))]
     pub fn receive(&mut self, m: &Value, from: u16, time: u64) -> Result<(), NoMemory>
         requires { KnowsSome self.old }
         ensures known { OnOk result (Becomes self.old self.new (received_at (val_of m.now) from time)) }
         ensures actions { OnOk result (self.new.actions ≡ self.old.actions ++ action.Got self.old.answers.me from time untold ∷ []) }
-        ensures front { OnErr result (IsFront self.old.actions self.new.actions (action.Got self.old.answers.me from time untold ∷ [])) }
+        ensures prefix { OnErr result (AddsPrefix self.old.actions self.new.actions (action.Got self.old.answers.me from time untold ∷ [])) }
     {
         let me = self.answers.me;
         insert(
@@ -65,13 +65,13 @@ impl Known<'_> {
     }
 
     /// Sends a copy of a message to one process.
-    #[tactic(auto, using(crate::proofs::Fronts::no_front))]
+    #[tactic(auto, using(crate::proofs::Prefixes::no_prefix))]
     pub fn send_one(&mut self, m: &Value, to: u16) -> Result<(), NoMemory>
         requires { KnowsSome self.old }
         ensures known { OnOk result (Becomes self.old self.new (λ d. sent_at (val_of m.now) to (later d.clock) d)) }
         ensures actions { OnOk result (self.new.actions
             ≡ self.old.actions ++ action.Sent self.old.answers.me to (later self.old.clock) m.now ∷ []) }
-        ensures front { OnErr result (IsFront self.old.actions self.new.actions
+        ensures prefix { OnErr result (AddsPrefix self.old.actions self.new.actions
             (action.Sent self.old.answers.me to (later self.old.clock) m.now ∷ [])) }
     {
         let message = copy_value(self.alloc, m)?;
@@ -80,13 +80,13 @@ impl Known<'_> {
     }
 
     /// Sends a message to one process.
-    #[tactic(auto, using(crate::proofs::Fronts::no_front))]
+    #[tactic(auto, using(crate::proofs::Prefixes::no_prefix))]
     pub fn send_value(&mut self, m: Value, to: u16) -> Result<(), NoMemory>
         requires { KnowsSome self.old }
         ensures known { OnOk result (Becomes self.old self.new (λ d. sent_at (val_of m) to (later d.clock) d)) }
         ensures actions { OnOk result (self.new.actions
             ≡ self.old.actions ++ action.Sent self.old.answers.me to (later self.old.clock) m ∷ []) }
-        ensures front { OnErr result (IsFront self.old.actions self.new.actions
+        ensures prefix { OnErr result (AddsPrefix self.old.actions self.new.actions
             (action.Sent self.old.answers.me to (later self.old.clock) m ∷ [])) }
     {
         let me = self.answers.me;

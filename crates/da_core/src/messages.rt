@@ -29,14 +29,14 @@ fn is_declared(messages: &[MessageDecl], m: &Value) -> bool
     ensures { result ≡ shaped.is_declared messages.now (val_of m.now) }
 {
     match m {
-        Value::Tuple(parts) => is_message(messages, parts.as_slice()),
+        Value::Tuple(parts) => are_declared_parts(messages, parts.as_slice()),
         Value::Int(_) | Value::Bool(_) | Value::Text(_) | Value::Proc(_) | Value::Set(_) => false,
     }
 }
 
 // Whether values are the parts of such a message.
 #[tactic(auto, using(crate::proofs::MessageForms::message_of))]
-fn is_message(messages: &[MessageDecl], parts: &[Value]) -> bool
+fn are_declared_parts(messages: &[MessageDecl], parts: &[Value]) -> bool
     ensures { result ≡ shaped.is_declared messages.now (Tuple (vals parts.now)) }
 {
     let [first, rest @ ..] = parts else {

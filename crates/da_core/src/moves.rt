@@ -1,11 +1,11 @@
 //! The run of a move.
-ghost use Rattle.da_core.specs.Begins.{AreFew, HasPoint, HasRun, HasStopped, MayRun, MayStop, StandsAt, alternative_at as alternative_lem, begin_at, begin_at_await as begin_at_await_lem, behind_turn, bound_by, entry_behind, label_of, move_actions, place_at as place_lem, some_told, timeout_at, wait_at as wait_lem};
+ghost use Rattle.da_core.specs.Begins.{AreFew, HasPoint, HasRun, HasStopped, MayRun, MayStop, StandsAt, alternative_at as alternative_def, begin_at, begin_at_await as begin_at_await_def, behind_turn, bound_by, entry_after, label_of, move_actions, place_at as place_def, some_told, timeout_at, wait_at as wait_def};
 ghost use Rattle.da_core.specs.Known.{Each, Knows, KnowsSome};
 ghost use Rattle.da_lang.specs.Runs.{run_to_yield};
 ghost use Rattle.da_lang.specs.World.{Data, Task};
 ghost use Rattle.da_lang.specs.declared.program.Class.{Class};
 ghost use Rattle.da_lang.specs.declared.program.Program.{Program};
-ghost use Rattle.da_machine.specs.RunsTo.{IsFront};
+ghost use Rattle.da_machine.specs.RunsTo.{AddsPrefix};
 ghost use Rattle.std.specs.Option.{option_copied};
 ghost use Rattle.std.specs.Prelude.{◌≡◌, ◌&&◌, ℕ, IfOk, List, OnErr, OnOk, not};
 
@@ -56,7 +56,7 @@ pub fn begin_in(code: &ClassCode, at: u64, place: Place, k: u32, known: &Known<'
 
 // The same at an `await`.
 fn begin_at_await(code: &ClassCode, at: u64, k: u32, known: &Known<'_>) -> Option<Begin>
-    ensures { Each known.now (λ p class d. result ≡ begin_at_await_lem class d code.now at k) }
+    ensures { Each known.now (λ p class d. result ≡ begin_at_await_def class d code.now at k) }
 {
     let n = k.checked_sub(1)? as usize;
     let alternative = alternative_at(code, at, k)?;
@@ -100,9 +100,9 @@ fn some_flag(alternatives: &[Alternative], known: &Known<'_>) -> bool
     false
 }
 
-// Behind entry `n`, counted from 0, of the yield point at a place. The yield point was the first turn.
+// After entry `n`, counted from 0, of the yield point at a place. The yield point was the first turn.
 fn begin_behind(code: &Code, at: u64, n: usize) -> Option<Begin>
-    ensures { result ≡ behind_turn (entry_behind code.now at n) }
+    ensures { result ≡ behind_turn (entry_after code.now at n) }
 {
     let entry = entry_in(code, at, n)?;
     Some(Begin { entry, turns: 1 })
@@ -110,7 +110,7 @@ fn begin_behind(code: &Code, at: u64, n: usize) -> Option<Begin>
 
 // Entry `n`, counted from 0, of the yield point at a place, or `None` where there is none.
 fn entry_in(code: &Code, at: u64, n: usize) -> Option<u64>
-    ensures { result ≡ entry_behind code.now at n }
+    ensures { result ≡ entry_after code.now at n }
 {
     match code.instrs.get(at as usize)? {
         Instr::Yield(number) => {
@@ -123,7 +123,7 @@ fn entry_in(code: &Code, at: u64, n: usize) -> Option<u64>
 
 /// The alternative that the move of this number takes at a place in the code, or `None` where it takes none.
 pub fn alternative_at(code: &ClassCode, at: u64, k: u32) -> Option<&Alternative>
-    ensures { option_copied result ≡ alternative_lem code.now at k }
+    ensures { option_copied result ≡ alternative_def code.now at k }
 {
     let n = k.checked_sub(1)? as usize;
     wait_at(code, at)?.alternatives.get(n)
@@ -131,14 +131,14 @@ pub fn alternative_at(code: &ClassCode, at: u64, k: u32) -> Option<&Alternative>
 
 /// The label at a place in the code, or `None` where there is none.
 pub fn label_at(code: &ClassCode, at: u64) -> Option<u32>
-    ensures { result ≡ label_of (wait_lem code.now at) }
+    ensures { result ≡ label_of (wait_def code.now at) }
 {
     wait_at(code, at)?.label
 }
 
 // What is waited for at a place in the code, or `None` where no yield point stands there.
 fn wait_at(code: &ClassCode, at: u64) -> Option<&Wait>
-    ensures { option_copied result ≡ wait_lem code.now at }
+    ensures { option_copied result ≡ wait_def code.now at }
 {
     match code.code.instrs.get(at as usize)? {
         Instr::Yield(number) => code.waits.get(*number as usize),
@@ -185,7 +185,7 @@ pub fn run_from(
     ensures part { OnErr result ((p : Program) (class : Class) (d : Data) (todo : List Task)
         → MayRun p class code.now known.old machine.old k begin d todo
         → let ran = run_to_yield class begin.turns d todo in
-        IsFront known.old.actions known.new.actions (move_actions d.me k ran)) }
+        AddsPrefix known.old.actions known.new.actions (move_actions d.me k ran)) }
 {
     known.actions.push(Action::Took {
         p: known.answers.me,
@@ -243,7 +243,7 @@ fn place_of(code: &ClassCode, number: u32) -> Result<Place, NoMemory>
 // Where a process waits, at a label or at an `await` of so many alternatives. No memory has room for so many that their numbers
 // and that of a timeout take more than 32 bits.
 fn place_at(label: bool, count: usize) -> Result<Place, NoMemory>
-    ensures { IfOk result (λ place. (place ≡ place_lem label count) × AreFew label count) }
+    ensures { IfOk result (λ place. (place ≡ place_def label count) × AreFew label count) }
 {
     if label {
         return Ok(Place::Label);

@@ -1,6 +1,6 @@
 //! Which messages a process takes where it waits, by the patterns of its handlers, whatever slots and variables hold.
-ghost use Rattle.da_core.specs.Opened.{lets_in as lets_in_lem, opened as opened_lem, taken_by};
-ghost use Rattle.da_lang.specs.Labels.{is_at as is_at_lem, is_open as is_open_lem, may_match};
+ghost use Rattle.da_core.specs.Opened.{lets_in as lets_in_def, opened as opened_def, taken_by};
+ghost use Rattle.da_lang.specs.Labels.{is_at as is_at_def, is_open as is_open_def, may_match};
 ghost use Rattle.da_values.specs.Value.{val_of};
 ghost use Rattle.std.specs.List.{list_any};
 ghost use Rattle.std.specs.Prelude.{◌≡◌, ◌==◌, IfOk, map};
@@ -21,7 +21,7 @@ pub struct Opened {
 
 /// Those of each of these handlers.
 pub fn opened_of(alloc: Global, handlers: &[Handler]) -> Result<List<Opened>, NoMemory>
-    ensures { IfOk result (λ all. all ≡ map opened_lem handlers.now) }
+    ensures { IfOk result (λ all. all ≡ map opened_def handlers.now) }
 {
     let mut all = List::new(alloc);
     for handler in handlers {
@@ -35,14 +35,14 @@ pub fn opened_of(alloc: Global, handlers: &[Handler]) -> Result<List<Opened>, No
 
 /// Whether a handler is open at a label: one that names no label is open everywhere. It takes no memory.
 pub fn is_open(handler: &Handler, label: Option<u32>) -> bool
-    ensures { result ≡ is_open_lem label handler.now }
+    ensures { result ≡ is_open_def label handler.now }
 {
     handler.at.len() == 0 || is_at(label, handler.at.as_slice())
 }
 
 // Whether the label is one of these.
 fn is_at(label: Option<u32>, at: &[u32]) -> bool
-    ensures { result ≡ is_at_lem label at.now }
+    ensures { result ≡ is_at_def label at.now }
 {
     match label {
         Some(label) => is_among(label, at),
@@ -65,7 +65,7 @@ fn is_among(label: u32, at: &[u32]) -> bool
 /// Whether process `me` takes the message: no handler may match it, or one that is open where the process waits may. It
 /// takes no memory.
 pub fn is_taken(alloc: Global, delivery: &Delivery<'_>, me: u16) -> bool
-    ensures { delivery.now.code.now.opened ≡ map opened_lem delivery.now.class.now.handlers
+    ensures { delivery.now.code.now.opened ≡ map opened_def delivery.now.class.now.handlers
         → result ≡ taken_by (may_match me (val_of delivery.now.message.now) delivery.now.from) delivery.now.label delivery.now.class.now.handlers }
 {
     let mut held = false;
@@ -85,7 +85,7 @@ pub fn is_taken(alloc: Global, delivery: &Delivery<'_>, me: u16) -> bool
 
 // Whether opened patterns match a message and its sender in process `me`.
 fn lets_in(alloc: Global, patterns: &Opened, m: &Value, from: u16, me: u16) -> bool
-    ensures { result ≡ lets_in_lem me (val_of m.now) from patterns.now }
+    ensures { result ≡ lets_in_def me (val_of m.now) from patterns.now }
 {
     let none = Row::new(alloc);
     matches_pattern(&patterns.message, m, &none, &none, me)

@@ -1,5 +1,5 @@
 //! The values with which slots begin.
-ghost use Rattle.da_lang.specs.World.{default as default_lem, first_value as first_lem};
+ghost use Rattle.da_lang.specs.World.{default as default_def, first_value as first_def};
 ghost use Rattle.da_values.specs.Value.{val_of};
 ghost use Rattle.std.specs.Prelude.{◌≡◌, [], IfOk, map};
 
@@ -9,7 +9,7 @@ use std::alloc::Global;
 
 /// The values with which slots of these types begin in process `me`.
 pub fn first_values(alloc: Global, me: u16, slots: &[Option<Ty>]) -> Result<Row, NoMemory>
-    ensures { IfOk result (λ values. values ≡ map (first_lem me) slots.now) }
+    ensures { IfOk result (λ values. values ≡ map (first_def me) slots.now) }
 {
     let mut values = Row::new(alloc);
     for slot in slots {
@@ -20,7 +20,7 @@ pub fn first_values(alloc: Global, me: u16, slots: &[Option<Ty>]) -> Result<Row,
 
 // The value with which a slot begins, of this type if it is known.
 fn first_value(alloc: Global, me: u16, slot: &Option<Ty>) -> Result<Value, NoMemory>
-    ensures { IfOk result (λ v. val_of v ≡ first_lem me slot.now) }
+    ensures { IfOk result (λ v. val_of v ≡ first_def me slot.now) }
 {
     match slot {
         None => Ok(Value::Proc(0)),
@@ -32,7 +32,7 @@ fn first_value(alloc: Global, me: u16, slot: &Option<Ty>) -> Result<Value, NoMem
 #[cycle(defaults)]
 #[tactic(auto, using(crate::proofs::DefaultForms::default_rules))]
 fn default(alloc: Global, me: u16, ty: &Ty) -> Result<Value, NoMemory>
-    ensures { IfOk result (λ v. val_of v ≡ default_lem me ty.now) }
+    ensures { IfOk result (λ v. val_of v ≡ default_def me ty.now) }
 {
     match ty {
         Ty::Int => Ok(Value::Int(0)),
@@ -47,7 +47,7 @@ fn default(alloc: Global, me: u16, ty: &Ty) -> Result<Value, NoMemory>
 /// The defaults of types.
 #[cycle(defaults)]
 fn defaults(alloc: Global, me: u16, types: &[Ty]) -> Result<Row, NoMemory>
-    ensures { IfOk result (λ row. row ≡ map (default_lem me) types.now) }
+    ensures { IfOk result (λ row. row ≡ map (default_def me) types.now) }
 {
     let mut row = Row::new(alloc);
     for ty in types {

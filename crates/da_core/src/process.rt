@@ -1,9 +1,9 @@
 //! A process in code, its moves and deliveries.
 ghost use Rattle.da_core.specs.Arrivals.{MayArrive, arrival};
-ghost use Rattle.da_core.specs.Begins.{CanMove, alternative_at as alternative_lem, settled};
+ghost use Rattle.da_core.specs.Begins.{CanMove, alternative_at as alternative_def, settled};
 ghost use Rattle.da_core.specs.Compiled.{IsCompiled, code_of, program_of as compiled_program};
 ghost use Rattle.da_core.specs.HeldCells.{AreHeldCells};
-ghost use Rattle.da_core.specs.Made.{HasBegun, HasMade, phase_at, stopped_at as stopped_lem};
+ghost use Rattle.da_core.specs.Made.{HasBegun, HasMade, phase_at, stopped_at as stopped_def};
 ghost use Rattle.da_core.specs.declared.compiled.ClassCode.{ClassCode as ClassCodeOf};
 ghost use Rattle.da_core.specs.StandsFor.{BeginsWith, IsPlace, IsReady, StandsFor, Whichever, is_spent, program_of};
 ghost use Rattle.da_core.specs.Told.{answers_of, kept_of};
@@ -15,7 +15,7 @@ ghost use Rattle.da_lang.specs.Queries.{holds};
 ghost use Rattle.da_lang.specs.Shaped.{IsProcess};
 ghost use Rattle.da_lang.specs.Steps.{Step, TimeOut, move_step, proc_step};
 ghost use Rattle.da_lang.specs.World.{Waiting, World, class_of, opening};
-ghost use Rattle.da_machine.specs.RunsTo.{IsFront};
+ghost use Rattle.da_machine.specs.RunsTo.{AddsPrefix};
 ghost use Rattle.std.specs.Option.{option_copied};
 ghost use Rattle.std.specs.Prelude.{◌≡◌, ◌↔◌, ◌++◌, ◌+◌, [], ℕ, IfOk, IsErrOf, IsSome, IsTrue, List as Seq, MatchOption, None, OnErr, OnOk, Option as Opt, Some, slice_get, slice_set, true, false};
 
@@ -120,13 +120,13 @@ impl<'c> Core<'c> {
     }
 
     /// Tells the answers of all queries of the process, ascending by number, in `out`. Where memory is refused, `out` has a
-    /// front of them besides.
+    /// prefix of them besides.
     pub fn answers(&self, out: &mut List<Action>) -> Result<(), NoMemory>
         requires ready { IsReady self.now }
         requires unspent { is_spent self.now ≡ false }
         ensures told { OnOk result (Whichever self.now (λ w. out.new ≡ out.old
             ++ answers_of w.data'.me (class_of (program_of self.now) w.data'.me) w.data')) }
-        ensures front { OnErr result (Whichever self.now (λ w. IsFront out.old out.new
+        ensures prefix { OnErr result (Whichever self.now (λ w. AddsPrefix out.old out.new
             (answers_of w.data'.me (class_of (program_of self.now) w.data'.me) w.data'))) }
     {
         tell_answers(&self.known, out)
@@ -179,7 +179,7 @@ impl<'c> Core<'c> {
 
     /// Makes the move of this number, and adds its actions to `out`. `Spent` comes exactly where an earlier event found no
     /// memory, and else `Forbidden` exactly where the move is not allowed; nothing has changed then. `Memory` leaves a
-    /// spent core, and `out` has a front of the actions of the move besides.
+    /// spent core, and `out` has a prefix of the actions of the move besides.
     pub fn make_move(&mut self, k: u32, out: &mut List<Action>) -> Result<Stopped, StepFault>
         requires { IsReady self.old }
         ensures ready { IsReady self.new }
@@ -197,7 +197,7 @@ impl<'c> Core<'c> {
         ensures same { IsErrOf result StepFault.Forbidden
             → (self.new ≡ self.old) × (out.new ≡ out.old) }
         ensures memory { IsErrOf result StepFault.Memory → is_spent self.new ≡ true }
-        ensures front { IsErrOf result StepFault.Memory → Whichever self.old (λ w.
+        ensures prefix { IsErrOf result StepFault.Memory → Whichever self.old (λ w.
             HasBegun self.old w (move_step k) out.old out.new) }
     {
         if self.spent {
@@ -229,7 +229,7 @@ impl<'c> Core<'c> {
         ensures same { IsErrOf result StepFault.Forbidden
             → (self.new ≡ self.old) × (out.new ≡ out.old) }
         ensures memory { IsErrOf result StepFault.Memory → is_spent self.new ≡ true }
-        ensures front { IsErrOf result StepFault.Memory → Whichever self.old (λ w.
+        ensures prefix { IsErrOf result StepFault.Memory → Whichever self.old (λ w.
             HasBegun self.old w TimeOut out.old out.new) }
     {
         if self.spent {
@@ -243,7 +243,7 @@ impl<'c> Core<'c> {
     }
 
     // Makes the step that is told with this number and is the run from this entry, and adds its actions to `out`. Where memory is
-    // refused the core is spent, and `out` has a front of them besides.
+    // refused the core is spent, and `out` has a prefix of them besides.
     fn run_move(
         &mut self,
         code: &ClassCode,
@@ -257,7 +257,7 @@ impl<'c> Core<'c> {
         ensures moves { IfOk result (λ stopped. Whichever self.old (λ w. (step : Step) → CanMove self.old w step k code.now begin
             → HasMade self.old w step self.new stopped out.old out.new)) }
         ensures memory { OnErr result (is_spent self.new ≡ true) }
-        ensures front { OnErr result (Whichever self.old (λ w. (step : Step) → CanMove self.old w step k code.now begin
+        ensures prefix { OnErr result (Whichever self.old (λ w. (step : Step) → CanMove self.old w step k code.now begin
             → HasBegun self.old w step out.old out.new)) }
     {
         self.spent = true;
@@ -278,7 +278,7 @@ impl<'c> Core<'c> {
     /// Takes in a message that process `from` sent at this time, and adds the actions of the delivery to `out`: the message
     /// joins the history first, and then the handlers that are open where the process waits are tried in text order. `Spent`
     /// comes exactly where an earlier event found no memory, and else `Forbidden` exactly where the message may not arrive
-    /// (`can_take`); nothing has changed then. `Memory` leaves a spent core, and `out` has a front of the actions of the
+    /// (`can_take`); nothing has changed then. `Memory` leaves a spent core, and `out` has a prefix of the actions of the
     /// delivery besides.
     pub fn deliver(
         &mut self,
@@ -304,7 +304,7 @@ impl<'c> Core<'c> {
         ensures same { IsErrOf result StepFault.Forbidden
             → (self.new ≡ self.old) × (out.new ≡ out.old) }
         ensures memory { IsErrOf result StepFault.Memory → is_spent self.new ≡ true }
-        ensures front { IsErrOf result StepFault.Memory → Whichever self.old (λ w.
+        ensures prefix { IsErrOf result StepFault.Memory → Whichever self.old (λ w.
             HasBegun self.old w (arrival m.now from time) out.old out.new) }
     {
         if self.spent {
@@ -346,7 +346,7 @@ impl<'c> Core<'c> {
         ensures same { IsErrOf result StepFault.Forbidden
             → (self.new ≡ self.old) × (out.new ≡ out.old) }
         ensures memory { IsErrOf result StepFault.Memory → is_spent self.new ≡ true }
-        ensures front { IsErrOf result StepFault.Memory → Whichever self.old (λ w.
+        ensures prefix { IsErrOf result StepFault.Memory → Whichever self.old (λ w.
             HasBegun self.old w (arrival m from time) out.old out.new) }
     {
         if self.spent {
@@ -360,7 +360,7 @@ impl<'c> Core<'c> {
     }
 
     // Takes in a message that may arrive, and adds the actions of the delivery to `out`. Where memory is refused the core is spent,
-    // and `out` has a front of them besides.
+    // and `out` has a prefix of them besides.
     fn run_delivery(
         &mut self,
         from: u16,
@@ -377,7 +377,7 @@ impl<'c> Core<'c> {
         ensures delivers { IfOk result (λ stopped. Whichever self.old (λ w.
             HasMade self.old w (arrival m from time) self.new stopped out.old out.new)) }
         ensures memory { OnErr result (is_spent self.new ≡ true) }
-        ensures front { OnErr result (Whichever self.old (λ w.
+        ensures prefix { OnErr result (Whichever self.old (λ w.
             HasBegun self.old w (arrival m from time) out.old out.new)) }
     {
         let me = self.known.answers.me;
@@ -403,9 +403,9 @@ impl<'c> Core<'c> {
         Ok(self.settle(place))
     }
 
-    // Stands at this place behind an event, and tells how the process has stopped.
+    // Stands at this place after an event, and tells how the process has stopped.
     fn settle(&mut self, place: Place) -> Stopped
-        ensures stopped { result ≡ stopped_lem place }
+        ensures stopped { result ≡ stopped_def place }
         ensures settled { self.new ≡ settled self.old place }
     {
         self.place = place;
@@ -471,7 +471,7 @@ impl<'c> Core<'c> {
     // The alternative that the move of this number takes where the process stands in the code, if it takes one.
     fn alternative(&self, k: u32) -> Option<&Alternative>
         ensures { (code : ClassCodeOf) → code_of self.now.compiled.now self.now.known.answers.me ≡ Some code
-            → option_copied result ≡ alternative_lem code self.now.machine.place k }
+            → option_copied result ≡ alternative_def code self.now.machine.place k }
     {
         let code = self.compiled.code_of(self.known.answers.me)?;
         alternative_at(code, self.machine.place, k)
@@ -534,7 +534,7 @@ fn fields_are_whole(core: &Core<'_>) {
 
 // How a process has stopped that stands at this place.
 fn stopped_at(place: Place) -> Stopped
-    ensures { result ≡ stopped_lem place }
+    ensures { result ≡ stopped_def place }
 {
     match place {
         Place::New => Stopped::AtYield,

@@ -1,5 +1,5 @@
 //! What is waited for at the yield points of a class, with the flags of its plan.
-ghost use Rattle.da_core.specs.Waits.{all_taken, alt_take, alts_taken, branch_take, handler_take, item_take, items_take, kind_take, next_flag, waits_of as waits_lem};
+ghost use Rattle.da_core.specs.Waits.{all_taken, alt_take, alts_taken, branch_take, handler_take, item_take, items_take, kind_take, next_flag, waits_of as waits_def};
 ghost use Rattle.std.specs.Prelude.{◌≡◌, ◌++◌, ◌∷◌, drop, IfOk, OnOk, map};
 
 use da_lang::{Alt, Class, Handler, Item, ItemKind, RBranch};
@@ -48,7 +48,7 @@ impl Flags<'_> {
 
 /// What is waited for at each yield point of a class, whose plan has these flags, in the order of the inlined text.
 pub fn waits_of(alloc: Global, class: &Class, flags: &[u32]) -> Result<List<Wait>, NoMemory>
-    ensures { IfOk result (λ waits. waits ≡ waits_lem class.now flags.now) }
+    ensures { IfOk result (λ waits. waits ≡ waits_def class.now flags.now) }
 {
     let mut flags = Flags { rest: flags };
     let mut waits = List::new(alloc);
@@ -200,7 +200,7 @@ fn copy_slots(alloc: Global, slots: &[u16]) -> Result<List<u16>, NoMemory>
     Ok(copy)
 }
 
-// Puts an `await` behind what is there, and what is waited for in its alternatives behind that.
+// Puts an `await` after what is there, and what is waited for in its alternatives after that.
 fn put_await(waits: &mut List<Wait>, wait: Wait, inside: List<Wait>) -> Result<(), NoMemory>
     ensures { OnOk result (waits.new ≡ waits.old ++ wait ∷ inside) }
 {
@@ -208,7 +208,7 @@ fn put_await(waits: &mut List<Wait>, wait: Wait, inside: List<Wait>) -> Result<(
     move_behind(waits, inside)
 }
 
-// Moves all that is waited for behind what is there.
+// Moves all that is waited for after what is there.
 fn move_behind(waits: &mut List<Wait>, more: List<Wait>) -> Result<(), NoMemory>
     ensures { OnOk result (waits.new ≡ waits.old ++ more) }
 {

@@ -22,7 +22,7 @@ const NOTHING: Extent = Extent {
 };
 
 impl Extent {
-    // Two texts, one behind the other.
+    // Two texts, one after the other.
     fn with(self, other: Extent) -> Extent {
         Extent {
             items: self.items.saturating_add(other.items),
@@ -101,7 +101,7 @@ fn names_of(place: Place<'_>) -> usize {
     }
 }
 
-// The extents of the copies of the methods, by the numbers of the methods. Each comes behind those that it calls.
+// The extents of the copies of the methods, by the numbers of the methods. Each comes after those that it calls.
 fn copies_of(alloc: Global, graph: &CallGraph<'_>) -> List<Extent>
     requires { IsCallGraph graph.now }
 {
@@ -332,7 +332,7 @@ pub fn generators_of(x: &Expr, inside: bool) -> usize {
         Expr::Tuple(parts) => generators_of_all(parts.as_slice(), inside),
         Expr::SetOf(parts) => generators_of_all(parts.as_slice(), inside),
         Expr::Not(part) => generators_of(part.get(), inside),
-        Expr::Cmp(_, first, second) => joined(
+        Expr::Cmp(_, first, second) => joined_count(
             generators_of(first.get(), inside),
             generators_of(second.get(), inside),
             inside,
@@ -342,7 +342,7 @@ pub fn generators_of(x: &Expr, inside: bool) -> usize {
 }
 
 // Those of two parts: of one query together, and else of the larger.
-fn joined(first: usize, second: usize, inside: bool) -> usize {
+fn joined_count(first: usize, second: usize, inside: bool) -> usize {
     if inside {
         first.saturating_add(second)
     } else {
@@ -367,7 +367,7 @@ fn generators_of_guard(cond: &Option<Boxed<Expr>>) -> usize {
 fn generators_of_all(parts: &[Expr], inside: bool) -> usize {
     let mut count = 0usize;
     for part in parts {
-        count = joined(count, generators_of(part, inside), inside);
+        count = joined_count(count, generators_of(part, inside), inside);
     }
     count
 }

@@ -1,4 +1,4 @@
-//! The labels of a class, and those behind the `at` of its handlers.
+//! The labels of a class, and those after the `at` of its handlers.
 use crate::case::Case;
 use crate::parts::blame_name;
 use crate::site::{Part, Site};
@@ -124,7 +124,7 @@ fn put_no_label(
     }
 }
 
-/// Tells that a handler names a label twice behind `at`, and answers whether one does.
+/// Tells that a handler names a label twice after `at`, and answers whether one does.
 pub fn tell_label_again(case: Case<'_>, site: Site<'_>, hint: &mut Hint) -> bool {
     let names = named_at(site);
     let mut rest = names;
@@ -145,7 +145,7 @@ pub fn tell_label_again(case: Case<'_>, site: Site<'_>, hint: &mut Hint) -> bool
     false
 }
 
-// The labels behind the `at` of a handler whose header this is.
+// The labels after the `at` of a handler whose header this is.
 fn named_at<'t>(site: Site<'t>) -> &'t [Name] {
     let Some(body) = site.body else {
         return &[];

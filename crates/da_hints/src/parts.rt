@@ -32,7 +32,7 @@ pub fn tokens_at<'k>(tokens: &'k [Token], line: u32) -> &'k [Token] {
     own
 }
 
-/// Blames a name on a line: its first place there, or the one behind the word `in`.
+/// Blames a name on a line: its first place there, or the one after the word `in`.
 pub fn blame_name(
     alloc: Global,
     text: &[u8],
@@ -111,7 +111,7 @@ fn shown_tokens(alloc: Global, printed: &[u8]) -> Option<List<Token>> {
     Some(shown)
 }
 
-// The place behind the last of the wanted tokens, where all of them stand at the front of tokens.
+// The place after the last of the wanted tokens, where all of them stand at the front of tokens.
 fn end_of_match(text: &[u8], front: &[Token], wanted: Wanted<'_>) -> Option<usize> {
     let mut end = None;
     for (place, token) in wanted.tokens.iter().enumerate() {

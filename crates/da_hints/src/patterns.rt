@@ -13,7 +13,7 @@ use text_hints::{Hint, Nearest, Phrase};
 const WRITTEN: &[u8] =
     b"a message is a tuple that begins with its tag as a text, as in ('ping', 5)";
 
-/// Tells the first breach of generators. The scope is as it was behind it.
+/// Tells the first breach of generators. The scope is as it was after it.
 pub fn tell_gens<'t>(
     gens: &'t [GenTree],
     case: Case<'t>,
@@ -94,7 +94,7 @@ fn tell_elements<'t>(
     tell_pattern(&generator.message, ty, case, scope, hint)
 }
 
-// The pattern behind `from` or `to`.
+// The pattern after `from` or `to`.
 fn tell_peer<'t>(
     peer: &'t Option<PeerTree>,
     received: bool,

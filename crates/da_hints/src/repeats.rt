@@ -74,7 +74,7 @@ fn tell_variable(case: Case<'_>, site: Site<'_>, name: &[u8], hint: &mut Hint) {
     }
 }
 
-// A parameter, a label behind `at`, or a method, `setup` or `run`.
+// A parameter, a label after `at`, or a method, `setup` or `run`.
 fn tell_header(case: Case<'_>, site: Site<'_>, hint: &mut Hint) {
     let (Some(class), Some(body)) = (site.class, site.body) else {
         return;

@@ -58,7 +58,7 @@ impl<'t> Scope<'t> {
         });
     }
 
-    /// The names behind the first so many leave the scope.
+    /// The names after the first so many leave the scope.
     pub fn leave_to(&mut self, len: usize) {
         self.entries.truncate(len);
     }
@@ -93,7 +93,7 @@ impl<'t> Scope<'t> {
         }
     }
 
-    /// The first message of this tag with so many parts behind it.
+    /// The first message of this tag with so many parts after it.
     pub fn message(&self, tag: &[u8], count: usize) -> Option<&'t MessageDecl> {
         let messages = self.messages;
         for message in messages {

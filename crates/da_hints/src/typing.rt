@@ -184,7 +184,7 @@ fn enter_parts<'t>(
     }
 }
 
-/// The names that a condition binds for the block behind it come into scope: those of a whole `some`.
+/// The names that a condition binds for the block after it come into scope: those of a whole `some`.
 pub fn enter_found<'t>(cond: &'t Expr, line: u32, scope: &mut Scope<'t>) {
     if let Expr::Quant {
         each,

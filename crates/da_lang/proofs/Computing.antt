@@ -4,7 +4,7 @@ use Rattle.std.proofs.Common.{arith}
 use Rattle.da_lang.specs.declared.program.ItemKind.TheVariants.{outs-Assign, outs-Add, outs-Del, outs-Send, outs-Output, outs-If, outs-While, outs-For, outs-Call, outs-Await, outs-Label, outs-Pass}
 use Rattle.da_lang.specs.declared.program.ItemKind.TheViews.{out-roll-Alt, out-roll-Item, out-roll-RBranch}
 use Rattle.da_lang.specs.declared.tree.Expr.TheVariants.{outs-Quant, outs-Name, outs-Int, outs-Truth}
-use Rattle.da_lang.specs.BodyMeaning.{body_of, body_with, behind_label, block, states, labels, calling, changing, with_expr, with_exprs, copy_of, as_alt, as_branch, bound, await_one}
+use Rattle.da_lang.specs.BodyMeaning.{body_of, body_with, after_label, block, states, labels, calling, changing, with_expr, with_exprs, copy_of, as_alt, as_branch, bound, await_one}
 use Rattle.da_lang.proofs.EvaluationLaws.{evaluating}
 use Rattle.da_lang.specs.ExprMeaning.{all_outside}
 use Rattle.da_lang.specs.ExprNames.{refused_in, found_names}
@@ -38,4 +38,4 @@ early n few = omega (arith, few)
 -- the refusals of a tree by names, and what its classes become
 pub ruleset finding = (doing, naming, naming_stmts, written, beside, outs-Quant, outs-Name, outs-Int, outs-Truth, refused_in, says, changes, guarded, looped, found_names, asks, reads_clock)
 
-pub ruleset resolving = (meaning, naming, resolved_args, procs_of, setup_call, message_matching, sender_matching, from_matching, handler_binds, stating_at, stating_in, guarding-of, body_of, body_with, behind_label, block, states, labels, calling, changing, with_expr, with_exprs, copy_of, as_alt, as_branch, bound, await_one, setup_items, run_items, handlers, handler, all_outside, outs-Quant, outs-Name, outs-Int, outs-Truth, found_names)
+pub ruleset resolving = (meaning, naming, resolved_args, procs_of, setup_call, message_matching, sender_matching, from_matching, handler_binds, stating_at, stating_in, guarding-of, body_of, body_with, after_label, block, states, labels, calling, changing, with_expr, with_exprs, copy_of, as_alt, as_branch, bound, await_one, setup_items, run_items, handlers, handler, all_outside, outs-Quant, outs-Name, outs-Int, outs-Truth, found_names)

@@ -1,4 +1,4 @@
--- A live pattern reads neither slots nor the row: a match puts what the element gives behind the row. What a pattern
+-- A live pattern reads neither slots nor the row: a match puts what the element gives after the row. What a pattern
 -- matches, its live pattern matches too.
 use Rattle.std.specs.Prelude.{◌≡◌, ℕ, Bool, true, false, ◌||◌, if◌then◌else◌, List, [], ◌∷◌, ◌++◌, map, Option, Some, None, refl}
 use Rattle.std.specs.List.{AllByRecursion, list_any}
@@ -11,7 +11,7 @@ use Rattle.da_values.specs.Value.{val_of}
 use Rattle.da_lang.specs.declared.query.Pattern.{Pattern}
 use Rattle.da_lang.specs.declared.query.Pattern.TheVariants as pattern
 use Rattle.da_lang.specs.declared.query.Term.{Term}
-pub use Rattle.da_lang.specs.Caught.{behind, caught, caught_entry}
+pub use Rattle.da_lang.specs.Caught.{after_row_of, caught, caught_entry}
 use Rattle.da_lang.specs.Live.{varies, live_pattern}
 use Rattle.da_lang.specs.Matching.{Row, Match, is_same, and_then, where_true, match_parts, match_tuple, matched, matched_entry, term_value}
 use Rattle.da_lang.specs.World.{Data}
@@ -44,27 +44,27 @@ module _ (me : ℕ) where
       (λ parts each still slots others row other. term-Tuple me slots row parts ∙ ap val.Tuple (steady_parts parts each (sym (varies-Tuple parts) ∙ still) slots others row other) ∙ sym (term-Tuple me others other parts))
       (λ still slots others row other. term-Foreign me slots row ∙ sym (term-Foreign me others other))
 
-behind_twice : (a b : Row) (found : Option Row) → behind a (behind b found) ≡ behind (a ++ b) found
-behind_twice a b None = refl
-behind_twice a b (Some found) = ap Some (sym (append_assoc a b found))
+after_twice : (a b : Row) (found : Option Row) → after_row_of a (after_row_of b found) ≡ after_row_of (a ++ b) found
+after_twice a b None = refl
+after_twice a b (Some found) = ap Some (sym (append_assoc a b found))
 
-behind_where : (b : Bool) (row : Row) → where_true b row ≡ behind row (where_true b [])
-behind_where true row = ap Some (sym (append-nil row))
-behind_where false row = refl
+after_where : (b : Bool) (row : Row) → where_true b row ≡ after_row_of row (where_true b [])
+after_where true row = ap Some (sym (append-nil row))
+after_where false row = refl
 
 module _ (me : ℕ) where
   abbrev pub Catches : Pattern → Type 0
-  Catches p = (slots : List Val) (x : Val) (row : Row) → matched me slots (live_pattern p) x row ≡ behind row (caught me p x)
+  Catches p = (slots : List Val) (x : Val) (row : Row) → matched me slots (live_pattern p) x row ≡ after_row_of row (caught me p x)
 
   abbrev pub live_parts : List Val → List Pattern → List Match
   live_parts slots ps = map (matched me slots) (map live_pattern ps)
 
-  first_caught : (found : Option Row) (row : Row) (slots : List Val) (ps : List Pattern) (xs : List Val) → ((slots : List Val) (row : Row) → match_parts (live_parts slots ps) xs row ≡ behind row (match_parts (live_parts [] ps) xs [])) → and_then (behind row found) (match_parts (live_parts slots ps) xs) ≡ behind row (and_then found (match_parts (live_parts [] ps) xs))
+  first_caught : (found : Option Row) (row : Row) (slots : List Val) (ps : List Pattern) (xs : List Val) → ((slots : List Val) (row : Row) → match_parts (live_parts slots ps) xs row ≡ after_row_of row (match_parts (live_parts [] ps) xs [])) → and_then (after_row_of row found) (match_parts (live_parts slots ps) xs) ≡ after_row_of row (and_then found (match_parts (live_parts [] ps) xs))
   first_caught None row slots ps xs others = refl
   first_caught (Some l) row slots ps xs others =
-      others slots (row ++ l) ∙ sym (behind_twice row l (match_parts (live_parts [] ps) xs [])) ∙ ap (behind row) (sym (others [] l))
+      others slots (row ++ l) ∙ sym (after_twice row l (match_parts (live_parts [] ps) xs [])) ∙ ap (after_row_of row) (sym (others [] l))
 
-  pub parts_caught : (ps : List Pattern) → AllByRecursion Catches ps → (xs : List Val) (slots : List Val) (row : Row) → match_parts (live_parts slots ps) xs row ≡ behind row (match_parts (live_parts [] ps) xs [])
+  pub parts_caught : (ps : List Pattern) → AllByRecursion Catches ps → (xs : List Val) (slots : List Val) (row : Row) → match_parts (live_parts slots ps) xs row ≡ after_row_of row (match_parts (live_parts [] ps) xs [])
   parts_caught [] each [] slots row = ap Some (sym (append-nil row))
   parts_caught [] each (x ∷ xs) slots row = refl
   parts_caught (p ∷ ps) each [] slots row = refl
@@ -72,7 +72,7 @@ module _ (me : ℕ) where
       ap (λ z. and_then z (match_parts (live_parts slots ps) xs)) (each.0 slots x row)
       ∙ first_caught (caught me p x) row slots ps xs (λ others r. parts_caught ps each.1 xs others r)
 
-  tuple_caught : (ps : List Pattern) → AllByRecursion Catches ps → (x : Val-F Val) (slots : List Val) (row : Row) → match_tuple (live_parts slots ps) x row ≡ behind row (match_tuple (live_parts [] ps) x [])
+  tuple_caught : (ps : List Pattern) → AllByRecursion Catches ps → (x : Val-F Val) (slots : List Val) (row : Row) → match_tuple (live_parts slots ps) x row ≡ after_row_of row (match_tuple (live_parts [] ps) x [])
   tuple_caught ps each (layer.Tuple xs) slots row = parts_caught ps each xs slots row
   tuple_caught ps each (layer.Int i) slots row = refl
   tuple_caught ps each (layer.Bool b) slots row = refl
@@ -81,26 +81,26 @@ module _ (me : ℕ) where
   tuple_caught ps each (layer.Set xs) slots row = refl
 
   -- from what the live pattern is
-  caught_as : (p q : Pattern) → live_pattern p ≡ q → ((slots : List Val) (x : Val) (row : Row) → matched me slots q x row ≡ behind row (matched me [] q x [])) → Catches p
-  caught_as p q is given slots x row = ap (λ z. matched me slots z x row) is ∙ given slots x row ∙ ap (λ z. behind row (matched me [] z x [])) (sym is)
+  caught_as : (p q : Pattern) → live_pattern p ≡ q → ((slots : List Val) (x : Val) (row : Row) → matched me slots q x row ≡ after_row_of row (matched me [] q x [])) → Catches p
+  caught_as p q is given slots x row = ap (λ z. matched me slots z x row) is ∙ given slots x row ∙ ap (λ z. after_row_of row (matched me [] z x [])) (sym is)
 
-  bind_caught : (slots : List Val) (x : Val) (row : Row) → matched me slots pattern.Bind x row ≡ behind row (matched me [] pattern.Bind x [])
-  bind_caught slots x row = match-Bind me slots x row ∙ ap (behind row) (sym (match-Bind me [] x []))
+  bind_caught : (slots : List Val) (x : Val) (row : Row) → matched me slots pattern.Bind x row ≡ after_row_of row (matched me [] pattern.Bind x [])
+  bind_caught slots x row = match-Bind me slots x row ∙ ap (after_row_of row) (sym (match-Bind me [] x []))
 
-  equal_caught : (t : Term) (b : Bool) → varies t ≡ b → (slots : List Val) (x : Val) (row : Row) → matched me slots (if b then pattern.Bind else pattern.Equal t) x row ≡ behind row (matched me [] (if b then pattern.Bind else pattern.Equal t) x [])
+  equal_caught : (t : Term) (b : Bool) → varies t ≡ b → (slots : List Val) (x : Val) (row : Row) → matched me slots (if b then pattern.Bind else pattern.Equal t) x row ≡ after_row_of row (matched me [] (if b then pattern.Bind else pattern.Equal t) x [])
   equal_caught t true is slots x row = bind_caught slots x row
   equal_caught t false is slots x row =
-      match-Equal me slots x row t ∙ ap (λ z. where_true (is_same x z) row) (steady me t is slots [] row []) ∙ behind_where (is_same x (term_value me [] [] t)) row ∙ ap (behind row) (sym (match-Equal me [] x [] t))
+      match-Equal me slots x row t ∙ ap (λ z. where_true (is_same x z) row) (steady me t is slots [] row []) ∙ after_where (is_same x (term_value me [] [] t)) row ∙ ap (after_row_of row) (sym (match-Equal me [] x [] t))
 
   pub match_live : (p : Pattern) → Catches p
   match_live =
       pattern_induction Catches
-      (caught_as pattern.Any pattern.Any live-Any (λ slots x row. match-Any me slots x row ∙ ap Some (sym (append-nil row)) ∙ ap (behind row) (sym (match-Any me [] x []))))
+      (caught_as pattern.Any pattern.Any live-Any (λ slots x row. match-Any me slots x row ∙ ap Some (sym (append-nil row)) ∙ ap (after_row_of row) (sym (match-Any me [] x []))))
       (caught_as pattern.Bind pattern.Bind live-Bind bind_caught)
-      (λ c. caught_as (pattern.Const c) (pattern.Const c) (live-Const c) (λ slots x row. match-Const me slots x row c ∙ behind_where (is_same x (val_of c)) row ∙ ap (behind row) (sym (match-Const me [] x [] c))))
-      (caught_as pattern.Me pattern.Me live-Me (λ slots x row. match-Me me slots x row ∙ behind_where (is_same x (val.Proc me)) row ∙ ap (behind row) (sym (match-Me me [] x []))))
+      (λ c. caught_as (pattern.Const c) (pattern.Const c) (live-Const c) (λ slots x row. match-Const me slots x row c ∙ after_where (is_same x (val_of c)) row ∙ ap (after_row_of row) (sym (match-Const me [] x [] c))))
+      (caught_as pattern.Me pattern.Me live-Me (λ slots x row. match-Me me slots x row ∙ after_where (is_same x (val.Proc me)) row ∙ ap (after_row_of row) (sym (match-Me me [] x []))))
       (λ t. caught_as (pattern.Equal t) (if varies t then pattern.Bind else pattern.Equal t) (live-Equal t) (λ slots x row. equal_caught t (varies t) refl slots x row))
-      (λ ps each. caught_as (pattern.Tuple ps) (pattern.Tuple (map live_pattern ps)) (live-Tuple ps) (λ slots x row. match-Tuple me slots x row (map live_pattern ps) ∙ tuple_caught ps each (out-Val x) slots row ∙ ap (behind row) (sym (match-Tuple me [] x [] (map live_pattern ps)))))
+      (λ ps each. caught_as (pattern.Tuple ps) (pattern.Tuple (map live_pattern ps)) (live-Tuple ps) (λ slots x row. match-Tuple me slots x row (map live_pattern ps) ∙ tuple_caught ps each (out-Val x) slots row ∙ ap (after_row_of row) (sym (match-Tuple me [] x [] (map live_pattern ps)))))
 
   -- What a pattern matches, in any row and slots, its live pattern catches.
 
@@ -127,7 +127,7 @@ module _ (me : ℕ) where
       let (s, first_found, others_found) = both_wider (matched me slots p x row) (match_parts (map (matched me slots) ps) xs) r e in
       let (l, caught_first) = each.0 slots x row s first_found in
       let (k, caught_others) = parts_wider ps each.1 slots xs s r others_found in
-      (l ++ k, ap (λ z. and_then z (match_parts (live_parts [] ps) xs)) caught_first ∙ parts_caught ps (all_catch ps) xs [] l ∙ ap (behind l) caught_others)
+      (l ++ k, ap (λ z. and_then z (match_parts (live_parts [] ps) xs)) caught_first ∙ parts_caught ps (all_catch ps) xs [] l ∙ ap (after_row_of l) caught_others)
 
   tuple_wider : (ps : List Pattern) → AllByRecursion Wider ps → (slots : List Val) (x : Val-F Val) (row r : Row) → match_tuple (map (matched me slots) ps) x row ≡ Some r → (l : Row) × (match_tuple (live_parts [] ps) x [] ≡ Some l)
   tuple_wider ps each slots (layer.Tuple xs) row r e = parts_wider ps each slots xs row r e
@@ -161,12 +161,12 @@ module _ (me : ℕ) where
 -- The same of a message and the other process.
 
 module _ (d : Data) (message peer : Pattern) (x : Val) (p : ℕ) where
-  then_caught : (found : Option Row) (row : Row) → and_then (behind row found) (matched d.me d.slots (live_pattern peer) (val.Proc p)) ≡ behind row (and_then found (matched d.me [] (live_pattern peer) (val.Proc p)))
+  then_caught : (found : Option Row) (row : Row) → and_then (after_row_of row found) (matched d.me d.slots (live_pattern peer) (val.Proc p)) ≡ after_row_of row (and_then found (matched d.me [] (live_pattern peer) (val.Proc p)))
   then_caught None row = refl
   then_caught (Some l) row =
-      match_live d.me peer d.slots (val.Proc p) (row ++ l) ∙ sym (behind_twice row l (caught d.me peer (val.Proc p))) ∙ ap (behind row) (sym (match_live d.me peer [] (val.Proc p) l))
+      match_live d.me peer d.slots (val.Proc p) (row ++ l) ∙ sym (after_twice row l (caught d.me peer (val.Proc p))) ∙ ap (after_row_of row) (sym (match_live d.me peer [] (val.Proc p) l))
 
-  pub entry_live : (row : Row) → matched_entry d (live_pattern message) (live_pattern peer) x p row ≡ behind row (caught_entry d.me message peer x p)
+  pub entry_live : (row : Row) → matched_entry d (live_pattern message) (live_pattern peer) x p row ≡ after_row_of row (caught_entry d.me message peer x p)
   entry_live row =
       ap (λ z. and_then z (matched d.me d.slots (live_pattern peer) (val.Proc p))) (match_live d.me message d.slots x row) ∙ then_caught (caught d.me message x) row
 
@@ -175,4 +175,4 @@ module _ (d : Data) (message peer : Pattern) (x : Val) (p : ℕ) where
       let (s, message_found, peer_found) = both_wider d.me (matched d.me d.slots message x row) (matched d.me d.slots peer (val.Proc p)) r e in
       let (l, message_caught) = match_is_caught d.me message d.slots x row s message_found in
       let (k, peer_caught) = match_is_caught d.me peer d.slots (val.Proc p) s r peer_found in
-      (l ++ k, ap (λ z. and_then z (matched d.me [] (live_pattern peer) (val.Proc p))) message_caught ∙ match_live d.me peer [] (val.Proc p) l ∙ ap (behind l) peer_caught)
+      (l ++ k, ap (λ z. and_then z (matched d.me [] (live_pattern peer) (val.Proc p))) message_caught ∙ match_live d.me peer [] (val.Proc p) l ∙ ap (after_row_of l) peer_caught)

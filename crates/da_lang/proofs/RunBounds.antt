@@ -5,7 +5,7 @@ use Rattle.da_lang.specs.declared.event.Action.{Action}
 use Rattle.da_lang.specs.declared.event.FaultKind.{FaultKind}
 use Rattle.da_lang.specs.declared.program.Class.{Class}
 use Rattle.da_lang.specs.Changes.{Changes, none}
-use Rattle.da_lang.specs.Runs.{Halt, AtYield, UsedUp, Faults, Ran, stopped, behind, behind_turn, go_after, max_turns, yields, run, run_to_yield}
+use Rattle.da_lang.specs.Runs.{Halt, AtYield, UsedUp, Faults, Ran, stopped, ran_after, behind_turn, go_after, max_turns, yields, run, run_to_yield}
 use Rattle.da_lang.specs.Turns.{AfterTurn, turn}
 use Rattle.da_lang.specs.World.{Data, Task}
 use Rattle.da_lang.proofs.ChangeLaws.{changes_then}
@@ -16,16 +16,16 @@ abbrev pub by_truth : {A : Type 0} → (P : A → Type 0) → (b : Bool) (x y : 
 by_truth P true x y px py = px refl
 by_truth P false x y px py = py refl
 
--- what holds behind a turn: of its fault, or of the run from what it leaves
+-- what holds after a turn: of its fault, or of the run from what it leaves
 pub go_on_has : (P : Ran → Type 0) (d : Data) (todo : List Task) (actions : List Action) (n : ℕ) (go : Data → List Task → Ran)
     → ((kind : FaultKind) (line : ℕ) → P (record { data' = d; todo = todo; actions = actions; turns = n; halt = Faults kind line }))
-    → P (behind actions (go d todo)) → (fault : Option (FaultKind × ℕ)) → P (behind_turn d todo actions n go fault)
+    → P (ran_after actions (go d todo)) → (fault : Option (FaultKind × ℕ)) → P (behind_turn d todo actions n go fault)
 go_on_has P d todo actions n go failed ran (Some fault) = failed fault.0 fault.1
 go_on_has P d todo actions n go failed ran None = ran
 
 pub go_after_has : (P : Ran → Type 0) (after : AfterTurn) (n : ℕ) (go : Data → List Task → Ran)
     → ((kind : FaultKind) (line : ℕ) → P (record { data' = after.data'; todo = after.todo; actions = after.actions; turns = n; halt = Faults kind line }))
-    → P (behind after.actions (go after.data' after.todo)) → P (go_after after n go)
+    → P (ran_after after.actions (go after.data' after.todo)) → P (go_after after n go)
 go_after_has P after n go failed ran = go_on_has P after.data' after.todo after.actions n go failed ran after.fault
 
 -- a run changes no more than statements can

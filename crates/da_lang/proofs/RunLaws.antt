@@ -10,7 +10,7 @@ use Rattle.da_lang.specs.declared.program.Item.{Item}
 use Rattle.da_lang.specs.declared.program.ItemKind.{ItemKind}
 use Rattle.da_lang.specs.declared.program.ItemKind.TheOpen.{ItemKind-F}
 use Rattle.da_lang.specs.declared.program.RBranch.{RBranch}
-use Rattle.da_lang.specs.Runs.{AtYield, UsedUp, Faults, behind, go_after, kind_yields, max_turns, yields, stopped, run, run_to_yield}
+use Rattle.da_lang.specs.Runs.{AtYield, UsedUp, Faults, ran_after, go_after, kind_yields, max_turns, yields, stopped, run, run_to_yield}
 use Rattle.da_lang.specs.Turns.{kind_of, kind_turn, line_of, line_of_task, turn}
 use Rattle.da_lang.specs.World.{Data, Task, Do}
 
@@ -58,7 +58,7 @@ module _ (class : Class) where
 
   -- by what the turn gives
   pub run_goes : (n : ℕ) (d d2 : Data) (t : Task) (todo todo2 : List Task) (actions : List Action) → n < max_turns → yields t ≡ false → turn class t d todo ≡ record { data' = d2; todo = todo2; actions = actions; fault = None }
-      → run_to_yield class n d (t ∷ todo) ≡ behind actions (run_to_yield class (n + 1) d2 todo2)
+      → run_to_yield class n d (t ∷ todo) ≡ ran_after actions (run_to_yield class (n + 1) d2 todo2)
   run_goes n d d2 t todo todo2 actions early y gives = run_to_yield_turn n d t todo early y ∙ ap (λ after. go_after after (n + 1) (run_to_yield class (n + 1))) gives
 
   pub run_fails : (n : ℕ) (d d2 : Data) (t : Task) (todo todo2 : List Task) (actions : List Action) (kind : FaultKind) (line : ℕ) → n < max_turns → yields t ≡ false → turn class t d todo ≡ record { data' = d2; todo = todo2; actions = actions; fault = Some (kind, line) }

@@ -109,7 +109,7 @@ pub is_allowed : (program : Program) (w : World) (s : Step) → IsSome (proc_ste
     → (class : Class) × (class_of program w.data'.me ≡ Some class) × IsAllowed class w s
 is_allowed program w s some = found_allowed program w s (class_of program w.data'.me) refl some
 
--- A STEP CHANGES NO MORE THAN STATEMENTS CAN, behind the message that arrives, if it is a delivery
+-- A STEP CHANGES NO MORE THAN STATEMENTS CAN, after the message that arrives, if it is a delivery
 
 abbrev pub arrived : Step → Data → Data
 arrived Go d = d

@@ -1,4 +1,4 @@
--- The refusal that is told is one of those that there are, and none stands on a lesser line.
+-- The refusal that is reported is one of those that there are, and none stands on an earlier line.
 use Rattle.std.specs.Prelude.{◌≡◌, refl, ℕ, ◌≤◌, ◌⊎◌, nat_lt, ◌==◌, ◌||◌, ◌&&◌, Bool, true, false, List, [], ◌∷◌, Some}
 use Rattle.std.proofs.Common.{sym, subst, arith, inl, inr, ltb-true, ltb-false, eqb-true}
 use Rattle.std.proofs.lemmas.Bool.{false≢true}
@@ -22,7 +22,7 @@ module _ {K : Type 0} (rank : K → ℕ) where
   later_line : (x y : Refused K) → sooner rank x y ≡ false → y.line ≤ x.line
   later_line x y e = not_less x.line y.line (nat_lt (rank x.kind) (rank y.kind)) (nat_lt x.line y.line) refl e
 
-  -- one step: the first refusal, and the one that is told of the others
+  -- one step: the first refusal, and the one that is reported of the others
   step_of : (x : Refused K) (ys : List (Refused K)) (first : Refused K) (b : Bool) → sooner rank first x ≡ b → Has ys first → Has (x ∷ ys) (sooner_of rank x (Some first))
   step_of x ys first true e has = rw e (inr has)
   step_of x ys first false e has = rw e (inl refl)

@@ -72,8 +72,8 @@ abbrev pub slot_of : Option Meaning → ℕ
 slot_of (Some (InSlot slot)) = slot
 slot_of _ = 0
 
--- a statement, with the label that it is, and the names in scope behind it
-pub record Behind : Type 0 where
+-- a statement, with the label that it is, and the names in scope after it
+pub record AfterStmt : Type 0 where
   pub item : Item
   pub label : Option ℕ
   pub scope : Scope Meaning
@@ -81,20 +81,20 @@ pub record Behind : Type 0 where
 
 -- by the label directly before it in its block, if there is one
 abbrev pub Stating : Type 0
-Stating = Option ℕ → Scope Meaning → Tables → Behind
+Stating = Option ℕ → Scope Meaning → Tables → AfterStmt
 
 abbrev pub item_at : ℕ → ItemKind → Item
 item_at line kind = roll-Item (record { line = line; kind = kind })
 
--- the statements of a block behind a label, or behind another statement
-abbrev pub behind_label : Option ℕ → List Stating → Becomes (List Item)
-behind_label label [] scope tables = ([], tables)
-behind_label label (s ∷ ss) scope tables =
-    let first = s label scope tables in let others = behind_label first.label ss first.scope first.tables in (first.item ∷ others.0, others.1)
+-- the statements of a block after a label, or after another statement
+abbrev pub after_label : Option ℕ → List Stating → Becomes (List Item)
+after_label label [] scope tables = ([], tables)
+after_label label (s ∷ ss) scope tables =
+    let first = s label scope tables in let others = after_label first.label ss first.scope first.tables in (first.item ∷ others.0, others.1)
 
 -- those of a whole block
 abbrev pub block : List Stating → Becomes (List Item)
-block = behind_label None
+block = after_label None
 
 abbrev pub block_if : Option (List Stating) → Becomes (List Item)
 block_if None scope tables = ([], tables)
@@ -159,7 +159,7 @@ await_one line x label scope tables =
     let alt = as_alt line x [] scope tables in
     record { item = item_at line (it.Await (alt.0 ∷ []) None label); label = None; scope = named_slots (found_names x) tables scope; tables = alt.1 }
 
--- the block of a `timeout`, which stands behind the alternatives and sees none of their variables
+-- the block of a `timeout`, which stands after the alternatives and sees none of their variables
 abbrev pub timeout_block : Option (List Stating) → Becomes (Option (List Item))
 timeout_block None scope tables = (None, tables)
 timeout_block (Some body) scope tables = let items = block body scope tables in (Some items.0, items.1)

@@ -106,12 +106,12 @@ abbrev pub gens_in : List Generator → Scope Meaning → List RGen
 gens_in [] scope = []
 gens_in (g ∷ gs) scope = g.gen_ scope ∷ gens_in gs (with_row g.binds scope)
 
-abbrev pub behind : List Generator → Scope Meaning → Scope Meaning
-behind [] scope = scope
-behind (g ∷ gs) scope = behind gs (with_row g.binds scope)
+abbrev pub scope_after_gens : List Generator → Scope Meaning → Scope Meaning
+scope_after_gens [] scope = scope
+scope_after_gens (g ∷ gs) scope = scope_after_gens gs (with_row g.binds scope)
 
-abbrev pub cond_behind : List Generator → Option Meant → Scope Meaning → Option Cond
-cond_behind gens cond scope = option_map (λ c. c.condition (behind gens scope)) cond
+abbrev pub cond_after : List Generator → Option Meant → Scope Meaning → Option Cond
+cond_after gens cond scope = option_map (λ c. c.condition (scope_after_gens gens scope)) cond
 
 -- expressions outside queries, in order
 abbrev pub all_outside : List Meant → Scope Meaning → Tables → List RExpr × Tables
@@ -196,11 +196,11 @@ name_meant name = record (as_term (λ scope tables. (name_outside (look scope na
 -- `some` and `each`
 abbrev pub quantified : Bool → List Generator → Option Meant → Meant
 quantified each gens cond =
-    as_condition (ask (λ scope. qu.Quant each (gens_in gens scope) (cond_behind gens cond scope))) (λ scope. co.Quant each (gens_in gens scope) (cond_behind gens cond scope))
+    as_condition (ask (λ scope. qu.Quant each (gens_in gens scope) (cond_after gens cond scope))) (λ scope. co.Quant each (gens_in gens scope) (cond_after gens cond scope))
 
 abbrev pub comprehended : Meant → List Generator → Option Meant → Meant
-comprehended x gens cond = record (foreign (ask (λ scope. qu.Comp (x.term (behind gens scope)) (gens_in gens scope) (cond_behind gens cond scope)))) {
-  range = λ scope. record { gens = gens_in gens scope; cond = cond_behind gens cond scope; term = x.term (behind gens scope) };
+comprehended x gens cond = record (foreign (ask (λ scope. qu.Comp (x.term (scope_after_gens gens scope)) (gens_in gens scope) (cond_after gens cond scope)))) {
+  range = λ scope. record { gens = gens_in gens scope; cond = cond_after gens cond scope; term = x.term (scope_after_gens gens scope) };
 }
 
 -- an aggregate over its argument, with the term of its other value
@@ -274,7 +274,7 @@ peer_meant (PeerTree-F.To p) = record { from = false; matching = p }
 abbrev pub chain_meant : ChainTree-F Meant Matching Peer Signed Generator → Signed
 chain_meant link = record { op = link.op; meant = link.operand }
 
--- `from` stands with `received` and `to` with `sent`; elsewhere the pattern is kept behind what equals no value
+-- `from` stands with `received` and `to` with `sent`; elsewhere the pattern is kept after what equals no value
 abbrev pub is_apt : Bool → SourceTree → Bool
 is_apt from source_tree.Received = from
 is_apt from source_tree.Sent = if from then false else true

@@ -45,7 +45,7 @@ taken None = []
 taken (Some Made) = []
 taken (Some _) = refusal.Shadow ∷ []
 
--- the variables of a query come into scope behind their place, those of a handler's patterns in its body alone
+-- the variables of a query come into scope after their place, those of a handler's patterns in its body alone
 abbrev pub brought : Role → List (List ℕ) → Scope Role → Scope Role
 brought QueryVariable names scope = entered QueryVariable names scope
 brought role names scope = scope

@@ -17,7 +17,7 @@ use Rattle.da_lang.specs.declared.tree.Tree.{Tree}
 use Rattle.da_lang.specs.declared.ty.ChannelKind.{ChannelKind}
 use Rattle.da_lang.specs.declared.ty.ChannelKind.TheVariants as kind
 use Rattle.da_lang.specs.declared.ty.Ty.{Ty}
-use Rattle.da_lang.specs.Spelling.{Spelling, Room, IsSpelled, line, At, Opens, Named, Number, Separated, Closed, Behind, Ended}
+use Rattle.da_lang.specs.Spelling.{Spelling, Room, IsSpelled, line, At, Opens, Named, Number, Separated, Closed, EachAfter, Ended}
 use Rattle.da_lang.specs.TypeGrammar.{TypeIn}
 use Rattle.da_lang.specs.ExprGrammar.{Deeper, IsPattern, deeper}
 use Rattle.da_lang.specs.StmtGrammar.{IsBlock, BodyIn}
@@ -36,7 +36,7 @@ pub data IsAt : List (List ℕ) → List Tok → List Tok → Type 0 where
   no_at : {t : List Tok} → IsAt [] t t
   labels : {ns : List (List ℕ)} {t r s : List Tok} → At m.At t r → Separated m.Comma Named ns r s → IsAt ns t s
 
--- member, where Type_ spells the types, Params the parameters behind "(", and Block the blocks
+-- member, where Type_ spells the types, Params the parameters after "(", and Block the blocks
 module _ (room : Room) (Type_ : Spelling Ty) (Params : Spelling (List Param)) (Pattern : Spelling PatternTree) (Block : Spelling (List Stmt)) where
   pub data IsMember : Member → List Tok → List Tok → Type 0 where
     var : {n : List ℕ} {x : Ty} {t r s q z a : List Tok} → At m.Var t r → Named n r s → At m.Colon s q → Type_ x q z → At m.Newline z a → IsMember (member.Var n x (line t)) t a
@@ -54,7 +54,7 @@ pub data IsCount : Option ℕ → List Tok → List Tok → Type 0 where
 pub data IsMline (room : Room) (deep : Deeper) : MainLine → List Tok → List Tok → Type 0 where
   new : {n c : List ℕ} {o : Option ℕ} {t r s q z a b d e : List Tok} → Named n t r → At m.Assign r s → At m.New s q → Opens m.OpenParen room q z → Named c z a → IsCount o a b → At m.CloseParen b d → At m.Newline d e
       → IsMline room deep (main_line.New n c o (line t)) t e
-  setup : {n : List ℕ} {xs : List Expr} {t r s q z a b : List Tok} → At m.Setup t r → Opens m.OpenParen room r s → Named n s q → Behind m.Comma deep.disj xs q z → At m.CloseParen z a → At m.Newline a b
+  setup : {n : List ℕ} {xs : List Expr} {t r s q z a b : List Tok} → At m.Setup t r → Opens m.OpenParen room r s → Named n s q → EachAfter m.Comma deep.disj xs q z → At m.CloseParen z a → At m.Newline a b
       → IsMline room deep (main_line.Setup n xs (line t)) t b
 
 -- [ "channel" ("fifo" | "unordered") ("reliable" | "unreliable") NL ]
@@ -67,7 +67,7 @@ pub data IsKind : ChannelKind → List Tok → List Tok → Type 0 where
 
 -- what says whether a token may open one thing more, by how many are open; and how many there are at most
 module _ (room : ℕ → Room) (f : ℕ) where
-  -- "(" [ types ] ")" behind its "("
+  -- "(" [ types ] ")" after its "("
   abbrev pub IsTypes : Spelling (List Ty)
   IsTypes = Closed m.CloseParen (TypeIn room f 1)
 
@@ -80,11 +80,11 @@ module _ (room : ℕ → Room) (f : ℕ) where
     main : {ls : List MainLine} {t r s q z a b c d : List Tok} → At m.Def t r → At m.Main r s → Opens m.OpenParen (room 0) s q → At m.CloseParen q z → At m.Colon z a → At m.Newline a b → Opens m.Indent (room 0) b c
         → Ended (IsMline (room 1) (deeper room f 2)) ls c d → IsMain ls t d
 
-  -- a parameter with its type, behind the "(" of a member
+  -- a parameter with its type, after the "(" of a member
   abbrev pub TypedParam : Spelling Param
   TypedParam = IsParam (TypeIn room f 2)
 
--- "(" [ params ] ")" behind its "(", where Parameter spells a parameter
+-- "(" [ params ] ")" after its "(", where Parameter spells a parameter
 abbrev pub IsParams : Spelling Param → Spelling (List Param)
 IsParams Parameter = Closed m.CloseParen Parameter
 

@@ -15,7 +15,7 @@ use Rattle.da_lang.specs.Matching.{matched}
 use Rattle.da_lang.specs.Turns.{kind_of}
 use Rattle.da_lang.specs.World.{Task, Do, World}
 
--- that of a label, or of an `await` directly behind one
+-- that of a label, or of an `await` directly after one
 abbrev pub label_in : ItemKind-F ItemKind Alt Item RBranch → Option ℕ
 label_in (Label l) = Some l
 label_in (Await alts timeout label) = label

@@ -1,4 +1,4 @@
--- The refusals by limits: for each kind the lines that it names, and the one that is told.
+-- The refusals by limits: for each kind the lines that it names, and the one that is reported.
 use Rattle.std.specs.Prelude.{◌≡◌, ℕ, suc, ◌+◌, max, nat_lt, Bool, true, false, ◌||◌, if◌then◌else◌, List, [], ◌∷◌, ◌++◌, map, length, drop, sum, Option, option_to_list, unwrap_or, flat_map, filter, filter_map}
 use Rattle.std.specs.List.{list_any}
 use Rattle.da_lang.specs.declared.program.Alt.{Alt}
@@ -226,7 +226,7 @@ rank limit.Variables = 4
 rank limit.Parts = 5
 rank limit.Generators = 6
 
--- the refusal by limits that is told, if there is one
+-- the refusal by limits that is reported, if there is one
 abbrev pub limit_fault : Tree → Option (Refused LimitKind)
 limit_fault t = told rank (limit_refusals t)
 

@@ -1,4 +1,4 @@
--- The refusals by names: for each kind the lines that it names, and the one that is told.
+-- The refusals by names: for each kind the lines that it names, and the one that is reported.
 use Rattle.std.specs.Prelude.{ℕ, Bool, true, false, not, ◌||◌, ◌==◌, if◌then◌else◌, List, [], ◌∷◌, ◌++◌, map, length, drop, Option, Some, None, option_map, option_and_then, option_to_list, flat_map, filter, filter_map, is_none, bytes_eq}
 use Rattle.std.specs.List.{list_any, list_all}
 use Rattle.da_lang.specs.declared.refusal.ScopeKind.{ScopeKind}
@@ -58,14 +58,14 @@ abbrev pub calls_none : ClassTree → Doing → Bool
 calls_none c (Calls name) = is_none (method_of c name)
 calls_none c _ = false
 
--- unknown: a name behind `at` that is no label of the class
+-- unknown: a name after `at` that is no label of the class
 abbrev pub is_label : ClassTree → List ℕ → Bool
 is_label c name = list_any (λ l. bytes_eq l.0 name) (labels_of c)
 
 abbrev pub labels_none : ClassTree → Body → List ℕ
 labels_none c b = if list_all (is_label c) (labels_at b.place) then [] else b.line ∷ []
 
--- twice: variables, methods, `setup` and `run`, labels of a class and behind one `at`, parameters of a list
+-- twice: variables, methods, `setup` and `run`, labels of a class and after one `at`, parameters of a list
 abbrev pub variables_again : ClassTree → List ℕ
 variables_again c = again (map (λ v. (v.name, v.line)) (variables c))
 
@@ -75,13 +75,13 @@ named_body b = option_map (λ name. (name, b.line)) (method_name b.place)
 abbrev pub methods_again : ClassTree → List ℕ
 methods_again c = again (filter_map named_body (bodies c))
 
-abbrev pub behind_first : (Place → Bool) → ClassTree → List ℕ
-behind_first test c = map (λ b. b.line) (drop 1 (bodies_where test c))
+abbrev pub after_first : (Place → Bool) → ClassTree → List ℕ
+after_first test c = map (λ b. b.line) (drop 1 (bodies_where test c))
 
 abbrev pub labels_again : ClassTree → List ℕ
 labels_again c = again (labels_of c)
 
--- a label that stands twice behind one `at`
+-- a label that stands twice after one `at`
 abbrev pub named_again : Body → List ℕ
 named_again b = again (map (λ name. (name, b.line)) (labels_at b.place))
 
@@ -89,7 +89,7 @@ abbrev pub params_again : Body → List ℕ
 params_again b = again (map (λ p. (p.name, b.line)) b.params)
 
 abbrev pub twice_in : ClassTree → List ℕ
-twice_in c = variables_again c ++ methods_again c ++ behind_first is_setup c ++ behind_first is_run c ++ labels_again c ++ flat_map named_again (bodies c) ++ flat_map params_again (bodies c)
+twice_in c = variables_again c ++ methods_again c ++ after_first is_setup c ++ after_first is_run c ++ labels_again c ++ flat_map named_again (bodies c) ++ flat_map params_again (bodies c)
 
 -- recursive: a call in a method that leads back to it
 abbrev pub leads_back : ClassTree → List ℕ → Doing → Bool
@@ -145,7 +145,7 @@ class_refusals c =
     ++ at_lines refusal.NoRun (no_run_in c)
     ++ at_lines refusal.Arity (lines_where (λ d. misfits c d d.does) (all_deeds c))
 
--- a line of `main` behind others: the names that these have made, the first class that each was made of
+-- a line of `main` after others: the names that these have made, the first class that each was made of
 abbrev pub made_class : List ℕ → MainLine → Option (List ℕ)
 made_class name (main_line.New other class count line) = if bytes_eq other name then Some class else None
 made_class name (main_line.Setup other xs line) = None
@@ -211,6 +211,6 @@ rank refusal.Setup = 5
 rank refusal.NoRun = 6
 rank refusal.Arity = 7
 
--- the refusal by names that is told, if there is one
+-- the refusal by names that is reported, if there is one
 abbrev pub name_fault : Tree → Option (Refused ScopeKind)
 name_fault t = told rank (name_refusals t)

@@ -40,13 +40,13 @@ pub record Ran : Type 0 where
 abbrev pub stopped : Data → List Task → ℕ → Halt → Ran
 stopped d todo n halt = record { data' = d; todo = todo; actions = []; turns = n; halt = halt }
 
-abbrev pub behind : List Action → Ran → Ran
-behind actions ran = record ran { actions = actions ++ ran.actions }
+abbrev pub ran_after : List Action → Ran → Ran
+ran_after actions ran = record ran { actions = actions ++ ran.actions }
 
--- behind a turn: its fault, or the run from what it leaves
+-- after a turn: its fault, or the run from what it leaves
 abbrev pub behind_turn : Data → List Task → List Action → ℕ → (Data → List Task → Ran) → Option (FaultKind × ℕ) → Ran
 behind_turn d todo actions n go (Some fault) = record { data' = d; todo = todo; actions = actions; turns = n; halt = Faults fault.0 fault.1 }
-behind_turn d todo actions n go None = behind actions (go d todo)
+behind_turn d todo actions n go None = ran_after actions (go d todo)
 
 abbrev pub go_after : AfterTurn → ℕ → (Data → List Task → Ran) → Ran
 go_after after n go = behind_turn after.data' after.todo after.actions n go after.fault

@@ -25,7 +25,7 @@ at_line line kinds = map (λ kind. record { kind = kind; line = line }) kinds
 abbrev pub at_lines : {K : Type 0} → K → List ℕ → List (Refused K)
 at_lines kind lines = map (λ line. record { kind = kind; line = line }) lines
 
--- the lesser line is told first, and on one line the lesser rank
+-- the earlier line is reported first, and on one line the lesser rank
 abbrev pub sooner : {K : Type 0} → (K → ℕ) → Refused K → Refused K → Bool
 sooner rank x y = nat_lt x.line y.line || ((x.line == y.line) && nat_lt (rank x.kind) (rank y.kind))
 
@@ -33,7 +33,7 @@ abbrev pub sooner_of : {K : Type 0} → (K → ℕ) → Refused K → Option (Re
 sooner_of rank x None = x
 sooner_of rank x (Some y) = if sooner rank y x then y else x
 
--- the one of these refusals that is told
+-- the one of these refusals that is reported
 abbrev pub told : {K : Type 0} → (K → ℕ) → List (Refused K) → Option (Refused K)
 told rank [] = None
 told rank (x ∷ xs) = Some (sooner_of rank x (told rank xs))

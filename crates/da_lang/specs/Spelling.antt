@@ -60,10 +60,10 @@ pub data Closed (close : Mark) {A : Type 0} (Item : Spelling A) : List A → Lis
   empty : {t r : List Tok} → At close t r → Closed close Item [] t r
   full : {xs : List A} {t r s : List Tok} → Separated m.Comma Item xs t r → At close r s → Closed close Item xs t s
 
--- none or more, each behind a token of this mark
-pub data Behind (k : Mark) {A : Type 0} (Item : Spelling A) : List A → List Tok → List Tok → Type 0 where
-  none : {t : List Tok} → Behind k Item [] t t
-  one : {x : A} {xs : List A} {t r s q : List Tok} → At k t r → Item x r s → Behind k Item xs s q → Behind k Item (x ∷ xs) t q
+-- none or more, each after a token of this mark
+pub data EachAfter (k : Mark) {A : Type 0} (Item : Spelling A) : List A → List Tok → List Tok → Type 0 where
+  none : {t : List Tok} → EachAfter k Item [] t t
+  one : {x : A} {xs : List A} {t r s q : List Tok} → At k t r → Item x r s → EachAfter k Item xs s q → EachAfter k Item (x ∷ xs) t q
 
 -- none or more
 pub data Many {A : Type 0} (Item : Spelling A) : List A → List Tok → List Tok → Type 0 where

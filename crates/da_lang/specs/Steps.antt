@@ -20,7 +20,7 @@ use Rattle.da_lang.specs.declared.program.SetupCall.{SetupCall}
 use Rattle.da_lang.specs.Labels.{open_handlers, takes}
 use Rattle.da_lang.specs.Matching.{Row, matched_entry}
 use Rattle.da_lang.specs.Queries.{holds}
-use Rattle.da_lang.specs.Runs.{Halt, AtYield, UsedUp, Faults, Ran, stopped, behind, max_turns, run_to_yield}
+use Rattle.da_lang.specs.Runs.{Halt, AtYield, UsedUp, Faults, Ran, stopped, ran_after, max_turns, run_to_yield}
 use Rattle.da_lang.specs.Turns.{bind_all, bind_found, do_all, later, kind_of}
 use Rattle.da_lang.specs.World.{Data, Task, Do, Prepare, World, at_number, class_of, Phase, New, Waiting, Ended, Faulted}
 
@@ -80,7 +80,7 @@ past_label class d todo (Label l) = Some (moved d.me 0 (run_to_yield class 1 d t
 past_label class d todo _ = None
 
 -- the first thing to do is an `await`: it is taken off, which is the first turn, the least row is bound, and the block
--- of the alternative stands in front
+-- of the alternative stands first
 abbrev pub take_alternative : Class → Data → List Task → ℕ → Option Alt → Option Stepped
 take_alternative class d todo k None = None
 take_alternative class d todo k (Some alt) =
@@ -93,7 +93,7 @@ past_await class d todo k (Await alts timeout label) = take_alternative class d 
 past_await class d todo k _ = None
 
 -- the first thing to do is an `await` with a block for a timeout, and no alternative may be taken: it is taken off, which is
--- the first turn, and that block stands in front
+-- the first turn, and that block stands first
 abbrev pub past_timeout : Class → Data → List Task → ItemKind-F ItemKind Alt Item RBranch → Option Stepped
 past_timeout class d todo (Await alts (Some body) label) =
     if list_any (λ alt. holds d (out-Alt alt).cond []) alts
@@ -120,11 +120,11 @@ abbrev pub received_at : Val → ℕ → ℕ → Data → Data
 received_at m p time d =
     record d { clock = later (max d.clock time); received = d.received ++ record { message = m; peer = p; time = time } ∷ [] }
 
--- behind the body of a handler: its fault, or the next handlers
+-- after the body of a handler: its fault, or the next handlers
 abbrev pub after_halt : Halt → Ran → (ℕ → Data → Ran) → Ran
 after_halt (Faults kind line) ran go = ran
-after_halt AtYield ran go = behind ran.actions (go ran.turns ran.data')
-after_halt UsedUp ran go = behind ran.actions (go ran.turns ran.data')
+after_halt AtYield ran go = ran_after ran.actions (go ran.turns ran.data')
+after_halt UsedUp ran go = ran_after ran.actions (go ran.turns ran.data')
 
 abbrev pub after_body : Ran → (ℕ → Data → Ran) → Ran
 after_body ran go = after_halt ran.halt ran go
@@ -134,7 +134,7 @@ abbrev pub try_handler : Class → Handler → ℕ → Data → Option Row → (
 try_handler class h n d None go = go n d
 try_handler class h n d (Some row) go = after_body (run_to_yield class n (bind_all h.binds row d) (do_all h.body [])) go
 
--- some handlers in text order, where n turns were taken; behind the last one the process stands at its yield point again
+-- some handlers in text order, where n turns were taken; after the last one the process stands at its yield point again
 abbrev pub handle : Class → Val → ℕ → List Handler → ℕ → Data → Ran
 handle class m p [] n d = stopped d [] n AtYield
 handle class m p (h ∷ hs) n d =

@@ -1,4 +1,4 @@
--- Names in statements: what they bind for the statements behind them, and where a name is unknown or taken.
+-- Names in statements: what they bind for the statements after them, and where a name is unknown or taken.
 use Rattle.std.specs.Prelude.{ℕ, List, [], ◌∷◌, ◌++◌, map, Option, Some, None, option_to_list, flat_map}
 use Rattle.da_lang.specs.declared.refusal.ScopeKind.{ScopeKind}
 use Rattle.da_lang.specs.declared.refusal.ScopeKind.TheVariants as refusal
@@ -15,7 +15,7 @@ use Rattle.da_lang.specs.Scopes.{Scope, Refused, look, entered, at_line}
 abbrev pub Refusing : Type 0
 Refusing = Scope Role → List (Refused ScopeKind)
 
--- a statement: the variables that are in scope behind it, to the end of its block, and its refusals
+-- a statement: the variables that are in scope after it, to the end of its block, and its refusals
 pub record Line : Type 0 where
   pub binds : List (List ℕ)
   pub refuses : Refusing

@@ -159,7 +159,7 @@ module _ (class : Class) (line : ℕ) (d : Data) (todo : List Task) where
   abbrev pub enter : List RExpr → List ℕ → List Item → AfterTurn
   enter args params body = with_values args (λ vs. quiet (bind_all params vs d) (do_all body todo))
 
-  -- a statement, by its kind; `itself` is the statement as it stood in front
+  -- a statement, by its kind; `itself` is the statement as it stood first
   abbrev pub kind_turn : Task → ItemKind-F ItemKind Alt Item RBranch → AfterTurn
   kind_turn itself (Assign s e) = with_value e (λ v. quiet (put_slot d s v) todo)
   kind_turn itself (Add s e) = with_value e (λ v. quiet (with_element s v d) todo)
@@ -170,12 +170,12 @@ module _ (class : Class) (line : ℕ) (d : Data) (todo : List Task) where
   kind_turn itself (While e body) = with_value e (λ v. quiet d (if truth_of v then do_all body (itself ∷ todo) else todo))
   kind_turn itself (For s e body) = with_value e (λ v. quiet d (Loop s (elements_of v) body line ∷ todo))
   kind_turn itself (Call args body) = enter (map value_of_arg args) (map slot_of_arg args) body
-  -- a run stops in front of these, and never takes them by a turn
+  -- a run stops before these, and never takes them by a turn
   kind_turn itself (Await alts timeout label) = quiet d todo
   kind_turn itself (Label l) = quiet d todo
   kind_turn itself Pass = quiet d todo
 
-  -- the rest of a loop: its first element is bound, and behind the body comes what is left then
+  -- the rest of a loop: its first element is bound, and after the body comes what is left then
   abbrev pub loop_turn : ℕ → List Val → List Item → AfterTurn
   loop_turn s [] body = quiet d todo
   loop_turn s (x ∷ xs) body = quiet (put_slot d s x) (do_all body (Loop s xs body line ∷ todo))

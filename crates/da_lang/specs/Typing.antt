@@ -241,7 +241,7 @@ filled_class messages c = record c { slots = filled_slots messages c }
 unfoldable pub filled : Program → Program
 filled p = record p { classes = map (filled_class p.messages) p.classes }
 
--- every line of a program that breaks a rule of types, and the least of them, if there is one
+-- every line of a program that breaks a rule of types, and the earliest of them, if there is one
 unfoldable pub type_breaks : Program → List ℕ
 type_breaks p = breaks_in (filled p)
 

@@ -1,13 +1,13 @@
 //! Why names and limits refuse a program.
 
-/// A rule of names that a program breaks, in the order in which one is told before another on one line.
+/// A rule of names that a program breaks, in the order in which one is reported before another on one line.
 #[derive(Clone, Copy, Debug, PartialEq, Eq)]
 pub enum ScopeKind {
     /// A name that is not in scope for its use, a class, method or label that is not there, or an argument of an aggregate
     /// that is neither a comprehension nor a name.
     Unknown,
     /// A second declaration of a name, a second `setup` or `run` of a class, a second line of `setup` for a name of
-    /// `main`, or a label named twice behind one `at`.
+    /// `main`, or a label named twice after one `at`.
     Twice,
     /// A parameter or another variable with the name of a variable in scope, or a second variable of one name in the
     /// patterns of a handler.
@@ -24,7 +24,7 @@ pub enum ScopeKind {
     Arity,
 }
 
-/// A limit that a program exceeds, in the order in which one is told before another on one line.
+/// A limit that a program exceeds, in the order in which one is reported before another on one line.
 #[derive(Clone, Copy, Debug, PartialEq, Eq)]
 pub enum LimitKind {
     /// 32 classes.

@@ -18,7 +18,7 @@ use Rattle.da_values.specs.Words.{Entry, symbols, front_symbol}
 use Rattle.da_values.proofs.PieceLemmas.{piece-within}
 use Rattle.da_values.proofs.WordLemmas.{longest_first}
 
--- ---- prefixes of a list that is cut behind them
+-- ---- prefixes of a list that is cut after them
 
 -- the prefix that passes stays as long
 prefix_kept : (p : ℕ → Bool) (z : List ℕ) (k : ℕ) → prefix_len p z ≤ k → prefix_len p (take k z) ≡ prefix_len p z
@@ -35,7 +35,7 @@ prefix_kept p (b ∷ z) (suc k) le = step (p b) le (prefix_kept p z k)
 taken_kept : (p : ℕ → Bool) (z : List ℕ) (k : ℕ) → prefix_len p z ≤ k → take_while p (take k z) ≡ take_while p z
 taken_kept p z k le = ap (λ n. take n (take k z)) (prefix_kept p z k le) ∙ take-take (prefix_len p z) k z le
 
--- the first byte and those behind it that belong to it
+-- the first byte and those after it that belong to it
 taken_front : (p : ℕ → Bool) (b : ℕ) (z : List ℕ) (n : ℕ) → length (take_while p (b ∷ z)) ≡ suc n → take_while p (b ∷ take n z) ≡ take_while p (b ∷ z)
 taken_front p b z n e = taken_kept p (b ∷ z) (suc n) (omega (arith, length-prefix_len p (b ∷ z)))
 

@@ -20,7 +20,7 @@ passed-ok n (Ok (us, next)) ts s e =
     (next, ap (λ (us : List Token). Ok (us, next)) (ap (λ (p : List Token × Scan). p.0) same), sym (ap (λ (p : List Token × Scan). p.1) same))
 passed-ok n (Err f) ts s e = absurd (cc)
 
--- what fitted fits behind a step
+-- what fitted fits after a step
 pub step-fits : (s next : Scan) (ts : List Token) (text : List ℕ) → 0 < length text → Fits s (length text) → step_at s text ≡ Ok (ts, next)
     → Fits next (length text - size (front text))
 step-fits s next ts [] some fits stepped = absurd (omega arith)

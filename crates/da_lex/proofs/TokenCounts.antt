@@ -81,7 +81,7 @@ behind : (us ts : List Token) (rest : Scanned) → prepend us rest ≡ Ok ts →
 behind us ts (Ok vs) e = (vs, refl, cc)
 behind us ts (Err f) e = absurd (cc)
 
--- the tokens of a step, and those behind it
+-- the tokens of a step, and those after it
 parted : (l : Levelled) (n : ℕ) (go : Scan → Scanned) (ts : List Token) → after (passed n l) go ≡ Ok ts
     → (us : List Token) × (vs : List Token) × (next : Scan) × (l ≡ Ok (us, next)) × (go (record next { at = next.at + n }) ≡ Ok vs) × (us ++ vs ≡ ts)
 parted (Ok (us, next)) n go ts e = let (vs, found, is) = behind us ts (go (record next { at = next.at + n })) e in (us, vs, next, refl, found, is)

@@ -74,7 +74,7 @@ fn ends_line(text: &[u8]) -> bool
     }
 }
 
-// A text literal, from behind its first quote on.
+// A text literal, from after its first quote on.
 #[tactic(auto, using(crate::proofs::Facts::prefixes), unfolding(da_values::specs::Piece::quoted))]
 fn quoted(text: &[u8]) -> Piece
     ensures { result ≡ spec.quoted text.now }

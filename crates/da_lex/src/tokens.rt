@@ -34,7 +34,7 @@ impl<'a> Tokens<'a> {
 
 /// The tokens of a text, of at most 1,048,576 bytes.
 ///
-/// A text that is refused has the fault that comes first where it is read from its front; its line is that of the
+/// A text that is refused has the fault that comes first where it is read from its start; its line is that of the
 /// fault. Every other text is cut whole. The tokens stand in order within the text, each on one of its lines, and
 /// each that has bytes is the longest piece that stands at its place.
 pub fn lex<'a>(alloc: Global, text: &'a [u8]) -> Result<Tokens<'a>, LexFault>

@@ -1,4 +1,4 @@
--- Lists of refusals by limits of which the same is told.
+-- Lists of refusals by limits of which the same is reported.
 use Rattle.std.specs.Prelude.{◌≡◌, refl, List, [], ◌++◌, flat_map, Option}
 use Rattle.std.proofs.Common.{◌∙◌, sym, ap}
 use Rattle.da_lang.specs.Limits.{rank}

@@ -20,12 +20,12 @@ use Rattle.da_limits.specs.declared.extent.Extent.{Extent}
 use Rattle.da_limits.specs.Extents.{Called, beside, body_extent_if, method_extent, handler_extent, class_extent}
 use Rattle.da_limits.proofs.ExtentLaws.{Fits, nothing_fits, beside_fits, wider_fits, fits_as, Copies, body_fits}
 
--- a body behind new slots
+-- a body after new slots
 widened : {A : Type 0} (types : A → Option Ty) (xs : List A) (tables : Tables) → length (tables.slots ++ map types xs) ≡ length tables.slots + length xs
 widened types xs tables = length-append tables.slots (map types xs) ∙ ap (λ n. length tables.slots + n) (length-map xs types)
 
 module _ (copy : Copy) (called : Called) (copied : Copies copy called) (c : ClassTree) where
-  -- a body behind the slots of its parameters
+  -- a body after the slots of its parameters
   abbrev Made : Option Body → Tables → List Item × Tables
   Made method tables = body_with copy (stmts_if method) (param_slots (params_if method) tables (class_slots c)) (with_params (params_if method) tables)
 
@@ -44,7 +44,7 @@ copies_fit (suc most) c = record {
       fits_as _ _ _ _ _ refl (kind_counted-Call _ items.0) (kind_depth_of-Call _ items.0) refl refl (made_fits (copies most c) (method_extent most c) (copies_fit most c) c (method_of c name) tables);
 }
 
--- the handlers, one behind the other
+-- the handlers, one after the other
 module _ (c : ClassTree) where
   abbrev most : ℕ
   most = length c.members

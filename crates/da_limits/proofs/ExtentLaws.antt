@@ -17,7 +17,7 @@ use Rattle.da_lang.specs.declared.tree.Stmt.{Stmt}
 use Rattle.da_lang.specs.declared.tree.Stmt.TheVariants as stmt
 use Rattle.da_lang.specs.declared.tree.TimeoutTree.{TimeoutTree, roll-TimeoutTree}
 use Rattle.da_lang.specs.declared.ty.Ty.{Ty}
-use Rattle.da_lang.specs.BodyMeaning.{Copy, Guarded, Becomes, Behind, Stating, stating, guarding, block, block_if, bound, each, states, named_slots, as_alt, as_branch, behind_label, timeout_block, waiting}
+use Rattle.da_lang.specs.BodyMeaning.{Copy, Guarded, Becomes, AfterStmt, Stating, stating, guarding, block, block_if, bound, each, states, named_slots, as_alt, as_branch, after_label, timeout_block, waiting}
 use Rattle.da_lang.specs.ExprMeaning.{Meaning, Tables, meant, all_outside}
 use Rattle.da_lang.specs.ExprNames.{found_names}
 use Rattle.da_lang.specs.Limits.{item_count, item_depth, block_depth, kind_counted, kind_depth_of, branch_counted, branch_depth_of, alt_counted, alt_depth_of}
@@ -113,15 +113,15 @@ module _ (copy : Copy) (called : Called) (copied : Copies copy called) where
   abbrev Block : List Stmt → Scope Meaning → Tables → List Item × Tables
   Block ss scope tables = block (map (stating copy) ss) scope tables
 
-  abbrev Behind_label : Option ℕ → List Stmt → Scope Meaning → Tables → List Item × Tables
-  Behind_label label ss scope tables = behind_label label (map (stating copy) ss) scope tables
+  abbrev After_label : Option ℕ → List Stmt → Scope Meaning → Tables → List Item × Tables
+  After_label label ss scope tables = after_label label (map (stating copy) ss) scope tables
 
   stmts_from : (ss : List Stmt) → AllByRecursion StmtFits ss → (x : Extent) (a i l : ℕ) (label : Option ℕ) (scope : Scope Meaning) (tables : Tables) → Fits x a i l (length tables.slots)
-      → Fits (fold beside x (map (extent called) ss)) (a + sum (map item_count (Behind_label label ss scope tables).0)) (max i (greatest (map item_depth (Behind_label label ss scope tables).0))) l (length (Behind_label label ss scope tables).1.slots)
+      → Fits (fold beside x (map (extent called) ss)) (a + sum (map item_count (After_label label ss scope tables).0)) (max i (greatest (map item_depth (After_label label ss scope tables).0))) l (length (After_label label ss scope tables).1.slots)
   stmts_from [] fit x a i l label scope tables f = fits_as _ _ _ _ _ refl (omega arith) (omega arith) refl refl f
   stmts_from (s ∷ ss) fit x a i l label scope tables f =
       let first = stating copy s label scope tables in
-      let others = Behind_label first.label ss first.scope first.tables in
+      let others = After_label first.label ss first.scope first.tables in
       fits_as _ _ _ _ _ refl (omega (arith, sum_by-cons (λ k. k) (item_count first.item) (map item_count others.0))) (omega arith) refl refl
       (stmts_from ss fit.1 (beside x (extent called s)) (a + item_count first.item) (max i (item_depth first.item)) l first.label first.scope first.tables (beside_fits _ _ _ _ _ _ _ _ _ f (fit.0 label scope tables)))
 
@@ -132,7 +132,7 @@ module _ (copy : Copy) (called : Called) (copied : Copies copy called) where
   block_fits (s ∷ ss) fit scope tables =
       deeper_fits _ _ _ _ _ (fits_as _ _ _ _ _ refl (omega arith) (omega arith) refl refl (stmts_from (s ∷ ss) fit nothing 0 0 (length tables.slots) None scope tables (nothing_fits (length tables.slots))))
 
-  -- a block behind new slots
+  -- a block after new slots
   widened : {A : Type 0} (types : A → Option Ty) (xs : List A) (tables : Tables) → length (tables.slots ++ map types xs) ≡ length tables.slots + length xs
   widened types xs tables = length-append tables.slots (map types xs) ∙ ap (λ n. length tables.slots + n) (length-map xs types)
 
@@ -145,7 +145,7 @@ module _ (copy : Copy) (called : Called) (copied : Copies copy called) where
   stmt_as : (s : Stmt) (e : Extent) (b : Stating) → extent called s ≡ e → ((label : Option ℕ) (scope : Scope Meaning) (tables : Tables) → stating copy s label scope tables ≡ b label scope tables)
       → ((label : Option ℕ) (scope : Scope Meaning) (tables : Tables) → Fits e (item_count (b label scope tables).item) (item_depth (b label scope tables).item) (length tables.slots) (length (b label scope tables).tables.slots)) → StmtFits s
   stmt_as s e b is means fit label scope tables =
-      fits_as _ _ _ _ _ is (ap (λ (x : Behind). item_count x.item) (means label scope tables)) (ap (λ (x : Behind). item_depth x.item) (means label scope tables)) refl (ap (λ (x : Behind). length x.tables.slots) (means label scope tables)) (fit label scope tables)
+      fits_as _ _ _ _ _ is (ap (λ (x : AfterStmt). item_count x.item) (means label scope tables)) (ap (λ (x : AfterStmt). item_depth x.item) (means label scope tables)) refl (ap (λ (x : AfterStmt). length x.tables.slots) (means label scope tables)) (fit label scope tables)
 
   kind_as : (s : Stmt) (line : ℕ) (becomes : Option ℕ → Becomes ItemKind) (e : Extent) → extent called s ≡ one e
       → ((label : Option ℕ) (scope : Scope Meaning) (tables : Tables) → stating copy s label scope tables ≡ states line (becomes label) label scope tables)
@@ -170,7 +170,7 @@ module _ (copy : Copy) (called : Called) (copied : Copies copy called) where
   abbrev BranchFits : Branch → Type 0
   BranchFits b = FitsAsBranch b × FitsAsAlt b
 
-  -- the blocks behind expressions
+  -- the blocks after expressions
   behind : (x : Expr) (scope : Scope Meaning) (tables : Tables) → length ((meant x).outside scope tables).1.slots ≡ length tables.slots
   behind x scope tables = ap length (slots_kept x scope tables)
 

@@ -1,4 +1,4 @@
--- The refusals by limits are told alike in the order of the definition and in the order in which they are looked for.
+-- The refusals by limits are reported alike in the order of the definition and in the order in which they are looked for.
 use Rattle.std.specs.Prelude.{◌≡◌, refl, ℕ, ◌+◌, ◌<◌, ◌≤◌, length, nat_lt, ◌||◌, Bool, true, false, if◌then◌else◌, List, [], ◌∷◌, ◌++◌, map, drop, flat_map, filter, filter_map, Option, option_to_list, Some, None}
 use Rattle.std.specs.List.{cons_option}
 use Rattle.std.proofs.Common.{◌∙◌, ap, sym, cond, get_or, append_assoc, append-nil}
@@ -185,7 +185,7 @@ members-alike c =
     (alike-trans (alike-both _ vars _ (parts ++ gens) (alike-is first) (alike-trans (alike-is second) inner))
     (alike-is (sym (append_assoc vars parts gens) ∙ ap (λ rs. rs ++ gens) all_parts ∙ ap (λ rs. At limit.Parts (parts_in_class c) ++ rs) all_gens)))
 
--- one list of refusals behind another, as it is told
+-- one list of refusals after another, as it is reported
 abbrev T : Option Refusal → List Refusal → Option Refusal
 T = telling
 
@@ -228,7 +228,7 @@ orders s i b v m k x g =
     ∙ ap (λ f. T (T f g) q) (telling-append s (m ++ k) x ∙ ap (λ f. T f x) (telling-append s m k) ∙ telling-swap limit_order (T s m) k x)
     ∙ back
 
--- what is told of a tree
+-- what is reported of a tree
 pub tree_told : (t : Tree) → told rank (limit_refusals t)
     ≡ classes_told t.classes (told_at limit.Parts (told_at limit.Parts (told_at limit.Processes (told_at limit.Classes None (classes_over t)) (processes_over 0 t.main)) (message_lines t.messages)) (main_lines t.main))
 unfolding limit_refusals message_lines main_lines
@@ -257,7 +257,7 @@ tree_told t =
     told-telling limit_order (c ++ p ++ i ++ b ++ v ++ At limit.Parts (parts_over t) ++ g) ∙ defined ∙ orders s i b v m k x g
     ∙ sym (kinds.tells (T (T s m) x)) ∙ sym (classes-told t.classes (T (T s m) x)) ∙ ap (classes_told t.classes) (sym outside)
 
--- each class one behind the other
+-- each class one after the other
 pub classes_step : (cs : List ClassTree) (i : ℕ) (c : ClassTree) (found more whole : Option Refusal) → i < length cs → c ≡ get_or cs i c → classes_told (drop i cs) found ≡ whole → more ≡ class_told c found → classes_told (drop (i + 1) cs) more ≡ whole
 unfolding classes_told
 classes_step cs i c found more whole inside here so_far grown = ap (classes_told (drop (i + 1) cs)) grown ∙ ap (λ xs. classes_told xs found) (sym (dropped cs i c inside here)) ∙ so_far
@@ -266,7 +266,7 @@ pub classes_end : (cs : List ClassTree) (i : ℕ) (found whole : Option Refusal)
 unfolding classes_told
 classes_end cs i found whole end so_far = ap (λ xs. classes_told xs found) (sym (dropped_all cs i end)) ∙ so_far
 
--- one step behind the other, by what each is handed
+-- one step after the other, by what each is handed
 pub all_told : (t : Tree) (classes : List ClassTree) (main : List MainLine) (messages : List MessageDecl) (begun counted made sent set walked : Option Refusal)
     → classes ≡ t.classes → main ≡ t.main → messages ≡ t.messages → begun ≡ None
     → counted ≡ told_at limit.Classes begun (map (λ (c : ClassTree). c.line) (drop most_classes classes)) → made ≡ told_at limit.Processes counted (processes_over 0 main)

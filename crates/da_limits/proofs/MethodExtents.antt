@@ -1,4 +1,4 @@
--- The extents of the copies of methods, filled in behind those of the methods that each calls.
+-- The extents of the copies of methods, filled in after those of the methods that each calls.
 use Rattle.std.specs.Prelude.{◌≡◌, refl, ℕ, zero, suc, ◌+◌, ◌<◌, ◌≤◌, ◌⊎◌, List, [], ◌∷◌, ◌++◌, length, take, Option, Some, None, option_and_then, filter_map, slice_get, slice_index, slice_set, unwrap_or, Contains}
 use Rattle.std.proofs.Common.{◌∙◌, ap, sym, subst, arith, inl, inr, ⊎_elim, get_or}
 use Rattle.std.proofs.lemmas.Bool.{cases_eq}
@@ -18,7 +18,7 @@ use Rattle.da_limits.proofs.ExtentsAgree.{blocks_agree}
 use Rattle.da_limits.proofs.Numbered.{order_short}
 use Rattle.da_lang.proofs.Taken.{taken}
 
--- the extents of the methods in the front of the order stand
+-- the extents of the methods in a prefix of the order stand
 pub record Filled (c : ClassTree) (methods : List Body) (number : List ℕ → Option ℕ) (order : List ℕ) (i : ℕ) (extents : List Extent) : Type 0 where
   pub sized : length extents ≡ length methods
   pub stands : (name : List ℕ) (k most : ℕ) → number name ≡ Some k → Contains (take i order) k → i ≤ most → copied_by number extents name ≡ method_extent most c name

@@ -11,9 +11,9 @@ use Rattle.da_limits.specs.LimitTree.{NoneLeadBack}
 use Rattle.da_calls.proofs.CallBounds.{caller_is_method, filter_map_in, in_cases, in_none, method_in_names, none_is_some, some_same}
 use Rattle.da_limits.proofs.ClassMembersAt.{dropped}
 
-front_none : {A : Type 0} (xs ys : List A) → xs ++ ys ≡ [] → xs ≡ []
-front_none [] ys none = refl
-front_none (x ∷ xs) ys none = absurd (omega (arith, ap length none))
+prefix_none : {A : Type 0} (xs ys : List A) → xs ++ ys ≡ [] → xs ≡ []
+prefix_none [] ys none = refl
+prefix_none (x ∷ xs) ys none = absurd (omega (arith, ap length none))
 
 back_none : {A : Type 0} (xs ys : List A) → xs ++ ys ≡ [] → ys ≡ []
 back_none [] ys none = none
@@ -25,7 +25,7 @@ map_none f (x ∷ xs) none = absurd (omega (arith, ap length none))
 
 each_none : {A B : Type 0} (f : A → List B) (xs : List A) (x : A) → flat_map f xs ≡ [] → Contains xs x → f x ≡ []
 each_none f [] x none has = absurd (in_none x has)
-each_none f (y ∷ xs) x none has = ⊎_elim (λ same. ap f (sym same) ∙ front_none (f y) (flat_map f xs) none) (λ h. each_none f xs x (back_none (f y) (flat_map f xs) none) h) (in_cases y xs x has)
+each_none f (y ∷ xs) x none has = ⊎_elim (λ same. ap f (sym same) ∙ prefix_none (f y) (flat_map f xs) none) (λ h. each_none f xs x (back_none (f y) (flat_map f xs) none) h) (in_cases y xs x has)
 
 filter_none : {A : Type 0} (p : A → Bool) (xs : List A) (x : A) → filter p xs ≡ [] → Contains xs x → p x ≡ false
 filter_none p [] x none has = absurd (in_none x has)
@@ -55,15 +55,15 @@ recursive_none c none name next calls =
 
 class_none : (c : ClassTree) → class_refusals c ≡ [] → NoneLeadsBack c
 class_none c none =
-    recursive_none c (map_none _ _ (back_none _ _ (front_none _ _ (front_none _ _ (front_none _ _ (front_none _ _ none))))))
+    recursive_none c (map_none _ _ (back_none _ _ (prefix_none _ _ (prefix_none _ _ (prefix_none _ _ (prefix_none _ _ none))))))
 
 classes_none : (cs : List ClassTree) → flat_map class_refusals cs ≡ [] → NoneLeadBack cs
 classes_none [] none = tt
-classes_none (c ∷ cs) none = (class_none c (front_none (class_refusals c) (flat_map class_refusals cs) none), classes_none cs (back_none (class_refusals c) (flat_map class_refusals cs) none))
+classes_none (c ∷ cs) none = (class_none c (prefix_none (class_refusals c) (flat_map class_refusals cs) none), classes_none cs (back_none (class_refusals c) (flat_map class_refusals cs) none))
 
 pub none_back : (t : Tree) → name_refusals t ≡ [] → NoneLeadBack t.classes
 unfolding name_refusals
-none_back t none = classes_none t.classes (front_none _ _ (front_none _ _ none))
+none_back t none = classes_none t.classes (prefix_none _ _ (prefix_none _ _ none))
 
 pub none_at : (cs : List ClassTree) (i : ℕ) (c : ClassTree) → NoneLeadBack (drop i cs) → i < length cs → c ≡ get_or cs i c → NoneLeadsBack c × NoneLeadBack (drop (i + 1) cs)
 none_at cs i c back inside here = subst NoneLeadBack (dropped cs i c inside here) back

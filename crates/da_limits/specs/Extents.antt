@@ -17,7 +17,7 @@ use Rattle.da_limits.specs.declared.extent.Extent.{Extent}
 unfoldable pub nothing : Extent
 nothing = record { items = 0; blocks = 0; slots = 0 }
 
--- one text behind another
+-- one text after another
 unfoldable pub beside : Extent → Extent → Extent
 beside x y = record { items = capped (x.items + y.items); blocks = max x.blocks y.blocks; slots = capped (x.slots + y.slots) }
 

@@ -35,7 +35,7 @@ fn bound_in_all(patterns: &[PatternTree]) -> u16
     all
 }
 
-/// How many names the pattern behind `from` binds, where there is one.
+/// How many names the pattern after `from` binds, where there is one.
 #[tactic(auto, using(crate::proofs::BoundRules::from_rules))]
 pub fn bound_by_from(from: &Option<PatternTree>) -> u16
     ensures { result ≡ bound_by_from from.now }

@@ -51,7 +51,7 @@ fn run_extent(members: &[Member], copies: &Copies<'_, '_>) -> Extent
     Extent::nothing()
 }
 
-// An extent with those of the handlers behind it.
+// An extent with those of the handlers after it.
 fn with_handlers(entry: Extent, members: &[Member], copies: &Copies<'_, '_>) -> Extent
     requires { IsCallGraph copies.now.graph.now }
     ensures { result ≡ with_handlers (copied copies.now) entry members.now }

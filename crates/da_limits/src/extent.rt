@@ -27,7 +27,7 @@ impl Extent {
         }
     }
 
-    /// Two texts, one behind the other.
+    /// Two texts, one after the other.
     #[tactic(auto, unfolding(crate::specs::Extents::beside))]
     pub fn beside(self, other: Extent) -> Extent
         ensures { result ≡ beside self other }

@@ -7,13 +7,13 @@ ghost use Rattle.std.specs.Prelude.{◌≡◌, [], IfOk, OnOk, option_map};
 
 use crate::tree::{tell_count, tell_main, tell_messages, tell_processes};
 use crate::walk::tell_class;
-use da_bodies::{Least, LimitFault};
+use da_bodies::{Earliest, LimitFault};
 use da_lang::{ClassTree, LimitKind, Tree};
 use da_values::NoMemory;
 use std::alloc::Global;
 
-/// The limit that is told of a program that names do not refuse: of all that it exceeds, the one on the least line, and
-/// on one line the least one. Nothing is told exactly where it exceeds none.
+/// The limit that is reported of a program that names do not refuse: of all that it exceeds, the one on the earliest line, and
+/// on one line the least one. Nothing is reported exactly where it exceeds none.
 pub fn limit_fault(alloc: Global, tree: &Tree) -> Result<Option<LimitFault>, NoMemory>
     requires { name_refusals tree.now ≡ [] }
     ensures { IfOk result (λ fault. option_map refusal_of fault ≡ limit_fault tree.now) }
@@ -21,7 +21,7 @@ pub fn limit_fault(alloc: Global, tree: &Tree) -> Result<Option<LimitFault>, NoM
     let classes = tree.classes.as_slice();
     let main = tree.main.as_slice();
     let messages = tree.messages.as_slice();
-    let mut least = Least::new();
+    let mut least = Earliest::new();
     tell_count(classes, &mut least);
     tell_processes(main, &mut least);
     tell_messages(messages, &mut least);
@@ -34,7 +34,7 @@ pub fn limit_fault(alloc: Global, tree: &Tree) -> Result<Option<LimitFault>, NoM
 fn tell_classes(
     alloc: Global,
     classes: &[ClassTree],
-    least: &mut Least<LimitKind>,
+    least: &mut Earliest<LimitKind>,
 ) -> Result<(), NoMemory>
     requires { NoneLeadBack classes.now }
     ensures { OnOk result (least.new ≡ classes_told classes.now least.old) }

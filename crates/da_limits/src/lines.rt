@@ -7,12 +7,12 @@ ghost use Rattle.std.specs.Prelude.{◌≡◌, nat_lt};
 
 use crate::numbers::{MOST_GENERATORS, MOST_PARTS, MOST_VARIABLES};
 use crate::sizes::DeedSize;
-use da_bodies::Least;
+use da_bodies::Earliest;
 use da_lang::LimitKind;
 
 /// A limit is exceeded at a line, if it is.
 #[tactic(auto, using(crate::proofs::LimitLinesAt::if_rules))]
-pub fn tell_if(holds: bool, kind: LimitKind, line: u32, least: &mut Least<LimitKind>)
+pub fn tell_if(holds: bool, kind: LimitKind, line: u32, least: &mut Earliest<LimitKind>)
     ensures { least.new ≡ told_at kind least.old (line_if holds line) }
 {
     if holds {
@@ -45,7 +45,7 @@ fn has_many_variables(size: &DeedSize) -> bool
 }
 
 /// The lines with too wide a tuple.
-pub fn tell_wide(sizes: &[DeedSize], least: &mut Least<LimitKind>)
+pub fn tell_wide(sizes: &[DeedSize], least: &mut Earliest<LimitKind>)
     ensures { least.new ≡ told_at limit.Parts least.old (wide_lines sizes.now) }
 {
     for size in sizes {
@@ -54,7 +54,7 @@ pub fn tell_wide(sizes: &[DeedSize], least: &mut Least<LimitKind>)
 }
 
 // The line of a statement or header, if it has too wide a tuple.
-fn tell_wide_at(size: &DeedSize, least: &mut Least<LimitKind>)
+fn tell_wide_at(size: &DeedSize, least: &mut Earliest<LimitKind>)
     ensures { least.new ≡ told_at limit.Parts least.old (line_if (nat_lt most_parts size.now.written.widest) size.now.line) }
 {
     tell_if(
@@ -66,7 +66,7 @@ fn tell_wide_at(size: &DeedSize, least: &mut Least<LimitKind>)
 }
 
 /// The lines with a query of too many generators.
-pub fn tell_generators(sizes: &[DeedSize], least: &mut Least<LimitKind>)
+pub fn tell_generators(sizes: &[DeedSize], least: &mut Earliest<LimitKind>)
     ensures { least.new ≡ told_at limit.Generators least.old (gen_lines sizes.now) }
 {
     for size in sizes {
@@ -75,7 +75,7 @@ pub fn tell_generators(sizes: &[DeedSize], least: &mut Least<LimitKind>)
 }
 
 // The line of a statement or header, if it has a query of too many generators.
-fn tell_generators_at(size: &DeedSize, least: &mut Least<LimitKind>)
+fn tell_generators_at(size: &DeedSize, least: &mut Earliest<LimitKind>)
     ensures { least.new ≡ told_at limit.Generators least.old (line_if (nat_lt most_generators size.now.written.largest.gens) size.now.line) }
 {
     tell_if(

@@ -9,7 +9,7 @@ use crate::lines::{is_wide, some_many_variables, tell_generators, tell_if, tell_
 use crate::sizes::put_sizes;
 use crate::types::type_width;
 use crate::written::pattern_written;
-use da_bodies::Least;
+use da_bodies::Earliest;
 use da_calls::CallGraph;
 use da_lang::{LimitKind, Member, Param, PatternTree, Stmt, Ty};
 use da_values::{List, NoMemory};
@@ -21,7 +21,7 @@ pub fn tell_member(
     alloc: Global,
     member: &Member,
     graph: &CallGraph<'_>,
-    least: &mut Least<LimitKind>,
+    least: &mut Earliest<LimitKind>,
 ) -> Result<bool, NoMemory>
     requires graph { IsCallGraph graph.now }
     requires known { IsKnown graph.now.class.now member.now }
@@ -82,7 +82,7 @@ fn tell_stmts(
     alloc: Global,
     stmts: &[Stmt],
     reached: bool,
-    least: &mut Least<LimitKind>,
+    least: &mut Earliest<LimitKind>,
 ) -> Result<bool, NoMemory>
     ensures told { OnOk result (least.new ≡ stmts_told reached stmts.now least.old) }
     ensures many { IfOk result (λ many. many ≡ many_in reached stmts.now) }

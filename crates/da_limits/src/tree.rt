@@ -12,12 +12,12 @@ use crate::lines::{is_wide, tell_if};
 use crate::members::is_wide_type;
 use crate::numbers::{MOST_CLASSES, MOST_PROCESSES, capped};
 use crate::written::all_written;
-use da_bodies::Least;
+use da_bodies::Earliest;
 use da_lang::{ClassTree, LimitKind, MainLine, MessageDecl, Ty};
 
 /// The lines of the classes past the limit.
 #[tactic(auto, using(crate::proofs::LimitTreeAt::class_rules))]
-pub fn tell_count(classes: &[ClassTree], least: &mut Least<LimitKind>)
+pub fn tell_count(classes: &[ClassTree], least: &mut Earliest<LimitKind>)
     ensures { least.new ≡ told_at limit.Classes least.old (map (λ c. c.line) (drop most_classes classes.now)) }
 {
     if classes.len() > MOST_CLASSES {
@@ -26,7 +26,7 @@ pub fn tell_count(classes: &[ClassTree], least: &mut Least<LimitKind>)
 }
 
 // The lines of these classes.
-fn tell_lines(classes: &[ClassTree], least: &mut Least<LimitKind>)
+fn tell_lines(classes: &[ClassTree], least: &mut Earliest<LimitKind>)
     ensures { least.new ≡ told_at limit.Classes least.old (map (λ c. c.line) classes.now) }
 {
     for class in classes {
@@ -35,7 +35,7 @@ fn tell_lines(classes: &[ClassTree], least: &mut Least<LimitKind>)
 }
 
 /// The line of `main` that exceeds the limit of processes, if one does. No process is made for that.
-pub fn tell_processes(main: &[MainLine], least: &mut Least<LimitKind>)
+pub fn tell_processes(main: &[MainLine], least: &mut Earliest<LimitKind>)
     ensures { least.new ≡ told_at limit.Processes least.old (processes_over 0 main.now) }
 {
     let mut made = 0u64;
@@ -72,7 +72,7 @@ fn line_of(line: &MainLine) -> u32
 }
 
 /// The messages with too many parts.
-pub fn tell_messages(messages: &[MessageDecl], least: &mut Least<LimitKind>)
+pub fn tell_messages(messages: &[MessageDecl], least: &mut Earliest<LimitKind>)
     ensures { least.new ≡ told_at limit.Parts least.old (message_lines messages.now) }
 {
     for message in messages {
@@ -82,7 +82,7 @@ pub fn tell_messages(messages: &[MessageDecl], least: &mut Least<LimitKind>)
 
 // A message, if it has too many parts.
 #[tactic(auto, using(crate::proofs::LimitTreeAt::message_rules))]
-fn tell_message(message: &MessageDecl, least: &mut Least<LimitKind>)
+fn tell_message(message: &MessageDecl, least: &mut Earliest<LimitKind>)
     ensures { least.new ≡ told_at limit.Parts least.old (parts_in_message message.now) }
 {
     let parts = capped(message.parts.len()).saturating_add(1);
@@ -107,7 +107,7 @@ fn some_wide_type(types: &[Ty]) -> bool
 }
 
 /// The lines of `main` with too wide a tuple.
-pub fn tell_main(main: &[MainLine], least: &mut Least<LimitKind>)
+pub fn tell_main(main: &[MainLine], least: &mut Earliest<LimitKind>)
     ensures { least.new ≡ told_at limit.Parts least.old (main_lines main.now) }
 {
     for line in main {
@@ -116,7 +116,7 @@ pub fn tell_main(main: &[MainLine], least: &mut Least<LimitKind>)
 }
 
 // A line of `main`, if it has too wide a tuple.
-fn tell_line(line: &MainLine, least: &mut Least<LimitKind>)
+fn tell_line(line: &MainLine, least: &mut Earliest<LimitKind>)
     ensures { least.new ≡ told_at limit.Parts least.old (parts_in_main line.now) }
 {
     match line {

@@ -13,7 +13,7 @@ use crate::extent::Extent;
 use crate::lines::tell_if;
 use crate::members::tell_member;
 use crate::methods::copies_of;
-use da_bodies::Least;
+use da_bodies::Earliest;
 use da_calls::CallGraph;
 use da_lang::{ClassTree, LimitKind};
 use da_values::NoMemory;
@@ -23,7 +23,7 @@ use std::alloc::Global;
 pub fn tell_class(
     alloc: Global,
     class: &ClassTree,
-    least: &mut Least<LimitKind>,
+    least: &mut Earliest<LimitKind>,
 ) -> Result<(), NoMemory>
     requires { NoneLeadsBack class.now }
     ensures { OnOk result (least.new ≡ class_told class.now least.old) }
@@ -37,7 +37,7 @@ pub fn tell_class(
 }
 
 // The limits that the extent of a class exceeds. Some query has too many variables, or none has.
-fn tell_extent(extent: Extent, many: bool, line: u32, least: &mut Least<LimitKind>)
+fn tell_extent(extent: Extent, many: bool, line: u32, least: &mut Earliest<LimitKind>)
     ensures { least.new ≡ told_at limit.Variables (told_at limit.Blocks (told_at limit.Items least.old (line_if (nat_lt most_items extent.items) line)) (line_if (nat_lt most_blocks extent.blocks) line)) (line_if (nat_lt most_variables extent.slots || many) line) }
 {
     tell_if(extent.has_many_items(), LimitKind::Items, line, least);
@@ -54,7 +54,7 @@ fn tell_extent(extent: Extent, many: bool, line: u32, least: &mut Least<LimitKin
 fn tell_members(
     alloc: Global,
     graph: &CallGraph<'_>,
-    least: &mut Least<LimitKind>,
+    least: &mut Earliest<LimitKind>,
 ) -> Result<bool, NoMemory>
     requires { IsCallGraph graph.now }
     ensures told { OnOk result (least.new ≡ members_told graph.now.class.now graph.now.class.now.members least.old) }

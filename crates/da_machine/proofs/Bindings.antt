@@ -6,13 +6,13 @@ use Rattle.da_lang.specs.declared.event.Action.{Action}
 use Rattle.da_lang.specs.Turns.{bind_all}
 use Rattle.da_lang.specs.World.{Data, put_slot}
 use Rattle.da_machine.specs.Conditions.{Standing, SomeProcess, EachProcess, Takes, TakesAll}
-use Rattle.da_machine.specs.RunsTo.{IsFront}
-use Rattle.da_machine.proofs.Fronts.{same_front}
+use Rattle.da_machine.specs.RunsTo.{AddsPrefix}
+use Rattle.da_machine.proofs.Prefixes.{same_prefix}
 use Rattle.da_machine.proofs.KnownLaws.{put_known}
 
 -- nothing that was due is done yet
-pub not_yet : (old due : List Action) → IsFront old old due
-not_yet old due = same_front old old due refl
+pub not_yet : (old due : List Action) → AddsPrefix old old due
+not_yet old due = same_prefix old old due refl
 
 -- So many values were put. Some process is stood for that takes the others, and each process comes to what it is to know.
 pub record Binding (stands now : Standing) (old new : List Action) (slots : List ℕ) (values : List Val) (place : ℕ) : Type 0 where

@@ -18,7 +18,7 @@ use Rattle.da_machine.specs.Entries.{EntersEach, IsPoint}
 use Rattle.da_machine.specs.Points.{AtLabel, AtAwait, ways_of, IsNumbered}
 use Rattle.da_machine.proofs.TurnCode.{block_for}
 
--- the block of an alternative stands at the place of the alternative, that for the time that runs out behind all of them
+-- the block of an alternative stands at the place of the alternative, that for the time that runs out after all of them
 alternative_block : (alts : List Alt) (more : List (List Item)) (n : ℕ) (a : Alt) → slice_get alts n ≡ Some a → slice_get (map (λ a. (out-Alt a).body) alts ++ more) n ≡ Some (out-Alt a).body
 alternative_block [] more n a there = absurd (let none : ◌≡◌ {A = Option Alt} None (Some a) = there in cc)
 alternative_block (b ∷ alts) more zero a there = let same : b ≡ a = cc in ap (λ x. Some (out-Alt x).body) same
@@ -40,7 +40,7 @@ module _ (code : Code) (class : Class) where
   alternative_entry loops todo alts timeout label entries enters n a there =
       enters.stands n (out-Alt a).body (alternative_block alts (option_to_list timeout) n a there)
 
-  -- the entry of the block for the time that runs out is that behind those of all alternatives
+  -- the entry of the block for the time that runs out is that after those of all alternatives
   pub timeout_entry : (loops : List (List Val)) (todo : List Task) (alts : List Alt) (body : List Item) (label : Option ℕ) (entries : List ℕ)
       → EntersEach code class loops todo (blocks_in (kind.Await alts (Some body) label)) entries
       → (entry : ℕ) × (slice_get entries (length alts) ≡ Some entry) × CodeFor code class entry loops (do_all body todo)

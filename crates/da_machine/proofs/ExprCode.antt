@@ -101,7 +101,7 @@ module _ (p : Program) (class : Class) (code : Code) (d : Data) (known : IsKnown
   or_step at to decided out st (Ok v) os jump gives others decides =
       gives_later p class code _ (moved m to (st ++ v ∷ [])) d m out st (if truth_of v then Ok (val.Bool true) else some_true os) gives (or_test v (truth_of v) to decided out st (some_true os) refl jump others decides)
 
-  -- behind the tests: the answer that no test decided, and the one that some test did
+  -- after the tests: the answer that no test decided, and the one that some test did
   undecided : (b : Bool) (end : ℕ) (st : List Val) → Has code end (op.Push (kept.Bool b)) → Has code (end + 1) (op.Jump (end + 3)) → Given end st (end + 3) st (Ok (val.Bool b))
   undecided b end st push jump =
       joined p class code _ (moved m (end + 1) (st ++ val.Bool b ∷ [])) _ d d d [] (one p class code d known _ _ d [] _ push tt refl) (one p class code d known _ _ d [] _ jump tt refl)

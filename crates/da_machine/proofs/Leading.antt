@@ -58,7 +58,7 @@ module _ (p : Program) (class : Class) (code : Code) where
   all_later m0 m1 d m end st (Ok vs) one gives = joined m0 m1 (moved m end (st ++ vs)) d d d [] one gives
   all_later m0 m1 d m end st (Err kind) one gives = fails_later m0 m1 d m kind one gives
 
-  -- behind the value of an expression
+  -- after the value of an expression
   pub gives_after : (m0 m : Machine) (d : Data) (mid end : ℕ) (st st2 : List Val) (o : Outcome) (go : Val → Outcome) → Gives m0 m d mid st o
       → ((v : Val) → o ≡ Ok v → Gives (moved m mid (st ++ v ∷ [])) m d end st2 (go v)) → Gives m0 m d end st2 (after o go)
   gives_after m0 m d mid end st st2 (Err kind) go gives more = gives

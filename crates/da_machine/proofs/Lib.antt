@@ -2,7 +2,7 @@ pub mod Bindings
 pub mod EntryLaws
 pub mod ExprCode
 pub mod ForwardLaws
-pub mod Fronts
+pub mod Prefixes
 pub mod KnownLaws
 pub mod Leading
 pub mod Measure

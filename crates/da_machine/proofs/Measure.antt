@@ -20,7 +20,7 @@ use Rattle.da_machine.specs.Acts.{Act, Goes, Halts, act, below, innermost, moved
 use Rattle.da_machine.specs.Forward.{IsForward, LeadsOn, instrs_left, is_turn, way}
 use Rattle.da_machine.specs.RunsTo.{IsAct}
 
--- where an instruction leads: a turn is taken, or the place is behind it, or at the next turn
+-- where an instruction leads: a turn is taken, or the place is after it, or at the next turn
 abbrev Steps : Code → Machine → Machine → Bool → Type 0
 Steps code m m1 true = (m1.turns ≡ m.turns + 1) × (m.turns < max_turns)
 Steps code m m1 false = (m1.turns ≡ m.turns) × ((m.place < m1.place) ⊎ (is_turn (slice_get code.instrs m1.place) ≡ true))

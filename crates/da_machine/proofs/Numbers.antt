@@ -29,7 +29,7 @@ use Rattle.da_machine.specs.Acts.{same}
 above : (a : ℤ) (n : ℕ) → val_cmp (val.Int (a +ℤ pos (suc n))) (val.Int a) ≡ Greater
 above a n = val_cmp-Int (a +ℤ pos (suc n)) a ∙ sym (int_cmp_is (a +ℤ pos (suc n)) a Greater (omega (arith, ints)))
 
--- the next number comes behind all others
+-- the next number comes after all others
 pub numbers_more : (a : ℤ) (n : ℕ) → set_insert val_cmp (numbers_from a n) (val.Int (a +ℤ pos n)) ≡ numbers_from a (n + 1)
 numbers_more a zero = let none : a +ℤ pos 0 ≡ a = +ℤ_idr a in ap (λ z. val.Int z ∷ []) none
 numbers_more a (suc n) =

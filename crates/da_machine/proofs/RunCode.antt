@@ -17,7 +17,7 @@ use Rattle.da_lang.specs.declared.program.ItemKind.TheOpen.{ItemKind-F}
 use Rattle.da_lang.specs.declared.program.Program.{Program}
 use Rattle.da_lang.specs.declared.program.RBranch.{RBranch}
 use Rattle.da_lang.specs.declared.program.SetupCall.{SetupCall}
-use Rattle.da_lang.specs.Runs.{Ran, behind, behind_turn, kind_yields, max_turns, run, run_to_yield, yields}
+use Rattle.da_lang.specs.Runs.{Ran, ran_after, behind_turn, kind_yields, max_turns, run, run_to_yield, yields}
 use Rattle.da_lang.specs.Shaped.{IsTask, ShapedTasks}
 use Rattle.da_lang.specs.Turns.{kind_of, line_of, line_of_task, turn}
 use Rattle.da_lang.specs.World.{Data, Task, Do, Loop, Prepare}
@@ -31,7 +31,7 @@ use Rattle.da_machine.specs.CodeFor.{Has, CodeFor, EnterAt, ItemAt, LoopAt, Work
 use Rattle.da_machine.specs.Conditions.{IsKnown}
 use Rattle.da_machine.specs.Promises.{Promises}
 use Rattle.da_machine.specs.RunsTo.{RunsTo}
-use Rattle.da_machine.specs.Stops.{IsReady, IsRun, IsStop}
+use Rattle.da_machine.specs.Stops.{CanRun, IsRun, IsStop}
 use Rattle.da_machine.proofs.promises.Promised.{promises_known}
 use Rattle.da_machine.proofs.Leading.{Leads, joined, one, stops}
 use Rattle.da_machine.proofs.TurnCode.{Does, DoesTurn, Stands, enters, loops_on, works}
@@ -72,7 +72,7 @@ module _ (p : Program) (class : Class) (code : Code) (promises : Promises p clas
   abbrev As : Machine → Data → Ran → Type 0
   As m d ran = RunsAs p class code m d ran
 
-  -- the machine in a turn on a line, behind the instruction that begins it
+  -- the machine in a turn on a line, after the instruction that begins it
   abbrev in_turn : Machine → ℕ → ℕ → Machine
   in_turn m line at = record m { place = at; turns = m.turns + 1; line = line }
 
@@ -80,19 +80,19 @@ module _ (p : Program) (class : Class) (code : Code) (promises : Promises p clas
   at_place : (m : Machine) (at : ℕ) (i : Instr) → m.place ≡ at → Has code at i → Has code m.place i
   at_place m at i is has = subst (λ k. Has code k i) (sym is) has
 
-  leads_as : (m m1 : Machine) (d d1 : Data) (actions : List Action) (ran : Ran) → Leads p class code m d m1 d1 actions → As m1 d1 ran → As m d (behind actions ran)
+  leads_as : (m m1 : Machine) (d d1 : Data) (actions : List Action) (ran : Ran) → Leads p class code m d m1 d1 actions → As m1 d1 ran → As m d (ran_after actions ran)
   leads_as m m1 d d1 actions ran leads runs = record { stop = runs.stop; last = runs.last; runs = leads.by ran.actions runs.stop runs.last ran.data' runs.runs; turns = runs.turns; stops = runs.stops }
 
-  -- behind a turn: its fault, or the run from what it leaves
-  behind_as : (m0 m1 : Machine) (d d1 : Data) (todo : List Task) (actions : List Action) (fault : Option (FaultKind × ℕ)) (n : ℕ) (go : Data → List Task → Ran)
+  -- after a turn: its fault, or the run from what it leaves
+  after_as : (m0 m1 : Machine) (d d1 : Data) (todo : List Task) (actions : List Action) (fault : Option (FaultKind × ℕ)) (n : ℕ) (go : Data → List Task → Ran)
       → Leads p class code m0 d m1 d [] → m1.turns ≡ n → Does p class code m1 d d1 todo actions fault → ((m : Machine) → Stands p class code m todo n → As m d1 (go d1 todo)) → As m0 d (behind_turn d1 todo actions n go fault)
-  behind_as m0 m1 d d1 todo actions (Some fault) n go leads taken does goes_on =
+  after_as m0 m1 d d1 todo actions (Some fault) n go leads taken does goes_on =
       record { stop = stop.Fault fault.0 fault.1; last = does.last; runs = leads.by actions _ _ _ does.runs; turns = does.turns ∙ taken; stops = refl }
-  behind_as m0 m1 d d1 todo actions None n go leads taken does goes_on =
+  after_as m0 m1 d d1 todo actions None n go leads taken does goes_on =
       leads_as m0 does.0 d d1 actions (go d1 todo) (joined p class code m0 m1 does.0 d d d1 actions leads does.1)
       (goes_on does.0 (record { code_for = does.2.code_for; same_turns = does.2.same_turns ∙ taken }))
 
-  -- it stands in front of a yield point
+  -- it stands before a yield point
   yields_as : (m : Machine) (d : Data) (at k n left : ℕ) (loops : List (List Val)) (t : Task) (todo : List Task) → IsKnown p class d → IsAt m at loops n → yields t ≡ true → Has code at (op.Yield k)
       → CodeFor code class at loops (t ∷ todo) → As m d (run class left n d (t ∷ todo))
   yields_as m d at k n left loops t todo known is yield has code_for =
@@ -122,10 +122,10 @@ module _ (p : Program) (class : Class) (code : Code) (promises : Promises p clas
       subst (λ k. Leads p class code m d (in_turn m (line_of_task t) k) d []) (sym place) (one p class code d world.known m _ d [] _ (at_place m at _ is.place has) tt (ap (turn_if m d (line_of_task t)) less)) in
       let kept = promises.keeps t d todo world.known.shaped world.tasks in
       subst (As m d) (sym (run_turn class left n d t todo works))
-      (behind_as m (in_turn m (line_of_task t) (at + 1)) d after.data' after.todo after.actions after.fault (n + 1) (run class left (n + 1)) begins (ap (λ k. k + 1) is.taken) does
+      (after_as m (in_turn m (line_of_task t) (at + 1)) d after.data' after.todo after.actions after.fault (n + 1) (run class left (n + 1)) begins (ap (λ k. k + 1) is.taken) does
       (λ m1 stands. goes_on m1 after.data' after.todo (record { known = record { accepted = world.known.accepted; shaped = kept.0 }; tasks = kept.1 }) stands))
 
-  -- what goes on behind a turn
+  -- what goes on after a turn
   abbrev GoesOn : ℕ → ℕ → Type 0
   GoesOn left n = (m : Machine) (d : Data) (todo : List Task) → IsWorld p class d todo → Stands p class code m todo n → As m d (run class left n d todo)
 
@@ -196,7 +196,7 @@ module _ (p : Program) (class : Class) (code : Code) (promises : Promises p clas
       (runs_as left (n + 1) (omega (arith, sum)) m1.place m1.loops todo1 stands1.code_for m1 d1 world1 (record { place = refl; inside = refl; taken = stands1.same_turns })))
 
 -- The machine runs as what it has to do.
-pub ready_runs : (p : Program) (class : Class) (code : Code) (m : Machine) (d : Data) (todo : List Task) → m.turns ≤ max_turns → IsReady p class code m d todo → RunsAs p class code m d (run_to_yield class m.turns d todo)
+pub ready_runs : (p : Program) (class : Class) (code : Code) (m : Machine) (d : Data) (todo : List Task) → m.turns ≤ max_turns → CanRun p class code m d todo → RunsAs p class code m d (run_to_yield class m.turns d todo)
 ready_runs p class code m d todo early ready =
     runs_as p class code (promises_known p class d ready.accepted ready.knows) (max_turns - m.turns) m.turns (omega (arith, early)) m.place m.loops todo ready.code_for m d
     (record { known = record { accepted = ready.accepted; shaped = ready.knows }; tasks = ready.tasks }) (record { place = refl; inside = refl; taken = refl })

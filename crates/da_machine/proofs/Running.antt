@@ -13,8 +13,8 @@ use Rattle.da_machine.specs.declared.machine.Stop.TheVariants as stop
 use Rattle.da_machine.specs.Acts.{Act, Goes, Halts, act}
 use Rattle.da_machine.specs.Allowed.{IsAllowed}
 use Rattle.da_machine.specs.Conditions.{Standing}
-use Rattle.da_machine.proofs.Fronts.{IsPart, none_told, part_then, part_front_of, part_whole, front_before, front_as}
-use Rattle.da_machine.specs.RunsTo.{RunsTo, halts, goes, instr_at, IsAct, IsFront, actions_of, MayAct, Acted, Began, MayRun, RanTo, RanPart}
+use Rattle.da_machine.proofs.Prefixes.{IsPart, none_told, part_then, part_prefix_of, part_whole, prefix_before, prefix_as}
+use Rattle.da_machine.specs.RunsTo.{RunsTo, halts, goes, instr_at, IsAct, AddsPrefix, actions_of, MayAct, Acted, Began, MayRun, RanTo, RanPart}
 
 module _ (p : Program) (class : Class) (code : Code) where
   -- what a run that begins with this act does
@@ -34,7 +34,7 @@ module _ (p : Program) (class : Class) (code : Code) where
   begins_with : (i : Option Instr) (m : Machine) (d : Data) (due : List Action) (s : Stop) (m2 : Machine) (d2 : Data) → instr_at code m ≡ i → RunsTo p class code m d due s m2 d2 → Begins i m d due s m2 d2
   begins_with i m d due s m2 d2 there run = subst (λ j. Begins j m d due s m2 d2) there (begins m d due s m2 d2 run)
 
-  -- what is left of the run behind an instruction that goes on
+  -- what is left of the run after an instruction that goes on
   rest_of : (done : Act) (m1 : Machine) (stands : Data → Type 0) (d : Data) (old new due : List Action) (s : Stop) (m2 : Machine) (d2 : Data) → IsAct done None m1 stands d old new → RunsBy done d due s m2 d2
       → (d1 : Data) × (more : List Action) × stands d1 × RunsTo p class code m1 d1 more s m2 d2 × IsPart old new due more
   rest_of (Goes n1 d1 now) m1 stands d old new due s m2 d2 acted run = (
@@ -54,10 +54,10 @@ module _ (p : Program) (class : Class) (code : Code) where
       let e = acted.0 in
       (cc, acted.1 ∙ sym run.2, subst stands (sym run.3) acted.2, acted.3 ∙ sym (append-nil old) ∙ ap (λ l. old ++ l) (sym run.0))
 
-  -- a front of an instruction's actions is a front of the run's
-  front_of : (done : Act) (d : Data) (old new due : List Action) (s : Stop) (m2 : Machine) (d2 : Data) → IsFront old new (actions_of done) → RunsBy done d due s m2 d2 → IsFront old new due
-  front_of (Goes m1 d1 now) d old new due s m2 d2 front run = front_as old new (now ++ run.0) due (sym run.1) (front_before old new now run.0 front)
-  front_of (Halts s1 m1) d old new due s m2 d2 front run = front_as old new [] due (sym run.0) front
+  -- a prefix of an instruction's actions is a prefix of the run's
+  front_of : (done : Act) (d : Data) (old new due : List Action) (s : Stop) (m2 : Machine) (d2 : Data) → AddsPrefix old new (actions_of done) → RunsBy done d due s m2 d2 → AddsPrefix old new due
+  front_of (Goes m1 d1 now) d old new due s m2 d2 front run = prefix_as old new (now ++ run.0) due (sym run.1) (prefix_before old new now run.0 front)
+  front_of (Halts s1 m1) d old new due s m2 d2 front run = prefix_as old new [] due (sym run.0) front
 
 -- The run goes on for some process that is stood for, and for each process at the beginning there is now one whose run
 -- is what is left.
@@ -96,9 +96,9 @@ module _ (code : Code) (m0 m : Machine) (stands now : Standing) (old new : List 
     run_breaks new1 began p class d due s m2 d2 is run =
         let f = came.follows p class d due s m2 d2 is run in
         let r = front_of p class code _ f.0 new new1 _ s m2 d2 (began p class f.0 f.2) (begins_with p class code (Some i) m f.0 _ _ _ _ there f.3).1 in
-        part_front_of old new new1 due f.1 f.4 r
+        part_prefix_of old new new1 due f.1 f.4 r
 
-  -- behind the last instruction
+  -- after the last instruction
   pub run_past : instr_at code m ≡ None → RanTo code m0 m stands now old new stop.Ended
   run_past there p class d due s m2 d2 is run =
       let f = came.follows p class d due s m2 d2 is run in

@@ -1,4 +1,4 @@
--- The last values of a list, and the elements that are left behind the first ones.
+-- The last values of a list, and the elements that are left after the first ones.
 use Rattle.std.proofs.Common.{◌≡◌, ℕ, zero, suc, ◌+◌, ◌-◌, ◌<◌, ◌≤◌, List, [], ◌∷◌, ◌++◌, length, take, drop, Some, None, refl, sym, ap, ◌∙◌, arith, append_assoc}
 use Rattle.std.specs.Prelude.{get_or, slice_get, slice_set, reverse}
 use Rattle.std.proofs.Common.{length-append}

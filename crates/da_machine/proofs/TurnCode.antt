@@ -1,4 +1,4 @@
--- The code behind a turn does what the turn does.
+-- The code after a turn does what the turn does.
 use Rattle.std.proofs.Common.{◌≡◌, ℕ, ◌+◌, ◌≤◌, List, [], ◌∷◌, ◌++◌, map, Option, Some, None, Ok, Err, refl, sym, ◌∙◌, subst, arith, if◌then◌else◌}
 use Rattle.std.specs.Prelude.{Bool, true, false, nat_le}
 use Rattle.std.specs.List.{AllByRecursion}
@@ -41,7 +41,7 @@ use Rattle.da_machine.proofs.Stacks.{below_last, innermost_last, top_last}
 use Rattle.da_machine.proofs.StoreCode.{back_is, stores_lead}
 
 module _ (class : Class) (code : Code) where
-  -- the code of statements in front of what is to do
+  -- the code of statements before what is to do
   pub block_for : (at : ℕ) (is : List Item) (end : ℕ) → BlockAt code class at is end → (loops : List (List Val)) (todo : List Task) → CodeFor code class end loops todo → CodeFor code class at loops (do_all is todo)
   block_for _ _ _ (BlockAt.empty {at}) loops todo code_for = code_for
   block_for _ _ _ (BlockAt.item {at} {to} {end} {i} {is} x xs) loops todo code_for = CodeFor.does x (block_for to is end xs loops todo code_for)
@@ -122,7 +122,7 @@ module _ (p : Program) (class : Class) (code : Code) where
     binds _ _ _ _ (FoundAt.unbound {at} {slots}) promised st = rests p class code (moved m at st) d
     binds _ _ _ _ (FoundAt.bound {at} {n} {slots} has) promised st = let promise = promised n refl in one p class code d known _ _ _ [] _ has (promise.0, promise.1 d known.shaped) refl
 
-    -- a condition decides whether the code goes on behind the jump
+    -- a condition decides whether the code goes on after the jump
     decides : (v : Val) (t : Bool) (at to : ℕ) (st : List Val) (then_do else_do : AfterTurn) → truth_of v ≡ t → Has code at (op.JumpUnless to)
         → DoesTurn (moved m (at + 1) st) d then_do → DoesTurn (moved m to st) d else_do → DoesTurn (moved m at (st ++ v ∷ [])) d (if t then then_do else else_do)
     decides v true at to st then_do else_do is has one_way other =

@@ -60,7 +60,7 @@ pub data Act : Type 0 where
 abbrev pub moved : Machine → ℕ → List Val → Machine
 moved m place stack = record m { place = place; stack = stack }
 
--- the machine behind the instruction, with this stack; with this value upon it
+-- the machine after the instruction, with this stack; with this value upon it
 abbrev pub next : Machine → List Val → Machine
 next m stack = moved m (m.place + 1) stack
 

@@ -91,14 +91,14 @@ module _ (code : Code) where
         empty : {at : ℕ} → BlockAt at [] at
         item : {at to end : ℕ} {i : Item} {is : List Item} → ItemAt at i to → BlockAt to is end → BlockAt at (i ∷ is) end
 
-      -- The code of a statement begins with its turn. Of a label or an `await` it is a yield point, behind which the
-      -- statement goes on: behind the label, or with the blocks of the `await`. Its number is that of the statement in the class.
+      -- The code of a statement begins with its turn. Of a label or an `await` it is a yield point, after which the
+      -- statement goes on: after the label, or with the blocks of the `await`. Its number is that of the statement in the class.
       pub data ItemAt : ℕ → Item → ℕ → Type 0 where
         works : {at end : ℕ} {i : Item} → Has code at (op.Turn (line_of i)) → WorkAt at (line_of i) (kind_of i) end → ItemAt at i end
         label : {at k l : ℕ} {i : Item} → kind_of i ≡ kind.Label l → Has code at (op.Yield k) → slice_get code.yields k ≡ Some (record { label = true; entries = (at + 1) ∷ [] }) → IsNumbered class k (AtLabel l) → ItemAt at i (at + 1)
         await : {at end k : ℕ} {i : Item} {alts : List Alt} {timeout : Option (List Item)} {l : Option ℕ} {entries : List ℕ} → kind_of i ≡ kind.Await alts timeout l → Has code at (op.Yield k) → slice_get code.yields k ≡ Some (record { label = false; entries = entries }) → IsNumbered class k (AtAwait (ways_of alts) (is_some timeout) l) → BlocksAt end (at + 1) (blocks_in (kind.Await alts timeout l)) entries → ItemAt at i end
 
-      -- the code behind the turn at this place, of a statement of a kind on a line
+      -- the code after the turn at this place, of a statement of a kind on a line
       pub data WorkAt : ℕ → ℕ → ItemKind-F ItemKind Alt Item RBranch → ℕ → Type 0 where
         assign : {at line end s : ℕ} {e : RExpr} → ExprAt (at + 1) e end → Has code end (op.SetSlot s) → WorkAt at line (kind.Assign s e) (end + 1)
         add : {at line end s : ℕ} {e : RExpr} → ExprAt (at + 1) e end → Has code end (op.Add s) → WorkAt at line (kind.Add s e) (end + 1)

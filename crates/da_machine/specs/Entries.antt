@@ -17,7 +17,7 @@ pub record EntersEach (code : Code) (class : Class) (loops : List (List Val)) (t
   pub one_each : length entries ≡ length bodies
   pub stands : (n : ℕ) (body : List Item) → slice_get bodies n ≡ Some body → (entry : ℕ) × (slice_get entries n ≡ Some entry) × CodeFor code class entry loops (do_all body todo)
 
--- The yield point of this number stands in front of what is to do, and has this number in the class. Behind a label the code
+-- The yield point of this number stands before what is to do, and has this number in the class. After a label the code
 -- stands at its entry for what is left. At an `await` it has an entry for the block of each alternative, and the last one is
 -- that of the block for the time that runs out, where there is such a block.
 pub data IsPoint (code : Code) (class : Class) (k : ℕ) (loops : List (List Val)) : List Task → Type 0 where

@@ -9,7 +9,7 @@ abbrev pub is_turn : Option Instr → Bool
 is_turn (Some (op.Turn line)) = true
 is_turn _ = false
 
--- a jump that stands at this place leads behind it, or back to where a turn begins
+-- a jump that stands at this place leads past it, or back to where a turn begins
 abbrev pub LeadsOn : Code → ℕ → Instr → Type 0
 LeadsOn code at (op.Jump to) = (at < to) ⊎ (is_turn (slice_get code.instrs to) ≡ true)
 LeadsOn code at (op.JumpIf to) = at < to

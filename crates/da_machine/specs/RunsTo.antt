@@ -29,9 +29,9 @@ abbrev pub IsAct : Act → Option Stop → Machine → (Data → Type 0) → Dat
 IsAct (Goes m1 d1 now) answer m stands d old new = (answer ≡ None) × (m ≡ m1) × stands d1 × (new ≡ old ++ now)
 IsAct (Halts s m1) answer m stands d old new = (answer ≡ Some s) × (m ≡ m1) × stands d × (new ≡ old)
 
--- the old actions, and behind them the first ones of those that were due
-abbrev pub IsFront : List Action → List Action → List Action → Type 0
-IsFront old new due = (n : ℕ) × (new ≡ old ++ take n due)
+-- the old actions, and after them a prefix of those that were due
+abbrev pub AddsPrefix : List Action → List Action → List Action → Type 0
+AddsPrefix old new due = (n : ℕ) × (new ≡ old ++ take n due)
 
 abbrev pub actions_of : Act → List Action
 actions_of (Goes m d now) = now
@@ -49,7 +49,7 @@ Acted i m m1 stands stands1 old new answer =
 -- memory was refused on the way
 abbrev pub Began : Option Instr → Machine → Standing → List Action → List Action → Type 0
 Began i m stands old new =
-    (p : Program) (class : Class) (d : Data) → stands p class d → IsFront old new (actions_of (act class.queries i m d))
+    (p : Program) (class : Class) (d : Data) → stands p class d → AddsPrefix old new (actions_of (act class.queries i m d))
 
 -- the code may be run for some process that the store stands for
 abbrev pub MayRun : Code → Machine → Standing → Type 0
@@ -65,4 +65,4 @@ RanTo code m m1 stands stands1 old new stop =
 -- memory was refused on the way
 abbrev pub RanPart : Code → Machine → Standing → List Action → List Action → Type 0
 RanPart code m stands old new =
-    (p : Program) (class : Class) (d : Data) (due : List Action) (s : Stop) (m2 : Machine) (d2 : Data) → stands p class d → RunsTo p class code m d due s m2 d2 → IsFront old new due
+    (p : Program) (class : Class) (d : Data) (due : List Action) (s : Stop) (m2 : Machine) (d2 : Data) → stands p class d → RunsTo p class code m d due s m2 d2 → AddsPrefix old new due

@@ -14,7 +14,7 @@ use Rattle.da_machine.specs.declared.machine.Stop.{Stop}
 use Rattle.da_machine.specs.declared.machine.Stop.TheVariants as stop
 use Rattle.da_machine.specs.CodeFor.{Has, CodeFor}
 
--- The machine stops in front of the yield point with which what is left begins, and the code where it stands stands for
+-- The machine stops before the yield point with which what is left begins, and the code where it stands stands for
 -- what is left; or at the end; or at the fault.
 abbrev pub IsStop : Code → Class → Stop → Machine → List Task → Halt → Type 0
 IsStop code class s m todo AtYield = (k : ℕ) × (s ≡ stop.Yield k) × Has code m.place (op.Yield k) × CodeFor code class m.place m.loops todo
@@ -23,7 +23,7 @@ IsStop code class s m todo (Faults kind line) = s ≡ stop.Fault kind line
 
 -- The machine may run the code for a process of a class of an accepted program: what the process knows and has to do is
 -- as types say, and the code where the machine stands stands for what it has to do.
-pub record IsReady (p : Program) (class : Class) (code : Code) (m : Machine) (d : Data) (todo : List Task) : Type 0 where
+pub record CanRun (p : Program) (class : Class) (code : Code) (m : Machine) (d : Data) (todo : List Task) : Type 0 where
   pub accepted : IsAccepted p
   pub knows : ShapedData p class d
   pub tasks : ShapedTasks p class d.me todo

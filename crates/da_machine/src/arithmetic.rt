@@ -65,7 +65,7 @@ fn numbers(alloc: Global, first: i128, count: u32) -> Result<SetVal, NoMemory>
     Ok(set)
 }
 
-// The number that is so many behind the first.
+// The number that is so many after the first.
 fn number_at(first: i128, i: u32) -> Value
     requires { FitsSigned w128 (first +ℤ pos i) }
     ensures { val_of result ≡ Val.Int (first +ℤ pos i) }

@@ -2,7 +2,7 @@
 use da_lang::Instr;
 use da_values::List;
 
-/// A yield point: behind a label there is one entry. At an `await` there is one for each alternative, in order, and last that
+/// A yield point: after a label there is one entry. At an `await` there is one for each alternative, in order, and last that
 /// of the block for the time that runs out, where there is such a block. An entry is a place in the instructions.
 #[derive(Debug, Drop)]
 pub struct YieldPoint {

@@ -3,7 +3,7 @@ ghost use Rattle.da_lang.specs.Turns.{bind_all, recipients, sending, sent_to};
 ghost use Rattle.da_lang.specs.declared.code.Instr.TheVariants as op;
 ghost use Rattle.da_lang.specs.declared.event.Action.TheVariants as action;
 ghost use Rattle.da_machine.specs.Conditions.{EachProcess, IsPrintable, IsSendable, SomeProcess, TakesAll};
-ghost use Rattle.da_machine.specs.RunsTo.{Acted, Began, IsFront, MayAct};
+ghost use Rattle.da_machine.specs.RunsTo.{Acted, Began, AddsPrefix, MayAct};
 ghost use Rattle.da_values.specs.Value.{val_of, value_of};
 ghost use Rattle.std.specs.Prelude.{◌≡◌, [], ◌∷◌, ◌++◌, ◌+◌, ◌<◌, ◌^◌, IfOk, OnErr, OnOk, Some};
 
@@ -94,7 +94,7 @@ fn send_message<S: Store>(
     requires { SomeProcess (S.stands s.old) (λ p class d. IsSendable p (val_of message) (recipients (val_of to))) }
     ensures stands { OnOk result (EachProcess (S.stands s.old) (λ p class d. S.stands s.new p class (sent_to (val_of message) (recipients (val_of to)) d))) }
     ensures actions { OnOk result (EachProcess (S.stands s.old) (λ p class d. S.actions s.new ≡ S.actions s.old ++ sending d.me (val_of message) (recipients (val_of to)) d.clock)) }
-    ensures front { OnErr result (EachProcess (S.stands s.old) (λ p class d. IsFront (S.actions s.old) (S.actions s.new) (sending d.me (val_of message) (recipients (val_of to)) d.clock))) }
+    ensures prefix { OnErr result (EachProcess (S.stands s.old) (λ p class d. AddsPrefix (S.actions s.old) (S.actions s.new) (sending d.me (val_of message) (recipients (val_of to)) d.clock))) }
 {
     match to {
         Value::Proc(process) => s.send_to(message, process),
@@ -112,7 +112,7 @@ fn send_to_each<S: Store>(
     requires { SomeProcess (S.stands s.old) (λ p class d. IsSendable p (val_of message.now) (recipients (val_of to))) }
     ensures stands { OnOk result (EachProcess (S.stands s.old) (λ p class d. S.stands s.new p class (sent_to (val_of message.now) (recipients (val_of to)) d))) }
     ensures actions { OnOk result (EachProcess (S.stands s.old) (λ p class d. S.actions s.new ≡ S.actions s.old ++ sending d.me (val_of message.now) (recipients (val_of to)) d.clock)) }
-    ensures front { OnErr result (EachProcess (S.stands s.old) (λ p class d. IsFront (S.actions s.old) (S.actions s.new) (sending d.me (val_of message.now) (recipients (val_of to)) d.clock))) }
+    ensures prefix { OnErr result (EachProcess (S.stands s.old) (λ p class d. AddsPrefix (S.actions s.old) (S.actions s.new) (sending d.me (val_of message.now) (recipients (val_of to)) d.clock))) }
 {
     let processes = recipients_of(alloc, to)?;
     s.send(message, &processes)

@@ -17,9 +17,9 @@ use std::alloc::Global;
 /// Where a run stops.
 #[derive(Clone, Copy, Debug, PartialEq, Eq)]
 pub enum Stop {
-    /// In front of the yield point of this number.
+    /// Before the yield point of this number.
     Yield(u32),
-    /// Behind the last statement.
+    /// After the last statement.
     Ended,
     /// At a fault, on the line of its statement.
     Fault { kind: FaultKind, line: u32 },

@@ -39,7 +39,7 @@ fn set_from_last(alloc: Global, values: Vec<Value>) -> Result<SetVal, NoMemory>
     Ok(set)
 }
 
-/// Puts a value behind others.
+/// Puts a value after others.
 pub fn add_value(values: &mut Vec<Value>, value: Value) -> Result<(), NoMemory>
     ensures { OnOk result (values.new.items ≡ values.old.items ++ value ∷ []) }
 {
@@ -49,7 +49,7 @@ pub fn add_value(values: &mut Vec<Value>, value: Value) -> Result<(), NoMemory>
     }
 }
 
-/// Puts copies of some values behind others.
+/// Puts copies of some values after others.
 pub fn add_copies(alloc: Global, copies: &mut Vec<Value>, values: &[Value]) -> Result<(), NoMemory>
     ensures { OnOk result (copies.new.items ≡ copies.old.items ++ values.now) }
 {

@@ -7,7 +7,7 @@ ghost use Rattle.da_lang.specs.declared.event.Action.TheVariants as action;
 ghost use Rattle.da_lang.specs.declared.program.Class.{Class};
 ghost use Rattle.da_lang.specs.declared.program.Program.{Program};
 ghost use Rattle.da_machine.specs.Conditions.{EachProcess, HasQuery, HasSlot, HasSome, IsPrintable, IsSendable, SomeProcess, Takes, TakesElement};
-ghost use Rattle.da_machine.specs.RunsTo.{IsFront};
+ghost use Rattle.da_machine.specs.RunsTo.{AddsPrefix};
 ghost use Rattle.da_values.specs.Value.{val_of};
 ghost use Rattle.da_values.specs.Views.{proc_of};
 ghost use Rattle.std.specs.Prelude.{◌≡◌, [], ◌∷◌, ◌++◌, IfOk, List, map, OnErr, OnOk};
@@ -65,19 +65,19 @@ pub trait Store {
         ensures stands { OnOk result (EachProcess (stands self.old) (λ p class d. stands self.new p class (without_element s (val_of v.now) d))) }
         ensures actions { actions self.new ≡ actions self.old };
 
-    /// Sends a message to each of these processes, ascending. Where memory is refused, a front of the messages was sent.
+    /// Sends a message to each of these processes, ascending. Where memory is refused, a prefix of the messages was sent.
     fn send(&mut self, m: &Value, to: &SetVal) -> Result<(), NoMemory>
         requires { SomeProcess (stands self.old) (λ p class d. IsSendable p (val_of m.now) (map proc_of to.now)) }
         ensures stands { OnOk result (EachProcess (stands self.old) (λ p class d. stands self.new p class (sent_to (val_of m.now) (map proc_of to.now) d))) }
         ensures actions { OnOk result (EachProcess (stands self.old) (λ p class d. actions self.new ≡ actions self.old ++ sending d.me (val_of m.now) (map proc_of to.now) d.clock)) }
-        ensures front { OnErr result (EachProcess (stands self.old) (λ p class d. IsFront (actions self.old) (actions self.new) (sending d.me (val_of m.now) (map proc_of to.now) d.clock))) };
+        ensures prefix { OnErr result (EachProcess (stands self.old) (λ p class d. AddsPrefix (actions self.old) (actions self.new) (sending d.me (val_of m.now) (map proc_of to.now) d.clock))) };
 
-    /// Sends a message to this process alone. Where memory is refused, a front of the one message was sent.
+    /// Sends a message to this process alone. Where memory is refused, a prefix of the one message was sent.
     fn send_to(&mut self, m: Value, to: u16) -> Result<(), NoMemory>
         requires { SomeProcess (stands self.old) (λ p class d. IsSendable p (val_of m) (to ∷ [])) }
         ensures stands { OnOk result (EachProcess (stands self.old) (λ p class d. stands self.new p class (sent_to (val_of m) (to ∷ []) d))) }
         ensures actions { OnOk result (EachProcess (stands self.old) (λ p class d. actions self.new ≡ actions self.old ++ sending d.me (val_of m) (to ∷ []) d.clock)) }
-        ensures front { OnErr result (EachProcess (stands self.old) (λ p class d. IsFront (actions self.old) (actions self.new) (sending d.me (val_of m) (to ∷ []) d.clock))) };
+        ensures prefix { OnErr result (EachProcess (stands self.old) (λ p class d. AddsPrefix (actions self.old) (actions self.new) (sending d.me (val_of m) (to ∷ []) d.clock))) };
 
     /// Prints a value.
     fn output(&mut self, v: &Value) -> Result<(), NoMemory>

@@ -21,7 +21,7 @@ use Rattle.da_lang.specs.declared.tree.Expr.TheVariants as ex
 use Rattle.da_lang.specs.declared.tree.GenTree.{GenTree}
 use Rattle.da_lang.specs.declared.tree.PatternTree.{PatternTree}
 use Rattle.da_lang.specs.declared.tree.PeerTree.{PeerTree}
-use Rattle.da_lang.specs.ExprMeaning.{Generator, Matching, Meaning, Meant, Peer, Range, Signed, agg_of, behind, chain_meant, cond_behind, elements, expr_meant, gen_meant, generator, gens_in, is_minus, is_sum, matching, meant, no_range, pattern_meant, peer_meant, peer_of, signed_of, signed_operand}
+use Rattle.da_lang.specs.ExprMeaning.{Generator, Matching, Meaning, Meant, Peer, Range, Signed, agg_of, scope_after_gens, chain_meant, cond_after, elements, expr_meant, gen_meant, generator, gens_in, is_minus, is_sum, matching, meant, no_range, pattern_meant, peer_meant, peer_of, signed_of, signed_operand}
 use Rattle.da_lang.specs.Scopes.{Scope, look}
 use Rattle.da_lang.proofs.MeantAt.{meant-Quant, meant-Or, meant-And, meant-Not, meant-Cmp, meant-Chain, meant-Name, meant-Comp, meant-Count, meant-Sum, meant-Min, meant-Max}
 use Rattle.da_lang.proofs.MeantAt.{signed_of-of}
@@ -114,7 +114,7 @@ NoMin x = (y z : Expr) → x ≡ ex.Min y z → ⊥
 abbrev pub NoMax : Expr → Type 0
 NoMax x = (y z : Expr) → x ≡ ex.Max y z → ⊥
 
-pub condition-Quant : (each : Bool) (gens : List GenTree) (cond : Option Expr) (scope : Scope Meaning) → (meant (ex.Quant each gens cond)).condition scope ≡ co.Quant each (gens_in (map generator gens) scope) (option_map (λ (c : Meant). c.condition (behind (map generator gens) scope)) (option_map meant cond))
+pub condition-Quant : (each : Bool) (gens : List GenTree) (cond : Option Expr) (scope : Scope Meaning) → (meant (ex.Quant each gens cond)).condition scope ≡ co.Quant each (gens_in (map generator gens) scope) (option_map (λ (c : Meant). c.condition (scope_after_gens (map generator gens) scope)) (option_map meant cond))
 condition-Quant each gens cond scope = ap (λ (m : Meant). m.condition scope) (meant-Quant each gens cond)
 
 pub condition-Or : (xs : List Expr) (scope : Scope Meaning) → (meant (ex.Or xs)).condition scope ≡ co.Or (map (λ (m : Meant). m.condition scope) (map meant xs))
@@ -205,7 +205,7 @@ operand_others x scope no_chain no_count no_sum no_min no_max =
 pub range-Name : (name : List ℕ) (scope : Scope Meaning) → (meant (ex.Name name)).range scope ≡ elements (look scope name) scope
 range-Name name scope = ap (λ (m : Meant). m.range scope) (meant-Name name)
 
-pub range-Comp : (x : Expr) (gens : List GenTree) (cond : Option Expr) (scope : Scope Meaning) → (meant (ex.Comp x gens cond)).range scope ≡ record { gens = gens_in (map generator gens) scope; cond = option_map (λ (c : Meant). c.condition (behind (map generator gens) scope)) (option_map meant cond); term = (meant x).term (behind (map generator gens) scope) }
+pub range-Comp : (x : Expr) (gens : List GenTree) (cond : Option Expr) (scope : Scope Meaning) → (meant (ex.Comp x gens cond)).range scope ≡ record { gens = gens_in (map generator gens) scope; cond = option_map (λ (c : Meant). c.condition (scope_after_gens (map generator gens) scope)) (option_map meant cond); term = (meant x).term (scope_after_gens (map generator gens) scope) }
 range-Comp x gens cond scope = ap (λ (m : Meant). m.range scope) (meant-Comp x gens cond)
 
 -- an expression of another form goes over nothing
@@ -243,7 +243,7 @@ pub ruleset ranges_at = (range-Name, range-Comp)
 
 -- a quantification, by its parts
 pub quant_is : (x : Expr) (each : Bool) (gens : List GenTree) (cond : Option Expr) (scope : Scope Meaning) (gs : List RGen) (guard : Option Cond) (result : Cond)
-    → x ≡ ex.Quant each gens cond → gs ≡ gens_in (map generator gens) scope → guard ≡ cond_behind (map generator gens) (option_map meant cond) scope
+    → x ≡ ex.Quant each gens cond → gs ≡ gens_in (map generator gens) scope → guard ≡ cond_after (map generator gens) (option_map meant cond) scope
     → result ≡ co.Quant each gs guard → result ≡ (meant x).condition scope
 quant_is x each gens cond scope gs guard result is all guarded made =
     made ∙ ap (λ hs. co.Quant each hs guard) all ∙ ap (λ g. co.Quant each (gens_in (map generator gens) scope) g) guarded
@@ -251,13 +251,13 @@ quant_is x each gens cond scope gs guard result is all guarded made =
 
 -- the rows of a comprehension
 pub comp_range : (x y z : Expr) (gens : List GenTree) (cond : Option Expr) (scope inner : Scope Meaning) (gs : List RGen) (guard : Option Cond)
-    → x ≡ ex.Comp y gens cond → z ≡ y → gs ≡ gens_in (map generator gens) scope → guard ≡ cond_behind (map generator gens) (option_map meant cond) scope → inner ≡ behind (map generator gens) scope
+    → x ≡ ex.Comp y gens cond → z ≡ y → gs ≡ gens_in (map generator gens) scope → guard ≡ cond_after (map generator gens) (option_map meant cond) scope → inner ≡ scope_after_gens (map generator gens) scope
     → ◌≡◌ {A = Range} (record { gens = gs; cond = guard; term = (meant z).term inner }) ((meant x).range scope)
 comp_range x y z gens cond scope inner gs guard is same found guarded there =
     ap (λ (w : Expr). record { gens = gs; cond = guard; term = (meant w).term inner }) same
     ∙ ap (λ s. record { gens = gs; cond = guard; term = (meant y).term s }) there
-    ∙ ap (λ hs. record { gens = hs; cond = guard; term = (meant y).term (behind (map generator gens) scope) }) found
-    ∙ ap (λ g. record { gens = gens_in (map generator gens) scope; cond = g; term = (meant y).term (behind (map generator gens) scope) }) guarded
+    ∙ ap (λ hs. record { gens = hs; cond = guard; term = (meant y).term (scope_after_gens (map generator gens) scope) }) found
+    ∙ ap (λ g. record { gens = gens_in (map generator gens) scope; cond = g; term = (meant y).term (scope_after_gens (map generator gens) scope) }) guarded
     ∙ sym (ap (λ (w : Expr). (meant w).range scope) is ∙ range-Comp y gens cond scope)
 
 -- a link more of a chain

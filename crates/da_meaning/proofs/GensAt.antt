@@ -4,7 +4,7 @@ use Rattle.std.specs.Option.{option_map}
 use Rattle.da_lang.specs.declared.query.RGen.{RGen}
 use Rattle.da_lang.specs.declared.tree.GenTree.{GenTree, out-GenTree}
 use Rattle.da_lang.specs.declared.tree.PatternTree.{PatternTree}
-use Rattle.da_lang.specs.ExprMeaning.{Meaning, Generator, behind, generator, gen_meant, gens_in, matching, peer_binds, peer_of, peer_pattern, source_meant, with_row}
+use Rattle.da_lang.specs.ExprMeaning.{Meaning, Generator, scope_after_gens, generator, gen_meant, gens_in, matching, peer_binds, peer_of, peer_pattern, source_meant, with_row}
 use Rattle.da_lang.specs.Scopes.{Scope}
 use Rattle.da_lang.proofs.MeantAt.{generator-of, peer_of-From, peer_of-To}
 use Rattle.da_meaning.proofs.SlotScopeLaws.{with_row-append}
@@ -28,19 +28,19 @@ pub ruleset gens_at = (gen-at, binds-at, with_row-append)
 
 pub ruleset peers_at = (peer_of-From, peer_of-To)
 
--- one generator behind others
-pub behind-more : (gs : List GenTree) (g : GenTree) (scope : Scope Meaning) → behind (map generator (gs ++ g ∷ [])) scope ≡ with_row (generator g).binds (behind (map generator gs) scope)
+-- one generator after others
+pub behind-more : (gs : List GenTree) (g : GenTree) (scope : Scope Meaning) → scope_after_gens (map generator (gs ++ g ∷ [])) scope ≡ with_row (generator g).binds (scope_after_gens (map generator gs) scope)
 behind-more [] g scope = refl
 behind-more (h ∷ gs) g scope = behind-more gs g (with_row (generator h).binds scope)
 
 pub gens_in-more : (gs : List GenTree) (g : GenTree) (scope : Scope Meaning)
-    → gens_in (map generator (gs ++ g ∷ [])) scope ≡ gens_in (map generator gs) scope ++ (generator g).gen_ (behind (map generator gs) scope) ∷ []
+    → gens_in (map generator (gs ++ g ∷ [])) scope ≡ gens_in (map generator gs) scope ++ (generator g).gen_ (scope_after_gens (map generator gs) scope) ∷ []
 gens_in-more [] g scope = refl
 gens_in-more (h ∷ gs) g scope = ap (λ others. (generator h).gen_ scope ∷ others) (gens_in-more gs g (with_row (generator h).binds scope))
 
 -- a generator more of a list: what was found, and the scope
 pub gens_step : (gs : List GenTree) (i : ℕ) (g : GenTree) (before middle : Scope Meaning) (found more : List RGen) (r : RGen)
-    → i < length gs → g ≡ get_or gs i g → found ≡ gens_in (map generator (take i gs)) before → middle ≡ behind (map generator (take i gs)) before
+    → i < length gs → g ≡ get_or gs i g → found ≡ gens_in (map generator (take i gs)) before → middle ≡ scope_after_gens (map generator (take i gs)) before
     → r ≡ (generator g).gen_ middle → more ≡ found ++ r ∷ [] → more ≡ gens_in (map generator (take (i + 1) gs)) before
 gens_step gs i g before middle found more r inside here so_far inner one grown =
     let next = taken gs i g inside here in
@@ -48,6 +48,6 @@ gens_step gs i g before middle found more r inside here so_far inner one grown =
     cc
 
 pub behind_step : (gs : List GenTree) (i : ℕ) (g : GenTree) (before middle after : Scope Meaning)
-    → i < length gs → g ≡ get_or gs i g → middle ≡ behind (map generator (take i gs)) before → after ≡ with_row (generator g).binds middle → after ≡ behind (map generator (take (i + 1) gs)) before
+    → i < length gs → g ≡ get_or gs i g → middle ≡ scope_after_gens (map generator (take i gs)) before → after ≡ with_row (generator g).binds middle → after ≡ scope_after_gens (map generator (take (i + 1) gs)) before
 behind_step gs i g before middle after inside here inner one =
-    one ∙ ap (λ s. with_row (generator g).binds s) inner ∙ sym (behind-more (take i gs) g before) ∙ ap (λ hs. behind (map generator hs) before) (sym (taken gs i g inside here))
+    one ∙ ap (λ s. with_row (generator g).binds s) inner ∙ sym (behind-more (take i gs) g before) ∙ ap (λ hs. scope_after_gens (map generator hs) before) (sym (taken gs i g inside here))

@@ -15,14 +15,14 @@ use Rattle.da_lang.specs.declared.tree.Expr.{Expr, out-Expr, roll-Expr, roll-out
 use Rattle.da_lang.specs.declared.tree.Expr.TheOpen.{Expr-F}
 use Rattle.da_lang.specs.declared.tree.Expr.TheVariants as ex
 use Rattle.da_lang.specs.declared.tree.GenTree.{GenTree}
-use Rattle.da_lang.specs.ExprMeaning.{Meaning, Meant, Tables, agg_of, all_outside, ask, behind, chain_outside, cond_behind, generator, gens_in, list_outside, meant, name_outside, one_outside, signed_of, signed_outside, two_outside}
+use Rattle.da_lang.specs.ExprMeaning.{Meaning, Meant, Tables, agg_of, all_outside, ask, scope_after_gens, chain_outside, cond_after, generator, gens_in, list_outside, meant, name_outside, one_outside, signed_of, signed_outside, two_outside}
 use Rattle.da_lang.specs.Scopes.{Scope, look}
 use Rattle.da_lang.proofs.MeantAt.{meant-Quant, meant-Or, meant-And, meant-Not, meant-Cmp, meant-Member, meant-Chain, meant-Int, meant-Text, meant-Truth, meant-Me, meant-Name, meant-Clock, meant-Range, meant-Tuple, meant-SetOf, meant-Comp, meant-Count, meant-Sum, meant-Min, meant-Max}
 use Rattle.da_meaning.specs.Alone.{IsAlone}
 use Rattle.da_meaning.proofs.CondsAt.{Layer, NoQuant, NoInt, NoText, NoTruth, NoMe, NoName, NoClock, NoComp, NoCount, NoSum, NoMin, NoMax, signed_is}
 use Rattle.da_lang.proofs.Taken.{taken}
 
-pub outside-Quant : (each : Bool) (gens : List GenTree) (cond : Option Expr) (scope : Scope Meaning) (tables : Tables) → ◌≡◌ {A = RExpr × Tables} ((meant (ex.Quant each gens cond)).outside scope tables) (ask (λ (s : Scope Meaning). qu.Quant each (gens_in (map generator gens) s) (cond_behind (map generator gens) (option_map meant cond) s)) scope tables)
+pub outside-Quant : (each : Bool) (gens : List GenTree) (cond : Option Expr) (scope : Scope Meaning) (tables : Tables) → ◌≡◌ {A = RExpr × Tables} ((meant (ex.Quant each gens cond)).outside scope tables) (ask (λ (s : Scope Meaning). qu.Quant each (gens_in (map generator gens) s) (cond_after (map generator gens) (option_map meant cond) s)) scope tables)
 outside-Quant each gens cond scope tables = ap (λ (m : Meant). m.outside scope tables) (meant-Quant each gens cond)
 
 pub outside-Or : (xs : List Expr) (scope : Scope Meaning) (tables : Tables) → ◌≡◌ {A = RExpr × Tables} ((meant (ex.Or xs)).outside scope tables) (list_outside re.Or (map meant xs) scope tables)
@@ -70,7 +70,7 @@ outside-Tuple xs scope tables = ap (λ (m : Meant). m.outside scope tables) (mea
 pub outside-SetOf : (xs : List Expr) (scope : Scope Meaning) (tables : Tables) → ◌≡◌ {A = RExpr × Tables} ((meant (ex.SetOf xs)).outside scope tables) (list_outside re.SetOf (map meant xs) scope tables)
 outside-SetOf xs scope tables = ap (λ (m : Meant). m.outside scope tables) (meant-SetOf xs)
 
-pub outside-Comp : (x : Expr) (gens : List GenTree) (cond : Option Expr) (scope : Scope Meaning) (tables : Tables) → ◌≡◌ {A = RExpr × Tables} ((meant (ex.Comp x gens cond)).outside scope tables) (ask (λ (s : Scope Meaning). qu.Comp ((meant x).term (behind (map generator gens) s)) (gens_in (map generator gens) s) (cond_behind (map generator gens) (option_map meant cond) s)) scope tables)
+pub outside-Comp : (x : Expr) (gens : List GenTree) (cond : Option Expr) (scope : Scope Meaning) (tables : Tables) → ◌≡◌ {A = RExpr × Tables} ((meant (ex.Comp x gens cond)).outside scope tables) (ask (λ (s : Scope Meaning). qu.Comp ((meant x).term (scope_after_gens (map generator gens) s)) (gens_in (map generator gens) s) (cond_after (map generator gens) (option_map meant cond) s)) scope tables)
 outside-Comp x gens cond scope tables = ap (λ (m : Meant). m.outside scope tables) (meant-Comp x gens cond)
 
 pub outside-Count : (x : Expr) (scope : Scope Meaning) (tables : Tables) → ◌≡◌ {A = RExpr × Tables} ((meant (ex.Count x)).outside scope tables) (ask (λ (s : Scope Meaning). qu.Agg (agg_of agg.Count ((meant x).range s) None)) scope tables)
@@ -89,7 +89,7 @@ pub ruleset outsides_at = (outside-Or, outside-And, outside-Not, outside-Cmp, ou
 
 pub ruleset alone_at = (outside-Quant, outside-Int, outside-Text, outside-Truth, outside-Me, outside-Name, outside-Clock, outside-Comp, outside-Count, outside-Sum, outside-Min, outside-Max)
 
--- one expression behind others: the values, and the tables
+-- one expression after others: the values, and the tables
 pub values_more : (xs : List Expr) (x : Expr) (scope : Scope Meaning) (tables : Tables)
     → (all_outside (map meant (xs ++ x ∷ [])) scope tables).0 ≡ (all_outside (map meant xs) scope tables).0 ++ ((meant x).outside scope (all_outside (map meant xs) scope tables).1).0 ∷ []
 values_more [] x scope tables = refl
@@ -150,15 +150,15 @@ link_tables_step links i link x scope before middle after inside here inner got 
     let all = link_tables_more (take i links) link scope before in
     cc
 
--- the tables behind a query
+-- the tables after a query
 abbrev with_query : Tables → Query → Tables
 with_query tables query = record { slots = tables.slots; queries = tables.queries ++ query ∷ [] }
 
 abbrev quant_query : Bool → List GenTree → Option Expr → Scope Meaning → Query
-quant_query each gens cond scope = qu.Quant each (gens_in (map generator gens) scope) (cond_behind (map generator gens) (option_map meant cond) scope)
+quant_query each gens cond scope = qu.Quant each (gens_in (map generator gens) scope) (cond_after (map generator gens) (option_map meant cond) scope)
 
 abbrev comp_query : Expr → List GenTree → Option Expr → Scope Meaning → Query
-comp_query y gens cond scope = qu.Comp ((meant y).term (behind (map generator gens) scope)) (gens_in (map generator gens) scope) (cond_behind (map generator gens) (option_map meant cond) scope)
+comp_query y gens cond scope = qu.Comp ((meant y).term (scope_after_gens (map generator gens) scope)) (gens_in (map generator gens) scope) (cond_after (map generator gens) (option_map meant cond) scope)
 
 pub asked_quant : {E : Type 0} (r : Result RExpr E) (x : Expr) (each : Bool) (gens : List GenTree) (cond : Option Expr) (scope : Scope Meaning) (before after : Tables) (query : Query)
     → x ≡ ex.Quant each gens cond → query ≡ quant_query each gens cond scope → OnOk r (after ≡ with_query before query) → OnOk r (after ≡ ((meant x).outside scope before).1)

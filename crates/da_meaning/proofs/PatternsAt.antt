@@ -70,7 +70,7 @@ binds-Tuple ps = ap binds (matching-Tuple ps)
 
 pub ruleset patterns_at = (pattern-Wild, pattern-Name, pattern-Int, pattern-Text, pattern-Truth, pattern-Me, pattern-Equal, pattern-Tuple, binds-Wild, binds-Name, binds-Int, binds-Text, binds-Truth, binds-Me, binds-Equal, binds-Tuple)
 
--- one pattern behind others
+-- one pattern after others
 pub patterns_in-more : (ps : List PatternTree) (p : PatternTree) (scope : Scope Meaning)
     → patterns_in (map matching (ps ++ p ∷ [])) scope ≡ patterns_in (map matching ps) scope ++ (matching p).pattern (with_row (flat_map (λ m. m.binds) (map matching ps)) scope) ∷ []
 patterns_in-more [] p scope = refl
@@ -84,7 +84,7 @@ pub binds-more : (ps : List PatternTree) (p : PatternTree) → flat_map (λ (m :
 binds-more ps p = ap (flat_map (λ (m : Matching). m.binds)) (map-append matching ps (p ∷ [])) ∙ flat_map-append (λ (m : Matching). m.binds) (map matching ps) (matching p ∷ [])
     ∙ ap (λ (names : List (List ℕ)). flat_map (λ (m : Matching). m.binds) (map matching ps) ++ names) (append-nil (matching p).binds)
 
--- the scope behind them
+-- the scope after them
 pub with_row-more : (ps : List PatternTree) (p : PatternTree) (scope : Scope Meaning)
     → with_row (flat_map (λ (m : Matching). m.binds) (map matching (ps ++ p ∷ []))) scope ≡ with_row (matching p).binds (with_row (flat_map (λ (m : Matching). m.binds) (map matching ps)) scope)
 with_row-more ps p scope = ap (λ names. with_row names scope) (binds-more ps p) ∙ with_row-append (flat_map (λ (m : Matching). m.binds) (map matching ps)) (matching p).binds scope

@@ -26,7 +26,7 @@ pub meaning_set : (old new : BTreeMap (Bor (List ℕ)) Meaning) (name : List ℕ
     → (q : List ℕ) → meaning_in new q ≡ (if bytes_eq name q then Some (meaning_of m) else meaning_in old q)
 meaning_set old new name m updates q = ap (option_map meaning_of) (btree_map_updates_str name old new (Some m) updates q) ∙ mapped (bytes_eq name q) m _
 
--- the names behind those of the map are gone through
+-- the names after those of the map are gone through
 look-append : {A : Type 0} (s t : Scope A) (q : List ℕ) → look (s ++ t) q ≡ option_or (look s q) (look t q)
 look-append [] t q = refl
 look-append (e ∷ s) t q = ap (λ o. if bytes_eq e.0 q then Some e.1 else o) (look-append s t q) ∙ either (bytes_eq e.0 q) e.1 (look s q) (look t q)
@@ -38,8 +38,8 @@ look-append (e ∷ s) t q = ap (λ o. if bytes_eq e.0 q then Some e.1 else o) (l
 shown-append : (front names : List Named) → shown (front ++ names) ≡ shown names ++ shown front
 shown-append front names = ap (map entry) (reverse-append front names) ∙ map-append entry (reverse names) (reverse front)
 
-pub behind_index : (slice names : List Named) (indexed : ℕ) → slice ≡ names → take (length slice - indexed) (drop indexed slice) ≡ drop indexed names
-behind_index slice names indexed is = take_all (length slice - indexed) (drop indexed slice) (omega (arith, length-drop indexed slice)) ∙ ap (drop indexed) is
+pub after_index : (slice names : List Named) (indexed : ℕ) → slice ≡ names → take (length slice - indexed) (drop indexed slice) ≡ drop indexed names
+after_index slice names indexed is = take_all (length slice - indexed) (drop indexed slice) (omega (arith, length-drop indexed slice)) ∙ ap (drop indexed) is
 
 pub looked : (names : List Named) (parts : ℕ) (index : BTreeMap (Bor (List ℕ)) Meaning) (indexed : ℕ) (inner : List Named) (q : List ℕ) (outer found : Option means.Meaning) → IsKept names parts index indexed
     → inner ≡ drop indexed names → outer ≡ meaning_in index q → found ≡ option_or (look (shown inner) q) outer → found ≡ look (shown names) q

@@ -3,7 +3,7 @@ ghost use Rattle.da_lang.specs.declared.query.Cond.TheVariants as co;
 ghost use Rattle.da_lang.specs.declared.query.Operand.TheVariants as od;
 ghost use Rattle.da_lang.specs.declared.query.Term.TheVariants.{Foreign};
 ghost use Rattle.da_lang.specs.declared.tree.ChainTree.{out-ChainTree};
-ghost use Rattle.da_lang.specs.ExprMeaning.{Meant, agg_of, behind, cond_behind, elements, generator, gens_in, is_minus, is_sum, meant, signed_of, signed_operand};
+ghost use Rattle.da_lang.specs.ExprMeaning.{Meant, agg_of, scope_after_gens, cond_after, elements, generator, gens_in, is_minus, is_sum, meant, signed_of, signed_operand};
 ghost use Rattle.da_lang.specs.Scopes.{look};
 ghost use Rattle.da_meaning.specs.MeaningView.{range_of};
 ghost use Rattle.std.specs.List.{list_all};
@@ -85,7 +85,7 @@ fn quantified(each: bool, rows: QueryRows<'_>) -> Cond
     }
 }
 
-/// The generators of a query with the condition behind them, and the names in scope there.
+/// The generators of a query with the condition after them, and the names in scope there.
 #[derive(Debug, Drop)]
 pub struct QueryRows<'t> {
     pub gens: List<RGen>,
@@ -93,7 +93,7 @@ pub struct QueryRows<'t> {
     pub inner: Scope<'t>,
 }
 
-/// The generators of a query and the condition behind them, where there is one.
+/// The generators of a query and the condition after them, where there is one.
 #[cycle(conditions)]
 pub fn guarded<'t>(
     alloc: Global,
@@ -102,8 +102,8 @@ pub fn guarded<'t>(
     scope: &Scope<'t>,
 ) -> Result<QueryRows<'t>, NoMemory>
     ensures gens { IfOk result (λ rows. rows.gens ≡ gens_in (map generator gens.now) scope.now) }
-    ensures cond { IfOk result (λ rows. rows.cond ≡ cond_behind (map generator gens.now) (option_map meant cond.now) scope.now) }
-    ensures inner { IfOk result (λ rows. rows.inner ≡ behind (map generator gens.now) scope.now) }
+    ensures cond { IfOk result (λ rows. rows.cond ≡ cond_after (map generator gens.now) (option_map meant cond.now) scope.now) }
+    ensures inner { IfOk result (λ rows. rows.inner ≡ scope_after_gens (map generator gens.now) scope.now) }
 {
     let opened = opened(alloc, gens, scope)?;
     let cond = guard(alloc, cond, &opened.inner)?;

@@ -1,7 +1,7 @@
 //! Expressions outside queries.
 ghost use Rattle.da_lang.specs.declared.program.RExpr.TheVariants.{Ask};
 ghost use Rattle.da_lang.specs.declared.query.Query.TheVariants as query;
-ghost use Rattle.da_lang.specs.ExprMeaning.{agg_of, all_outside, behind, cond_behind, generator, gens_in, meant, name_outside, signed_of, signed_outside};
+ghost use Rattle.da_lang.specs.ExprMeaning.{agg_of, all_outside, scope_after_gens, cond_after, generator, gens_in, meant, name_outside, signed_of, signed_outside};
 ghost use Rattle.da_meaning.specs.Alone.{IsAlone};
 ghost use Rattle.da_meaning.specs.MeaningView.{meaning_of};
 ghost use Rattle.std.specs.Option.{option_map};
@@ -177,7 +177,7 @@ fn quantified<'t>(
     cond: &'t Option<Boxed<Expr>>,
     scope: &Scope<'t>,
 ) -> Result<Query, NoMemory>
-    ensures { IfOk result (λ found. found ≡ query.Quant each (gens_in (map generator gens.now) scope.now) (cond_behind (map generator gens.now) (option_map meant cond.now) scope.now)) }
+    ensures { IfOk result (λ found. found ≡ query.Quant each (gens_in (map generator gens.now) scope.now) (cond_after (map generator gens.now) (option_map meant cond.now) scope.now)) }
 {
     let rows = guarded(alloc, cond, gens, scope)?;
     let gens = rows.gens;
@@ -193,7 +193,7 @@ fn comprehended<'t>(
     cond: &'t Option<Boxed<Expr>>,
     scope: &Scope<'t>,
 ) -> Result<Query, NoMemory>
-    ensures { IfOk result (λ found. found ≡ query.Comp ((meant x.now).term (behind (map generator gens.now) scope.now)) (gens_in (map generator gens.now) scope.now) (cond_behind (map generator gens.now) (option_map meant cond.now) scope.now)) }
+    ensures { IfOk result (λ found. found ≡ query.Comp ((meant x.now).term (scope_after_gens (map generator gens.now) scope.now)) (gens_in (map generator gens.now) scope.now) (cond_after (map generator gens.now) (option_map meant cond.now) scope.now)) }
 {
     let rows = guarded(alloc, cond, gens, scope)?;
     let rows = with_term(alloc, x.get(), rows)?;

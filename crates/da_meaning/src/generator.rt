@@ -1,5 +1,5 @@
 //! Generators.
-ghost use Rattle.da_lang.specs.ExprMeaning.{behind, generator, gens_in, is_apt, misplaced, peer_binds, peer_of, peer_pattern, slot_source, source_meant, with_row};
+ghost use Rattle.da_lang.specs.ExprMeaning.{scope_after_gens, generator, gens_in, is_apt, misplaced, peer_binds, peer_of, peer_pattern, slot_source, source_meant, with_row};
 ghost use Rattle.da_meaning.specs.MeaningView.{meaning_of};
 ghost use Rattle.std.specs.Option.{option_map};
 ghost use Rattle.std.specs.Prelude.{◌≡◌, IfOk, OnOk, if◌then◌else◌, map};
@@ -10,21 +10,21 @@ use da_lang::{GenTree, Pattern, PeerTree, RGen, Source, SourceTree, Term};
 use da_values::{List, NoMemory};
 use std::alloc::Global;
 
-/// Generators, with the names in scope behind them.
+/// Generators, with the names in scope after them.
 #[derive(Debug, Drop)]
 pub struct Front<'t> {
     pub gens: List<RGen>,
     pub inner: Scope<'t>,
 }
 
-/// Generators within this scope, and the scope behind them.
+/// Generators within this scope, and the scope after them.
 pub fn opened<'t>(
     alloc: Global,
     gens: &'t List<GenTree>,
     scope: &Scope<'t>,
 ) -> Result<Front<'t>, NoMemory>
     ensures gens { IfOk result (λ opened. opened.gens ≡ gens_in (map generator gens.now) scope.now) }
-    ensures inner { IfOk result (λ opened. opened.inner ≡ behind (map generator gens.now) scope.now) }
+    ensures inner { IfOk result (λ opened. opened.inner ≡ scope_after_gens (map generator gens.now) scope.now) }
 {
     let mut inner = scope.copy(alloc)?;
     let gens = generators(alloc, gens.as_slice(), &mut inner)?;
@@ -38,7 +38,7 @@ fn generators<'t>(
     scope: &mut Scope<'t>,
 ) -> Result<List<RGen>, NoMemory>
     ensures gens { IfOk result (λ found. found ≡ gens_in (map generator gens.now) scope.old) }
-    ensures scope { OnOk result (scope.new ≡ behind (map generator gens.now) scope.old) }
+    ensures scope { OnOk result (scope.new ≡ scope_after_gens (map generator gens.now) scope.old) }
 {
     let mut found = List::new(alloc);
     for g in gens {

@@ -174,7 +174,7 @@ impl<'t> Scope<'t> {
         Ok(())
     }
 
-    /// What a line of `main` makes comes into scope, behind so many processes: one, or with a count so many. The limit
+    /// What a line of `main` makes comes into scope, after so many processes: one, or with a count so many. The limit
     /// of processes allows them.
     pub fn enter_made(
         &mut self,

@@ -9,7 +9,7 @@ use Rattle.da_lang.specs.Deeds.{Deed}
 use Rattle.da_lang.specs.ExprNames.{Role}
 use Rattle.da_lang.specs.NameRules as rules_of
 use Rattle.da_lang.specs.Scopes.{Scope, at_lines}
-use Rattle.da_names.specs.ClassRules.{body_refusals, deed_refusals, label_refusals, member_refusals, deeds_by, label_names, missing_at, lines_behind, no_run_line}
+use Rattle.da_names.specs.ClassRules.{body_refusals, deed_refusals, label_refusals, member_refusals, deeds_by, label_names, missing_at, lines_after, no_run_line}
 use Rattle.da_bodies.specs.Repeats.{is_declared}
 use Rattle.da_bodies.specs.Telling.{Refusal, telling}
 use Rattle.da_bodies.proofs.AgainLaws.{at_lines-append}
@@ -126,7 +126,7 @@ module _ (f : Option Refusal) (c : ClassTree) where
       telling-append f (unknown ++ arity) (labels ++ missing) ∙ ap (λ g. telling g (labels ++ missing)) (tells_two f unknown arity) ∙ tells_two (telling (telling f unknown) arity) labels missing
 
   member_told : (line : ℕ) (bs : List Body) → telling f (member_refusals line bs)
-      ≡ tells f (at_lines refusal.Twice (rules_of.again (filter_map rules_of.named_body bs)) ∷ at_lines refusal.Twice (lines_behind is_setup bs) ∷ at_lines refusal.Twice (lines_behind is_run bs) ∷ at_lines refusal.NoRun (no_run_line line bs) ∷ [])
+      ≡ tells f (at_lines refusal.Twice (rules_of.again (filter_map rules_of.named_body bs)) ∷ at_lines refusal.Twice (lines_after is_setup bs) ∷ at_lines refusal.Twice (lines_after is_run bs) ∷ at_lines refusal.NoRun (no_run_line line bs) ∷ [])
   unfolding member_refusals
   member_told line bs = tells_four f _ _ _ _
 
@@ -172,8 +172,8 @@ class_told f c scope g h i j last same first second third fourth fifth =
     (at_lines refusal.Twice (rules_of.again (label_names ds)))
     (at_lines refusal.Unknown (flat_map (missing_at (is_declared (label_names ds))) bs))
     (at_lines refusal.Twice (rules_of.again (filter_map rules_of.named_body bs)))
-    (at_lines refusal.Twice (lines_behind is_setup bs))
-    (at_lines refusal.Twice (lines_behind is_run bs))
+    (at_lines refusal.Twice (lines_after is_setup bs))
+    (at_lines refusal.Twice (lines_after is_run bs))
     (at_lines refusal.NoRun (no_run_line c.line bs))
     (at_lines refusal.Recursive (flat_map (rules_of.recursive_in c) (rules_of.method_names c)))
     (at_lines refusal.Twice (rules_of.twice_in c))
@@ -183,4 +183,4 @@ class_told f c scope g h i j last same first second third fourth fifth =
     (third ∙ deed_told h c ds bs)
     (fourth ∙ member_told i c c.line bs)
     fifth
-    (λ k. twice_lines k (rules_of.variables_again c) (rules_of.methods_again c) (rules_of.behind_first is_setup c) (rules_of.behind_first is_run c) (rules_of.labels_again c) (flat_map rules_of.named_again bs) (flat_map rules_of.params_again bs))
+    (λ k. twice_lines k (rules_of.variables_again c) (rules_of.methods_again c) (rules_of.after_first is_setup c) (rules_of.after_first is_run c) (rules_of.labels_again c) (flat_map rules_of.named_again bs) (flat_map rules_of.params_again bs))

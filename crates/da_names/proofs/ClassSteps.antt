@@ -13,7 +13,7 @@ use Rattle.da_lang.specs.ClassParts.{Declared, Place, Body, Variable, is_run, va
 use Rattle.da_lang.specs.Scopes.{at_lines}
 use Rattle.da_bodies.specs.declared.bodies.Body as code
 use Rattle.da_bodies.specs.BodyView.{body_view, place_view}
-use Rattle.da_names.specs.ClassRules.{bodies_in, has_some, lines_behind, no_run_line, those, variable_name}
+use Rattle.da_names.specs.ClassRules.{bodies_in, has_some, lines_after, no_run_line, those, variable_name}
 use Rattle.da_bodies.specs.Telling.{Refusal, telling}
 use Rattle.da_bodies.proofs.AgainLaws.{if_any, at_lines-append, tells_by}
 use Rattle.da_bodies.proofs.TellingLaws.{telling-append, telling-nil}
@@ -67,7 +67,7 @@ told_more p first found last xs i x within is told step =
     ∙ ap (λ rs. telling first (flat_map p (take i xs) ++ rs)) (sym (append-nil (p x)))
     ∙ ap (telling first) (sym (ap (flat_map p) (one_more xs i x within is) ∙ flat_map-append p (take i xs) (x ∷ [])))
 
--- a loop that tells of those behind the first
+-- a loop that tells of those after the first
 zero_by : (n : ℕ) (b : Bool) → (suc n == 0) ≡ b → (suc n == 0) ≡ false
 zero_by n true e = absurd (omega (arith, eqb-true (suc n) 0 e))
 zero_by n false e = e
@@ -75,17 +75,17 @@ zero_by n false e = e
 not_zero : (n : ℕ) → (suc n == 0) ≡ false
 not_zero n = zero_by n (suc n == 0) refl
 
-behind_by : (b : Body) (bs : List Body) → map (λ (x : Body). x.line) (drop 1 (bs ++ b ∷ [])) ≡ map (λ (x : Body). x.line) (drop 1 bs) ++ if_any (not (length bs == 0)) b.line
-behind_by b [] = refl
-behind_by b (x ∷ xs) = map-append (λ (y : Body). y.line) xs (b ∷ []) ∙ ap (λ c. map (λ (y : Body). y.line) xs ++ if_any (not c) b.line) (sym (not_zero (length xs)))
+after_by : (b : Body) (bs : List Body) → map (λ (x : Body). x.line) (drop 1 (bs ++ b ∷ [])) ≡ map (λ (x : Body). x.line) (drop 1 bs) ++ if_any (not (length bs == 0)) b.line
+after_by b [] = refl
+after_by b (x ∷ xs) = map-append (λ (y : Body). y.line) xs (b ∷ []) ∙ ap (λ c. map (λ (y : Body). y.line) xs ++ if_any (not c) b.line) (sym (not_zero (length xs)))
 
 last_of : (test : Place → Bool) (bs : List Body) (b : Body) (t : Bool) → t ≡ test b.place → those test (bs ++ b ∷ []) ≡ those test bs ++ (if t then b ∷ [] else [])
 last_of test bs b t is = filter-append (λ x. test x.place) bs (b ∷ []) ∙ ap (λ u. those test bs ++ (if u then b ∷ [] else [])) (sym is)
 
-behind_last : (test : Place → Bool) (bs : List Body) (b : Body) (t : Bool) → t ≡ test b.place → lines_behind test (bs ++ b ∷ []) ≡ lines_behind test bs ++ if_any (t && has_some test bs) b.line
-behind_last test bs b true is = ap (λ xs. map (λ (x : Body). x.line) (drop 1 xs)) (last_of test bs b true is) ∙ behind_by b (those test bs)
-behind_last test bs b false is =
-    ap (λ xs. map (λ (x : Body). x.line) (drop 1 xs)) (last_of test bs b false is ∙ append-nil (those test bs)) ∙ sym (append-nil (lines_behind test bs))
+after_last : (test : Place → Bool) (bs : List Body) (b : Body) (t : Bool) → t ≡ test b.place → lines_after test (bs ++ b ∷ []) ≡ lines_after test bs ++ if_any (t && has_some test bs) b.line
+after_last test bs b true is = ap (λ xs. map (λ (x : Body). x.line) (drop 1 xs)) (last_of test bs b true is) ∙ after_by b (those test bs)
+after_last test bs b false is =
+    ap (λ xs. map (λ (x : Body). x.line) (drop 1 xs)) (last_of test bs b false is ∙ append-nil (those test bs)) ∙ sym (append-nil (lines_after test bs))
 
 some_by : (b : Body) (bs : List Body) → not (length (bs ++ b ∷ []) == 0) ≡ true
 some_by b [] = refl
@@ -100,20 +100,20 @@ unfolding bodies_in
 more_bodies bs i x within is = ap (map body_view) (one_more bs i x within is) ∙ map-append body_view (take i bs) (x ∷ [])
 
 pub behind_more : (test : Place → Bool) (first found last : Option Refusal) (bs : List code.Body) (i : ℕ) (x : code.Body) (t s : Bool) → i < length bs → x ≡ get_or bs i x
-    → found ≡ telling first (at_lines Twice (lines_behind test (bodies_in (take i bs))))
+    → found ≡ telling first (at_lines Twice (lines_after test (bodies_in (take i bs))))
     → s ≡ has_some test (bodies_in (take i bs))
     → t ≡ test (place_view x.place)
     → last ≡ (if t && s then telling found (record { kind = Twice; line = x.line } ∷ []) else found)
-    → last ≡ telling first (at_lines Twice (lines_behind test (bodies_in (take (i + 1) bs))))
+    → last ≡ telling first (at_lines Twice (lines_after test (bodies_in (take (i + 1) bs))))
 behind_more test first found last bs i x t s within is told some tests step =
     let before = bodies_in (take i bs) in
     let b = body_view x in
     tells_by Twice found last x.line (t && s) step
     ∙ ap (λ f. telling f (at_lines Twice (if_any (t && s) x.line))) told
-    ∙ sym (telling-append first (at_lines Twice (lines_behind test before)) (at_lines Twice (if_any (t && s) x.line)))
-    ∙ ap (telling first) (sym (at_lines-append Twice (lines_behind test before) (if_any (t && s) x.line)))
-    ∙ ap (λ u. telling first (at_lines Twice (lines_behind test before ++ if_any (t && u) x.line))) some
-    ∙ ap (λ ls. telling first (at_lines Twice ls)) (sym (behind_last test before b t tests) ∙ ap (lines_behind test) (sym (more_bodies bs i x within is)))
+    ∙ sym (telling-append first (at_lines Twice (lines_after test before)) (at_lines Twice (if_any (t && s) x.line)))
+    ∙ ap (telling first) (sym (at_lines-append Twice (lines_after test before) (if_any (t && s) x.line)))
+    ∙ ap (λ u. telling first (at_lines Twice (lines_after test before ++ if_any (t && u) x.line))) some
+    ∙ ap (λ ls. telling first (at_lines Twice ls)) (sym (after_last test before b t tests) ∙ ap (lines_after test) (sym (more_bodies bs i x within is)))
 
 pub some_more : (test : Place → Bool) (bs : List code.Body) (i : ℕ) (x : code.Body) (t s now : Bool) → i < length bs → x ≡ get_or bs i x → s ≡ has_some test (bodies_in (take i bs)) → t ≡ test (place_view x.place) → now ≡ (t || s) → now ≡ has_some test (bodies_in (take (i + 1) bs))
 some_more test bs i x t s now within is some tests step =
@@ -143,15 +143,15 @@ pub no_run_told : (line : ℕ) (bs : List Body) (found last : Option Refusal) (z
 no_run_told line bs found last z is step =
     tells_by NoRun found last line (not z) step ∙ ap (λ ls. telling found (at_lines NoRun ls)) (none_by (length (those is_run bs) == 0) z line is)
 
-pub behind_none : (test : Place → Bool) (found : Option Refusal) → found ≡ telling found (at_lines Twice (lines_behind test (bodies_in [])))
+pub after_none : (test : Place → Bool) (found : Option Refusal) → found ≡ telling found (at_lines Twice (lines_after test (bodies_in [])))
 unfolding bodies_in
-behind_none test found = sym (telling-nil found)
+after_none test found = sym (telling-nil found)
 
 pub some_none : (test : Place → Bool) → false ≡ has_some test (bodies_in [])
 unfolding bodies_in
 some_none test = refl
 
--- what is told by two tests
+-- what is reported by two tests
 pub when_both : {A : Type 0} (t s : Bool) (x y last : A) → t ≡ true → s ≡ true → last ≡ x → last ≡ (if t && s then x else y)
 when_both t s x y last p q is = is ∙ sym (ap (λ u. if u && s then x else y) p ∙ ap (λ u. if u then x else y) q)
 

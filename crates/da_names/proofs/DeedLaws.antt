@@ -1,4 +1,4 @@
--- What is told of statements, one by one.
+-- What is reported of statements, one by one.
 use Rattle.std.specs.Prelude.{◌≡◌, refl, ℕ, ◌+◌, ◌<◌, length, take, Bool, true, false, ◌||◌, List, [], ◌∷◌, ◌++◌, map, Option}
 use Rattle.std.specs.List.{list_any}
 use Rattle.std.proofs.Common.{◌∙◌, ◌⊎◌, sym, ap, get_or}

@@ -1,4 +1,4 @@
--- The labels that are declared again, and those behind `at` that are not there.
+-- The labels that are declared again, and those after `at` that are not there.
 use Rattle.std.specs.Prelude.{◌≡◌, refl, ℕ, Bool, true, false, not, ◌&&◌, if◌then◌else◌, List, [], ◌∷◌, flat_map, Option}
 use Rattle.std.specs.List.{list_all}
 use Rattle.std.proofs.Common.{◌∙◌, sym, ap}

@@ -1,4 +1,4 @@
--- What is told of `main`, line by line.
+-- What is reported of `main`, line by line.
 use Rattle.std.specs.Prelude.{◌≡◌, refl, ℕ, ◌+◌, ◌<◌, ◌==◌, ◌||◌, length, take, Bool, true, false, not, if◌then◌else◌, List, [], ◌∷◌, ◌++◌, map, flat_map, filter_map, Option, Some, None, is_none, is_some, option_map, option_and_then, option_to_list}
 use Rattle.std.specs.List.{list_any, fold}
 use Rattle.std.specs.Option.{option_or}

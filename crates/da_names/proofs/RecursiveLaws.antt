@@ -1,4 +1,4 @@
--- Which calls lead back: what is told of the first methods of all names is told of all methods.
+-- Which calls lead back: what is reported of the first methods of all names is reported of all methods.
 use Rattle.std.proofs.Common.{◌≡◌, ◌∙◌, ℕ, zero, suc, ◌+◌, ◌<◌, Bool, true, false, List, [], ◌∷◌, ◌++◌, length, map, take, get_or, find, flat_map, cond, Option, Some, None, Contains, subst, sym, refl, ap, ⊎_elim, arith}
 use Rattle.std.specs.List.{slice_get}
 use Rattle.std.specs.Option.{option_and_then}

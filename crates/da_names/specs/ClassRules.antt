@@ -42,7 +42,7 @@ param_names line params = map (λ (p : Param). (p.name, line)) params
 abbrev pub label_names : List Deed → List Declared
 label_names ds = filter_map (λ d. labelled d.line d.does) ds
 
--- labels behind the patterns of a handler
+-- labels after the patterns of a handler
 abbrev pub names_at : ℕ → List (List ℕ) → List Declared
 names_at line names = map (λ name. (name, line)) names
 
@@ -59,7 +59,7 @@ body_refusals c scope b =
 abbrev pub deeds_by : List Body → List Deed
 deeds_by bs = flat_map (λ b. deeds b.stmts) bs
 
--- the labels that are declared again, and those behind `at` that are not among these
+-- the labels that are declared again, and those after `at` that are not among these
 unfoldable pub label_refusals : List Declared → List Body → List Refusal
 label_refusals labels bs = at_lines refusal.Twice (again labels) ++ at_lines refusal.Unknown (flat_map (missing_at (is_declared labels)) bs)
 
@@ -75,8 +75,8 @@ is_once once.Run place = is_run place
 abbrev pub those : (Place → Bool) → List Body → List Body
 those test bs = filter (λ b. test b.place) bs
 
-abbrev pub lines_behind : (Place → Bool) → List Body → List ℕ
-lines_behind test bs = map (λ b. b.line) (drop 1 (those test bs))
+abbrev pub lines_after : (Place → Bool) → List Body → List ℕ
+lines_after test bs = map (λ b. b.line) (drop 1 (those test bs))
 
 abbrev pub has_some : (Place → Bool) → List Body → Bool
 has_some test bs = not (length (those test bs) == 0)
@@ -86,5 +86,5 @@ no_run_line line bs = if length (those is_run bs) == 0 then line ∷ [] else []
 
 unfoldable pub member_refusals : ℕ → List Body → List Refusal
 member_refusals line bs =
-    at_lines refusal.Twice (again (filter_map named_body bs)) ++ at_lines refusal.Twice (lines_behind is_setup bs) ++ at_lines refusal.Twice (lines_behind is_run bs)
+    at_lines refusal.Twice (again (filter_map named_body bs)) ++ at_lines refusal.Twice (lines_after is_setup bs) ++ at_lines refusal.Twice (lines_after is_run bs)
     ++ at_lines refusal.NoRun (no_run_line line bs)

@@ -13,14 +13,14 @@ ghost use Rattle.std.specs.Option.{option_to_list};
 ghost use Rattle.std.specs.Prelude.{◌≡◌, length, not, OnOk};
 
 use crate::deeds::{Deed, Doing, Said, deeds_of_body};
-use da_bodies::Least;
+use da_bodies::Earliest;
 use da_calls::CallGraph;
 use da_lang::ScopeKind;
 use da_values::NoMemory;
 use std::alloc::Global;
 
 /// Tells the lines of the calls of no method.
-pub fn tell_unknown(deeds: &[Deed<'_>], graph: &CallGraph<'_>, least: &mut Least<ScopeKind>)
+pub fn tell_unknown(deeds: &[Deed<'_>], graph: &CallGraph<'_>, least: &mut Earliest<ScopeKind>)
     requires { IsCallGraph graph.now }
     ensures { least.new ≡ telling least.old (at_lines Unknown (lines_where (λ d. calls_none_of (class_in graph.now) d.does) (deeds_in deeds.now))) }
 {
@@ -32,7 +32,7 @@ pub fn tell_unknown(deeds: &[Deed<'_>], graph: &CallGraph<'_>, least: &mut Least
 }
 
 /// Tells the lines of the calls with another number of arguments than their method has parameters.
-pub fn tell_misfits(deeds: &[Deed<'_>], graph: &CallGraph<'_>, least: &mut Least<ScopeKind>)
+pub fn tell_misfits(deeds: &[Deed<'_>], graph: &CallGraph<'_>, least: &mut Earliest<ScopeKind>)
     requires { IsCallGraph graph.now }
     ensures { least.new ≡ telling least.old (at_lines Arity (lines_where (λ d. misfits_of (class_in graph.now) d d.does) (deeds_in deeds.now))) }
 {
@@ -44,7 +44,7 @@ pub fn tell_misfits(deeds: &[Deed<'_>], graph: &CallGraph<'_>, least: &mut Least
 }
 
 /// Tells the lines of the yield points, and of the calls of methods that yield.
-pub fn tell_yields(deeds: &[Deed<'_>], graph: &CallGraph<'_>, least: &mut Least<ScopeKind>)
+pub fn tell_yields(deeds: &[Deed<'_>], graph: &CallGraph<'_>, least: &mut Earliest<ScopeKind>)
     requires { IsCallGraph graph.now }
     ensures { least.new ≡ telling least.old (at_lines Yield (lines_where (λ d. yields_by (class_in graph.now) d.does) (deeds_in deeds.now))) }
 {
@@ -59,7 +59,7 @@ pub fn tell_yields(deeds: &[Deed<'_>], graph: &CallGraph<'_>, least: &mut Least<
 pub fn tell_recursive(
     alloc: Global,
     graph: &CallGraph<'_>,
-    least: &mut Least<ScopeKind>,
+    least: &mut Earliest<ScopeKind>,
 ) -> Result<(), NoMemory>
     requires { IsCallGraph graph.now }
     ensures { OnOk result (least.new ≡ telling least.old (at_lines Recursive (flat_map (recursive_in (class_in graph.now)) (method_names (class_in graph.now))))) }
@@ -76,7 +76,7 @@ fn tell_round(
     holder: &[u8],
     deeds: &[Deed<'_>],
     graph: &CallGraph<'_>,
-    least: &mut Least<ScopeKind>,
+    least: &mut Earliest<ScopeKind>,
 )
     requires graph { IsCallGraph graph.now }
     requires deeds { deeds_in deeds.now ≡ deeds_of_method (class_in graph.now) holder.now }

@@ -6,7 +6,7 @@ ghost use Rattle.da_lang.specs.NameRules.{class_refusals, params_again, setup_in
 ghost use Rattle.da_lang.specs.Scopes.{at_lines};
 ghost use Rattle.da_bodies.specs.BodyView.{body_view, place_view};
 ghost use Rattle.da_calls.specs.CallGraph.{IsCallGraph, class_in};
-ghost use Rattle.da_names.specs.ClassRules.{bodies_in, body_refusals, deed_refusals, deeds_by, has_some, is_once, lines_behind, member_refusals};
+ghost use Rattle.da_names.specs.ClassRules.{bodies_in, body_refusals, deed_refusals, deeds_by, has_some, is_once, lines_after, member_refusals};
 ghost use Rattle.da_names.specs.DeedView.{deeds_in};
 ghost use Rattle.da_bodies.specs.Telling.{telling};
 ghost use Rattle.da_bodies.specs.Told.{entered_each};
@@ -18,7 +18,7 @@ use crate::declared::{methods_of, params_of, variables_of};
 use crate::deed_rules::tell_early;
 use crate::deeds::{Deed, deeds_of_body, put_body};
 use crate::labels::{tell_labels, tell_named};
-use da_bodies::{Body, Least, Names, Place, Role, body_of, check_body, enter_all, tell_again};
+use da_bodies::{Body, Earliest, Names, Place, Role, body_of, check_body, enter_all, tell_again};
 use da_calls::CallGraph;
 use da_lang::{ClassTree, ScopeKind};
 use da_values::{List, NoMemory};
@@ -28,7 +28,7 @@ use std::alloc::Global;
 pub fn check_class(
     alloc: Global,
     class: &ClassTree,
-    least: &mut Least<ScopeKind>,
+    least: &mut Earliest<ScopeKind>,
 ) -> Result<(), NoMemory>
     ensures { OnOk result (least.new ≡ telling least.old (class_refusals class.now)) }
 {
@@ -40,7 +40,7 @@ pub fn check_class(
 fn check_graph(
     alloc: Global,
     graph: &CallGraph<'_>,
-    least: &mut Least<ScopeKind>,
+    least: &mut Earliest<ScopeKind>,
 ) -> Result<(), NoMemory>
     requires { IsCallGraph graph.now }
     ensures { OnOk result (least.new ≡ telling least.old (class_refusals (class_in graph.now))) }
@@ -73,7 +73,7 @@ fn enter_variables<'t>(
     alloc: Global,
     class: &'t ClassTree,
     names: &mut Names<'t>,
-    least: &mut Least<ScopeKind>,
+    least: &mut Earliest<ScopeKind>,
 ) -> Result<(), NoMemory>
     ensures told { OnOk result (least.new ≡ telling least.old (at_lines Twice (variables_again class.now))) }
     ensures entered { OnOk result (names.new ≡ entered_each ClassVariable (map (λ v. v.name) (variables_in class.now)) names.old) }
@@ -89,7 +89,7 @@ fn check_bodies<'t>(
     bodies: &[Body<'t>],
     graph: &CallGraph<'_>,
     names: &mut Names<'t>,
-    least: &mut Least<ScopeKind>,
+    least: &mut Earliest<ScopeKind>,
 ) -> Result<(), NoMemory>
     requires { IsCallGraph graph.now }
     ensures told { OnOk result (least.new ≡ telling least.old (flat_map (body_refusals (class_in graph.now) names.old) (bodies_in bodies.now))) }
@@ -107,7 +107,7 @@ fn check_one<'t>(
     body: Body<'t>,
     graph: &CallGraph<'_>,
     names: &mut Names<'t>,
-    least: &mut Least<ScopeKind>,
+    least: &mut Earliest<ScopeKind>,
 ) -> Result<(), NoMemory>
     requires { IsCallGraph graph.now }
     ensures told { OnOk result (least.new ≡ telling least.old (body_refusals (class_in graph.now) names.old (body_view body.entry))) }
@@ -121,7 +121,11 @@ fn check_one<'t>(
 }
 
 /// Tells the parameters of a body that are declared again.
-fn tell_params(alloc: Global, body: Body<'_>, least: &mut Least<ScopeKind>) -> Result<(), NoMemory>
+fn tell_params(
+    alloc: Global,
+    body: Body<'_>,
+    least: &mut Earliest<ScopeKind>,
+) -> Result<(), NoMemory>
     ensures { OnOk result (least.new ≡ telling least.old (at_lines Twice (params_again (body_view body.entry)))) }
 {
     let params = params_of(alloc, body.params, body.line)?;
@@ -133,7 +137,7 @@ fn tell_yields_in(
     alloc: Global,
     body: Body<'_>,
     graph: &CallGraph<'_>,
-    least: &mut Least<ScopeKind>,
+    least: &mut Earliest<ScopeKind>,
 ) -> Result<(), NoMemory>
     requires { IsCallGraph graph.now }
     ensures { OnOk result (least.new ≡ telling least.old (at_lines Yield (yield_in (class_in graph.now) (body_view body.entry)))) }
@@ -149,7 +153,7 @@ fn tell_yields_in(
 fn tell_early_in(
     alloc: Global,
     body: Body<'_>,
-    least: &mut Least<ScopeKind>,
+    least: &mut Earliest<ScopeKind>,
 ) -> Result<(), NoMemory>
     ensures { OnOk result (least.new ≡ telling least.old (at_lines Setup (setup_in (body_view body.entry)))) }
 {
@@ -211,7 +215,7 @@ fn check_deeds(
     alloc: Global,
     bodies: &[Body<'_>],
     graph: &CallGraph<'_>,
-    least: &mut Least<ScopeKind>,
+    least: &mut Earliest<ScopeKind>,
 ) -> Result<(), NoMemory>
     requires { IsCallGraph graph.now }
     ensures { OnOk result (least.new ≡ telling least.old (deed_refusals (class_in graph.now) (deeds_by (bodies_in bodies.now)) (bodies_in bodies.now))) }
@@ -241,27 +245,27 @@ enum Once {
     Run,
 }
 
-/// Tells the methods that are declared again, each `setup` and `run` behind the first, and a class with no `run`.
+/// Tells the methods that are declared again, each `setup` and `run` after the first, and a class with no `run`.
 fn check_members(
     alloc: Global,
     bodies: &[Body<'_>],
     line: u32,
-    least: &mut Least<ScopeKind>,
+    least: &mut Earliest<ScopeKind>,
 ) -> Result<(), NoMemory>
     ensures { OnOk result (least.new ≡ telling least.old (member_refusals line (bodies_in bodies.now))) }
 {
     let methods = methods_of(alloc, bodies)?;
     tell_again(alloc, methods.as_slice(), ScopeKind::Twice, least)?;
-    tell_behind(bodies, Once::Setup, least);
-    if !tell_behind(bodies, Once::Run, least) {
+    tell_after(bodies, Once::Setup, least);
+    if !tell_after(bodies, Once::Run, least) {
         least.tell(ScopeKind::NoRun, line);
     }
     Ok(())
 }
 
-/// Tells each `setup`, or each `run`, behind the first, and answers whether there is one.
-fn tell_behind(bodies: &[Body<'_>], part: Once, least: &mut Least<ScopeKind>) -> bool
-    ensures told { least.new ≡ telling least.old (at_lines Twice (lines_behind (is_once part) (bodies_in bodies.now))) }
+/// Tells each `setup`, or each `run`, after the first, and answers whether there is one.
+fn tell_after(bodies: &[Body<'_>], part: Once, least: &mut Earliest<ScopeKind>) -> bool
+    ensures told { least.new ≡ telling least.old (at_lines Twice (lines_after (is_once part) (bodies_in bodies.now))) }
     ensures some { result ≡ has_some (is_once part) (bodies_in bodies.now) }
 {
     let mut seen = false;

@@ -11,11 +11,11 @@ ghost use Rattle.std.specs.Prelude.{◌≡◌, ◌||◌};
 
 use crate::deeds::{Deed, Doing, Said};
 use crate::early::{asks_early, some_asks_early};
-use da_bodies::Least;
+use da_bodies::Earliest;
 use da_lang::ScopeKind;
 
 /// Tells the lines of `setup` that send, print, loop, call or ask.
-pub fn tell_early(deeds: &[Deed<'_>], least: &mut Least<ScopeKind>)
+pub fn tell_early(deeds: &[Deed<'_>], least: &mut Earliest<ScopeKind>)
     ensures { least.new ≡ telling least.old (at_lines Setup (lines_where (λ d. acts_of d.does || list_any asks d.says) (deeds_in deeds.now))) }
 {
     for deed in deeds {

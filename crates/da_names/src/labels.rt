@@ -1,4 +1,4 @@
-//! Labels: those of a class, and those behind the `at` of its handlers.
+//! Labels: those of a class, and those after the `at` of its handlers.
 ghost use Rattle.da_lang.specs.ClassParts.{labels_at};
 ghost use Rattle.da_lang.specs.declared.refusal.ScopeKind.TheVariants.{Twice, Unknown};
 ghost use Rattle.da_lang.specs.LabelNames.{labelled};
@@ -13,17 +13,17 @@ ghost use Rattle.std.specs.List.{list_all};
 ghost use Rattle.std.specs.Prelude.{◌≡◌, IfOk, OnOk, filter_map, flat_map, option_map};
 
 use crate::deeds::{Deed, Doing};
-use da_bodies::{Body, Declared, Least, Place, Seen, has_seen, see_again, tell_again};
+use da_bodies::{Body, Declared, Earliest, Place, Seen, has_seen, see_again, tell_again};
 use da_lang::{Name, ScopeKind};
 use da_values::{List, NoMemory};
 use std::alloc::Global;
 
-/// Tells the labels of a class that are declared again, and each handler that names none of them behind `at`.
+/// Tells the labels of a class that are declared again, and each handler that names none of them after `at`.
 pub fn tell_labels(
     alloc: Global,
     bodies: &[Body<'_>],
     deeds: &[Deed<'_>],
-    least: &mut Least<ScopeKind>,
+    least: &mut Earliest<ScopeKind>,
 ) -> Result<(), NoMemory>
     ensures { OnOk result (least.new ≡ telling least.old (label_refusals (label_names (deeds_in deeds.now)) (bodies_in bodies.now))) }
 {
@@ -33,8 +33,8 @@ pub fn tell_labels(
     Ok(())
 }
 
-/// Tells each handler that names a label behind `at` which is not there.
-fn tell_missing(bodies: &[Body<'_>], seen: &Seen<'_>, least: &mut Least<ScopeKind>)
+/// Tells each handler that names a label after `at` which is not there.
+fn tell_missing(bodies: &[Body<'_>], seen: &Seen<'_>, least: &mut Earliest<ScopeKind>)
     ensures { least.new ≡ telling least.old (at_lines Unknown (flat_map (missing_at (is_seen seen.now)) (bodies_in bodies.now))) }
 {
     for body in bodies {
@@ -44,7 +44,7 @@ fn tell_missing(bodies: &[Body<'_>], seen: &Seen<'_>, least: &mut Least<ScopeKin
     }
 }
 
-/// Whether all labels that a body names behind `at` are there.
+/// Whether all labels that a body names after `at` are there.
 fn has_labels(seen: &Seen<'_>, body: Body<'_>) -> bool
     ensures { result ≡ list_all (is_seen seen.now) (labels_at (place_view body.entry.place)) }
 {
@@ -56,11 +56,11 @@ fn has_labels(seen: &Seen<'_>, body: Body<'_>) -> bool
     true
 }
 
-/// Tells the labels that stand again behind the `at` of one handler.
+/// Tells the labels that stand again after the `at` of one handler.
 pub fn tell_named(
     alloc: Global,
     body: Body<'_>,
-    least: &mut Least<ScopeKind>,
+    least: &mut Earliest<ScopeKind>,
 ) -> Result<(), NoMemory>
     ensures { OnOk result (least.new ≡ telling least.old (at_lines Twice (named_again (body_view body.entry)))) }
 {
@@ -68,7 +68,7 @@ pub fn tell_named(
     tell_again(alloc, named.as_slice(), ScopeKind::Twice, least)
 }
 
-/// The labels behind the `at` of a handler.
+/// The labels after the `at` of a handler.
 fn at_of(place: Place<'_>) -> &[Name]
     ensures { result.now ≡ labels_at (place_view place.entry) }
 {

@@ -1,4 +1,4 @@
-//! The rules of names: which of them a program breaks, and the breach that is told.
+//! The rules of names: which of them a program breaks, and the breach that is reported.
 #![tactic(auto)]
 
 mod arities;

@@ -11,7 +11,7 @@ ghost use Rattle.std.specs.Prelude.{◌≡◌, ◌==◌, [], ℕ, List, None, So
 
 use crate::arities::{Arities, arities_of};
 use crate::early::some_asks_early;
-use da_bodies::{Least, Names, Role, check_exprs, is_value, tell_unless};
+use da_bodies::{Earliest, Names, Role, check_exprs, is_value, tell_unless};
 use da_lang::{Expr, MainLine, ScopeKind, Tree};
 use da_values::NoMemory;
 use std::alloc::Global;
@@ -28,7 +28,11 @@ fn nothing_made<'t>(alloc: Global) -> Classes<'t>
 }
 
 /// Checks the lines of `main`, in time in step with their text.
-pub fn check_main(alloc: Global, tree: &Tree, least: &mut Least<ScopeKind>) -> Result<(), NoMemory>
+pub fn check_main(
+    alloc: Global,
+    tree: &Tree,
+    least: &mut Earliest<ScopeKind>,
+) -> Result<(), NoMemory>
     ensures { OnOk result (least.new ≡ telling least.old (main_refusals tree.now [] tree.now.main)) }
 {
     let arities = arities_of(alloc, tree.classes.as_slice())?;
@@ -47,7 +51,7 @@ fn check_line<'t>(
     arities: &Arities<'_>,
     classes: &Classes<'t>,
     names: &mut Names<'t>,
-    least: &mut Least<ScopeKind>,
+    least: &mut Earliest<ScopeKind>,
 ) -> Result<(), NoMemory>
     ensures told { OnOk result (least.new ≡ told_line (at_name arities.now) (class_at classes.now) names.old least.old line.now) }
     ensures same { OnOk result (names.new ≡ names.old) }
@@ -82,7 +86,7 @@ fn check_setup<'t>(
     line: u32,
     arity: Option<usize>,
     names: &mut Names<'t>,
-    least: &mut Least<ScopeKind>,
+    least: &mut Earliest<ScopeKind>,
 ) -> Result<(), NoMemory>
     ensures told { OnOk result (least.new ≡ told_kinds line least.old (setup_kinds_by names.old arity name.now args.now)) }
     ensures same { OnOk result (names.new ≡ names.old) }

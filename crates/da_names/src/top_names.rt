@@ -6,13 +6,17 @@ ghost use Rattle.da_bodies.specs.Repeats.{declared_in, declared_of};
 ghost use Rattle.da_bodies.specs.Telling.{telling};
 ghost use Rattle.std.specs.Prelude.{◌≡◌, IfOk, OnOk, filter_map, map, option_map};
 
-use da_bodies::{Declared, Least, tell_again};
+use da_bodies::{Declared, Earliest, tell_again};
 use da_lang::{ClassTree, MainLine, MessageDecl, ScopeKind, Tree};
 use da_values::{List, NoMemory};
 use std::alloc::Global;
 
 /// Tells the second declarations of classes and tags, and of names and lines of `setup` in `main`.
-pub fn tell_twice(alloc: Global, tree: &Tree, least: &mut Least<ScopeKind>) -> Result<(), NoMemory>
+pub fn tell_twice(
+    alloc: Global,
+    tree: &Tree,
+    least: &mut Earliest<ScopeKind>,
+) -> Result<(), NoMemory>
     ensures { OnOk result (least.new ≡ telling least.old (at_lines Twice (twice_of tree.now))) }
 {
     let classes = classes_declared(alloc, tree.classes.as_slice())?;

@@ -3,7 +3,7 @@ use Rattle.std.proofs.Common.{◌≡◌, refl, ◌∙◌, ap, subst, sym, ℕ, �
 use Rattle.std.specs.Prelude.{Option, Some, None, min}
 use Rattle.std.proofs.Math.Seq.{take-add, take-append-add, take-length}
 use Rattle.std.proofs.lemmas.List.{take-append-le, take_min}
-use Rattle.da_outside.specs.Outside.{Appends, AppendsFront, HasCause, IsFront, ReadsTold}
+use Rattle.da_outside.specs.Outside.{Appends, AppendsPrefix, HasCause, HasPrefix, ReadsTold}
 
 -- THE CAUSE OF A FAULT
 
@@ -29,23 +29,23 @@ appends_none (Some told) = ap Some (sym (append-nil told))
 -- THE FRONT OF BYTES
 
 -- all of them
-pub front_whole : (a b : Option (List ℕ)) (bytes : List ℕ) → Appends a b bytes → AppendsFront a b bytes
-front_whole a b bytes written = (length bytes, rw (take-length bytes) written)
+pub prefix_whole : (a b : Option (List ℕ)) (bytes : List ℕ) → Appends a b bytes → AppendsPrefix a b bytes
+prefix_whole a b bytes written = (length bytes, rw (take-length bytes) written)
 
 -- none of them
-pub front_none : (a : Option (List ℕ)) (bytes : List ℕ) → AppendsFront a a bytes
-front_none None bytes = (0, refl)
-front_none (Some told) bytes = (0, ap Some (sym (append-nil told)))
+pub prefix_none : (a : Option (List ℕ)) (bytes : List ℕ) → AppendsPrefix a a bytes
+prefix_none None bytes = (0, refl)
+prefix_none (Some told) bytes = (0, ap Some (sym (append-nil told)))
 
--- some, where more were due behind them
-pub front_before : (a b : Option (List ℕ)) (xs ys : List ℕ) → AppendsFront a b xs → AppendsFront a b (xs ++ ys)
-front_before a b xs ys (n, front) =
+-- some, where more were due after them
+pub prefix_before : (a b : Option (List ℕ)) (xs ys : List ℕ) → AppendsPrefix a b xs → AppendsPrefix a b (xs ++ ys)
+prefix_before a b xs ys (n, front) =
     let within : min n (length xs) ≤ length xs = omega arith in
     (min n (length xs), rw (take-append-le (min n (length xs)) xs ys within, take_min n xs) front)
 
--- some, behind others that were taken whole
-pub front_behind : (a b c : Option (List ℕ)) (xs ys : List ℕ) → Appends a b xs → AppendsFront b c ys → AppendsFront a c (xs ++ ys)
-front_behind a b c xs ys first (n, front) = (length xs + n, rw (take-append-add xs ys n) (appends_then a b c xs (take n ys) first front))
+-- some, after others that were taken whole
+pub prefix_after : (a b c : Option (List ℕ)) (xs ys : List ℕ) → Appends a b xs → AppendsPrefix b c ys → AppendsPrefix a c (xs ++ ys)
+prefix_after a b c xs ys first (n, front) = (length xs + n, rw (take-append-add xs ys n) (appends_then a b c xs (take n ys) first front))
 
 -- BYTES IN PIECES
 
@@ -59,14 +59,14 @@ appends_more a b c bytes at n first next =
     let next : Appends b c (take n (drop at bytes)) = subst (λ xs. Appends b c (take n xs)) (rest-whole at bytes) next in
     rw (take-add at n bytes) (appends_then a b c (take at bytes) (take n (drop at bytes)) first next)
 
--- the front of what is told, and then n more bytes
-front_more : (told : Option (List ℕ)) (text new piece : List ℕ) (n : ℕ) → IsFront told text → ReadsTold told (length text) n piece → new ≡ text ++ take n piece → IsFront told new
-front_more None text new piece n front reads added = tt
-front_more (Some bytes) text new piece n front reads added =
+-- a prefix of the content, and then n more bytes
+prefix_more : (told : Option (List ℕ)) (text new piece : List ℕ) (n : ℕ) → HasPrefix told text → ReadsTold told (length text) n piece → new ≡ text ++ take n piece → HasPrefix told new
+prefix_more None text new piece n front reads added = tt
+prefix_more (Some bytes) text new piece n front reads added =
     let size : length (take n piece) ≡ n = rw reads.read (omega (arith, length-take-le n (drop (length text) bytes) reads.within)) in
     rw (added, length-append, size, take-add (length text) n bytes, ← front, reads.read) refl
 
-pub front_read : (told : Option (List ℕ)) (text new buf rest : List ℕ) (at n : ℕ) → at ≡ length text → n ≤ length buf → IsFront told text → ReadsTold told at n buf
-    → new ≡ text ++ take n (buf ++ rest) → IsFront told new
-front_read told text new buf rest at n at_is within front reads added =
-    front_more told text new buf n front (subst (λ k. ReadsTold told k n buf) at_is reads) (added ∙ ap (λ xs. text ++ xs) (take-append-le n buf rest within))
+pub prefix_read : (told : Option (List ℕ)) (text new buf rest : List ℕ) (at n : ℕ) → at ≡ length text → n ≤ length buf → HasPrefix told text → ReadsTold told at n buf
+    → new ≡ text ++ take n (buf ++ rest) → HasPrefix told new
+prefix_read told text new buf rest at n at_is within front reads added =
+    prefix_more told text new buf n front (subst (λ k. ReadsTold told k n buf) at_is reads) (added ∙ ap (λ xs. text ++ xs) (take-append-le n buf rest within))

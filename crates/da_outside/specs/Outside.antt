@@ -12,7 +12,7 @@ pub record HasCause (before now : ℕ) (fault : Type 0) : Type 0 where
   pub failed : fault → Rose before now
   pub rises : before < now → fault
 
--- a piece of n bytes that begins at a place: the buffer holds it in front, and it is empty only at the end or for want of room
+-- a piece of n bytes that begins at a place: the buffer begins with it, and it is empty only at the end or for want of room
 pub record ReadsFrom (bytes : List ℕ) (at n : ℕ) (buf : List ℕ) : Type 0 where
   pub read : take n buf ≡ take n (drop at bytes)
   pub within : n ≤ length (drop at bytes)
@@ -22,30 +22,30 @@ abbrev pub ReadsTold : Option (List ℕ) → ℕ → ℕ → List ℕ → Type 0
 ReadsTold None at n buf = ⊤
 ReadsTold (Some bytes) at n buf = ReadsFrom bytes at n buf
 
--- what is told has these bytes more
+-- the content has these bytes more
 abbrev pub Appends : Option (List ℕ) → Option (List ℕ) → List ℕ → Type 0
 Appends old new bytes = new ≡ option_map (λ told. told ++ bytes) old
 
--- what is told has some of the front of these bytes more: none, all, or so many
-abbrev pub AppendsFront : Option (List ℕ) → Option (List ℕ) → List ℕ → Type 0
-AppendsFront old new bytes = (n : ℕ) × Appends old new (take n bytes)
+-- the content has a prefix of these bytes more: none, all, or so many
+abbrev pub AppendsPrefix : Option (List ℕ) → Option (List ℕ) → List ℕ → Type 0
+AppendsPrefix old new bytes = (n : ℕ) × Appends old new (take n bytes)
 
--- the text is the told one, where one is told
+-- the text is the content, where that is told
 abbrev pub Fits : Option (List ℕ) → List ℕ → Type 0
 Fits None text = ⊤
 Fits (Some told) text = text ≡ told
 
--- the bytes that are told, or one more than the limit where there are more; never more than that
+-- the bytes of the content, or one more than the limit where there are more; never more than that
 abbrev pub IsWhole : Option (List ℕ) → ℕ → List ℕ → Type 0
 IsWhole None limit text = length text ≤ limit + 1
 IsWhole (Some bytes) limit text = text ≡ take (limit + 1) bytes
 
--- the text is the front of what is told
-abbrev pub IsFront : Option (List ℕ) → List ℕ → Type 0
-IsFront None text = ⊤
-IsFront (Some bytes) text = text ≡ take (length text) bytes
+-- the text is a prefix of the content
+abbrev pub HasPrefix : Option (List ℕ) → List ℕ → Type 0
+HasPrefix None text = ⊤
+HasPrefix (Some bytes) text = text ≡ take (length text) bytes
 
--- no byte is told from there on
+-- the content has no byte from there on
 abbrev pub EndsAt : Option (List ℕ) → ℕ → Type 0
 EndsAt None at = ⊤
 EndsAt (Some bytes) at = length bytes ≤ at

@@ -9,7 +9,7 @@ use Rattle.da_outside.specs.declared.script_link.ScriptLink.{ScriptLink}
 abbrev pub answers_of : ScriptLink → List LinkAnswer
 answers_of link = drop link.next link.answers
 
--- what is told, the number of processes, and when the calls fail
+-- the content, the number of processes, and when the calls fail
 abbrev pub entries_of : ScriptLink → List LinkEntry
 entries_of link = link.told
 

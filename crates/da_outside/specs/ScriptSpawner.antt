@@ -10,7 +10,7 @@ use Rattle.da_outside.specs.declared.spawner.SpawnEntry.{SpawnEntry}
 abbrev pub endings_of : ScriptSpawner → List Ended
 endings_of spawner = spawner.endings
 
--- how many were started, what is told, and when the calls fail
+-- how many were started, the content, and when the calls fail
 abbrev pub started_of : ScriptSpawner → ℕ
 started_of spawner = spawner.started
 
@@ -24,6 +24,6 @@ spawns_of spawner = spawner.script
 abbrev pub quiet_ending : Ended
 quiet_ending = record { status = 0; output = [] }
 
--- how the child of this number ends: as the list says, and quietly behind it
+-- how the child of this number ends: as the list says, and quietly after it
 abbrev pub ending_of : List Ended → ℕ → Ended
 ending_of endings number = unwrap_or (slice_get endings (number - 1)) quiet_ending

@@ -5,7 +5,7 @@ use Rattle.da_outside.specs.declared.spawner.Ended.{Ended}
 use Rattle.da_outside.specs.declared.spawner.SpawnEntry.{SpawnEntry}
 use Rattle.da_outside.specs.declared.spawner.SpawnEntry.TheVariants.{Finish}
 
--- what is told has these entries more
+-- the content has these entries more
 abbrev pub Tells : Option (List SpawnEntry) → Option (List SpawnEntry) → List SpawnEntry → Type 0
 Tells old new entries = new ≡ option_map (λ told. told ++ entries) old
 

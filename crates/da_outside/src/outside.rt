@@ -35,8 +35,8 @@ pub trait Files {
     /// How often a read of a name has failed.
     ghost faults: { Self → List ℕ → ℕ };
 
-    /// Fills the front of `buf` with what stands at the place `at`, and says how many bytes came. A short answer is no
-    /// end; 0 is one, unless `buf` has no room. Reading changes nothing that is told, and makes a count rise only
+    /// Fills the start of `buf` with what stands at the place `at`, and says how many bytes came. A short answer is no
+    /// end; 0 is one, unless `buf` has no room. Reading changes no content, and makes a count rise only
     /// where it fails.
     fn read(&mut self, name: &str, at: u64, buf: &mut [u8]) -> Result<usize, Trouble>
         requires { at ≤ 16777216 }

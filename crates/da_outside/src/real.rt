@@ -6,7 +6,7 @@ use da_values::{Buf, copy_bytes};
 use std::io::{Read, Seek, SeekFrom};
 use std::{fs, io, rt};
 
-/// Files of the system, by their paths. The file that was read last stays open: the piece behind the one read before comes
+/// Files of the system, by their paths. The file that was read last stays open: the piece after the one read before comes
 /// from it, with no second opening and no seek.
 #[derive(Drop)]
 pub struct RealFiles<'a, R: rt::Files> {

@@ -43,7 +43,7 @@ impl ScriptLink {
         }
     }
 
-    /// Adds an answer behind those that are still to come.
+    /// Adds an answer after those that are still to come.
     pub fn add(&mut self, answer: LinkAnswer) -> Result<(), NoMemory>
         requires { IsTrue (is_short answer) }
         ensures ok { OnOk result (answers_of self.new ≡ answers_of self.old ++ answer ∷ []) }
@@ -55,7 +55,7 @@ impl ScriptLink {
         self.answers.push(answer)
     }
 
-    /// What the link was told and has answered.
+    /// What the link was given and has answered.
     pub fn entries(&self) -> &[LinkEntry]
         ensures { result.now ≡ entries_of self.now }
     {
@@ -136,7 +136,7 @@ impl Link for ScriptLink {
     }
 }
 
-// Puts the answer at a place into the buffer, and copies it. There is nothing behind the last one.
+// Puts the answer at a place into the buffer, and copies it. There is nothing after the last one.
 fn hand_out(
     alloc: Global,
     answers: &[LinkAnswer],

@@ -10,7 +10,7 @@ use da_values::{Buf, List, NoMemory, copy_bytes};
 use std::alloc::Global;
 
 /// A spawner in memory. The children that it starts are numbered from 1. They end as its list says in this order, and those
-/// behind it end with status 0 and write nothing; no child has to be started to be finished. The calls of the script fail,
+/// after it end with status 0 and write nothing; no child has to be started to be finished. The calls of the script fail,
 /// where all calls are counted together, from 1. No other call fails.
 #[derive(Debug, Drop)]
 pub struct ScriptSpawner {

@@ -48,7 +48,7 @@ pub trait Spawner {
     /// How often a call has failed.
     ghost faults: { Self → ℕ };
 
-    /// Starts a child with these words behind the name of its program, and does not wait for it.
+    /// Starts a child with these words after the name of its program, and does not wait for it.
     fn start(&mut self, words: &[String]) -> Result<Child, Trouble>
         ensures adds { IfOk result (λ child. Tells (told self.old) (told self.new) (SpawnEntry.Start (map string_bytes words.now) (Some child.number) ∷ [])) }
         ensures failed { IsErrOf result Trouble.Failed → Tells (told self.old) (told self.new) (SpawnEntry.Start (map string_bytes words.now) None ∷ []) }

@@ -1,5 +1,5 @@
 //! Whole texts from a source, and to a sink.
-ghost use Rattle.da_outside.specs.Outside.{Appends, AppendsFront, EndsAt, HasCause, IsFront, IsWhole};
+ghost use Rattle.da_outside.specs.Outside.{Appends, AppendsPrefix, EndsAt, HasCause, HasPrefix, IsWhole};
 ghost use Rattle.std.specs.Prelude.{ℕ, ◌≡◌, ◌+◌, ◌<◌, ◌≤◌, List, length, take, IfOk, IsErrOf, OnErr, OnOk};
 
 use crate::outside::{Files, Sink, Trouble};
@@ -43,7 +43,7 @@ fn read_piece<F: Files>(
     requires at { length text.old ≤ 16777216 }
     ensures grows { IfOk result (λ count. length text.new ≡ length text.old + count) }
     ensures within { IfOk result (λ count. count ≤ room) }
-    ensures front { OnOk result (IsFront (F.told files.old name.now) text.old → IsFront (F.told files.old name.now) text.new) }
+    ensures prefix { OnOk result (HasPrefix (F.told files.old name.now) text.old → HasPrefix (F.told files.old name.now) text.new) }
     ensures end { IfOk result (λ count. count ≡ 0 → EndsAt (F.told files.old name.now) (length text.new)) }
     ensures same { (x : List ℕ) → F.told files.new x ≡ F.told files.old x }
     ensures cause { HasCause (F.faults files.old name.now) (F.faults files.new name.now) (IsErrOf result Trouble.Failed) }
@@ -56,10 +56,10 @@ fn read_piece<F: Files>(
     Ok(count)
 }
 
-/// Writes all the bytes. After a trouble the sink has taken some from the front.
+/// Writes all the bytes. After a trouble the sink has taken a prefix of them.
 pub fn write_all<K: Sink>(out: &mut K, bytes: &[u8]) -> Result<(), Trouble>
     ensures ok { OnOk result (Appends (K.taken out.old) (K.taken out.new) bytes.now) }
-    ensures prefix { OnErr result (AppendsFront (K.taken out.old) (K.taken out.new) bytes.now) }
+    ensures prefix { OnErr result (AppendsPrefix (K.taken out.old) (K.taken out.new) bytes.now) }
     ensures cause { HasCause (K.faults out.old) (K.faults out.new) (IsErrOf result Trouble.Failed) }
 {
     let mut place = 0;

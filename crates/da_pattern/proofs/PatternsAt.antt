@@ -73,7 +73,7 @@ same_take (suc n) [] (y ∷ ys) same = absurd (omega (arith, same))
 same_take (suc n) (x ∷ xs) [] same = absurd (omega (arith, same))
 same_take (suc n) (x ∷ xs) (y ∷ ys) same = let rest = same_take n xs ys (omega (arith, same)) in omega (arith, rest)
 
--- what one more part takes comes behind
+-- what one more part takes comes after
 taken_more : (ps : List Pattern) (vs : List Value) (p : Pattern) (v : Value) → length ps ≡ length vs
     → taken_parts (map taken (ps ++ p ∷ [])) (vals (vs ++ v ∷ [])) ≡ taken_parts (map taken ps) (vals vs) ++ taken p (val_of v)
 taken_more [] [] p v same = append-nil (taken p (val_of v))
@@ -85,7 +85,7 @@ module _ (me : ℕ) (slots : List Val) (row : Row) (parts : List Pattern) (value
   abbrev whole : Option Row
   whole = match_parts (map (matched me slots) parts) (vals values) row
 
-  -- the row in front of the part at this place
+  -- the row before the part at this place
   abbrev pub row_at : ℕ → Row
   row_at place = row ++ taken_parts (map taken (take place parts)) (vals (take place values))
 

@@ -22,7 +22,7 @@ row-Behind before parts values = ap row_of (sym (so_far.rolls-Behind before part
 
 pub ruleset rows_at = (row-Lent, row-Behind)
 
--- a place that lies behind the row that is lent
+-- a place that lies after the row that is lent
 past : (xs : Row) (at : ℕ) → slice_get xs at ≡ None → length xs ≤ at
 past [] at none = omega arith
 past (x ∷ xs) zero none = absurd (let clash : ◌≡◌ {A = Option Val} (Some x) None = none in cc)

@@ -73,12 +73,12 @@ found_front [] ys at v found = absurd (cc)
 found_front (x ∷ xs) ys zero v found = found
 found_front (x ∷ xs) ys (suc at) v found = found_front xs ys at v found
 
-get_behind : (xs ys : Row) (left : ℕ) → slice_get (xs ++ ys) (length xs + left) ≡ slice_get ys left
-get_behind [] ys left = ap (slice_get ys) (let same : 0 + left ≡ left = omega arith in same)
-get_behind (x ∷ xs) ys left = ap (slice_get (x ∷ (xs ++ ys))) (let same : suc (length xs) + left ≡ suc (length xs + left) = omega arith in same) ∙ get_behind xs ys left
+get_after : (xs ys : Row) (left : ℕ) → slice_get (xs ++ ys) (length xs + left) ≡ slice_get ys left
+get_after [] ys left = ap (slice_get ys) (let same : 0 + left ≡ left = omega arith in same)
+get_after (x ∷ xs) ys left = ap (slice_get (x ∷ (xs ++ ys))) (let same : suc (length xs) + left ≡ suc (length xs + left) = omega arith in same) ∙ get_after xs ys left
 
 pub found_behind : (xs ys : Row) (at left : ℕ) (r : Result (Bor Value) ℕ) → Finds xs at (Err left) → Finds ys left r → Finds (xs ++ ys) at r
-found_behind xs ys at left (Ok v) passed found = ap (slice_get (xs ++ ys)) passed ∙ get_behind xs ys left ∙ found
+found_behind xs ys at left (Ok v) passed found = ap (slice_get (xs ++ ys)) passed ∙ get_after xs ys left ∙ found
 found_behind xs ys at left (Err behind) passed found = omega (arith, passed, found, length-append xs ys)
 
 -- what is left of the parts of a tuple, from a place on
@@ -86,7 +86,7 @@ module _ (parts : List Pattern) (values : List Value) (at : ℕ) where
   abbrev pub rest_from : ℕ → Row
   rest_from place = taken_parts (map taken (drop place parts)) (vals (drop place values))
 
-  -- so far nothing was found, and the place lies so far behind
+  -- so far nothing was found, and the place lies so far on
   abbrev pub NotYet : ℕ → ℕ → Type 0
   NotYet left place = (r : Result (Bor Value) ℕ) → Finds (rest_from place) left r → Finds (rest_from 0) at r
 
@@ -110,8 +110,8 @@ module _ (parts : List Pattern) (values : List Value) (at : ℕ) where
         pub found_here : (x : Bor Value) → Finds (taken q (val_of w)) left (Ok x) → Finds (rest_from 0) at (Ok x)
         found_here x found = so_far (Ok x) (subst (λ z. Finds z left (Ok x)) (sym split) (found_front part (rest_from (place + 1)) left x (subst (λ z. Finds z left (Ok x)) same_part found)))
 
-        pub goes_behind : (behind : ℕ) → Finds (taken q (val_of w)) left (Err behind) → NotYet behind (place + 1)
-        goes_behind behind passed r found =
+        pub goes_after : (behind : ℕ) → Finds (taken q (val_of w)) left (Err behind) → NotYet behind (place + 1)
+        goes_after behind passed r found =
             so_far r (subst (λ z. Finds z left r) (sym split) (found_behind part (rest_from (place + 1)) left behind r (subst (λ z. Finds z left (Err behind)) same_part passed) found))
 
     nothing_left : rest_from place ≡ [] → Finds (rest_from 0) at (Err left)

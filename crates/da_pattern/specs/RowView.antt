@@ -17,7 +17,7 @@ row_step (Behind before parts values) = before.now ++ taken_parts (map taken par
 abbrev pub row_of : RowSoFar → Row
 row_of = fold-RowSoFar Row row_step
 
--- the value at a place of a row, or by how many places it lies behind the row
+-- the value at a place of a row, or by how many places it lies after the row
 abbrev pub Finds : Row → ℕ → Result (Bor Value) ℕ → Type 0
 Finds row at (Ok v) = slice_get row at ≡ Some (val_of v.now)
 Finds row at (Err left) = at ≡ length row + left

@@ -11,7 +11,7 @@ use Rattle.da_lang.specs.Matching.{Row}
 abbrev pub Takes : Type 0
 Takes = Val → Row
 
--- of the parts of a tuple, one behind the other
+-- of the parts of a tuple, one after the other
 abbrev pub taken_parts : List Takes → List Val → Row
 taken_parts [] xs = []
 taken_parts (m ∷ ms) [] = []

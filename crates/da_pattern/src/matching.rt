@@ -74,7 +74,7 @@ fn fits<'x>(p: &'x Pattern, v: &'x Value, process: &Process<'_>, row: &'x RowSoF
     }
 }
 
-// The parts of a tuple, one behind the other: what one of them binds, those behind it can name.
+// The parts of a tuple, one after the other: what one of them binds, those after it can name.
 #[cycle(patterns)]
 fn parts_fit<'x>(
     parts: &'x [Pattern],

@@ -1,5 +1,5 @@
 //! The row so far.
-ghost use Rattle.da_lang.specs.World.{at_number as numbered_lem};
+ghost use Rattle.da_lang.specs.World.{at_number as numbered_def};
 ghost use Rattle.da_pattern.specs.RowView.{Finds, row_of};
 ghost use Rattle.da_values.specs.Value.{val_of};
 ghost use Rattle.std.specs.Option.{option_copied, option_map};
@@ -15,7 +15,7 @@ use da_values::{Row, Value};
 pub enum RowSoFar<'v> {
     /// A row that is lent, before the whole pattern.
     Lent(&'v Row),
-    /// Behind these parts of a tuple, which match these values. `before` is the row in front of the tuple.
+    /// After these parts of a tuple, which match these values. `before` is the row before the tuple.
     Behind {
         before: &'v RowSoFar<'v>,
         parts: &'v [Pattern],
@@ -25,7 +25,7 @@ pub enum RowSoFar<'v> {
 
 /// The part that is numbered so, from 1, or `None` where there is none.
 pub fn part_of<'v>(row: &RowSoFar<'v>, number: u16) -> Option<&'v Value>
-    ensures { option_map val_of (option_copied result) ≡ numbered_lem (row_of row.now) number }
+    ensures { option_map val_of (option_copied result) ≡ numbered_def (row_of row.now) number }
 {
     match number.checked_sub(1) {
         Some(at) => match part_at(row, usize::from(at)) {
@@ -36,7 +36,7 @@ pub fn part_of<'v>(row: &RowSoFar<'v>, number: u16) -> Option<&'v Value>
     }
 }
 
-// The part at a place, counted from 0, or by how many places it lies behind the row.
+// The part at a place, counted from 0, or by how many places it lies after the row.
 #[tactic(auto, using(crate::proofs::RowsAt::rows_at, crate::proofs::TakenAt::found_front, crate::proofs::TakenAt::found_behind))]
 fn part_at<'v>(row: &RowSoFar<'v>, at: usize) -> Result<&'v Value, usize>
     ensures { Finds (row_of row.now) at result }

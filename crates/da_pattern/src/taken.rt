@@ -8,7 +8,7 @@ use da_lang::Pattern;
 use da_values::{NoMemory, Row, Value, copy_value};
 use std::alloc::Global;
 
-// What the variable at a place takes, counted from 0, or by how many places it lies behind the variables of the pattern.
+// What the variable at a place takes, counted from 0, or by how many places it lies after the variables of the pattern.
 #[cycle(taken)]
 #[tactic(auto, using(crate::proofs::TakenAt::taken_at))]
 fn taken_of<'v>(p: &Pattern, v: &'v Value, at: usize) -> Result<&'v Value, usize>
@@ -27,7 +27,7 @@ fn taken_of<'v>(p: &Pattern, v: &'v Value, at: usize) -> Result<&'v Value, usize
     }
 }
 
-/// The same of the parts of a tuple, one behind the other.
+/// The same of the parts of a tuple, one after the other.
 #[cycle(taken)]
 pub fn taken_of_parts<'v>(
     parts: &[Pattern],

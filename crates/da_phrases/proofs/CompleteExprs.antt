@@ -14,9 +14,9 @@ use Rattle.da_lang.specs.Spelling.{Room, At, Opens, NotAt, not_at, Number, Separ
 use Rattle.da_lang.specs.ExprGrammar.{Deeper, IsSource, IsPeer, IsGen, IsGens, IsCond, IsAtom, IsUnary, IsPattern}
 use Rattle.da_phrases.specs.Reader.{Reading, pure, mark, same, sees, is_mark, ◌>>=◌, ◌>>◌}
 use Rattle.da_phrases.specs.Place.{Place}
-use Rattle.da_phrases.specs.Exprs.{quantifier, source, generator_with, generator, generators, condition, no_argument, first_argument, last_argument, one_argument, two_arguments, grouped_by, grouped, comprehension, braced, atom_by, atom, behind_minus, unary, tuple_pattern, pattern_by, pattern}
+use Rattle.da_phrases.specs.Exprs.{quantifier, source, generator_with, generator, generators, condition, no_argument, first_argument, last_argument, one_argument, two_arguments, grouped_by, grouped, comprehension, braced, atom_by, atom, after_minus, unary, tuple_pattern, pattern_by, pattern}
 use Rattle.da_phrases.proofs.Laws.{IsComplete, Anything, Lacks, Completes, goes_on_disj, goes_on_expr}
-use Rattle.da_phrases.proofs.Steps.{same_marks, bool_cases, mark-At, sees-At, rest-At, behind_is, behind_not, expect_is, not_seen, mark-Opens, At-Opens, room-Opens, opens_is, opening_is, number_is, quoted_is, mark-Named, mark-Number, mark-Quoted, taking_is, past_is}
+use Rattle.da_phrases.proofs.Steps.{same_marks, bool_cases, mark-At, sees-At, rest-At, behind_is, after_not, expect_is, not_seen, mark-Opens, At-Opens, room-Opens, opens_is, opening_is, number_is, quoted_is, mark-Named, mark-Number, mark-Quoted, taking_is, past_is}
 use Rattle.da_phrases.proofs.Shorter.{Shrinking, IsGen-shrinks}
 use Rattle.da_phrases.proofs.Firsts.{Beginning, begins_atom, begins_disj, begins_pattern, never_seen, lacked, next-At, not_quantified, IsAtom-begins}
 use Rattle.da_phrases.proofs.ListComplete.{separated-complete, closed-complete}
@@ -40,17 +40,17 @@ source-complete h (IsSource.sent a) = rw (expect_is h, mark-At a) (past_is (pure
 source-complete h (IsSource.name a) = rw (expect_is h, mark-Named a) (taking_is (λ b. pure (source_tree.Name b)) a)
 
 module _ (p : Place) (room : Room) (deep : Deeper) (shrinking : Shrinking deep) (beginning : Beginning deep) (c : Completes p room deep) where
-  -- ---- generators and conditions, behind a token that opened something
+  -- ---- generators and conditions, after a token that opened something
 
   module _ (there : List Tok) (some : room there) where
     pub generator-complete : IsComplete Anything (generator p) (IsGen deep.pattern)
     unfolding generator generator_with
     generator-complete _ i r (IsGen.gen a IsPeer.no_peer h x) s =
-        rw (c.pattern there some _ _ _ a tt) (behind_not m.From _ _ (not_seen m.From h refl) ∙ behind_not m.To _ _ (not_seen m.To h refl) ∙ rw (source-complete h x) refl)
+        rw (c.pattern there some _ _ _ a tt) (after_not m.From _ _ (not_seen m.From h refl) ∙ after_not m.To _ _ (not_seen m.To h refl) ∙ rw (source-complete h x) refl)
     generator-complete _ i r (IsGen.gen a (IsPeer.from f b) h x) s =
         rw (c.pattern there some _ _ _ a tt) (behind_is _ _ f ∙ rw (c.pattern there some _ _ _ b tt, source-complete h x) refl)
     generator-complete _ i r (IsGen.gen a (IsPeer.to f b) h x) s =
-        rw (c.pattern there some _ _ _ a tt) (behind_not m.From _ _ (not_seen m.From f refl) ∙ behind_is _ _ f ∙ rw (c.pattern there some _ _ _ b tt, source-complete h x) refl)
+        rw (c.pattern there some _ _ _ a tt) (after_not m.From _ _ (not_seen m.From f refl) ∙ behind_is _ _ f ∙ rw (c.pattern there some _ _ _ b tt, source-complete h x) refl)
 
     pub generators-complete : (gs : List GenTree) (i r : List Tok) → IsGens deep.pattern gs i r → sees m.Comma r ≡ false → generators p i ≡ Ok (gs, r)
     unfolding generators
@@ -58,9 +58,9 @@ module _ (p : Place) (room : Room) (deep : Deeper) (shrinking : Shrinking deep) 
 
     pub condition-complete : IsComplete (Lacks goes_on_expr) (condition p) (IsCond deep.expr)
     unfolding condition
-    condition-complete _ i r IsCond.no_cond s = behind_not m.Bar _ _ (lacked goes_on_expr m.Bar i refl s) ∙ behind_not m.Has _ _ (lacked goes_on_expr m.Has i refl s)
+    condition-complete _ i r IsCond.no_cond s = after_not m.Bar _ _ (lacked goes_on_expr m.Bar i refl s) ∙ after_not m.Has _ _ (lacked goes_on_expr m.Has i refl s)
     condition-complete _ i r (IsCond.bar h a) s = behind_is _ _ h ∙ rw (c.expr there some _ _ _ a s) refl
-    condition-complete _ i r (IsCond.has h a) s = behind_not m.Bar _ _ (not_seen m.Bar h refl) ∙ behind_is _ _ h ∙ rw (c.expr there some _ _ _ a s) refl
+    condition-complete _ i r (IsCond.has h a) s = after_not m.Bar _ _ (not_seen m.Bar h refl) ∙ behind_is _ _ h ∙ rw (c.expr there some _ _ _ a s) refl
 
   -- generators end where a condition begins, or where an expression does not go on
   pub IsCond-ends : (o : Option Expr) (i r : List Tok) → IsCond deep.expr o i r → Lacks goes_on_expr r → sees m.Comma i ≡ false
@@ -94,7 +94,7 @@ module _ (p : Place) (room : Room) (deep : Deeper) (shrinking : Shrinking deep) 
   group_by-complete : (there : List Tok) (some : room there) (k : Option Bool) {x : Expr} {i r s : List Tok} → quantifier (mark i) ≡ k → deep.expr x i r → At m.CloseParen r s → grouped_by p k i ≡ Ok (x, s)
   group_by-complete there some (Some each) is a h = rw (c.expr there some _ _ _ a (next-At goes_on_expr h), expect_is h) refl
   group_by-complete there some None is a h =
-      rw (c.disj there some _ _ _ (beginning.loose _ _ _ a is) (next-At goes_on_disj h)) (behind_not m.Comma _ _ (not_seen m.Comma h refl) ∙ rw (expect_is h) refl)
+      rw (c.disj there some _ _ _ (beginning.loose _ _ _ a is) (next-At goes_on_disj h)) (after_not m.Comma _ _ (not_seen m.Comma h refl) ∙ rw (expect_is h) refl)
 
   group-complete : (there : List Tok) (some : room there) {x : Expr} {i r s : List Tok} → deep.expr x i r → At m.CloseParen r s → grouped p i ≡ Ok (x, s)
   unfolding grouped
@@ -115,11 +115,11 @@ module _ (p : Place) (room : Room) (deep : Deeper) (shrinking : Shrinking deep) 
   unfolding braced
   set_of-complete there some (Closed.empty h) = behind_is _ _ h
   set_of-complete there some (Closed.full (Separated.last a) h) =
-      behind_not m.CloseBrace _ _ (not_over a)
-      ∙ rw (c.disj there some _ _ _ a (next-At goes_on_disj h)) (behind_not m.Colon _ _ (not_seen m.Colon h refl) ∙ behind_not m.Comma _ _ (not_seen m.Comma h refl) ∙ rw (expect_is h) refl)
+      after_not m.CloseBrace _ _ (not_over a)
+      ∙ rw (c.disj there some _ _ _ a (next-At goes_on_disj h)) (after_not m.Colon _ _ (not_seen m.Colon h refl) ∙ after_not m.Comma _ _ (not_seen m.Comma h refl) ∙ rw (expect_is h) refl)
   set_of-complete there some (Closed.full (Separated.more {x} {xs} a b l) h) =
-      behind_not m.CloseBrace _ _ (not_over a)
-      ∙ rw (c.disj there some _ _ _ a (next-At goes_on_disj b)) (behind_not m.Colon _ _ (not_seen m.Colon b refl)
+      after_not m.CloseBrace _ _ (not_over a)
+      ∙ rw (c.disj there some _ _ _ a (next-At goes_on_disj b)) (after_not m.Colon _ _ (not_seen m.Colon b refl)
       ∙ behind_is _ _ b ∙ rw (separated-complete (c.disj there some) shrinking.disj m.Comma (λ j z e. next-At goes_on_disj e) (x ∷ []) xs _ _ l (next-At goes_on_disj h) (not_seen m.Comma h refl), expect_is h) refl)
 
   comprehension-complete : (there : List Tok) (some : room there) {x : Expr} {gs : List GenTree} {o : Option Expr} {i r s q z a : List Tok}
@@ -127,7 +127,7 @@ module _ (p : Place) (room : Room) (deep : Deeper) (shrinking : Shrinking deep) 
   unfolding braced comprehension
   comprehension-complete there some {x} {gs} {o} a h l b e =
       let s = next-At goes_on_expr e in
-      behind_not m.CloseBrace _ _ (not_over a)
+      after_not m.CloseBrace _ _ (not_over a)
       ∙ rw (c.disj there some _ _ _ a (next-At goes_on_disj h)) (behind_is _ _ h ∙ rw (generators-complete there some gs _ _ l (IsCond-ends o _ _ b s), condition-complete there some o _ _ b s, expect_is e) refl)
 
   at_atom : {k : Mark} (i : List Tok) {o : Reading Expr} → mark i ≡ Some k → atom_by p (Some k) i ≡ o → atom p i ≡ o
@@ -155,7 +155,7 @@ module _ (p : Place) (room : Room) (deep : Deeper) (shrinking : Shrinking deep) 
   -- ---- unary expressions
 
   pub unary-complete : IsComplete Anything (unary p) (IsUnary room deep)
-  unfolding unary behind_minus
+  unfolding unary after_minus
   unary-complete x i r (IsUnary.atom a) s = rw (never_seen begins_atom m.Minus i refl (IsAtom-begins room deep x i r a)) (atom-complete x i r a s)
   unary-complete _ i r (IsUnary.negative o h) s = rw (sees-At (At-Opens o), opens_is p.may_open c.allows o, sees-Number h, number_is h) refl
   unary-complete _ i r (IsUnary.minus o n a) s = rw (sees-At (At-Opens o), opens_is p.may_open c.allows o, NotAt-unseen n, c.unary _ (room-Opens o) _ _ _ a tt) refl

@@ -15,7 +15,7 @@ use Rattle.da_phrases.specs.Lists.{others}
 use Rattle.da_phrases.specs.Place.{Place}
 use Rattle.da_phrases.specs.Exprs.{times_op, plus_op, cmp_op_at, quantifier, chained, joined, product, sum, comparison, negation, conjunction, disjunction, quantification, expression_by, expression}
 use Rattle.da_phrases.proofs.Laws.{IsComplete, Shrinks, Anything, Lacks, is_next, Completes, goes_on_prod, goes_on_sum, goes_on_comp, goes_on_conj, goes_on_disj, goes_on_expr}
-use Rattle.da_phrases.proofs.Steps.{mark-At, sees-At, rest-At, behind_is, behind_not, not_seen, mark-Opens, At-Opens, room-Opens, opens_is}
+use Rattle.da_phrases.proofs.Steps.{mark-At, sees-At, rest-At, behind_is, after_not, not_seen, mark-Opens, At-Opens, room-Opens, opens_is}
 use Rattle.da_phrases.proofs.Shorter.{Shrinking, IsTimes-shrinks, IsPlus-shrinks, IsUnary-shrinks, IsProd-shrinks, IsNeg-shrinks, IsConj-shrinks}
 use Rattle.da_phrases.proofs.Firsts.{Beginning, begins_sum, never_seen, lacked, fewer, next-At, not_quantified, IsComp-begins, IsDisj-begins}
 use Rattle.da_phrases.proofs.ListComplete.{separated-complete, others-complete, IsOthers-stops}
@@ -124,7 +124,7 @@ joined-complete : {Stops : List Tok → Type 0} {operand : Reader Expr} {Operand
     (k : Mark) (join : List Expr → Expr) (between : (i r : List Tok) → At k i r → Stops i)
     (x : Expr) (i r : List Tok) → IsJoined k join Operand x i r → Stops r → sees k r ≡ false → joined k join operand i ≡ Ok (x, r)
 unfolding joined
-joined-complete complete shrinks k join between x i r (IsJoined.lone a) s n = rw (complete _ _ _ a s) (behind_not k _ _ n)
+joined-complete complete shrinks k join between x i r (IsJoined.lone a) s n = rw (complete _ _ _ a s) (after_not k _ _ n)
 joined-complete complete shrinks k join between _ i r (IsJoined.joined (Separated.more {x} {xs} a h l)) s n =
     rw (complete _ _ _ a (between _ _ h)) (behind_is _ _ h ∙ rw (separated-complete complete shrinks k between (x ∷ []) xs _ r l s n) refl)
 
@@ -142,10 +142,10 @@ module _ (p : Place) (room : Room) (deep : Deeper) (shrinking : Shrinking deep) 
   pub comparison-complete : IsComplete (Lacks goes_on_comp) (comparison p) (IsComp room deep)
   unfolding comparison
   comparison-complete x i r (IsComp.lone a) s =
-      rw (sum-complete x i r a (lacks_sum r s)) (behind_not m.In _ _ (lacked goes_on_comp m.In r refl s) ∙ rw (no_cmp (mark r) s) refl)
+      rw (sum-complete x i r a (lacks_sum r s)) (after_not m.In _ _ (lacked goes_on_comp m.In r refl s) ∙ rw (no_cmp (mark r) s) refl)
   comparison-complete _ i r (IsComp.compared a h b) s =
       let (is, passed, ends, no_member) = cmp_is h in
-      rw (sum-complete _ _ _ a ends) (behind_not m.In _ _ no_member ∙ rw (is, passed, sum-complete _ _ _ b (lacks_sum r s)) refl)
+      rw (sum-complete _ _ _ a ends) (after_not m.In _ _ no_member ∙ rw (is, passed, sum-complete _ _ _ b (lacks_sum r s)) refl)
   comparison-complete _ i r (IsComp.member a h b) s =
       rw (sum-complete _ _ _ a (next-At goes_on_sum h)) (behind_is _ _ h ∙ rw (sum-complete _ _ _ b (lacks_sum r s)) refl)
 

@@ -3,7 +3,7 @@ use Rattle.std.proofs.Common.{◌≡◌, ℕ, zero, suc, ◌-◌, ◌<◌, true,
 use Rattle.da_values.specs.declared.token.Mark.TheVariants as m
 use Rattle.da_values.specs.Marks.{Tok}
 use Rattle.da_lang.specs.declared.tree.Expr.{Expr}
-use Rattle.da_lang.specs.Spelling.{Room, Opens, Closed, Behind}
+use Rattle.da_lang.specs.Spelling.{Room, Opens, Closed, EachAfter}
 use Rattle.da_lang.specs.ExprGrammar.{Deeper, IsExpr, IsPattern, deeper}
 use Rattle.da_phrases.specs.declared.place.Level.TheVariants as level
 use Rattle.da_phrases.specs.Reader.{◌>>◌, sees, past}
@@ -89,16 +89,16 @@ module _ (p : Place) (room : Room) (deep : Deeper) (ready : Ready p room deep) w
   pub pattern_ready : IsComplete Anything (pattern p) (IsPattern room deep)
   pattern_ready = pattern-complete p room deep ready.shrinking ready.beginning ready.completes
 
-  -- expressions behind a parenthesis, up to its end
-  pub behind_paren-complete : {t s : List Tok} → Opens m.OpenParen room t s → (xs : List Expr) (i r : List Tok) → Closed m.CloseParen deep.disj xs i r → closed m.CloseParen (p.expr level.Disj) [] i ≡ Ok (xs, r)
-  behind_paren-complete o xs i r l =
+  -- expressions after a parenthesis, up to its end
+  pub after_paren-complete : {t s : List Tok} → Opens m.OpenParen room t s → (xs : List Expr) (i r : List Tok) → Closed m.CloseParen deep.disj xs i r → closed m.CloseParen (p.expr level.Disj) [] i ≡ Ok (xs, r)
+  after_paren-complete o xs i r l =
       closed-complete (ready.completes.disj _ (room-Opens o)) ready.shrinking.disj m.CloseParen begins_disj ready.beginning.disj refl refl
       (λ j q h. next-At goes_on_disj h) (λ j q h. next-At goes_on_disj h) [] xs i r l
 
-  -- expressions that each stand behind a comma, behind a parenthesis
-  pub behind_commas-complete : {t s : List Tok} → Opens m.OpenParen room t s → (xs : List Expr) (i r : List Tok) → Behind m.Comma deep.disj xs i r → Lacks goes_on_disj r → sees m.Comma r ≡ false
+  -- expressions that each stand after a comma, after a parenthesis
+  pub after_commas-complete : {t s : List Tok} → Opens m.OpenParen room t s → (xs : List Expr) (i r : List Tok) → EachAfter m.Comma deep.disj xs i r → Lacks goes_on_disj r → sees m.Comma r ≡ false
       → begun m.Comma (past (p.expr level.Disj)) [] i ≡ Ok (xs, r)
-  behind_commas-complete o xs i r l s c =
+  after_commas-complete o xs i r l s c =
       behind-complete (ready.completes.disj _ (room-Opens o)) ready.shrinking.disj m.Comma (λ j q h. next-At goes_on_disj h) [] xs i r l s c
 
 -- ---- at most so many things may be open

@@ -76,7 +76,7 @@ module _ (may_open : ℕ → Bool) (inner : Reader Ty) (room : Room) (Inner : Sp
   type_in-complete _ i r (IsType.tuple o a h l) s = at_type i (mark-Opens o) (rw (opens_is may_open allows o) (tuple_type-complete (complete _ (room-Opens o)) a h l))
 
 module _ (limit : Limit) (room : ℕ → Room) (allows : (d : ℕ) (t : List Tok) → room d t → limit d (length t) ≡ true) where
-  -- a type behind a token that opened the thing it stands in
+  -- a type after a token that opened the thing it stands in
   pub types-complete : (g f d : ℕ) → Enough room g f d → (t : List Tok) → room d t → IsComplete Anything (types limit f (suc d)) (TypeIn room g (suc d))
   unfolding types TypeIn
   types-complete zero f d e t some x i r h s = absurd h

@@ -26,13 +26,13 @@ use Rattle.da_phrases.specs.Reader as reader
 use Rattle.da_phrases.specs.Reader.{mark, Reading, Reader, continued, ◌>>=◌, ◌>>◌, expect, sees, pure}
 use Rattle.da_phrases.specs.Place.{Limit, Place, opening}
 use Rattle.da_phrases.specs.Exprs as exprs
-use Rattle.da_phrases.specs.Exprs.{times_op, plus_op, cmp_op_at, quantifier, chained, joined, source_by, source, constant, generator_with, generator, generators, condition, no_argument, first_argument, last_argument, one_argument, two_arguments, grouped_by, grouped, comprehension, braced, atom_by, atom, behind_minus, unary, product, sum, compared_by, comparison, negation, conjunction, disjunction, quantification, expression_by, expression, tuple_pattern, pattern_by, pattern}
+use Rattle.da_phrases.specs.Exprs.{times_op, plus_op, cmp_op_at, quantifier, chained, joined, source_by, source, constant, generator_with, generator, generators, condition, no_argument, first_argument, last_argument, one_argument, two_arguments, grouped_by, grouped, comprehension, braced, atom_by, atom, after_minus, unary, product, sum, compared_by, comparison, negation, conjunction, disjunction, quantification, expression_by, expression, tuple_pattern, pattern_by, pattern}
 use Rattle.da_phrases.proofs.Samples.{sample, onto}
 use Rattle.da_phrases.proofs.Steps.{bool_cases, NotAt-sees}
 use Rattle.da_phrases.proofs.SoundOperators.{times-sound, plus-sound, cmp-sound, quantifying, quantifier_is, chained-sound}
 use Rattle.da_phrases.proofs.Faults as f
 use Rattle.da_phrases.proofs.Faults.{Rule, Anywhere, Makes, Completed, Cut, Good, Whole, not_longer}
-use Rattle.da_phrases.proofs.FaultSteps.{First, leads, split, bind, bind_good, bind_makes, pure_good, pure_whole, refuse_good, by_mark_good, if_good, good_same, good_as, good_on, past_good, past_mark, behind_good, opens_good, opening_whole, expect_whole, word_whole, taking_name, number_whole, quoted_whole, first_mark, first_sees}
+use Rattle.da_phrases.proofs.FaultSteps.{First, leads, split, bind, bind_good, bind_makes, pure_good, pure_whole, refuse_good, by_mark_good, if_good, good_same, good_as, good_on, past_good, past_mark, after_good, opens_good, opening_whole, expect_whole, word_whole, taking_name, number_whole, quoted_whole, first_mark, first_sees}
 use Rattle.da_phrases.proofs.FaultLists.{Strict, separated_whole, all_separated, closed_whole, others_whole}
 
 -- operands with the word between; a quantification by its word
@@ -69,7 +69,7 @@ module _ (c : Cut) (Q : Type 0) where
     pub joined-whole : Whole c Q (w ++ []) (joined k join p) (joined k join q) (λ room. IsJoined k join (Operand room))
     unfolding joined
     joined-whole = bind c Q one (λ x. record {
-      good = behind_good c Q k
+      good = after_good c Q k
           (bind_good c Q (separated_whole c Q k one strict strict_too (x ∷ [])).good (λ xs.
           pure_whole c Q (join xs) (λ room i i1 finds i2 word i3 h.
           let (l, is, spelled) = finds in subst (λ z. IsJoined k join (Operand room) (join z) i3 i) (sym is) (with_more x l h word spelled))))
@@ -179,7 +179,7 @@ module _ (c : Cut) (d : ℕ) {e e1 : Level → Reader Expr} {r r1 : Reader Patte
   abbrev CondHere : Rule (Option Expr)
   CondHere room = IsCond (deep room).expr
 
-  -- generators and conditions stand behind what opens one thing more
+  -- generators and conditions stand after what opens one thing more
   source_in : Whole c D (m.In ∷ m.Sent ∷ []) source source Source
   source_in = source-whole c D
 
@@ -201,9 +201,9 @@ module _ (c : Cut) (d : ℕ) {e e1 : Level → Reader Expr} {r r1 : Reader Patte
   generator-whole : Whole c D (m.Name ∷ m.In ∷ m.Sent ∷ []) (generator Here) (generator There) GenHere
   unfolding generator
   generator-whole = bind c D x.pattern (λ message. record {
-    good = behind_good c D m.From
+    good = after_good c D m.From
         (good_as c D (λ room y i s h i1 word i2 of. gen_peer {room = room} message peer_tree.From y of (λ z q there. g.IsPeer.from word there) h) (generator_with-good message peer_tree.From))
-        (behind_good c D m.To
+        (after_good c D m.To
         (good_as c D (λ room y i s h i1 word i2 of. gen_peer {room = room} message peer_tree.To y of (λ z q there. g.IsPeer.to word there) h) (generator_with-good message peer_tree.To))
         (bind_good c D (good_on c D (λ i ok. tt) source_in.good) (λ from. pure_whole c D (exprs.made message None from) (λ room i i1 through i2 of. let (a, word, goes) = through in g.gen of g.no_peer word goes))));
     makes = record { of = λ wide n s few. (exprs.made message None source_tree.Sent, λ i of. g.gen of g.no_peer (at refl) (g.sent (at refl))) };
@@ -217,9 +217,9 @@ module _ (c : Cut) (d : ℕ) {e e1 : Level → Reader Expr} {r r1 : Reader Patte
   condition-whole : Whole c D [] (condition Here) (condition There) CondHere
   unfolding condition
   condition-whole = record {
-    good = behind_good c D m.Bar
+    good = after_good c D m.Bar
         (bind_good c D x.expr.good (λ z. pure_whole c D (Some z) (λ room i i1 h i2 word. g.bar word h)))
-        (behind_good c D m.Has
+        (after_good c D m.Has
         (bind_good c D x.expr.good (λ z. pure_whole c D (Some z) (λ room i i1 h i2 word. g.has word h)))
         (pure_good c D None (λ room i. g.no_cond)));
     makes = record { of = λ wide n s few. (None, g.no_cond) };
@@ -254,7 +254,7 @@ module _ (c : Cut) (d : ℕ) {e e1 : Level → Reader Expr} {r r1 : Reader Patte
   unfolding last_argument
   last_argument-whole = bind c D x.disj (λ v. bind c D (expect_whole c D m.CloseParen) (λ _. pure_whole c D v (λ room i i1 over i2 h. (i1, h, over))))
 
-  -- `(EXPR, EXPR)`, behind a word
+  -- `(EXPR, EXPR)`, after a word
   two_arguments-good : (Q : Type 0) (k : Mark) (make : Expr → Expr → Expr)
       → ((room : ℕ → Room) (u v : Expr) (t s q z a b f : List Tok) → At k t s → Opens m.OpenParen (room d) s q → (deep room).disj u q z → At m.Comma z a → (deep room).disj v a b → At m.CloseParen b f → AtomHere room (make u v) t f)
       → Good c Q (λ i. mark i ≡ Some k) (reader.past (two_arguments Here make)) (reader.past (two_arguments There make)) AtomHere
@@ -272,11 +272,11 @@ module _ (c : Cut) (d : ℕ) {e e1 : Level → Reader Expr} {r r1 : Reader Patte
   one_argument-good Q k make spells = past_mark c Q k (λ i ok. ok)
       (bind c Q (one_argument-whole Q) (λ u. pure_whole c Q (make u) (λ room i i1 one i2 word. let (a, b, opened, h, over) = one in spells room u _ _ _ _ _ word opened h over))).good
 
-  -- behind `(`
+  -- after `(`
   grouped_by-whole : (k : Option Bool) → Good c D Anywhere (grouped_by Here k) (grouped_by There k) (λ room y i s. (t : List Tok) → Opens m.OpenParen (room d) t i → AtomHere room y t s)
   grouped_by-whole (Some each) = (bind c D x.expr (λ z. bind c D (expect_whole c D m.CloseParen) (λ _. pure_whole c D z (λ room i i1 over i2 h t opened. g.group opened h over)))).good
   grouped_by-whole None = bind_good c D {w = m.CloseParen ∷ []} x.disj.good (λ z. record {
-    good = behind_good c D m.Comma
+    good = after_good c D m.Comma
         (bind_good c D (closed_whole c D m.CloseParen x.disj x.disj_strict x.disj_strict1 (z ∷ [])).good (λ xs.
         pure_whole c D (ex.Tuple xs) (λ room i i1 finds i2 comma i3 h t opened.
         let (l, is, spelled) = finds in subst (λ v. AtomHere room (ex.Tuple v) t i) (sym is) (g.IsAtom.tuple opened h comma spelled))))
@@ -292,7 +292,7 @@ module _ (c : Cut) (d : ℕ) {e e1 : Level → Reader Expr} {r r1 : Reader Patte
   }
 
   module _ (strict : Strict (generator Here)) (strict1 : Strict (generator There)) where
-    -- behind `{ term :`
+    -- after `{ term :`
     comprehension-whole : (z : Expr) → Good c D Anywhere (comprehension Here z) (comprehension There z) (λ room y i s. (i1 : List Tok) → At m.Colon i1 i → (i2 : List Tok) → (deep room).disj z i2 i1 → (t : List Tok) → Opens m.OpenBrace (room d) t i2 → AtomHere room y t s)
     unfolding comprehension
     comprehension-whole z = (bind c D (generators-whole strict strict1) (λ gens.
@@ -300,15 +300,15 @@ module _ (c : Cut) (d : ℕ) {e e1 : Level → Reader Expr} {r r1 : Reader Patte
         bind c D (expect_whole c D m.CloseBrace) (λ _.
         pure_whole c D (ex.Comp z gens cond) (λ room i i1 over i2 asked i3 gs i4 colon i5 h t opened. g.comprehension opened h colon gs asked over))))).good
 
-    -- behind `{`
+    -- after `{`
     braced-whole : Whole c D (m.CloseBrace ∷ []) (braced Here) (braced There) (λ room y i s. (t : List Tok) → Opens m.OpenBrace (room d) t i → AtomHere room y t s)
     unfolding braced
     braced-whole = record {
-      good = behind_good c D m.CloseBrace
+      good = after_good c D m.CloseBrace
           (pure_good c D (ex.SetOf []) (λ room i i1 over t opened. g.set_of opened (spelling.empty over)))
           (bind_good c D {w = m.CloseBrace ∷ []} (good_on c D (λ i ok. tt) x.disj.good) (λ z. record {
-            good = behind_good c D m.Colon (comprehension-whole z)
-                (behind_good c D m.Comma
+            good = after_good c D m.Colon (comprehension-whole z)
+                (after_good c D m.Comma
                 (bind_good c D (separated_whole c D m.Comma x.disj x.disj_strict x.disj_strict1 (z ∷ [])).good (λ xs.
                 bind c D (expect_whole c D m.CloseBrace) (λ _.
                 pure_whole c D (ex.SetOf xs) (λ room i i1 over i2 finds i3 comma i4 h t opened.
@@ -348,10 +348,10 @@ module _ (c : Cut) (d : ℕ) {e e1 : Level → Reader Expr} {r r1 : Reader Patte
       unfolding atom
       atom-whole = record { good = by_mark_good c Q (λ k. good_on c Q (λ i ok. ok.1) (atom_by-good k)); makes = atom_makes }
 
-      -- behind a `-` of an expression
-      behind_minus-whole : Whole c D (m.Number ∷ []) (behind_minus Here) (behind_minus There) (λ room y i s. (t : List Tok) → Opens m.Minus (room d) t i → IsUnary (room d) (deep room) y t s)
-      unfolding behind_minus
-      behind_minus-whole = record {
+      -- after a `-` of an expression
+      after_minus-whole : Whole c D (m.Number ∷ []) (after_minus Here) (after_minus There) (λ room y i s. (t : List Tok) → Opens m.Minus (room d) t i → IsUnary (room d) (deep room) y t s)
+      unfolding after_minus
+      after_minus-whole = record {
         good = if_good c D m.Number
             (bind_good c D (good_on c D (λ i ok. tt) (number_whole c D).good) (λ n. pure_whole c D (ex.Int (neg_ℤ (pos n))) (λ room i i1 h t opened. g.IsUnary.negative opened h)))
             (bind_good c D (good_on c D (λ i ok. ok.1) (no_number c D x.unary x.unary_strict)) (λ z. pure_whole c D (negated z) (λ room i i1 h t opened. g.IsUnary.minus opened h.0 h.1)));
@@ -368,7 +368,7 @@ module _ (c : Cut) (d : ℕ) {e e1 : Level → Reader Expr} {r r1 : Reader Patte
       unfolding unary
       unary-whole = record {
         good = if_good c Q m.Minus
-            (opens_good c Q d m.Minus behind_minus-whole (λ i ok. first_sees i ok.1))
+            (opens_good c Q d m.Minus after_minus-whole (λ i ok. first_sees i ok.1))
             (good_as c Q (λ room y i s h. g.IsUnary.atom h) (good_on c Q (λ i ok. tt) atom-whole.good));
         makes = unary_makes;
       }
@@ -404,7 +404,7 @@ module _ (c : Cut) (d : ℕ) {e e1 : Level → Reader Expr} {r r1 : Reader Patte
         comparison-whole : Whole c Q (m.Name ∷ []) (comparison Here) (comparison There) CompHere
         unfolding comparison
         comparison-whole = bind c Q sum-whole (λ z. record {
-          good = behind_good c Q m.In
+          good = after_good c Q m.In
               (bind c Q sum-whole (λ v. pure_whole c Q (ex.Member z v) (λ room i i1 h i2 word t left. g.member left word h))).good
               (by_mark_good c Q (λ k. good_on c Q (λ i ok. ap cmp_op_at ok.1) (compared_by-good (cmp_op_at k) z)));
           makes = record { of = λ wide n s few. (z, λ i h. g.IsComp.lone h) };

@@ -8,21 +8,21 @@ use Rattle.da_lang.specs.declared.tree.ArithOp.{ArithOp}
 use Rattle.da_lang.specs.declared.tree.ChainTree.{ChainTree, roll-ChainTree}
 use Rattle.da_lang.specs.declared.tree.Expr.{Expr}
 use Rattle.da_lang.specs.Spelling as g
-use Rattle.da_lang.specs.Spelling.{Spelling, Room, At, Separated, Closed, Behind, Many, Ended}
+use Rattle.da_lang.specs.Spelling.{Spelling, Room, At, Separated, Closed, EachAfter, Many, Ended}
 use Rattle.da_lang.specs.ExprGrammar.{IsOthers, no_other, other}
 use Rattle.da_phrases.specs.declared.cursor.Stop.{Stop}
-use Rattle.da_phrases.specs.Reader.{mark, rest, rest_if, sees, Reading, Reader, continued, ◌>>=◌, ◌>>◌, pure, refuse, expect, past, by_mark, if_next, behind}
+use Rattle.da_phrases.specs.Reader.{mark, rest, rest_if, sees, Reading, Reader, continued, ◌>>=◌, ◌>>◌, pure, refuse, expect, past, by_mark, if_next, after_token}
 use Rattle.da_phrases.specs.Lists.{separated_from, separated, begun_from, begun, ended_from, ended, closed, others_by, others_from, others}
 use Rattle.da_phrases.proofs.Steps.{bool_cases, At-sees}
 use Rattle.da_phrases.proofs.Samples.{onto}
 use Rattle.da_phrases.proofs.Faults.{Shifted, room_of, Rule, Anywhere, Makes, Viable, ahead, Cut, Follows, Local, Good, Whole, same_ahead}
-use Rattle.da_phrases.proofs.FaultSteps.{bind, bind_good, bind_makes, pure_good, pure_whole, refuse_good, by_mark_good, if_good, good_as, good_on, past_good, past_mark, behind_good, expect_whole, First, leads, first_mark, first_sees}
+use Rattle.da_phrases.proofs.FaultSteps.{bind, bind_good, bind_makes, pure_good, pure_whole, refuse_good, by_mark_good, if_good, good_as, good_on, past_good, past_mark, after_good, expect_whole, First, leads, first_mark, first_sees}
 
 -- at least one token is passed
 abbrev pub Strict : {A : Type 0} → Reader A → Type 0
 Strict {A} p = (i : List Tok) (y : A × List Tok) → p i ≡ Ok y → length y.1 < length i
 
--- behind those found come these, which are spelled here
+-- after those found come these, which are spelled here
 abbrev pub Finds : {A : Type 0} → Rule (List A) → List A → Rule (List A)
 Finds {A} Items found room ys i r = (xs : List A) × (ys ≡ found ++ xs) × Items room xs i r
 
@@ -30,8 +30,8 @@ pub continued_same : {A B : Type 0} (o : Reading A) (g h : A → Reader B) → (
 continued_same (Ok (x, r)) g h e = e x r refl
 continued_same (Err s) g h e = refl
 
-behind_same : {A : Type 0} (k : Mark) (p q p1 q1 : Reader A) (i : List Tok) → (sees k i ≡ true → p (rest i) ≡ q (rest i)) → p1 i ≡ q1 i → behind k p p1 i ≡ behind k q q1 i
-behind_same k p q p1 q1 i e missing = by_test (sees k i) refl
+after_same : {A : Type 0} (k : Mark) (p q p1 q1 : Reader A) (i : List Tok) → (sees k i ≡ true → p (rest i) ≡ q (rest i)) → p1 i ≡ q1 i → after_token k p p1 i ≡ after_token k q q1 i
+after_same k p q p1 q1 i e missing = by_test (sees k i) refl
   where
     by_test : (b : Bool) → sees k i ≡ b → (if b then p else p1) (rest_if b i) ≡ (if b then q else q1) (rest_if b i)
     by_test true is = e is
@@ -62,7 +62,7 @@ module _ {A : Type 0} (k : Mark) (p : Reader A) (strict : Strict p) where
   separated_enough zero l found i a b few less = absurd (omega (arith, a))
   separated_enough (suc n) zero found i a b few less = absurd (omega (arith, b))
   separated_enough (suc n) (suc l) found i a b few less = continued_same (p i) _ _ (λ x r read.
-      behind_same k (separated_from k p n (found ++ x ∷ [])) (separated_from k p l (found ++ x ∷ [])) (pure (found ++ x ∷ [])) (pure (found ++ x ∷ [])) r
+      after_same k (separated_from k p n (found ++ x ∷ [])) (separated_from k p l (found ++ x ∷ [])) (pure (found ++ x ∷ [])) (pure (found ++ x ∷ [])) r
       (λ seen.
       let shorter = rest_shorter k r seen in
       let passed = strict i (x, r) read in
@@ -79,7 +79,7 @@ module _ (c : Cut) (Q : Type 0) {A : Type 0} (k : Mark) {w : List Mark} {p q : R
   unfolding separated_from
   separated_from-good zero found = refuse_good c Q (separated_makes found)
   separated_from-good (suc n) found = bind_good c Q {w = []} one.good (λ x. record {
-    good = behind_good c Q k
+    good = after_good c Q k
         (good_as c Q (λ room ys i r later j at_it j0 first. let (xs, is, l) = later in (x ∷ xs, is ∙ append_assoc found (x ∷ []) xs, g.more first at_it l)) (separated_from-good n (found ++ x ∷ [])))
         (pure_good c Q (found ++ x ∷ []) (λ room i j first. (x ∷ [], refl, g.last first)));
     makes = record { of = λ wide n s few. (found ++ x ∷ [], λ j first. (x ∷ [], refl, g.last first)) };
@@ -129,7 +129,7 @@ module _ (c : Cut) (Q : Type 0) {A : Type 0} (close : Mark) {w : List Mark} {p q
   pub closed_whole : (found : List A) → Whole c Q (close ∷ []) (closed close p found) (closed close q found) (Finds InClosed found)
   unfolding closed
   closed_whole found = record {
-    good = behind_good c Q close
+    good = after_good c Q close
         (pure_good c Q found (λ room i j over. ([], sym (append-nil found), g.empty over)))
         (good_on c Q (λ i ok. tt)
         (bind_good c Q (separated_whole c Q m.Comma one strict strict_too found).good (λ all.
@@ -144,7 +144,7 @@ module _ (c : Cut) (Q : Type 0) {A : Type 0} (close : Mark) {w : List Mark} {p q
     makes = record { of = λ wide n s few. ([], g.empty (g.at refl)) };
   }
 
--- ---- each behind a token of this mark
+-- ---- each after a token of this mark
 
 module _ {A : Type 0} (k : Mark) (p : Reader A) (strict : (i : List Tok) (y : A × List Tok) → sees k i ≡ true → p i ≡ Ok y → length y.1 < length i) where
   begun_enough : (n l : ℕ) (found : List A) (i : List Tok) → length i ≤ n → length i ≤ l → begun_from k p n found i ≡ begun_from k p l found i
@@ -196,13 +196,13 @@ module _ {A : Type 0} (p : Reader A) (strict : Strict p) (nothing : p [] ≡ ref
   ended_enough : (n l : ℕ) (found : List A) (i : List Tok) → length i ≤ n → length i ≤ l → ended_from p n found i ≡ ended_from p l found i
   unfolding ended_from
   ended_enough zero zero found i few less = refl
-  ended_enough zero (suc l) found [] few less = sym (ap (λ o. continued (λ x. behind m.Dedent (pure (found ++ x ∷ [])) (ended_from p l (found ++ x ∷ []))) o) nothing)
-  ended_enough (suc n) zero found [] few less = ap (λ o. continued (λ x. behind m.Dedent (pure (found ++ x ∷ [])) (ended_from p n (found ++ x ∷ []))) o) nothing
+  ended_enough zero (suc l) found [] few less = sym (ap (λ o. continued (λ x. after_token m.Dedent (pure (found ++ x ∷ [])) (ended_from p l (found ++ x ∷ []))) o) nothing)
+  ended_enough (suc n) zero found [] few less = ap (λ o. continued (λ x. after_token m.Dedent (pure (found ++ x ∷ [])) (ended_from p n (found ++ x ∷ []))) o) nothing
   ended_enough zero (suc l) found (t ∷ i) few less = absurd (omega (arith, few))
   ended_enough (suc n) zero found (t ∷ i) few less = absurd (omega (arith, less))
   ended_enough (suc n) (suc l) found i few less = continued_same (p i) _ _ (λ x r read.
       let passed = strict i (x, r) read in
-      behind_same m.Dedent (pure (found ++ x ∷ [])) (pure (found ++ x ∷ [])) (ended_from p n (found ++ x ∷ [])) (ended_from p l (found ++ x ∷ [])) r (λ seen. refl)
+      after_same m.Dedent (pure (found ++ x ∷ [])) (pure (found ++ x ∷ [])) (ended_from p n (found ++ x ∷ [])) (ended_from p l (found ++ x ∷ [])) r (λ seen. refl)
       (ended_enough n l (found ++ x ∷ []) r (omega (arith, passed, few)) (omega (arith, passed, less))))
 
 module _ (c : Cut) (Q : Type 0) {A : Type 0} {w : List Mark} {p q : Reader A} {Item : Rule A} (one : Whole c Q w p q Item) where
@@ -216,7 +216,7 @@ module _ (c : Cut) (Q : Type 0) {A : Type 0} {w : List Mark} {p q : Reader A} {I
   unfolding ended_from
   ended_from-good zero found = refuse_good c Q (ended_makes found)
   ended_from-good (suc n) found = bind_good c Q {w = m.Dedent ∷ []} one.good (λ x. record {
-    good = behind_good c Q m.Dedent
+    good = after_good c Q m.Dedent
         (pure_good c Q (found ++ x ∷ []) (λ room i j over j0 first. (x ∷ [], refl, g.ends first over)))
         (good_on c Q (λ i ok. tt)
         (good_as c Q (λ room ys i r later j first. let (xs, is, l) = later in (x ∷ xs, is ∙ append_assoc found (x ∷ []) xs, g.goes_on first l)) (ended_from-good n (found ++ x ∷ []))));

@@ -12,7 +12,7 @@ use Rattle.da_lang.specs.Spelling.{Spelling, Room, At, at, Opens, opens, Named, 
 use Rattle.da_phrases.specs.declared.cursor.Stop.{Stop}
 use Rattle.da_phrases.specs.declared.cursor.Stop.TheVariants.{Memory, Syntax, Deep}
 use Rattle.da_phrases.specs.Reader as reader
-use Rattle.da_phrases.specs.Reader.{mark, text, line, rest, rest_if, same, sees, Reading, Reader, continued, ◌>>=◌, ◌>>◌, pure, refuse, past, taking, by_mark, at_line, if_next, behind, expect, word, stands_for}
+use Rattle.da_phrases.specs.Reader.{mark, text, line, rest, rest_if, same, sees, Reading, Reader, continued, ◌>>=◌, ◌>>◌, pure, refuse, past, taking, by_mark, at_line, if_next, after_token, expect, word, stands_for}
 use Rattle.da_phrases.specs.Place as place
 use Rattle.da_phrases.specs.Place.{Limit}
 use Rattle.da_phrases.proofs.Steps.{same_marks, bool_cases, At-sees}
@@ -105,7 +105,7 @@ first_value k F (t ∷ r) e is = leads (same_marks t.mark k e, is)
 named_at : (b : List ℕ) (t : Tok) (r : List Tok) → t.mark ≡ m.Name → t.text ≡ b → Named b (t ∷ r) r
 named_at b t r is same_name = subst (λ z. Named z (t ∷ r) r) same_name (named is)
 
--- ---- one part behind the other
+-- ---- one part after the other
 
 module _ (c : Cut) {A B : Type 0} where
   pub follows_on : (o other : Reading A) (g h : A → Reader B) → Follows c o other
@@ -178,8 +178,8 @@ module _ (c : Cut) (Q : Type 0) {A B : Type 0} {p q : Reader A} {G : Rule A} {v 
   pub bind : Whole c Q v p q G → ((x : A) → Whole c Q w (g x) (h x) (λ room y r s. (i : List Tok) → G room x i r → H room y i s)) → Whole c Q (v ++ w) (p >>= g) (q >>= h) H
   bind part later = record { good = bind_good c Q part.good later; makes = bind_makes c Q part.makes (λ x. (later x).makes) }
 
-behind_is_if : {A : Type 0} (k : Mark) (p q : Reader A) (i : List Tok) → behind k p q i ≡ if_next k (past p) q i
-behind_is_if k p q i = by_test (sees k i)
+after_is_if : {A : Type 0} (k : Mark) (p q : Reader A) (i : List Tok) → after_token k p q i ≡ if_next k (past p) q i
+after_is_if k p q i = by_test (sees k i)
   where
     by_test : (b : Bool) → (if b then p else q) (rest_if b i) ≡ (if b then past p else q) i
     by_test true = refl
@@ -356,18 +356,18 @@ module _ (c : Cut) (Q : Type 0) {A : Type 0} {P : List Tok → Type 0} {H : Rule
   taking_line at_it {g} {h} is each = taking_good c Q {g = g} {h = h} (λ t. (t.mark ≡ m.Name) × (t.line ≡ at_it)) (λ i ok. let (a, b) = is i ok in first_both i a b)
       (λ b. good_as c Q (λ room y r s all t e same_name. all (t ∷ r) (named_at b t r e.0 same_name) e.1) (each b))
 
-  pub behind_line : (k : Mark) (at_it : ℕ) {p1 q1 p2 q2 : Reader A} → ((i : List Tok) → P i → line i ≡ at_it) → Good c Q Anywhere p1 q1 (λ room y r s. (i : List Tok) → At k i r → sp.line i ≡ at_it → H room y i s)
-      → Good c Q (λ i. P i × (sees k i ≡ false)) p2 q2 H → Good c Q P (behind k p1 p2) (behind k q1 q2) H
-  behind_line k at_it {p1} {q1} {p2} {q2} lined is_there not_there =
-      good_same c Q (behind_is_if k p1 p2) (behind_is_if k q1 q2)
+  pub after_line : (k : Mark) (at_it : ℕ) {p1 q1 p2 q2 : Reader A} → ((i : List Tok) → P i → line i ≡ at_it) → Good c Q Anywhere p1 q1 (λ room y r s. (i : List Tok) → At k i r → sp.line i ≡ at_it → H room y i s)
+      → Good c Q (λ i. P i × (sees k i ≡ false)) p2 q2 H → Good c Q P (after_token k p1 p2) (after_token k q1 q2) H
+  after_line k at_it {p1} {q1} {p2} {q2} lined is_there not_there =
+      good_same c Q (after_is_if k p1 p2) (after_is_if k q1 q2)
       (if_good c Q k
       (taking_good c Q {g = λ _. p1} {h = λ _. q1} (λ t. (t.mark ≡ k) × (t.line ≡ at_it)) (λ i ok. first_line i ok.1 (lined i ok.0)) (λ b. good_as c Q (λ room y r s each t e _. each (t ∷ r) (at e.0) e.1) is_there)) not_there)
 
-  -- a part that may be missing, behind a token of this mark
-  pub behind_good : (k : Mark) {p1 q1 p2 q2 : Reader A} → Good c Q Anywhere p1 q1 (λ room y r s. (i : List Tok) → At k i r → H room y i s) → Good c Q (λ i. P i × (sees k i ≡ false)) p2 q2 H
-      → Good c Q P (behind k p1 p2) (behind k q1 q2) H
-  behind_good k {p1} {q1} {p2} {q2} is_there not_there =
-      good_same c Q (behind_is_if k p1 p2) (behind_is_if k q1 q2)
+  -- a part that may be missing, after a token of this mark
+  pub after_good : (k : Mark) {p1 q1 p2 q2 : Reader A} → Good c Q Anywhere p1 q1 (λ room y r s. (i : List Tok) → At k i r → H room y i s) → Good c Q (λ i. P i × (sees k i ≡ false)) p2 q2 H
+      → Good c Q P (after_token k p1 p2) (after_token k q1 q2) H
+  after_good k {p1} {q1} {p2} {q2} is_there not_there =
+      good_same c Q (after_is_if k p1 p2) (after_is_if k q1 q2)
       (if_good c Q k
       (taking_good c Q {g = λ _. p1} {h = λ _. q1} (λ t. t.mark ≡ k) (λ i ok. first_sees i ok.1) (λ b. good_as c Q (λ room y r s each t e _. each (t ∷ r) (at e)) is_there)) not_there)
 

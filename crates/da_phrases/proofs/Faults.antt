@@ -27,7 +27,7 @@ not_longer (behind a) = omega (arith, not_longer a)
 
 -- ---- where one more thing may be opened
 
--- Behind the first so many tokens from the end anything may be opened, before them only where fewer things are open; or
+-- After the first so many tokens from the end anything may be opened, before them only where fewer things are open; or
 -- anything may be opened anywhere.
 abbrev pub room_of : ℕ → Bool → ℕ → ℕ → Room
 room_of most false n d t = n < length t → d < most
@@ -50,7 +50,7 @@ Rule A = (ℕ → Room) → Spelling A
 abbrev pub Anywhere : List Tok → Type 0
 Anywhere i = Unit {0}
 
--- The place that a stop tells, by the tokens from it on; or the place behind its token, which opened one thing too many. There
+-- The place that a stop tells, by the tokens from it on; or the place after its token, which opened one thing too many. There
 -- is such a token, so that anything holds where there is none.
 abbrev pub Placed : Bool → Stop → ℕ → Type 0
 Placed false (Syntax left) k = left ≡ k
@@ -115,7 +115,7 @@ pub record Whole (c : Cut) (Q : Type 0) (w : List Mark) {A : Type 0} (p q : Read
   pub good : Good c Q Anywhere p q G
   pub makes : Makes c.most w G
 
--- ---- what comes behind that place
+-- ---- what comes after that place
 
 abbrev pub Beyond : Cut → {A : Type 0} → Reading A → Type 0
 Beyond c (Ok y) = length y.1 < length c.from

@@ -34,7 +34,7 @@ Begins {A} one G = (x : A) (i r : List Tok) → G x i r → is_next one (mark i)
 abbrev pub Lacks : (Mark → Bool) → List Tok → Type 0
 Lacks one r = is_next one (mark r) ≡ false
 
--- it stands behind a token of this mark
+-- it stands after a token of this mark
 pub data Led (k : Mark) {A : Type 0} (G : Spelling A) : A → List Tok → List Tok → Type 0 where
   led : {x : A} {t r s : List Tok} → At k t r → G x r s → Led k G x t s
 

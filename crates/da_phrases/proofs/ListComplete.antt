@@ -6,12 +6,12 @@ use Rattle.da_values.specs.Marks.{Tok}
 use Rattle.da_lang.specs.declared.tree.ArithOp.{ArithOp}
 use Rattle.da_lang.specs.declared.tree.ChainTree.{ChainTree, roll-ChainTree}
 use Rattle.da_lang.specs.declared.tree.Expr.{Expr}
-use Rattle.da_lang.specs.Spelling.{Spelling, At, Separated, Closed, Behind, Many, Ended}
+use Rattle.da_lang.specs.Spelling.{Spelling, At, Separated, Closed, EachAfter, Many, Ended}
 use Rattle.da_lang.specs.ExprGrammar.{IsOthers}
 use Rattle.da_phrases.specs.Reader.{Reading, Reader, ◌>>◌, mark, rest, same, sees, past}
 use Rattle.da_phrases.specs.Lists.{separated, separated_from, begun, begun_from, ended, ended_from, closed, others, others_from}
 use Rattle.da_phrases.proofs.Laws.{IsComplete, Shrinks, Begins, Led, led}
-use Rattle.da_phrases.proofs.Steps.{At-sees, shorter-At, behind_is, behind_not, expect_is, sees-At, not_seen, past_is}
+use Rattle.da_phrases.proofs.Steps.{At-sees, shorter-At, behind_is, after_not, expect_is, sees-At, not_seen, past_is}
 use Rattle.da_phrases.proofs.Firsts.{never_seen, Separated-begins}
 
 -- what was found, one more, and the others
@@ -27,7 +27,7 @@ module _ {A : Type 0} {Stops : List Tok → Type 0} {item : Reader A} {Item : Sp
       → Separated k Item xs i r → Stops r → sees k r ≡ false → length i ≤ n → separated_from k item n found i ≡ Ok (found ++ xs, r)
   unfolding separated_from
   separated_from-complete k between zero found _ i r (Separated.last a) s c turns = absurd (omega (arith, shrinks _ _ _ a))
-  separated_from-complete k between (suc n) found _ i r (Separated.last a) s c turns = rw (complete _ _ _ a s) (behind_not k _ _ c)
+  separated_from-complete k between (suc n) found _ i r (Separated.last a) s c turns = rw (complete _ _ _ a s) (after_not k _ _ c)
   separated_from-complete k between zero found _ i r (Separated.more a h l) s c turns = absurd (omega (arith, shrinks _ _ _ a))
   separated_from-complete k between (suc n) found _ i r (Separated.more {x} {xs} a h l) s c turns =
       rw (complete _ _ _ a (between _ _ h)) (behind_is _ _ h ∙ append_one found x xs r (separated_from-complete k between n (found ++ x ∷ []) xs _ r l s c (omega (arith, shrinks _ _ _ a, shorter-At h))))
@@ -44,7 +44,7 @@ module _ {A : Type 0} {Stops : List Tok → Type 0} {item : Reader A} {Item : Sp
   unfolding closed
   closed-complete close one begins apart differs commas over found _ i r (Closed.empty h) = behind_is _ _ h ∙ append_none found r
   closed-complete close one begins apart differs commas over found xs i r (Closed.full l h) =
-      behind_not close _ _ (never_seen one close i apart (Separated-begins Item one begins _ xs i _ l))
+      after_not close _ _ (never_seen one close i apart (Separated-begins Item one begins _ xs i _ l))
       ∙ rw (separated-complete m.Comma commas found xs i _ l (over _ _ h) (not_seen m.Comma h differs), expect_is h) refl
 
   -- what follows the first of several may follow the element before it
@@ -80,7 +80,7 @@ module _ {A : Type 0} {Stops : List Tok → Type 0} {item : Reader A} {Item : Sp
   ended_from-complete starts over zero found _ i r (Ended.goes_on a l) turns = absurd (omega (arith, shrinks _ _ _ a))
   ended_from-complete starts over (suc n) found _ i r (Ended.goes_on {x} {xs} a l) turns =
       let (other, s) = Ended-starts starts xs _ r l in
-      rw (complete _ _ _ a s) (behind_not m.Dedent _ _ other ∙ append_one found x xs r (ended_from-complete starts over n (found ++ x ∷ []) xs _ r l (omega (arith, shrinks _ _ _ a))))
+      rw (complete _ _ _ a s) (after_not m.Dedent _ _ other ∙ append_one found x xs r (ended_from-complete starts over n (found ++ x ∷ []) xs _ r l (omega (arith, shrinks _ _ _ a))))
 
   -- one or more up to a `Dedent`, which begins none, where an element may end before it and before another
   pub ended-complete : (starts : (x : A) (i r : List Tok) → Item x i r → (sees m.Dedent i ≡ false) × Stops i) (over : (i r : List Tok) → At m.Dedent i r → Stops i) (xs : List A) (i r : List Tok)
@@ -88,11 +88,11 @@ module _ {A : Type 0} {Stops : List Tok → Type 0} {item : Reader A} {Item : Sp
   unfolding ended
   ended-complete starts over xs i r l = ended_from-complete starts over (length i) [] xs i r l (omega arith)
 
--- ---- elements that each stand behind a token
+-- ---- elements that each stand after a token
 
-Behind-many : {A : Type 0} (k : Mark) (Item : Spelling A) (xs : List A) (i r : List Tok) → Behind k Item xs i r → Many (Led k Item) xs i r
-Behind-many k Item _ i r Behind.none = Many.none
-Behind-many k Item _ i r (Behind.one h a l) = Many.one (led h a) (Behind-many k Item _ _ _ l)
+Behind-many : {A : Type 0} (k : Mark) (Item : Spelling A) (xs : List A) (i r : List Tok) → EachAfter k Item xs i r → Many (Led k Item) xs i r
+Behind-many k Item _ i r EachAfter.none = Many.none
+Behind-many k Item _ i r (EachAfter.one h a l) = Many.one (led h a) (Behind-many k Item _ _ _ l)
 
 led-complete : {A : Type 0} {Stops : List Tok → Type 0} {item : Reader A} {Item : Spelling A} → IsComplete Stops item Item → (k : Mark) → IsComplete Stops (past item) (Led k Item)
 led-complete {item = item} complete k _ i r (led h a) s = past_is item h ∙ complete _ _ _ a s
@@ -105,7 +105,7 @@ led-sees k Item _ i r (led h a) = sees-At h
 
 pub behind-complete : {A : Type 0} {Stops : List Tok → Type 0} {item : Reader A} {Item : Spelling A} (complete : IsComplete Stops item Item) (shrinks : Shrinks Item)
     (k : Mark) (between : (i r : List Tok) → At k i r → Stops i) (found xs : List A) (i r : List Tok)
-    → Behind k Item xs i r → Stops r → sees k r ≡ false → begun k (past item) found i ≡ Ok (found ++ xs, r)
+    → EachAfter k Item xs i r → Stops r → sees k r ≡ false → begun k (past item) found i ≡ Ok (found ++ xs, r)
 behind-complete {item = item} {Item = Item} complete shrinks k between found xs i r l s c =
     begun-complete {item = past item} {Item = Led k Item} (led-complete complete k) (led-shrinks shrinks k) k (led-sees k Item) between found xs i r (Behind-many k Item xs i r l) s c
 

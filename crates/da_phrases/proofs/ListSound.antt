@@ -7,14 +7,14 @@ use Rattle.da_lang.specs.declared.tree.ArithOp.{ArithOp}
 use Rattle.da_lang.specs.declared.tree.ChainTree.{ChainTree, roll-ChainTree}
 use Rattle.da_lang.specs.declared.tree.Expr.{Expr}
 use Rattle.da_lang.specs.Spelling as g
-use Rattle.da_lang.specs.Spelling.{Spelling, At, Separated, Closed, Behind, Many, Ended}
+use Rattle.da_lang.specs.Spelling.{Spelling, At, Separated, Closed, EachAfter, Many, Ended}
 use Rattle.da_lang.specs.ExprGrammar.{IsOthers, no_other, other}
 use Rattle.da_phrases.specs.Reader.{mark, rest, sees, Reader, ◌>>=◌, ◌>>◌, pure, expect, past}
 use Rattle.da_phrases.specs.Lists.{separated_from, separated, begun_from, begun, ended_from, ended, closed, others_by, others_from, others}
-use Rattle.da_phrases.proofs.Steps.{went_on, chosen, behind_ok, expect_ok, left, read_or, At-sees}
+use Rattle.da_phrases.proofs.Steps.{went_on, chosen, after_ok, expect_ok, left, read_or, At-sees}
 use Rattle.da_phrases.proofs.Laws.{IsSound, Led, led}
 
--- behind those found come these, which are spelled here
+-- after those found come these, which are spelled here
 abbrev pub Finds : {A : Type 0} → Spelling (List A) → List A → List Tok → List A × List Tok → Type 0
 Finds {A} Items found i y = (xs : List A) × (y.0 ≡ found ++ xs) × Items xs i y.1
 
@@ -29,7 +29,7 @@ module _ {A : Type 0} (k : Mark) (item : Reader A) (Item : Spelling A) (sound : 
   separated_from-sound (suc n) found i y e =
       let (p, read, next) = went_on (item i) _ y e in
       let x = sound i p read in
-      elim (behind_ok k (separated_from k item n (found ++ p.0 ∷ [])) (pure (found ++ p.0 ∷ [])) p.1 y next) [
+      elim (after_ok k (separated_from k item n (found ++ p.0 ∷ [])) (pure (found ++ p.0 ∷ [])) p.1 y next) [
         | inl h ↦ (let (xs, is, spelled) = separated_from-sound n (found ++ p.0 ∷ []) h.0 y h.2 in (p.0 ∷ xs, is ∙ append_assoc found (p.0 ∷ []) xs, g.more x h.1 spelled))
         | inr h ↦ (p.0 ∷ [], sym (ap (read_or []) h.1), subst (Separated k Item (p.0 ∷ []) i) (ap left h.1) (g.last x))
       ]
@@ -44,7 +44,7 @@ module _ {A : Type 0} (k : Mark) (item : Reader A) (Item : Spelling A) (sound : 
 module _ {A : Type 0} (close : Mark) (item : Reader A) (Item : Spelling A) (sound : IsSound item Item) where
   pub closed-sound : (found : List A) (i : List Tok) (y : List A × List Tok) → closed close item found i ≡ Ok y → Finds (Closed close Item) found i y
   unfolding closed
-  closed-sound found i y e = elim (behind_ok close (pure found) (separated m.Comma item found >>= λ all. expect close >> pure all) i y e) [
+  closed-sound found i y e = elim (after_ok close (pure found) (separated m.Comma item found >>= λ all. expect close >> pure all) i y e) [
     | inl h ↦ ([], sym (append-nil found ∙ ap (read_or []) h.2), subst (Closed close Item [] i) (ap left h.2) (g.empty h.1))
     | inr h ↦ (
         let (p, read, next) = went_on (separated m.Comma item found i) _ y h.1 in
@@ -79,22 +79,22 @@ module _ {A : Type 0} (k : Mark) (item : Reader A) (Item : Spelling A) (sound : 
   pub all_begun : IsSound (begun k item []) (Many Item)
   all_begun i y e = found_all (Many Item) i y (begun-sound [] i y e)
 
-Many-behind : {A : Type 0} {k : Mark} {Item : Spelling A} {xs : List A} {t r : List Tok} → Many (Led k Item) xs t r → Behind k Item xs t r
-Many-behind g.Many.none = g.Behind.none
-Many-behind (g.Many.one (led h x) xs) = g.Behind.one h x (Many-behind xs)
+Many-behind : {A : Type 0} {k : Mark} {Item : Spelling A} {xs : List A} {t r : List Tok} → Many (Led k Item) xs t r → EachAfter k Item xs t r
+Many-behind g.Many.none = g.EachAfter.none
+Many-behind (g.Many.one (led h x) xs) = g.EachAfter.one h x (Many-behind xs)
 
 module _ {A : Type 0} (k : Mark) (item : Reader A) (Item : Spelling A) (sound : IsSound item Item) where
   led-sound : IsSoundAt k (past item) (Led k Item)
   led-sound i y h e = led h (sound (rest i) y e)
 
   -- where the reader of one element passes that token, whatever it is
-  pub behind-sound : (found : List A) (i : List Tok) (y : List A × List Tok) → begun k (past item) found i ≡ Ok y → Finds (Behind k Item) found i y
+  pub behind-sound : (found : List A) (i : List Tok) (y : List A × List Tok) → begun k (past item) found i ≡ Ok y → Finds (EachAfter k Item) found i y
   behind-sound found i y e =
       let (xs, is, spelled) = begun-sound k (past item) (Led k Item) led-sound found i y e in
       (xs, is, Many-behind spelled)
 
-  pub all_behind : IsSound (begun k (past item) []) (Behind k Item)
-  all_behind i y e = found_all (Behind k Item) i y (behind-sound [] i y e)
+  pub all_behind : IsSound (begun k (past item) []) (EachAfter k Item)
+  all_behind i y e = found_all (EachAfter k Item) i y (behind-sound [] i y e)
 
 module _ {A : Type 0} (item : Reader A) (Item : Spelling A) (sound : IsSound item Item) where
   pub ended_from-sound : (n : ℕ) (found : List A) (i : List Tok) (y : List A × List Tok) → ended_from item n found i ≡ Ok y → Finds (Ended Item) found i y
@@ -103,7 +103,7 @@ module _ {A : Type 0} (item : Reader A) (Item : Spelling A) (sound : IsSound ite
   ended_from-sound (suc n) found i y e =
       let (p, read, next) = went_on (item i) _ y e in
       let x = sound i p read in
-      elim (behind_ok m.Dedent (pure (found ++ p.0 ∷ [])) (ended_from item n (found ++ p.0 ∷ [])) p.1 y next) [
+      elim (after_ok m.Dedent (pure (found ++ p.0 ∷ [])) (ended_from item n (found ++ p.0 ∷ [])) p.1 y next) [
         | inl h ↦ (p.0 ∷ [], sym (ap (read_or []) h.2), subst (Ended Item (p.0 ∷ []) i) (ap left h.2) (g.ends x h.1))
         | inr h ↦ (let (xs, is, spelled) = ended_from-sound n (found ++ p.0 ∷ []) p.1 y h.1 in (p.0 ∷ xs, is ∙ append_assoc found (p.0 ∷ []) xs, g.goes_on x spelled))
       ]

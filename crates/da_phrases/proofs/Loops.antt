@@ -6,7 +6,7 @@ use Rattle.da_values.specs.Marks.{Tok}
 use Rattle.da_lang.specs.declared.tree.ArithOp.{ArithOp}
 use Rattle.da_lang.specs.declared.tree.ChainTree.{ChainTree}
 use Rattle.da_lang.specs.declared.tree.Expr.{Expr}
-use Rattle.da_phrases.specs.Reader.{Reader, ◌>>=◌, pure, refuse, by_mark, if_next, behind}
+use Rattle.da_phrases.specs.Reader.{Reader, ◌>>=◌, pure, refuse, by_mark, if_next, after_token}
 use Rattle.da_phrases.specs.Lists.{separated, separated_from, begun, begun_from, ended, ended_from, others, others_by, others_from}
 
 module _ {A : Type 0} (k : Mark) (item : Reader A) where
@@ -15,7 +15,7 @@ module _ {A : Type 0} (k : Mark) (item : Reader A) where
   separated_start found i = refl
 
   pub separated_turn : (n at : ℕ) (found : List A) (i : List Tok) → at < n
-      → separated_from k item (n - at) found i ≡ (item >>= λ x. behind k (separated_from k item (n - (at + 1)) (found ++ x ∷ [])) (pure (found ++ x ∷ []))) i
+      → separated_from k item (n - at) found i ≡ (item >>= λ x. after_token k (separated_from k item (n - (at + 1)) (found ++ x ∷ [])) (pure (found ++ x ∷ []))) i
   unfolding separated_from
   separated_turn n at found i h = let e : n - at ≡ suc (n - (at + 1)) = omega arith in ap (λ c. separated_from k item c found i) e
 
@@ -42,7 +42,7 @@ module _ {A : Type 0} (item : Reader A) where
   ended_start i = refl
 
   pub ended_turn : (n at : ℕ) (found : List A) (i : List Tok) → at < n
-      → ended_from item (n - at) found i ≡ (item >>= λ x. behind m.Dedent (pure (found ++ x ∷ [])) (ended_from item (n - (at + 1)) (found ++ x ∷ []))) i
+      → ended_from item (n - at) found i ≡ (item >>= λ x. after_token m.Dedent (pure (found ++ x ∷ [])) (ended_from item (n - (at + 1)) (found ++ x ∷ []))) i
   unfolding ended_from
   ended_turn n at found i h = let e : n - at ≡ suc (n - (at + 1)) = omega arith in ap (λ c. ended_from item c found i) e
 

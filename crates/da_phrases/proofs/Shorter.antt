@@ -5,7 +5,7 @@ use Rattle.da_values.specs.Marks.{Tok}
 use Rattle.da_lang.specs.declared.tree.ArithOp.{ArithOp}
 use Rattle.da_lang.specs.declared.tree.Expr.{Expr}
 use Rattle.da_lang.specs.declared.ty.Ty.{Ty}
-use Rattle.da_lang.specs.Spelling.{Spelling, Room, Opens, opens, Separated, Closed, Behind, Many, Ended}
+use Rattle.da_lang.specs.Spelling.{Spelling, Room, Opens, opens, Separated, Closed, EachAfter, Many, Ended}
 use Rattle.da_lang.specs.TypeGrammar.{IsType, TypeIn}
 use Rattle.da_lang.specs.ExprGrammar.{Deeper, deeper, IsSource, IsPeer, IsGen, IsGens, IsCond, IsAtom, IsUnary, IsTimes, IsPlus, IsOthers, IsChain, IsProd, IsSum, IsCmp, IsComp, IsNeg, IsJoined, IsConj, IsDisj, IsQuant, IsExpr, IsPattern}
 use Rattle.da_phrases.proofs.Laws.{Shrinks}
@@ -29,9 +29,9 @@ module _ {A : Type 0} (Item : Spelling A) (shrinks : Shrinks Item) where
   Closed-shrinks close _ i r (Closed.empty h) = shorter-At h
   Closed-shrinks close xs i r (Closed.full l h) = omega (arith, Separated-shrinks _ _ _ _ l, shorter-At h)
 
-  pub Behind-keeps : (k : Mark) → Keeps (Behind k Item)
-  Behind-keeps k _ i r Behind.none = omega arith
-  Behind-keeps k _ i r (Behind.one h a l) = omega (arith, shorter-At h, shrinks _ _ _ a, Behind-keeps k _ _ _ l)
+  pub Behind-keeps : (k : Mark) → Keeps (EachAfter k Item)
+  Behind-keeps k _ i r EachAfter.none = omega arith
+  Behind-keeps k _ i r (EachAfter.one h a l) = omega (arith, shorter-At h, shrinks _ _ _ a, Behind-keeps k _ _ _ l)
 
   pub Many-keeps : Keeps (Many Item)
   Many-keeps _ i r Many.none = omega arith

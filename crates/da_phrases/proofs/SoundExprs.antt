@@ -132,7 +132,7 @@ module _ (p : Place) (room : Room) (deep : Deeper) (s : Sounds p room deep) wher
       let (u, two, over) = last_argument-sound z (b, v) other in
       made (IsAtom room deep) t y last (spells a b r q z u v opened one comma two over)))
 
-  -- behind `{ term :`
+  -- after `{ term :`
   comprehension-sound : (x : Expr) (t r q i : List Tok) (y : Expr × List Tok) → Opens m.OpenBrace room t r → deep.disj x r q → At m.Colon q i → comprehension p x i ≡ Ok y → IsAtom room deep y.0 t y.1
   unfolding comprehension
   comprehension-sound x t r q i y opened term colon e =
@@ -141,7 +141,7 @@ module _ (p : Place) (room : Room) (deep : Deeper) (s : Sounds p room deep) wher
       passes m.CloseBrace a _ y e2 (λ b over last.
       made (IsAtom room deep) t y last (g.comprehension opened term colon (generators-sound i (gens, z) read) (condition-sound z (cond, a) asked) over))))
 
-  -- behind `{`
+  -- after `{`
   braced-sound : (t i : List Tok) (y : Expr × List Tok) → Opens m.OpenBrace room t i → braced p i ≡ Ok y → IsAtom room deep y.0 t y.1
   unfolding braced
   braced-sound t i y opened e = passes_or m.CloseBrace _ _ i y e
@@ -177,7 +177,7 @@ module _ (p : Place) (room : Room) (deep : Deeper) (s : Sounds p room deep) wher
   word-sound _ i y is e = cc
 
 module _ (p : Place) (room : Room) (deep : Deeper) (s : Sounds p room deep) (shaped : Shaped deep) where
-  -- behind `(`
+  -- after `(`
   grouped_by-sound : (quantified : Option Bool) (t i : List Tok) (y : Expr × List Tok) → Opens m.OpenParen room t i → grouped_by p quantified i ≡ Ok y → IsAtom room deep y.0 t y.1
   grouped_by-sound (Some each) t i y opened e =
       reads (p.expr level.Expr i) _ y e (λ x r read e1.

@@ -19,7 +19,7 @@ use Rattle.da_phrases.specs.declared.place.Level.TheVariants as level
 use Rattle.da_phrases.specs.Reader.{mark, rest, sees, Reader}
 use Rattle.da_phrases.specs.Lists.{separated, closed, others}
 use Rattle.da_phrases.specs.Place.{Place}
-use Rattle.da_phrases.specs.Exprs.{times_op, plus_op, cmp_op_at, quantifier, chained, joined, constant, generators, condition, behind_minus, unary, product, sum, compared_by, comparison, negation, conjunction, disjunction, quantification, expression_by, expression, tuple_pattern, pattern_by, pattern}
+use Rattle.da_phrases.specs.Exprs.{times_op, plus_op, cmp_op_at, quantifier, chained, joined, constant, generators, condition, after_minus, unary, product, sum, compared_by, comparison, negation, conjunction, disjunction, quantification, expression_by, expression, tuple_pattern, pattern_by, pattern}
 use Rattle.da_phrases.proofs.Steps.{chosen, At-sees, At-mark, Named-mark, NotAt-sees}
 use Rattle.da_phrases.proofs.Laws.{IsSound, Sounds}
 use Rattle.da_phrases.proofs.SoundSteps.{reads, made, passes, passes_or, numbers, quotes, opened_by}
@@ -95,10 +95,10 @@ quantified false opened gens cond = g.«some» opened gens cond
 quantified true opened gens cond = g.IsQuant.each opened gens cond
 
 module _ (p : Place) (room : Room) (deep : Deeper) (s : Sounds p room deep) (shaped : Shaped deep) where
-  -- behind a `-` of an expression: before an integer it is the sign of a literal
-  behind_minus-sound : (t i : List Tok) (y : Expr × List Tok) → Opens m.Minus room t i → behind_minus p i ≡ Ok y → IsUnary room deep y.0 t y.1
-  unfolding behind_minus
-  behind_minus-sound t i y opened e = elim (chosen (sees m.Number i) _ _ i y e) [
+  -- after a `-` of an expression: before an integer it is the sign of a literal
+  after_minus-sound : (t i : List Tok) (y : Expr × List Tok) → Opens m.Minus room t i → after_minus p i ≡ Ok y → IsUnary room deep y.0 t y.1
+  unfolding after_minus
+  after_minus-sound t i y opened e = elim (chosen (sees m.Number i) _ _ i y e) [
     | inl h ↦ numbers i _ y h.1 (λ n r number last. made (IsUnary room deep) t y last (g.IsUnary.negative opened number))
     | inr h ↦ reads (p.expr level.Unary i) _ y h.1 (λ x r read last.
         let operand = s.unary i (x, r) read in
@@ -109,7 +109,7 @@ module _ (p : Place) (room : Room) (deep : Deeper) (s : Sounds p room deep) (sha
   pub unary-sound : IsSound (unary p) (IsUnary room deep)
   unfolding unary
   unary-sound i y e = elim (chosen (sees m.Minus i) _ _ i y e) [
-    | inl h ↦ opened_by p.may_open room s.fits m.Minus i _ y (At-sees m.Minus i h.0) h.1 (λ r opened next. behind_minus-sound i r y opened next)
+    | inl h ↦ opened_by p.may_open room s.fits m.Minus i _ y (At-sees m.Minus i h.0) h.1 (λ r opened next. after_minus-sound i r y opened next)
     | inr h ↦ g.IsUnary.atom (atom-sound p room deep s shaped i y h.1)
   ]
 
@@ -175,7 +175,7 @@ module _ (p : Place) (room : Room) (deep : Deeper) (s : Sounds p room deep) (sha
 
   -- ---- patterns
 
-  -- behind `(`
+  -- after `(`
   tuple_pattern-sound : (t i : List Tok) (y : PatternTree × List Tok) → Opens m.OpenParen room t i → tuple_pattern p i ≡ Ok y → IsPattern room deep y.0 t y.1
   unfolding tuple_pattern
   tuple_pattern-sound t i y opened e =

@@ -7,11 +7,11 @@ use Rattle.da_values.specs.declared.token.Mark.TheVariants as m
 use Rattle.da_values.specs.Marks.{Tok}
 use Rattle.da_lang.specs.Spelling.{Spelling, Room, At, Opens, Named, Number, Quoted}
 use Rattle.da_phrases.specs.Reader as reader
-use Rattle.da_phrases.specs.Reader.{rest, sees, Reading, Reader, continued, behind, expect, word}
+use Rattle.da_phrases.specs.Reader.{rest, sees, Reading, Reader, continued, after_token, expect, word}
 use Rattle.da_phrases.specs.Place as place
-use Rattle.da_phrases.proofs.Steps.{behind_ok, expect_ok, word_ok, number_ok, quoted_ok, opens_ok, opening_ok}
+use Rattle.da_phrases.proofs.Steps.{after_ok, expect_ok, word_ok, number_ok, quoted_ok, opens_ok, opening_ok}
 
--- something was read, and what follows was read behind it
+-- something was read, and what follows was read after it
 pub reads : {A B C : Type 0} (o : Reading A) (f : A → Reader B) (y : B × List Tok) → continued f o ≡ Ok y → ((x : A) (r : List Tok) → o ≡ Ok (x, r) → f x r ≡ Ok y → C) → C
 reads (Ok (x, r)) f y e next = next x r refl e
 reads (Err s) f y e next = cc
@@ -25,9 +25,9 @@ pub passes : {B C : Type 0} (k : Mark) (i : List Tok) (f : Unit {0} → Reader B
 passes k i f y e next = reads (expect k i) f y e (λ x r read later. next r (expect_ok k i (x, r) read) later)
 
 -- a token of this mark was passed, or there is none
-pub passes_or : {B C : Type 0} (k : Mark) (p q : Reader B) (i : List Tok) (y : B × List Tok) → behind k p q i ≡ Ok y
+pub passes_or : {B C : Type 0} (k : Mark) (p q : Reader B) (i : List Tok) (y : B × List Tok) → after_token k p q i ≡ Ok y
     → ((r : List Tok) → At k i r → p r ≡ Ok y → C) → (sees k i ≡ false → q i ≡ Ok y → C) → C
-passes_or k p q i y e there missing = elim (behind_ok k p q i y e) [ inl h ↦ there h.0 h.1 h.2 | inr h ↦ missing h.0 h.1 ]
+passes_or k p q i y e there missing = elim (after_ok k p q i y e) [ inl h ↦ there h.0 h.1 h.2 | inr h ↦ missing h.0 h.1 ]
 
 pub names : {B C : Type 0} (i : List Tok) (f : List ℕ → Reader B) (y : B × List Tok) → continued f (word m.Name i) ≡ Ok y → ((b : List ℕ) (r : List Tok) → Named b i r → f b r ≡ Ok y → C) → C
 names i f y e next = reads (word m.Name i) f y e (λ x r read later. next x r (word_ok i (x, r) read) later)

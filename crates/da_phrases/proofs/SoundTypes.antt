@@ -18,7 +18,7 @@ use Rattle.da_phrases.proofs.SoundSteps.{reads, made, passes, opened_by, opening
 use Rattle.da_phrases.proofs.ListSound.{closed-sound}
 
 module _ (may_open : ℕ → Bool) (room : Room) (fits : (t : List Tok) → may_open (length t) ≡ true → room t) (inner : Reader Ty) (Inner : Spelling Ty) (sound : IsSound inner Inner) where
-  -- behind `set`
+  -- after `set`
   set_type-sound : (t i : List Tok) (y : Ty × List Tok) → At m.Set t i → set_type may_open inner i ≡ Ok y → IsType room Inner y.0 t y.1
   unfolding set_type
   set_type-sound t i y word e =
@@ -27,7 +27,7 @@ module _ (may_open : ℕ → Bool) (room : Room) (fits : (t : List Tok) → may_
       passes m.CloseBracket s _ y e2 (λ q over last.
       made (IsType room Inner) t y last (g.set word opened (sound r (x, s) read) over))))
 
-  -- behind `(`
+  -- after `(`
   tuple_type-sound : (t i : List Tok) (y : Ty × List Tok) → Opens m.OpenParen room t i → tuple_type may_open inner i ≡ Ok y → IsType room Inner y.0 t y.1
   unfolding tuple_type
   tuple_type-sound t i y opened e =

@@ -11,13 +11,13 @@ use Rattle.da_lang.specs.Literals.{text_of}
 use Rattle.da_lang.specs.Spelling.{Room, At, at, Opens, opens, NotAt, not_at, Named, named, Number, number, Quoted, quoted}
 use Rattle.da_phrases.specs.declared.cursor.Stop.TheVariants.{Deep}
 use Rattle.da_phrases.specs.Reader as reader
-use Rattle.da_phrases.specs.Reader.{same, mark, text, rest, rest_if, is_mark, sees, Reading, Reader, continued, refuse, past, taking, behind, expect, word, stands_for}
+use Rattle.da_phrases.specs.Reader.{same, mark, text, rest, rest_if, is_mark, sees, Reading, Reader, continued, refuse, past, taking, after_token, expect, word, stands_for}
 use Rattle.da_phrases.specs.Place as place
 
 pub same_marks : (a b : Mark) → same a b ≡ true → a ≡ b
 same_marks a b e = same_true the_type (search rules) a b e
 
--- something was read, and what follows was read behind it
+-- something was read, and what follows was read after it
 pub went_on : {A B : Type 0} (o : Reading A) (f : A → Reader B) (y : B × List Tok) → continued f o ≡ Ok y → (p : A × List Tok) × (o ≡ Ok p) × (f p.0 p.1 ≡ Ok y)
 went_on (Ok p) f y e = (p, refl, e)
 went_on (Err s) f y e = cc
@@ -59,9 +59,9 @@ Named-mark [] e = cc
 Named-mark (t ∷ r) e = named (cc)
 
 -- a token of this mark was passed, or there is none
-pub behind_ok : {B : Type 0} (k : Mark) (p q : Reader B) (i : List Tok) (y : B × List Tok) → behind k p q i ≡ Ok y
+pub after_ok : {B : Type 0} (k : Mark) (p q : Reader B) (i : List Tok) (y : B × List Tok) → after_token k p q i ≡ Ok y
     → ((r : List Tok) × At k i r × (p r ≡ Ok y)) ⊎ ((sees k i ≡ false) × (q i ≡ Ok y))
-behind_ok k p q i y e = elim (chosen (sees k i) p q (rest_if (sees k i) i) y e) [
+after_ok k p q i y e = elim (chosen (sees k i) p q (rest_if (sees k i) i) y e) [
   | inl h ↦ inl (rest i, At-sees k i h.0, sym (ap (λ b. p (rest_if b i)) h.0) ∙ h.1)
   | inr h ↦ inr (h.0, sym (ap (λ b. q (rest_if b i)) h.0) ∙ h.1)
 ]
@@ -150,11 +150,11 @@ pub sees-At : {k : Mark} {i r : List Tok} → At k i r → sees k i ≡ true
 unfolding sees
 sees-At {k} (at {t} {r} e) = true_same the_type t.mark k e
 
-pub behind_is : {B : Type 0} {k : Mark} {i r : List Tok} (p q : Reader B) → At k i r → behind k p q i ≡ p r
+pub behind_is : {B : Type 0} {k : Mark} {i r : List Tok} (p q : Reader B) → At k i r → after_token k p q i ≡ p r
 behind_is {k = k} {i = i} {r = r} p q h = ap (λ b. (if b then p else q) (rest_if b i)) (sees-At h) ∙ ap p (rest-At h)
 
-pub behind_not : {B : Type 0} (k : Mark) {i : List Tok} (p q : Reader B) → sees k i ≡ false → behind k p q i ≡ q i
-behind_not k {i} p q h = ap (λ b. (if b then p else q) (rest_if b i)) h
+pub after_not : {B : Type 0} (k : Mark) {i : List Tok} (p q : Reader B) → sees k i ≡ false → after_token k p q i ≡ q i
+after_not k {i} p q h = ap (λ b. (if b then p else q) (rest_if b i)) h
 
 pub expect_is : {k : Mark} {i r : List Tok} → At k i r → expect k i ≡ Ok (tt, r)
 unfolding expect

@@ -19,7 +19,7 @@ use Rattle.da_lang.specs.declared.tree.SourceTree.TheVariants as source_tree
 use Rattle.da_lang.specs.ExprGrammar.{negated}
 use Rattle.da_phrases.specs.declared.place.Level.{Level}
 use Rattle.da_phrases.specs.declared.place.Level.TheVariants as level
-use Rattle.da_phrases.specs.Reader.{Reader, ◌>>=◌, ◌>>◌, pure, refuse, past, taking, by_mark, if_next, behind, expect, number, quoted}
+use Rattle.da_phrases.specs.Reader.{Reader, ◌>>=◌, ◌>>◌, pure, refuse, past, taking, by_mark, if_next, after_token, expect, number, quoted}
 use Rattle.da_phrases.specs.Lists.{separated, closed, others}
 use Rattle.da_phrases.specs.Place.{Limit, Place, at_most_32, opens, opening}
 
@@ -58,7 +58,7 @@ chained x (p ∷ ps) = ex.Chain x (p ∷ ps)
 unfoldable pub joined : Mark → (List Expr → Expr) → Reader Expr → Reader Expr
 joined k join operand = do
   x ← operand
-  behind k (do xs ← separated k operand (x ∷ []); pure (join xs)) (pure x)
+  after_token k (do xs ← separated k operand (x ∷ []); pure (join xs)) (pure x)
 
 abbrev pub source_by : Option Mark → Reader SourceTree
 source_by (Some m.Received) = past (pure source_tree.Received)
@@ -85,7 +85,7 @@ constant m.SelfWord = past (pure pat.Me)
 constant _ = refuse
 
 module _ (p : Place) where
-  -- behind the word that begins the pattern of the other process
+  -- after the word that begins the pattern of the other process
   unfoldable pub generator_with : PatternTree → (PatternTree → PeerTree) → Reader GenTree
   generator_with message other = do
     x ← p.pattern
@@ -95,14 +95,14 @@ module _ (p : Place) where
   unfoldable pub generator : Reader GenTree
   generator = do
     message ← p.pattern
-    behind m.From (generator_with message peer_tree.From)
-        (behind m.To (generator_with message peer_tree.To) (source >>= λ from. pure (made message None from)))
+    after_token m.From (generator_with message peer_tree.From)
+        (after_token m.To (generator_with message peer_tree.To) (source >>= λ from. pure (made message None from)))
 
   unfoldable pub generators : Reader (List GenTree)
   generators = separated m.Comma generator []
 
   unfoldable pub condition : Reader (Option Expr)
-  condition = behind m.Bar (p.expr level.Expr >>= λ x. pure (Some x)) (behind m.Has (p.expr level.Expr >>= λ x. pure (Some x)) (pure None))
+  condition = after_token m.Bar (p.expr level.Expr >>= λ x. pure (Some x)) (after_token m.Has (p.expr level.Expr >>= λ x. pure (Some x)) (pure None))
 
   -- `()`
   unfoldable pub no_argument : Reader (Unit {0})
@@ -136,7 +136,7 @@ module _ (p : Place) where
     y ← last_argument
     pure (make x y)
 
-  -- behind `(`
+  -- after `(`
   abbrev pub grouped_by : Option Bool → Reader Expr
   grouped_by (Some each) = do
     x ← p.expr level.Expr
@@ -144,12 +144,12 @@ module _ (p : Place) where
     pure x
   grouped_by None = do
     x ← p.expr level.Disj
-    behind m.Comma (do xs ← closed m.CloseParen (p.expr level.Disj) (x ∷ []); pure (ex.Tuple xs)) (do expect m.CloseParen; pure x)
+    after_token m.Comma (do xs ← closed m.CloseParen (p.expr level.Disj) (x ∷ []); pure (ex.Tuple xs)) (do expect m.CloseParen; pure x)
 
   unfoldable pub grouped : Reader Expr
   grouped = by_mark (λ k. grouped_by (quantifier k))
 
-  -- behind `{ term :`
+  -- after `{ term :`
   unfoldable pub comprehension : Expr → Reader Expr
   comprehension x = do
     gens ← generators
@@ -157,12 +157,12 @@ module _ (p : Place) where
     expect m.CloseBrace
     pure (ex.Comp x gens cond)
 
-  -- behind `{`
+  -- after `{`
   unfoldable pub braced : Reader Expr
   braced =
-      behind m.CloseBrace (pure (ex.SetOf [])) (p.expr level.Disj >>= λ x.
-      behind m.Colon (comprehension x) (
-      behind m.Comma (do xs ← separated m.Comma (p.expr level.Disj) (x ∷ []); expect m.CloseBrace; pure (ex.SetOf xs)) (do expect m.CloseBrace; pure (ex.SetOf (x ∷ [])))))
+      after_token m.CloseBrace (pure (ex.SetOf [])) (p.expr level.Disj >>= λ x.
+      after_token m.Colon (comprehension x) (
+      after_token m.Comma (do xs ← separated m.Comma (p.expr level.Disj) (x ∷ []); expect m.CloseBrace; pure (ex.SetOf xs)) (do expect m.CloseBrace; pure (ex.SetOf (x ∷ [])))))
 
   abbrev pub word : Mark → Reader Expr
   word m.True = past (pure (ex.Truth true))
@@ -188,12 +188,12 @@ module _ (p : Place) where
   unfoldable pub atom : Reader Expr
   atom = by_mark atom_by
 
-  -- behind a `-` of an expression
-  unfoldable pub behind_minus : Reader Expr
-  behind_minus = if_next m.Number (number >>= λ n. pure (ex.Int (neg_ℤ (pos n)))) (p.expr level.Unary >>= λ x. pure (negated x))
+  -- after a `-` of an expression
+  unfoldable pub after_minus : Reader Expr
+  after_minus = if_next m.Number (number >>= λ n. pure (ex.Int (neg_ℤ (pos n)))) (p.expr level.Unary >>= λ x. pure (negated x))
 
   unfoldable pub unary : Reader Expr
-  unary = if_next m.Minus (opens p.may_open >> behind_minus) atom
+  unary = if_next m.Minus (opens p.may_open >> after_minus) atom
 
   unfoldable pub product : Reader Expr
   product = do
@@ -214,7 +214,7 @@ module _ (p : Place) where
   unfoldable pub comparison : Reader Expr
   comparison = do
     x ← sum
-    behind m.In (sum >>= λ y. pure (ex.Member x y)) (by_mark (λ k. compared_by x (cmp_op_at k)))
+    after_token m.In (sum >>= λ y. pure (ex.Member x y)) (by_mark (λ k. compared_by x (cmp_op_at k)))
 
   unfoldable pub negation : Reader Expr
   negation = if_next m.Not (opens p.may_open >> (p.expr level.Neg >>= λ x. pure (ex.Not x))) comparison
@@ -245,7 +245,7 @@ module _ (p : Place) where
   at_level level.Neg = negation
   at_level level.Unary = unary
 
-  -- behind `(`
+  -- after `(`
   unfoldable pub tuple_pattern : Reader PatternTree
   tuple_pattern = do
     x ← p.pattern

@@ -25,7 +25,7 @@ abbrev pub line : List Tok → ℕ
 line [] = 0
 line (t ∷ ts) = t.line
 
--- those behind it
+-- those after it
 abbrev pub rest : List Tok → List Tok
 rest [] = []
 rest (t ∷ ts) = ts
@@ -49,7 +49,7 @@ rest_if false i = i
 
 -- ---- what a rule makes of them
 
--- a value with the tokens that are left behind it, or where the rule stopped
+-- a value with the tokens that are left after it, or where the rule stopped
 abbrev pub Reading : Type 0 → Type 0
 Reading A = Result (A × List Tok) Stop
 
@@ -90,8 +90,8 @@ abbrev pub if_next : {A : Type 0} → Mark → Reader A → Reader A → Reader 
 if_next k p q = λ i. (if sees k i then p else q) i
 
 -- the same, where the token with this mark is passed: a part that may be missing
-abbrev pub behind : {A : Type 0} → Mark → Reader A → Reader A → Reader A
-behind k p q = λ i. (if sees k i then p else q) (rest_if (sees k i) i)
+abbrev pub after_token : {A : Type 0} → Mark → Reader A → Reader A → Reader A
+after_token k p q = λ i. (if sees k i then p else q) (rest_if (sees k i) i)
 
 -- ---- tokens that must stand there
 
@@ -116,7 +116,7 @@ number = λ i. if sees m.Number i then stands_for (number_of (text i)) i else re
 unfoldable pub quoted : Reader (List ℕ)
 quoted = λ i. if sees m.Quoted i then stands_for (text_of (text i)) i else refuse i
 
--- ---- rules one behind the other
+-- ---- rules one after the other
 
 -- goes on where the first part ended, if it did not stop
 abbrev pub continued : {A B : Type 0} → (A → Reader B) → Reading A → Reading B

@@ -9,7 +9,7 @@ use Rattle.da_phrases.specs.Lists.{closed}
 use Rattle.da_phrases.specs.Place.{Limit, at_most_32, opens, opening}
 
 module _ (may_open : ℕ → Bool) (inner : Reader Ty) where
-  -- behind `set`
+  -- after `set`
   unfoldable pub set_type : Reader Ty
   set_type = do
     opening may_open m.OpenBracket
@@ -17,7 +17,7 @@ module _ (may_open : ℕ → Bool) (inner : Reader Ty) where
     expect m.CloseBracket
     pure (ty.Set x)
 
-  -- behind `(`
+  -- after `(`
   unfoldable pub tuple_type : Reader Ty
   tuple_type = do
     x ← inner

@@ -61,7 +61,7 @@ impl<
         self.last_argument(tokens)
     }
 
-    /// One or more expressions with commas between, behind those found.
+    /// One or more expressions with commas between, after those found.
     #[tactic(auto, using(crate::proofs::Loops::separated_loop))]
     fn exprs(&self, tokens: &mut Cursor<'_>, mut found: List<Expr>) -> Result<List<Expr>, Stop>
         requires nests { Nests self.now.depth (F.pre self.now.expr) (F.post self.now.expr) (P.pre self.now.pattern) (P.post self.now.pattern) }
@@ -77,7 +77,7 @@ impl<
         Err(tokens.refuse())
     }
 
-    /// Expressions behind those found, up to `)`.
+    /// Expressions after those found, up to `)`.
     #[tactic(auto, unfolding(crate::specs::Lists::closed))]
     pub fn closed_exprs(
         &self,
@@ -96,7 +96,7 @@ impl<
         Ok(all)
     }
 
-    /// What stands behind `(`: an expression that is grouped, or a tuple.
+    /// What stands after `(`: an expression that is grouped, or a tuple.
     #[tactic(auto, unfolding(crate::specs::Exprs::grouped))]
     fn grouped(&self, tokens: &mut Cursor<'_>) -> Result<Expr, Stop>
         requires nests { Nests self.now.depth (F.pre self.now.expr) (F.post self.now.expr) (P.pre self.now.pattern) (P.post self.now.pattern) }
@@ -118,7 +118,7 @@ impl<
         Ok(first)
     }
 
-    /// What stands behind `{`: the elements of a set, or a comprehension.
+    /// What stands after `{`: the elements of a set, or a comprehension.
     #[tactic(auto, unfolding(crate::specs::Exprs::braced))]
     fn braced(&self, tokens: &mut Cursor<'_>) -> Result<Expr, Stop>
         requires nests { Nests self.now.depth (F.pre self.now.expr) (F.post self.now.expr) (P.pre self.now.pattern) (P.post self.now.pattern) }

@@ -96,12 +96,12 @@ impl<
     F: Fn(Global, &mut Cursor<'_>, usize, Level) -> Result<Expr, Stop>,
     P: Fn(Global, &mut Cursor<'_>, usize) -> Result<PatternTree, Stop>,
 > Rules<F, P> {
-    /// What stands behind a `-`: a literal, or an operand that is taken from 0.
-    #[tactic(auto, unfolding(crate::specs::Exprs::behind_minus))]
-    fn behind_minus(&self, tokens: &mut Cursor<'_>) -> Result<Expr, Stop>
+    /// What stands after a `-`: a literal, or an operand that is taken from 0.
+    #[tactic(auto, unfolding(crate::specs::Exprs::after_minus))]
+    fn after_minus(&self, tokens: &mut Cursor<'_>) -> Result<Expr, Stop>
         requires nests { Nests self.now.depth (F.pre self.now.expr) (F.post self.now.expr) (P.pre self.now.pattern) (P.post self.now.pattern) }
         requires room { self.now.depth < 32 }
-        ensures { Reads (spec.behind_minus (at_depth self.now.depth) tokens.old) result tokens.new }
+        ensures { Reads (spec.after_minus (at_depth self.now.depth) tokens.old) result tokens.new }
     {
         if tokens.sees(Mark::Number) {
             return Ok(Expr::Int(-(tokens.number()? as i128)));
@@ -120,7 +120,7 @@ impl<
             return self.atom(tokens);
         }
         opens(tokens, self.depth)?;
-        self.behind_minus(tokens)
+        self.after_minus(tokens)
     }
 
     /// Further operands of a product.
@@ -214,7 +214,7 @@ impl<
         Ok(Expr::Not(Boxed::new(self.alloc, operand)?))
     }
 
-    /// Further operands of an `and`, behind those found.
+    /// Further operands of an `and`, after those found.
     #[tactic(auto, using(crate::proofs::Loops::separated_loop))]
     fn conjuncts(&self, tokens: &mut Cursor<'_>, mut found: List<Expr>) -> Result<List<Expr>, Stop>
         requires nests { Nests self.now.depth (F.pre self.now.expr) (F.post self.now.expr) (P.pre self.now.pattern) (P.post self.now.pattern) }
@@ -244,7 +244,7 @@ impl<
         Ok(Expr::And(self.conjuncts(tokens, operands)?))
     }
 
-    /// Further operands of an `or`, behind those found.
+    /// Further operands of an `or`, after those found.
     #[tactic(auto, using(crate::proofs::Loops::separated_loop))]
     fn disjuncts(&self, tokens: &mut Cursor<'_>, mut found: List<Expr>) -> Result<List<Expr>, Stop>
         requires nests { Nests self.now.depth (F.pre self.now.expr) (F.post self.now.expr) (P.pre self.now.pattern) (P.post self.now.pattern) }

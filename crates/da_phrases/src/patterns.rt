@@ -16,7 +16,7 @@ impl<
     F: Fn(Global, &mut Cursor<'_>, usize, Level) -> Result<Expr, Stop>,
     P: Fn(Global, &mut Cursor<'_>, usize) -> Result<PatternTree, Stop>,
 > Rules<F, P> {
-    /// One or more patterns with commas between, behind those found.
+    /// One or more patterns with commas between, after those found.
     #[tactic(auto, using(crate::proofs::Loops::separated_loop))]
     fn patterns(
         &self,
@@ -36,7 +36,7 @@ impl<
         Err(tokens.refuse())
     }
 
-    /// Patterns behind those found, up to `)`.
+    /// Patterns after those found, up to `)`.
     #[tactic(auto, unfolding(crate::specs::Lists::closed))]
     fn closed_patterns(
         &self,
@@ -55,7 +55,7 @@ impl<
         Ok(all)
     }
 
-    /// What stands behind `(`: the parts of a tuple.
+    /// What stands after `(`: the parts of a tuple.
     #[tactic(auto, unfolding(crate::specs::Exprs::tuple_pattern))]
     fn tuple_pattern(&self, tokens: &mut Cursor<'_>) -> Result<PatternTree, Stop>
         requires nests { Nests self.now.depth (F.pre self.now.expr) (F.post self.now.expr) (P.pre self.now.pattern) (P.post self.now.pattern) }

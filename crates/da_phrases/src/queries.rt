@@ -68,7 +68,7 @@ impl<
         })
     }
 
-    /// What stands behind `PATTERN from`.
+    /// What stands after `PATTERN from`.
     #[tactic(auto, unfolding(crate::specs::Exprs::generator_with))]
     fn generator_from(&self, tokens: &mut Cursor<'_>, message: PatternTree) -> Result<GenTree, Stop>
         requires nests { Nests self.now.depth (F.pre self.now.expr) (F.post self.now.expr) (P.pre self.now.pattern) (P.post self.now.pattern) }
@@ -84,7 +84,7 @@ impl<
         })
     }
 
-    /// What stands behind `PATTERN to`.
+    /// What stands after `PATTERN to`.
     #[tactic(auto, unfolding(crate::specs::Exprs::generator_with))]
     fn generator_to(&self, tokens: &mut Cursor<'_>, message: PatternTree) -> Result<GenTree, Stop>
         requires nests { Nests self.now.depth (F.pre self.now.expr) (F.post self.now.expr) (P.pre self.now.pattern) (P.post self.now.pattern) }
@@ -131,7 +131,7 @@ impl<
         Ok(None)
     }
 
-    /// What stands behind `{TERM:`.
+    /// What stands after `{TERM:`.
     #[tactic(auto, unfolding(crate::specs::Exprs::comprehension))]
     pub fn comprehension(&self, tokens: &mut Cursor<'_>, term: Expr) -> Result<Expr, Stop>
         requires nests { Nests self.now.depth (F.pre self.now.expr) (F.post self.now.expr) (P.pre self.now.pattern) (P.post self.now.pattern) }

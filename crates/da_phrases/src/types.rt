@@ -31,7 +31,7 @@ impl<T: Fn(Global, &mut Cursor<'_>, usize) -> Result<Ty, Stop>> TypeRules<T> {
         (self.ty)(self.alloc, tokens, self.depth + 1)
     }
 
-    /// One or more types with commas between, behind those found.
+    /// One or more types with commas between, after those found.
     #[tactic(auto, using(crate::proofs::Loops::separated_loop))]
     fn types(&self, tokens: &mut Cursor<'_>, mut found: List<Ty>) -> Result<List<Ty>, Stop>
         requires holds { HoldsTypes self.now.depth (T.pre self.now.ty) (T.post self.now.ty) }
@@ -47,7 +47,7 @@ impl<T: Fn(Global, &mut Cursor<'_>, usize) -> Result<Ty, Stop>> TypeRules<T> {
         Err(tokens.refuse())
     }
 
-    /// Types behind those found, up to `)`.
+    /// Types after those found, up to `)`.
     #[tactic(auto, unfolding(crate::specs::Lists::closed))]
     pub fn closed_types(&self, tokens: &mut Cursor<'_>, found: List<Ty>) -> Result<List<Ty>, Stop>
         requires holds { HoldsTypes self.now.depth (T.pre self.now.ty) (T.post self.now.ty) }
@@ -62,7 +62,7 @@ impl<T: Fn(Global, &mut Cursor<'_>, usize) -> Result<Ty, Stop>> TypeRules<T> {
         Ok(all)
     }
 
-    /// What stands behind `set`.
+    /// What stands after `set`.
     #[tactic(auto, unfolding(crate::specs::Types::set_type))]
     fn set_type(&self, tokens: &mut Cursor<'_>) -> Result<Ty, Stop>
         requires holds { HoldsTypes self.now.depth (T.pre self.now.ty) (T.post self.now.ty) }
@@ -74,7 +74,7 @@ impl<T: Fn(Global, &mut Cursor<'_>, usize) -> Result<Ty, Stop>> TypeRules<T> {
         Ok(Ty::Set(Boxed::new(self.alloc, elements)?))
     }
 
-    /// What stands behind `(`: the parts of a tuple.
+    /// What stands after `(`: the parts of a tuple.
     #[tactic(auto, unfolding(crate::specs::Types::tuple_type))]
     fn tuple_type(&self, tokens: &mut Cursor<'_>) -> Result<Ty, Stop>
         requires holds { HoldsTypes self.now.depth (T.pre self.now.ty) (T.post self.now.ty) }
@@ -137,7 +137,7 @@ pub fn type_at(alloc: Global, tokens: &mut Cursor<'_>, depth: usize) -> Result<T
     .any(tokens)
 }
 
-/// The types of a message, behind `(`.
+/// The types of a message, after `(`.
 #[tactic(auto, using(crate::proofs::Depth::type_there))]
 pub fn closed_types(alloc: Global, tokens: &mut Cursor<'_>, depth: usize) -> Result<List<Ty>, Stop>
     requires { depth < 32 }

@@ -256,7 +256,7 @@ pub ruleset finds_at = (finds-Quant, finds-Or, finds-And, finds-Not, finds-Cmp, 
 pub texts_push : (names : List (Bor (List ℕ))) (name : Bor (List ℕ)) → texts (names ++ name ∷ []) ≡ texts names ++ name.now ∷ []
 texts_push names name = map-append (λ (n : Bor (List ℕ)). n.now) names (name ∷ [])
 
--- behind other names
+-- after other names
 behind : (names : List (List ℕ)) (p : PatternTree) (binds : List (List ℕ)) → (matching p).binds ≡ binds → names ++ (matching p).binds ≡ names ++ binds
 behind names p binds is = ap (λ ns. names ++ ns) is
 

@@ -18,7 +18,7 @@ use Rattle.da_scope.specs.NamesView.{texts}
 placed : {A : Type 0} (p : A → Bool) (xs : List A) → position p xs ≡ position_from p 0 xs
 placed p xs = position_from-zero p xs
 
--- a name behind others
+-- a name after others
 first_or : (b c : Bool) (i n m : ℕ) (o : Option ℕ) → n ≡ m → (if b then Some i else option_or o (if c then Some n else None)) ≡ option_or (if b then Some i else o) (if c then Some m else None)
 first_or true c i n m o same = refl
 first_or false c i n m o same = ap (λ k. option_or o (if c then Some k else None)) same

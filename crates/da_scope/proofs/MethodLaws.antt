@@ -11,7 +11,7 @@ use Rattle.da_lang.specs.declared.tree.Member.TheVariants as member
 use Rattle.da_lang.specs.ClassParts.{Body, body_in, is_method, method_of}
 use Rattle.da_scope.specs.MethodsView.{HasPlaces, is_named, method_place, place_in}
 
--- a member behind others
+-- a member after others
 later : (b c : Bool) (n : ℕ) (o : Option ℕ) → (if b then Some 0 else option_map suc (option_or o (if c then Some n else None))) ≡ option_or (if b then Some 0 else option_map suc o) (if c then Some (suc n) else None)
 later true c n o = refl
 later false true n None = refl

@@ -6,7 +6,7 @@ use Rattle.da_lang.specs.declared.tree.ClassTree.{ClassTree}
 use Rattle.da_lang.specs.declared.tree.Stmt.{Stmt}
 use Rattle.da_lang.specs.declared.tree.Stmt.TheVariants as stmt
 use Rattle.da_lang.specs.declared.tree.TimeoutTree.{TimeoutTree, out-TimeoutTree}
-use Rattle.da_lang.specs.BodyMeaning.{Becomes, Behind, Copy, Guarded, Stating, as_alt, as_branch, behind_label, body_with, copies, each, guarding, labels, stating, waiting}
+use Rattle.da_lang.specs.BodyMeaning.{Becomes, AfterStmt, Copy, Guarded, Stating, as_alt, as_branch, after_label, body_with, copies, each, guarding, labels, stating, waiting}
 use Rattle.da_lang.specs.ExprMeaning.{Meaning, Tables}
 use Rattle.da_lang.specs.LabelNames.{label_number}
 use Rattle.da_lang.specs.Scopes.{Scope}
@@ -46,23 +46,23 @@ alt-at copy b scope tables = ap (λ (g : Guarded). g.alt scope tables) (guarding
 
 pub ruleset branch_rules = (branch-at, alt-at)
 
--- the names in scope behind some statements, and the label that the last of them is
-abbrev pub scope_behind : Option ℕ → List Stating → Scope Meaning → Tables → Scope Meaning
-scope_behind label [] scope tables = scope
-scope_behind label (s ∷ ss) scope tables = let first = s label scope tables in scope_behind first.label ss first.scope first.tables
+-- the names in scope after some statements, and the label that the last of them is
+abbrev pub scope_after : Option ℕ → List Stating → Scope Meaning → Tables → Scope Meaning
+scope_after label [] scope tables = scope
+scope_after label (s ∷ ss) scope tables = let first = s label scope tables in scope_after first.label ss first.scope first.tables
 
 abbrev pub last_label : Option ℕ → List Stating → Scope Meaning → Tables → Option ℕ
 last_label label [] scope tables = label
 last_label label (s ∷ ss) scope tables = let first = s label scope tables in last_label first.label ss first.scope first.tables
 
--- one statement behind others
+-- one statement after others
 module _ (copy : Copy) where
   abbrev Items : Option ℕ → List Stmt → Scope Meaning → Tables → List Item × Tables
-  Items label stmts scope tables = behind_label label (map (stating copy) stmts) scope tables
+  Items label stmts scope tables = after_label label (map (stating copy) stmts) scope tables
 
-  abbrev Next : Option ℕ → List Stmt → Stmt → Scope Meaning → Tables → Behind
+  abbrev Next : Option ℕ → List Stmt → Stmt → Scope Meaning → Tables → AfterStmt
   Next label stmts s scope tables =
-      stating copy s (last_label label (map (stating copy) stmts) scope tables) (scope_behind label (map (stating copy) stmts) scope tables) (Items label stmts scope tables).1
+      stating copy s (last_label label (map (stating copy) stmts) scope tables) (scope_after label (map (stating copy) stmts) scope tables) (Items label stmts scope tables).1
 
   items_more : (label : Option ℕ) (stmts : List Stmt) (s : Stmt) (scope : Scope Meaning) (tables : Tables)
       → (Items label (stmts ++ s ∷ []) scope tables).0 ≡ (Items label stmts scope tables).0 ++ (Next label stmts s scope tables).item ∷ []
@@ -75,7 +75,7 @@ module _ (copy : Copy) where
   tables_more label (t ∷ stmts) s scope tables = let first = stating copy t label scope tables in tables_more first.label stmts s first.scope first.tables
 
   scope_more : (label : Option ℕ) (stmts : List Stmt) (s : Stmt) (scope : Scope Meaning) (tables : Tables)
-      → scope_behind label (map (stating copy) (stmts ++ s ∷ [])) scope tables ≡ (Next label stmts s scope tables).scope
+      → scope_after label (map (stating copy) (stmts ++ s ∷ [])) scope tables ≡ (Next label stmts s scope tables).scope
   scope_more label [] s scope tables = refl
   scope_more label (t ∷ stmts) s scope tables = let first = stating copy t label scope tables in scope_more first.label stmts s first.scope first.tables
 
@@ -84,10 +84,10 @@ module _ (copy : Copy) where
   label_more label [] s scope tables = refl
   label_more label (t ∷ stmts) s scope tables = let first = stating copy t label scope tables in label_more first.label stmts s first.scope first.tables
 
-  -- what is known behind some statements of a block
+  -- what is known after some statements of a block
   pub record Came (stmts : List Stmt) (scope : Scope Meaning) (before : Tables) (label : Option ℕ) (inner : Scope Meaning) (middle : Tables) : Type 0 where
     pub label_is : label ≡ last_label None (map (stating copy) stmts) scope before
-    pub scope_is : inner ≡ scope_behind None (map (stating copy) stmts) scope before
+    pub scope_is : inner ≡ scope_after None (map (stating copy) stmts) scope before
     pub tables_are : middle ≡ (body_with copy stmts scope before).1
 
   -- a statement more of a list

@@ -17,7 +17,7 @@ use da_meaning::{Scope, Tables, pattern};
 use da_values::{List, NoMemory};
 use std::alloc::Global;
 
-/// The handlers of a class, behind others.
+/// The handlers of a class, after others.
 pub fn add_handlers(
     alloc: Global,
     home: &Home<'_>,
@@ -33,7 +33,7 @@ pub fn add_handlers(
     Ok(())
 }
 
-// A member that is a handler, behind others.
+// A member that is a handler, after others.
 fn add_handler<'t>(
     alloc: Global,
     home: &Home<'t>,
@@ -84,7 +84,7 @@ fn handler<'t>(
     let at = labels_named(alloc, home, at)?;
     let names = variables_of(alloc, message, from)?;
     let (message, from) = patterns_of(alloc, &home.scope, message, from)?;
-    let (binds, body) = body_behind(alloc, home, names.as_slice(), stmts, tables)?;
+    let (binds, body) = body_after(alloc, home, names.as_slice(), stmts, tables)?;
     Ok(Handler {
         message,
         from,
@@ -123,7 +123,7 @@ fn patterns_of<'t>(
 }
 
 // New slots for the variables of a handler, and its statements, where these are in scope.
-fn body_behind<'t>(
+fn body_after<'t>(
     alloc: Global,
     home: &Home<'t>,
     names: &[&'t [u8]],

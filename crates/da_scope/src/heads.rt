@@ -15,7 +15,7 @@ use da_meaning::{Scope, Tables, boxed_outside};
 use da_values::{Boxed, List, NoMemory};
 use std::alloc::Global;
 
-/// The slots that a condition binds, and the names in scope in the block behind it.
+/// The slots that a condition binds, and the names in scope in the block after it.
 #[derive(Debug, Drop)]
 struct Opened<'t> {
     binds: List<u16>,
@@ -158,7 +158,7 @@ pub fn for_head<'t>(
     })
 }
 
-// The slots that a condition binds, and the names in scope in the block behind it.
+// The slots that a condition binds, and the names in scope in the block after it.
 fn open_block<'t>(
     alloc: Global,
     x: &'t Expr,

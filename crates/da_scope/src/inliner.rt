@@ -52,7 +52,7 @@ impl<
         Ok(items)
     }
 
-    // A statement behind a label, where one stands directly before it. Names that it brings come into scope.
+    // A statement after a label, where one stands directly before it. Names that it brings come into scope.
     #[cycle(statements)]
     #[tactic(auto, using(crate::proofs::StatementsAt::statements_at))]
     fn statement(

@@ -50,7 +50,7 @@ fn count_made(line: &MainLine) -> u16
     }
 }
 
-// The name that a line makes behind so many processes comes into scope.
+// The name that a line makes after so many processes comes into scope.
 fn enter_line<'t>(before: u16, line: &'t MainLine, scope: &mut Scope<'t>) -> Result<(), NoMemory>
     requires { before + made_count line.now ≤ 64 }
     ensures { OnOk result (scope.new ≡ made_entry before line.now ++ scope.old) }
@@ -75,7 +75,7 @@ pub fn processes(alloc: Global, t: &Tree) -> Result<List<ProcDecl>, NoMemory>
     Ok(procs)
 }
 
-// The processes that a line makes, behind others.
+// The processes that a line makes, after others.
 fn add_processes<'t>(
     alloc: Global,
     t: &'t Tree,

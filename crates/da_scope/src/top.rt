@@ -45,7 +45,7 @@ impl From<NoMemory> for ScopeFault {
 const MOST_NODES: u32 = 4_194_304;
 
 /// The program of a tree: each name has its slot, each call has a copy of its method's body, and the queries are
-/// numbered. `Refused` names the least line at which a rule of names is broken, and there the first kind; `Limit` comes
+/// numbered. `Refused` names the earliest line at which a rule of names is broken, and there the first kind; `Limit` comes
 /// only where none is broken, and names a limit that is exceeded in the same way. A tree that names and limits allow gets
 /// its program or `Memory`, which comes where memory was refused, and before anything is built where the program would
 /// have more than 4,194,304 nodes.

@@ -77,7 +77,7 @@ pub fn finds(x: &Expr) -> bool
     }
 }
 
-// The variables of generators, behind other names.
+// The variables of generators, after other names.
 fn add_generators<'t>(gens: &'t [GenTree], names: &mut List<&'t [u8]>) -> Result<(), NoMemory>
     ensures { OnOk result (texts names.new ≡ texts names.old ++ flat_map (λ g. (generator g).binds) gens.now) }
 {
@@ -87,7 +87,7 @@ fn add_generators<'t>(gens: &'t [GenTree], names: &mut List<&'t [u8]>) -> Result
     Ok(())
 }
 
-// The variables of a generator, behind other names.
+// The variables of a generator, after other names.
 #[tactic(auto, using(crate::proofs::FoundAt::generator_at))]
 fn add_generator<'t>(g: &'t GenTree, names: &mut List<&'t [u8]>) -> Result<(), NoMemory>
     ensures { OnOk result (texts names.new ≡ texts names.old ++ (generator g.now).binds) }
@@ -96,7 +96,7 @@ fn add_generator<'t>(g: &'t GenTree, names: &mut List<&'t [u8]>) -> Result<(), N
     add_peer(&g.peer, names)
 }
 
-// The variables of the pattern of the other process, behind other names.
+// The variables of the pattern of the other process, after other names.
 #[tactic(auto, using(da_meaning::proofs::GensAt::peers_at))]
 fn add_peer<'t>(peer: &'t Option<PeerTree>, names: &mut List<&'t [u8]>) -> Result<(), NoMemory>
     ensures { OnOk result (texts names.new ≡ texts names.old ++ peer_binds (option_map peer_of peer.now)) }
@@ -108,7 +108,7 @@ fn add_peer<'t>(peer: &'t Option<PeerTree>, names: &mut List<&'t [u8]>) -> Resul
     }
 }
 
-/// The variables of a pattern, in text order, behind other names.
+/// The variables of a pattern, in text order, after other names.
 #[cycle(variables)]
 #[tactic(auto, using(crate::proofs::FoundAt::variables_at))]
 pub fn add_variables<'t>(p: &'t PatternTree, names: &mut List<&'t [u8]>) -> Result<(), NoMemory>
@@ -126,7 +126,7 @@ pub fn add_variables<'t>(p: &'t PatternTree, names: &mut List<&'t [u8]>) -> Resu
     }
 }
 
-// The variables of patterns, in text order, behind other names.
+// The variables of patterns, in text order, after other names.
 #[cycle(variables)]
 fn add_parts<'t>(ps: &'t [PatternTree], names: &mut List<&'t [u8]>) -> Result<(), NoMemory>
     ensures { OnOk result (texts names.new ≡ texts names.old ++ flat_map (λ p. p.binds) (map matching ps.now)) }

@@ -30,15 +30,15 @@ use Rattle.da_system.specs.SoundState.{IsSoundState, LeadsOn, StaysSound, TellsM
 use Rattle.da_system.specs.State.{Whichever}
 use Rattle.da_system.specs.declared.system.System.{System}
 use Rattle.da_system.specs.SystemStep.{AfterEvent, SystemState, start, step_of, stepped, sys_step}
-use Rattle.da_system.proofs.SoundLaws.{MayArrive, SendsLetter, StaysShaped, start_sound, step_sound}
+use Rattle.da_system.proofs.SoundLaws.{MayArrive, SendsMessage, StaysShaped, start_sound, step_sound}
 
 -- ITS WORLDS STAY SHAPED
 
-sends : (program : Program) (me : ℕ) (a : Action) → MayTell program me a → SendsLetter program a
+sends : (program : Program) (me : ℕ) (a : Action) → MayTell program me a → SendsMessage program a
 sends program me (act.Sent p q t m) may = record { proper = may.proper; typed = may.typed; in_time = may.in_time }
 sends program me _ may = tt
 
-all_send : (program : Program) (me : ℕ) (actions : List Action) → All (MayTell program me) actions → AllByRecursion (SendsLetter program) actions
+all_send : (program : Program) (me : ℕ) (actions : List Action) → All (MayTell program me) actions → AllByRecursion (SendsMessage program) actions
 all_send program me [] tells = tt
 all_send program me (a ∷ others) tells = (sends program me a (All-head (MayTell program me) a others tells), all_send program me others (All-tail (MayTell program me) a others tells))
 
@@ -90,7 +90,7 @@ take_tells : (program : Program) (k : ℕ) (w : World) → IsMove w.data'.me k (
 take_tells program zero w = subst (IsMove w.data'.me 0) (sym (never_steps program w (class_of program w.data'.me))) tt
 take_tells program (suc k) w = move_tells program w (suc k)
 
--- a timeout tells the number behind that of the last alternative
+-- a timeout tells the number after that of the last alternative
 module _ (class : Class) (d : Data) where
   none_timed : (b : Bool) (k : ℕ) (ran : Ran) → IsMove d.me k (cond b None (Some (moved d.me k ran)))
   none_timed true k ran = tt

@@ -14,13 +14,13 @@ use Rattle.da_lang.specs.declared.ty.ChannelKind.{ChannelKind}
 use Rattle.da_lang.specs.declared.ty.ChannelKind.TheVariants.{FifoReliable, UnorderedUnreliable}
 use Rattle.da_lang.specs.World.{Do, World, Waiting, Ended}
 use Rattle.da_lang.proofs.Computing.{stepping, taking}
-use Rattle.da_system.specs.Channels.{Letter}
+use Rattle.da_system.specs.Channels.{MessageInFlight}
 use Rattle.da_system.specs.Choices.{choices}
 use Rattle.da_system.specs.StressRun.{next_number}
 use Rattle.da_system.specs.SystemStep.{start}
-use Rattle.da_system.proofs.SystemExamples.{both, class, knows, letter, program, second, system}
+use Rattle.da_system.proofs.SystemExamples.{both, class, knows, message, program, second, system}
 
--- both processes wait at a label, and two messages are under way: moves come first, and then the deliveries
+-- both processes wait at a label, and two messages are in flight: moves come first, and then the deliveries
 unordered_choices : choices (program UnorderedUnreliable) (system UnorderedUnreliable both (second Waiting (knows [] 0))) ≡ Move 1 ∷ Move 2 ∷ Deliver 1 2 1 ∷ Deliver 1 2 2 ∷ []
 unordered_choices = simp stepping
 
@@ -33,8 +33,8 @@ few_choices : choices (program UnorderedUnreliable) (system UnorderedUnreliable 
 few_choices = simp stepping
 
 -- of five messages the first four
-abbrev five : List Letter
-five = letter 7 1 ∷ letter 8 2 ∷ letter 9 3 ∷ letter 10 4 ∷ letter 11 5 ∷ []
+abbrev five : List MessageInFlight
+five = message 7 1 ∷ message 8 2 ∷ message 9 3 ∷ message 10 4 ∷ message 11 5 ∷ []
 
 four_of_five : choices (program UnorderedUnreliable) (system UnorderedUnreliable five (second Waiting (knows [] 0))) ≡ Move 1 ∷ Move 2 ∷ Deliver 1 2 1 ∷ Deliver 1 2 2 ∷ Deliver 1 2 3 ∷ Deliver 1 2 4 ∷ []
 four_of_five = simp stepping
@@ -53,14 +53,14 @@ awaits alts timeout = record { data' = knows [] 0; todo = Do (roll-Item (record 
 await_choices : choices (program FifoReliable) (system FifoReliable both (awaits (way true ∷ way false ∷ way true ∷ []) (Some []))) ≡ Move 1 ∷ Take 2 1 ∷ Take 2 3 ∷ Deliver 1 2 1 ∷ []
 await_choices = simp stepping
 
--- the timeout behind the moves, where no alternative is true and there is a block for it
+-- the timeout after the moves, where no alternative is true and there is a block for it
 timeout_choices : choices (program FifoReliable) (system FifoReliable both (awaits (way false ∷ way false ∷ []) (Some []))) ≡ Move 1 ∷ Timeout 2 ∷ Deliver 1 2 1 ∷ []
 timeout_choices = simp stepping
 
 no_timeout_choices : choices (program FifoReliable) (system FifoReliable both (awaits (way false ∷ way false ∷ []) None)) ≡ Move 1 ∷ Deliver 1 2 1 ∷ []
 no_timeout_choices = simp stepping
 
--- a message that only a handler of another label may match does not arrive, and another one behind it does
+-- a message that only a handler of another label may match does not arrive, and another one after it does
 abbrev shut_out : ChannelKind → Program
 shut_out kind =
     let seven : Handler = record { message = Tuple (Const (literal.Text (codes "note")) ∷ Const (literal.Int (pos 7)) ∷ []); from = Any; at = 2 ∷ []; binds = []; body = []; line = 5 } in
@@ -73,6 +73,6 @@ later_choices = simp taking
 blocked_choices : choices (shut_out FifoReliable) (system FifoReliable both (second Waiting (knows [] 0))) ≡ Move 1 ∷ Move 2 ∷ []
 blocked_choices = simp taking
 
--- the first number behind 1
-number_behind_1 : next_number 1 ≡ 25214903928
-number_behind_1 = refl
+-- the first number after 1
+number_after_1 : next_number 1 ≡ 25214903928
+number_after_1 = refl

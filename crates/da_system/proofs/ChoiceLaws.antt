@@ -19,11 +19,11 @@ use Rattle.da_lang.specs.Steps.{Step, Go, class_step, past_await, proc_step, ste
 use Rattle.da_lang.specs.Steps as step
 use Rattle.da_lang.specs.Turns.{kind_of}
 use Rattle.da_lang.specs.World.{Data, Task, Do, Loop, Prepare, World, Phase, New, Waiting, Ended, Faulted, at_number, class_of}
-use Rattle.da_system.specs.Channels.{Letter, channel, may_arrive, or_empty, without_letter}
+use Rattle.da_system.specs.Channels.{MessageInFlight, channel, may_arrive, or_empty, without_message}
 use Rattle.da_system.specs.Choices.{alternatives, alternatives_at, alternatives_in, candidates, choices, deliveries_from, deliveries_to, is_allowed, moves_of, processes}
 use Rattle.da_system.specs.SoundState.{IsSoundState}
 use Rattle.da_system.specs.SystemStep.{SystemState, arrive, step_of, sys_step}
-use Rattle.da_system.proofs.LetterLemmas.{stepped_some}
+use Rattle.da_system.proofs.MessageLemmas.{stepped_some}
 use Rattle.da_system.proofs.PlaceLemmas.{within_numbers}
 use Rattle.da_system.proofs.WorldLemmas.{numbered_none}
 
@@ -85,17 +85,17 @@ taken_at : (program : Program) (s : SystemState) (p k : ℕ) (o : Option World) 
 taken_at program s p k None is = absurd (false≢true is)
 taken_at program s p k (Some w) is = taken program w k (class_of program w.data'.me) (sym (stepped_some s p (proc_step program w (step.Take k))) ∙ is)
 
-arrived : (program : Program) (s : SystemState) (p q i : ℕ) (may : Bool) (o : Option Letter) → is_some (cond may (arrive program s p q i o) None) ≡ true → (is_some o ≡ true) × (is_some (at_number s.worlds q) ≡ true)
+arrived : (program : Program) (s : SystemState) (p q i : ℕ) (may : Bool) (o : Option MessageInFlight) → is_some (cond may (arrive program s p q i o) None) ≡ true → (is_some o ≡ true) × (is_some (at_number s.worlds q) ≡ true)
 arrived program s p q i true None is = absurd (false≢true is)
-arrived program s p q i true (Some letter) is = (refl, step_there program (record s { channels = without_letter s.channels p q i }) q (at_number s.worlds q) (step.Deliver letter.message p letter.time) is)
+arrived program s p q i true (Some message) is = (refl, step_there program (record s { channels = without_message s.channels p q i }) q (at_number s.worlds q) (step.Deliver message.message p message.time) is)
 arrived program s p q i false o is = absurd (false≢true is)
 
 -- there is a sender where there is a message
-sent_from : (rows : List (List (List Letter))) (p q i : ℕ) → is_some (at_number (channel rows p q) i) ≡ true → (0 < p) × (p ≤ length rows)
+sent_from : (rows : List (List (List MessageInFlight))) (p q i : ℕ) → is_some (at_number (channel rows p q) i) ≡ true → (0 < p) × (p ≤ length rows)
 sent_from rows p q i is = of (at_number rows p) refl is
   where
-    of : (row : Option (List (List Letter))) → at_number rows p ≡ row → is_some (at_number (or_empty (at_number (or_empty row) q)) i) ≡ true → (0 < p) × (p ≤ length rows)
-    of None there is = absurd (false≢true (sym (ap is_some (ap (λ (letters : Option (List Letter)). at_number (or_empty letters) i) (numbered_none q) ∙ numbered_none i)) ∙ is))
+    of : (row : Option (List (List MessageInFlight))) → at_number rows p ≡ row → is_some (at_number (or_empty (at_number (or_empty row) q)) i) ≡ true → (0 < p) × (p ≤ length rows)
+    of None there is = absurd (false≢true (sym (ap is_some (ap (λ (messages : Option (List MessageInFlight)). at_number (or_empty messages) i) (numbered_none q) ∙ numbered_none i)) ∙ is))
     of (Some row) there is = within_numbers rows p (ap is_some there)
 
 -- THE EVENTS THAT MAY BE PICKED
@@ -122,10 +122,10 @@ module _ (program : Program) (s : SystemState) (sound : IsSoundState program s) 
       Has-append_left (flat_map (moves_of s) (processes s)) (flat_map (deliveries_from s) (processes s)) (Timeout p)
       (Has-flat_map (moves_of s) (processes s) p (Timeout p) here (Has-append_right takes (Timeout p ∷ []) (Timeout p) (inl refl)))
   among (Deliver p q i) kind is =
-      let (letter, receiver) = arrived program s p q i (may_arrive s.kind i) (at_number (channel s.channels p q) i) is in
-      let (some, few) = sent_from s.channels p q i letter in
+      let (message, receiver) = arrived program s p q i (may_arrive s.kind i) (at_number (channel s.channels p q) i) is in
+      let (some, few) = sent_from s.channels p q i message in
       let sender = has_number (length s.worlds) p some (omega (arith, few, sound.square.senders, sound.each)) in
-      let numbered = within_numbers (channel s.channels p q) i letter in
+      let numbered = within_numbers (channel s.channels p q) i message in
       Has-append_right (flat_map (moves_of s) (processes s)) (flat_map (deliveries_from s) (processes s)) (Deliver p q i)
       (Has-flat_map (deliveries_from s) (processes s) p (Deliver p q i) sender
       (Has-flat_map (deliveries_to p) (processes s) q (Deliver p q i) (has_process q receiver)

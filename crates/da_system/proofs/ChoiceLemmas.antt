@@ -17,7 +17,7 @@ use Rattle.da_system.specs.Picking.{Finds, alternatives_of}
 use Rattle.da_system.specs.State.{Stands, program_of}
 use Rattle.da_system.specs.SystemStep.{SystemState, sys_step}
 use Rattle.da_system.proofs.FindLemmas.{Leads, LeadsFrom, leads_all, leads_here, leads_on, left_all, pieces_start, single_pieces}
-use Rattle.da_system.proofs.LetterLemmas.{none_under_way}
+use Rattle.da_system.proofs.MessageLemmas.{none_in_flight}
 
 -- ONE EVENT
 
@@ -60,13 +60,13 @@ module _ (program : Program) (s : SystemState) (p count j : ℕ) (many : count �
       ap (λ es. Move p ∷ es)
       (ap (λ n. map (Take p) (range_with_len 1 n)) (sym many) ∙ sym (single_pieces (Take p) (range_with_len 1 count)))
 
-  pub behind_first : (past : ℕ) → Finds (filter (is_allowed program s) (Move p ∷ [])) j (Err past) → LeadsAll 0 past
-  behind_first past found =
+  pub after_first : (past : ℕ) → Finds (filter (is_allowed program s) (Move p ∷ [])) j (Err past) → LeadsAll 0 past
+  after_first past found =
       subst (λ ns. Leads all j (filter (is_allowed program s) (flat_map (one_take p) ns)) past) (sym (left_all count))
       (leads_on (is_allowed program s) all j (Move p ∷ []) (flat_map (one_take p) (range_with_len 1 count)) j
       (subst (λ es. Leads all j (filter (is_allowed program s) es) j) moves_are (leads_all all j)) past found)
 
--- the timeout behind them
+-- the timeout after them
 module _ (program : Program) (s : SystemState) (p j : ℕ) where
   abbrev with_timeout : List Event
   with_timeout = filter (is_allowed program s) (moves_of s p)
@@ -78,27 +78,27 @@ module _ (program : Program) (s : SystemState) (p j : ℕ) where
   first_move e found =
       leads_here (is_allowed program s) with_timeout j (Move p ∷ []) (map (Take p) (range_with_len 1 (alternatives_at (at_number s.worlds p))) ++ Timeout p ∷ []) j (leads_all with_timeout j) e found
 
-  pub behind_moves : (past : ℕ) (r : Result Event ℕ) → Finds (filter (is_allowed program s) (takes_of s p)) j (Err past) → Finds (filter (is_allowed program s) (Timeout p ∷ [])) past r → Finds with_timeout j r
-  behind_moves past r over found = leads_on (is_allowed program s) with_timeout j (takes_of s p) (Timeout p ∷ []) j (leads_all with_timeout j) past over r found
+  pub after_moves : (past : ℕ) (r : Result Event ℕ) → Finds (filter (is_allowed program s) (takes_of s p)) j (Err past) → Finds (filter (is_allowed program s) (Timeout p ∷ [])) past r → Finds with_timeout j r
+  after_moves past r over found = leads_on (is_allowed program s) with_timeout j (takes_of s p) (Timeout p ∷ []) j (leads_all with_timeout j) past over r found
 
 -- ONE CHANNEL
 
 -- one piece for each message
-abbrev pub one_letter : ℕ → ℕ → ℕ → List Event
-one_letter p q i = Deliver p q i ∷ []
+abbrev pub one_message : ℕ → ℕ → ℕ → List Event
+one_message p q i = Deliver p q i ∷ []
 
-pub letters_start : (allowed : Event → Bool) (p q j count : ℕ) → count ≡ 4 → LeadsFrom allowed (one_letter p q) (filter allowed (deliveries_to p q)) j count 0 j
-letters_start allowed p q j count is = pieces_start allowed (one_letter p q) count 4 j is
+pub messages_start : (allowed : Event → Bool) (p q j count : ℕ) → count ≡ 4 → LeadsFrom allowed (one_message p q) (filter allowed (deliveries_to p q)) j count 0 j
+messages_start allowed p q j count is = pieces_start allowed (one_message p q) count 4 j is
 
--- where nothing is under way, none may be picked
+-- where nothing is in flight, none may be picked
 filter_none : (allowed : Event → Bool) (f : ℕ → Event) (ns : List ℕ) → ((n : ℕ) → allowed (f n) ≡ false) → filter allowed (map f ns) ≡ []
 filter_none allowed f [] none = refl
 filter_none allowed f (n ∷ ns) none = let rest = filter allowed (map f ns) in ap (λ b. cond b (f n ∷ rest) rest) (none n) ∙ filter_none allowed f ns none
 
-pub no_letters : (system : System) (s : SystemState) → Stands system s → (p q j number : ℕ) → number ≡ length (channel s.channels p q) → number ≡ 0
+pub no_messages : (system : System) (s : SystemState) → Stands system s → (p q j number : ℕ) → number ≡ length (channel s.channels p q) → number ≡ 0
     → Finds (filter (is_allowed (program_of system) s) (deliveries_to p q)) j (Err j)
-no_letters system s stands p q j number counted none =
-    subst (λ es. Finds es j (Err j)) (sym (filter_none (is_allowed (program_of system) s) (Deliver p q) (range_with_len 1 4) (λ i. ap is_some (none_under_way system s stands p q i (sym counted ∙ none)))))
+no_messages system s stands p q j number counted none =
+    subst (λ es. Finds es j (Err j)) (sym (filter_none (is_allowed (program_of system) s) (Deliver p q) (range_with_len 1 4) (λ i. ap is_some (none_in_flight system s stands p q i (sym counted ∙ none)))))
     (let here : j ≡ 0 + j = omega arith in here)
 
 -- AN EVENT THAT WAS FOUND

@@ -6,16 +6,16 @@ use Rattle.std.proofs.lemmas.List.Elements.{filter-append}
 use Rattle.std.proofs.lemmas.Option.{slice_get_within}
 use Rattle.da_lang.specs.declared.event.Event.{Event}
 use Rattle.da_system.specs.Picking.{Finds}
-use Rattle.da_system.proofs.FlatLemmas.{get_behind, get_front}
+use Rattle.da_system.proofs.FlatLemmas.{get_after, get_front}
 
--- A PIECE, AND WHAT COMES BEHIND IT
+-- A PIECE, AND WHAT COMES AFTER IT
 
 pub found_first : (xs ys : List Event) (j : ℕ) (e : Event) → Finds xs j (Ok e) → Finds (xs ++ ys) j (Ok e)
 found_first xs ys j e found = get_front xs ys j (slice_get_within xs j e found) ∙ found
 
-pub found_behind : (xs ys : List Event) (j past : ℕ) (r : Result Event ℕ) → Finds xs j (Err past) → Finds ys past r → Finds (xs ++ ys) j r
-found_behind xs ys j past (Ok e) over found = ap (slice_get (xs ++ ys)) over ∙ get_behind xs ys past ∙ found
-found_behind xs ys j past (Err rest) over found = let long = length-append xs ys in omega (arith, over, found, long)
+pub found_after : (xs ys : List Event) (j past : ℕ) (r : Result Event ℕ) → Finds xs j (Err past) → Finds ys past r → Finds (xs ++ ys) j r
+found_after xs ys j past (Ok e) over found = ap (slice_get (xs ++ ys)) over ∙ get_after xs ys past ∙ found
+found_after xs ys j past (Err rest) over found = let long = length-append xs ys in omega (arith, over, found, long)
 
 -- what is found from place j on in the rest of a list is found from the first place on in the whole list
 abbrev pub Leads : List Event → ℕ → List Event → ℕ → Type 0
@@ -32,7 +32,7 @@ module _ (allowed : Event → Bool) (whole : List Event) (first : ℕ) (piece mo
   leads_here e found = leads (Ok e) (subst (λ xs. Finds xs j (Ok e)) (sym split) (found_first (filter allowed piece) (filter allowed more) j e found))
 
   pub leads_on : (past : ℕ) → Finds (filter allowed piece) j (Err past) → Leads whole first (filter allowed more) past
-  leads_on past over r found = leads r (subst (λ xs. Finds xs j r) (sym split) (found_behind (filter allowed piece) (filter allowed more) j past r over found))
+  leads_on past over r found = leads r (subst (λ xs. Finds xs j r) (sym split) (found_after (filter allowed piece) (filter allowed more) j past r over found))
 
 pub leads_none : (whole : List Event) (first j : ℕ) → Leads whole first [] j → Finds whole first (Err j)
 leads_none whole first j leads = leads (Err j) (let here : j ≡ 0 + j = omega arith in here)
@@ -52,7 +52,7 @@ left_next count place inside = ap (range_with_len (place + 1)) (let here : count
 pub left_none : (count place : ℕ) → count ≤ place → left_of count place ≡ []
 left_none count place past = ap (range_with_len (place + 1)) (let here : count - place ≡ 0 = omega (arith, past) in here)
 
--- the numbers behind this place lead on
+-- the numbers after this place lead on
 abbrev pub LeadsFrom : (Event → Bool) → (ℕ → List Event) → List Event → ℕ → ℕ → ℕ → ℕ → Type 0
 LeadsFrom allowed pieces whole first count place j = Leads whole first (filter allowed (flat_map pieces (left_of count place))) j
 

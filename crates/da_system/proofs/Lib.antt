@@ -5,8 +5,8 @@ pub mod ChoiceLaws
 pub mod ChoiceLemmas
 pub mod FindLemmas
 pub mod FlatLemmas
-pub mod LetterLemmas
 pub mod MadeLemmas
+pub mod MessageLemmas
 pub mod PlaceLemmas
 pub mod QueueLaws
 pub mod SoundLaws

@@ -1,5 +1,5 @@
 -- The step of a process in code, within the system: its core stands for the world after it, and what it sent has to go into
--- the channels. These may be other ones than before, as where a letter was taken out.
+-- the channels. These may be other ones than before, as where a message was taken out.
 use Rattle.std.proofs.Common.{◌≡◌, refl, sym, ◌∙◌, ap, subst, ℕ, zero, suc, ◌≤◌, false, List, [], ◌∷◌, ◌++◌, length, drop, append-nil, arith}
 use Rattle.std.specs.Prelude.{Option, Some, None, IfSome}
 use Rattle.std.specs.List.{All}
@@ -14,7 +14,7 @@ use Rattle.da_lang.specs.Steps.{Step, move_step, proc_step}
 use Rattle.da_lang.specs.World.{World, at_number}
 use Rattle.da_types.specs.KeepsShaped.{MayStep, MayTell, StepsShaped}
 use Rattle.da_types.proofs.sound.AcceptedShaped.{keeps_shaped}
-use Rattle.da_machine.proofs.Fronts.{whole_front}
+use Rattle.da_machine.proofs.Prefixes.{full_prefix}
 use Rattle.da_core.specs.declared.place.Stopped.{Stopped}
 use Rattle.da_core.specs.declared.process.Core.{Core}
 use Rattle.da_core.specs.Made as made
@@ -42,9 +42,9 @@ module _ (program : Program) (me : ℕ) (is : IsProcess program me) where
   all_sent [] tells = tt
   all_sent (a ∷ others) tells = (told_sent a (All-head (MayTell program me) a others tells), all_sent others (All-tail (MayTell program me) a others tells))
 
-drop_behind : {A : Type 0} (xs ys : List A) → drop (length xs) (xs ++ ys) ≡ ys
-drop_behind [] ys = refl
-drop_behind (x ∷ xs) ys = drop_behind xs ys
+drop_after : {A : Type 0} (xs ys : List A) → drop (length xs) (xs ++ ys) ≡ ys
+drop_after [] ys = refl
+drop_after (x ∷ xs) ys = drop_after xs ys
 
 not_less : {A : Type 0} (xs ys : List A) → length xs ≤ length (xs ++ ys)
 not_less [] ys = omega arith
@@ -102,13 +102,13 @@ module _ (system : System) (s : SystemState) (stands : Stands system s) (target 
     after_is = step_is ∙ ap (stepped (record s { channels = base }) p) has.leads
 
     pub made_begun : HasBegun target old new
-    made_begun = record { after = after_it; is = after_is; front = whole_front old new has.after.actions has.added }
+    made_begun = record { after = after_it; is = after_is; front = full_prefix old new has.after.actions has.added }
 
     pub made_longer : length old ≤ length new
     made_longer = subst (λ xs. length old ≤ length xs) (sym has.added) (not_less old has.after.actions)
 
     told_are : (n : ℕ) → n ≡ length old → drop n new ≡ has.after.actions
-    told_are n same = ap (λ k. drop k new) same ∙ ap (drop (length old)) has.added ∙ drop_behind old has.after.actions
+    told_are n same = ap (λ k. drop k new) same ∙ ap (drop (length old)) has.added ∙ drop_after old has.after.actions
 
     -- what it sent goes from one of the processes to one of them
     pub made_sends : MayStep program step → (n : ℕ) → n ≡ length old → (count : ℕ) → count ≡ length program.procs → AreSent count (drop n new)

@@ -6,17 +6,17 @@ use Rattle.std.proofs.lemmas.Option.{slice_get-map, slice_get_within}
 use Rattle.da_lang.specs.declared.event.Action.{Action}
 use Rattle.da_lang.specs.World.{at_number}
 use Rattle.da_system.specs.declared.queue.InFlight.{InFlight}
-use Rattle.da_system.specs.Channels.{Channels, Letter, after_action, after_actions, channel, no_letters, or_empty, with_channel, with_letter, without_letter, without_numbered}
+use Rattle.da_system.specs.Channels.{Channels, MessageInFlight, after_action, after_actions, channel, no_messages, or_empty, with_channel, with_message, without_message, without_numbered}
 use Rattle.da_system.specs.FlatChannels.{flat, place_of}
 use Rattle.da_system.specs.Queued.{Queued}
-use Rattle.da_system.specs.Queues.{AreSent, IsAmong, IsNoPair, IsSent, StandsFor, letter_of}
+use Rattle.da_system.specs.Queues.{AreSent, IsAmong, IsNoPair, IsSent, StandsFor, message_of}
 use Rattle.da_system.specs.SoundState.{IsSquare}
 use Rattle.da_system.proofs.FlatLemmas.{channel-flat, flat-with_channel}
 use Rattle.da_system.proofs.PlaceLemmas.{get_is, map_remove, map_set, map_then}
 use Rattle.da_system.proofs.SystemLaws.{square_opens, square_with}
 use Rattle.da_system.proofs.WorldLemmas.{all_numbered, numbered_none}
 
--- NOTHING UNDER WAY
+-- NOTHING IN FLIGHT
 
 replicate_then : {A : Type 0} (m n : ℕ) (x : A) → replicate m x ++ replicate n x ≡ replicate (m + n) x
 replicate_then zero n x = ap (λ k. replicate k x) (let same : n ≡ 0 + n = omega arith in same)
@@ -28,14 +28,14 @@ flat_rows (suc rows) count =
     ap (λ t. replicate count [] ++ t) (flat_rows rows count) ∙ replicate_then count (rows * count) []
     ∙ ap (λ k. replicate k []) (let same : count + rows * count ≡ suc rows * count = omega arith in same)
 
-map_empty : (n : ℕ) → map (map letter_of) (replicate n []) ≡ replicate n []
+map_empty : (n : ℕ) → map (map message_of) (replicate n []) ≡ replicate n []
 map_empty zero = refl
-map_empty (suc n) = ap (λ (t : List (List Letter)). [] ∷ t) (map_empty n)
+map_empty (suc n) = ap (λ (t : List (List MessageInFlight)). [] ∷ t) (map_empty n)
 
-pub stands_empty : (count made : ℕ) (queues : List (List InFlight)) → made ≡ count * count → queues ≡ replicate made [] → StandsFor (record { count = count; queues = queues }) (no_letters count)
+pub stands_empty : (count made : ℕ) (queues : List (List InFlight)) → made ≡ count * count → queues ≡ replicate made [] → StandsFor (record { count = count; queues = queues }) (no_messages count)
 stands_empty count made queues all is = record {
   square = square_opens count;
-  same = ap (map (map letter_of)) is ∙ map_empty made ∙ ap (λ k. replicate k []) all ∙ sym (flat_rows count count);
+  same = ap (map (map message_of)) is ∙ map_empty made ∙ ap (λ k. replicate k []) all ∙ sym (flat_rows count count);
 }
 
 pub one_more : {A : Type 0} (n : ℕ) (x : A) → replicate n x ++ x ∷ [] ≡ replicate (n + 1) x
@@ -47,60 +47,60 @@ one_more n x = replicate_then n 1 x
 abbrev pub IsPlaceOf : Queued → ℕ → ℕ → ℕ → Type 0
 IsPlaceOf queues p q place = IsAmong queues.count p × IsAmong queues.count q × (place ≡ place_of queues.count p q) × (place < length queues.queues)
 
--- where one of the processes is not there, there are no letters
-no_row : (count q : ℕ) (channels : Channels) (k : ℕ) → IsSquare count channels → IsNoPair count (suc k) q → (row : Option (List (List Letter))) → slice_get channels k ≡ row → or_empty (at_number (or_empty row) q) ≡ []
-no_row count q channels k square none None is = ap or_empty (numbered_none {A = List Letter} q)
+-- where one of the processes is not there, there are no messages
+no_row : (count q : ℕ) (channels : Channels) (k : ℕ) → IsSquare count channels → IsNoPair count (suc k) q → (row : Option (List (List MessageInFlight))) → slice_get channels k ≡ row → or_empty (at_number (or_empty row) q) ≡ []
+no_row count q channels k square none None is = ap or_empty (numbered_none {A = List MessageInFlight} q)
 no_row count zero channels k square none (Some row) is = refl
 no_row count (suc j) channels k square none (Some row) is =
-    let fits : length row ≡ count = subst (λ (o : Option (List (List Letter))). IfSome o (λ (r : List (List Letter)). length r ≡ count)) is (all_numbered (λ (r : List (List Letter)). length r ≡ count) channels (suc k) square.recipients) in
+    let fits : length row ≡ count = subst (λ (o : Option (List (List MessageInFlight))). IfSome o (λ (r : List (List MessageInFlight)). length r ≡ count)) is (all_numbered (λ (r : List (List MessageInFlight)). length r ≡ count) channels (suc k) square.recipients) in
     of (slice_get row j) refl fits
   where
-    of : (letters : Option (List Letter)) → slice_get row j ≡ letters → length row ≡ count → or_empty letters ≡ []
+    of : (messages : Option (List MessageInFlight)) → slice_get row j ≡ messages → length row ≡ count → or_empty messages ≡ []
     of None there fits = refl
-    of (Some letters) there fits = absurd (none (omega arith, omega (arith, slice_get_within channels k row is, square.senders)) (omega arith, omega (arith, slice_get_within row j letters there, fits)))
+    of (Some messages) there fits = absurd (none (omega arith, omega (arith, slice_get_within channels k row is, square.senders)) (omega arith, omega (arith, slice_get_within row j messages there, fits)))
 
 pub no_channel : (count p q : ℕ) (channels : Channels) → IsSquare count channels → IsNoPair count p q → channel channels p q ≡ []
-no_channel count zero q channels square none = ap or_empty (numbered_none {A = List Letter} q)
+no_channel count zero q channels square none = ap or_empty (numbered_none {A = List MessageInFlight} q)
 no_channel count (suc k) q channels square none = no_row count q channels k square none (slice_get channels k) refl
 
 module _ (queues : Queued) (channels : Channels) (stands : StandsFor queues channels) (p q place : ℕ) (from : IsAmong queues.count p) (to : IsAmong queues.count q) (is : place ≡ place_of queues.count p q) where
-  or_empty_map : (o : Option (List InFlight)) → or_empty (option_map (map letter_of) o) ≡ map letter_of (or_empty o)
+  or_empty_map : (o : Option (List InFlight)) → or_empty (option_map (map message_of) o) ≡ map message_of (or_empty o)
   or_empty_map None = refl
-  or_empty_map (Some letters) = refl
+  or_empty_map (Some messages) = refl
 
-  -- it has the letters of the queue at its place
-  pub channel_is : (here : List InFlight) → slice_get queues.queues place ≡ Some here → channel channels p q ≡ map letter_of here
+  -- it has the messages of the queue at its place
+  pub channel_is : (here : List InFlight) → slice_get queues.queues place ≡ Some here → channel channels p q ≡ map message_of here
   channel_is here there =
       sym (channel-flat queues.count channels stands.square p q from.0 from.1 to.0 to.1)
       ∙ ap (λ fs. or_empty (slice_get fs (place_of queues.count p q))) (sym stands.same)
-      ∙ ap (λ k. or_empty (slice_get (map (map letter_of) queues.queues) k)) (sym is)
-      ∙ ap or_empty (slice_get-map (map letter_of) queues.queues place ∙ ap (option_map (map letter_of)) there)
+      ∙ ap (λ k. or_empty (slice_get (map (map message_of) queues.queues) k)) (sym is)
+      ∙ ap or_empty (slice_get-map (map message_of) queues.queues place ∙ ap (option_map (map message_of)) there)
 
-  pub letter_is : (i at : ℕ) → i ≡ at + 1 → (here : List InFlight) → slice_get queues.queues place ≡ Some here → option_map letter_of (slice_get here at) ≡ at_number (channel channels p q) i
-  letter_is i at next here there =
-      sym (slice_get-map letter_of here at) ∙ ap (λ (letters : List Letter). slice_get letters at) (sym (channel_is here there))
+  pub message_is : (i at : ℕ) → i ≡ at + 1 → (here : List InFlight) → slice_get queues.queues place ≡ Some here → option_map message_of (slice_get here at) ≡ at_number (channel channels p q) i
+  message_is i at next here there =
+      sym (slice_get-map message_of here at) ∙ ap (λ (messages : List MessageInFlight). slice_get messages at) (sym (channel_is here there))
       ∙ ap (at_number (channel channels p q)) (let same : suc at ≡ i = omega (arith, next) in same)
 
   -- with another queue at the place
-  pub stands_with : (next : List InFlight) (letters : List Letter) → map letter_of next ≡ letters → StandsFor (record { count = queues.count; queues = slice_set queues.queues place next }) (with_channel channels p q letters)
-  stands_with next letters same = record {
-    square = square_with queues.count channels p q letters stands.square;
-    same = map_set (map letter_of) queues.queues place next ∙ ap (λ ls. slice_set (map (map letter_of) queues.queues) place ls) same
-        ∙ ap (λ fs. slice_set fs place letters) stands.same ∙ ap (λ k. slice_set (flat channels) k letters) is
-        ∙ sym (flat-with_channel queues.count channels stands.square p q letters from.0 from.1 to.0 to.1);
+  pub stands_with : (next : List InFlight) (messages : List MessageInFlight) → map message_of next ≡ messages → StandsFor (record { count = queues.count; queues = slice_set queues.queues place next }) (with_channel channels p q messages)
+  stands_with next messages same = record {
+    square = square_with queues.count channels p q messages stands.square;
+    same = map_set (map message_of) queues.queues place next ∙ ap (λ ls. slice_set (map (map message_of) queues.queues) place ls) same
+        ∙ ap (λ fs. slice_set fs place messages) stands.same ∙ ap (λ k. slice_set (flat channels) k messages) is
+        ∙ sym (flat-with_channel queues.count channels stands.square p q messages from.0 from.1 to.0 to.1);
   }
 
   module _ (inside : place < length queues.queues) (here : List InFlight) (was : here ≡ slice_index_or queues.queues place here) where
     pub there_is : slice_get queues.queues place ≡ Some here
     there_is = get_is queues.queues place here inside ∙ ap Some (sym was)
 
-    pub stands_pushed : (next : List InFlight) (letter : InFlight) → next ≡ here ++ letter ∷ [] → StandsFor (record { count = queues.count; queues = slice_set queues.queues place next }) (with_letter channels p q (letter_of letter))
-    stands_pushed next letter more =
-        stands_with next _ (ap (map letter_of) more ∙ map_then letter_of here (letter ∷ []) ∙ ap (λ (ls : List Letter). ls ++ letter_of letter ∷ []) (sym (channel_is here there_is)))
+    pub stands_pushed : (next : List InFlight) (message : InFlight) → next ≡ here ++ message ∷ [] → StandsFor (record { count = queues.count; queues = slice_set queues.queues place next }) (with_message channels p q (message_of message))
+    stands_pushed next message more =
+        stands_with next _ (ap (map message_of) more ∙ map_then message_of here (message ∷ []) ∙ ap (λ (ls : List MessageInFlight). ls ++ message_of message ∷ []) (sym (channel_is here there_is)))
 
-    pub stands_removed : (next : List InFlight) (i at : ℕ) → i ≡ at + 1 → next ≡ remove here at → StandsFor (record { count = queues.count; queues = slice_set queues.queues place next }) (without_letter channels p q i)
+    pub stands_removed : (next : List InFlight) (i at : ℕ) → i ≡ at + 1 → next ≡ remove here at → StandsFor (record { count = queues.count; queues = slice_set queues.queues place next }) (without_message channels p q i)
     stands_removed next i at number less =
-        stands_with next _ (ap (map letter_of) less ∙ map_remove letter_of here at ∙ ap (λ (ls : List Letter). remove ls at) (sym (channel_is here there_is))
+        stands_with next _ (ap (map message_of) less ∙ map_remove message_of here at ∙ ap (λ (ls : List MessageInFlight). remove ls at) (sym (channel_is here there_is))
         ∙ ap (without_numbered (channel channels p q)) (let same : suc at ≡ i = omega (arith, number) in same))
 
 -- WHAT ACTIONS SEND, one after the other

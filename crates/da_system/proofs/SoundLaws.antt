@@ -13,11 +13,11 @@ use Rattle.da_values.specs.Value.{val_of}
 use Rattle.da_lang.specs.Shaped.{IsEntry, IsProcess, Shaped}
 use Rattle.da_lang.specs.Steps.{Go, Take, TimeOut, Deliver, Step, Stepped, proc_step}
 use Rattle.da_lang.specs.World.{Data, World, at_number, opening}
-use Rattle.da_system.specs.Channels.{Channels, Letter, after_action, after_actions, channel, may_arrive, may_lose, may_repeat, no_letters, or_empty, put_numbered, with_channel, without_letter, without_numbered}
-use Rattle.da_system.specs.SoundState.{AllLetters, IsLetter, IsSoundState, IsSquare}
-use Rattle.da_system.specs.SystemStep.{AfterEvent, SystemState, arrive, copy_letter, drop_letter, process_step, start, step_of, stepped, sys_step, told}
+use Rattle.da_system.specs.Channels.{Channels, MessageInFlight, after_action, after_actions, channel, may_arrive, may_lose, may_repeat, no_messages, or_empty, put_numbered, with_channel, without_message, without_numbered}
+use Rattle.da_system.specs.SoundState.{AllMessages, IsMessageOf, IsSoundState, IsSquare}
+use Rattle.da_system.specs.SystemStep.{AfterEvent, SystemState, arrive, copy_message, drop_message, process_step, start, step_of, stepped, sys_step, told}
 use Rattle.da_system.proofs.FlatLemmas.{stand_flat}
-use Rattle.da_system.proofs.SystemLaws.{all_put, all_replicate, length-opened, length-put, letter_there, square_opens, square_with, squares_after}
+use Rattle.da_system.proofs.SystemLaws.{all_put, all_replicate, length-opened, length-put, message_there, square_opens, square_with, squares_after}
 use Rattle.da_system.proofs.WorldLemmas.{all_numbered}
 
 -- LISTS
@@ -48,21 +48,21 @@ all_or_empty P (Some xs) all = all
 
 -- THE LAW ON A PROCESS, from which it follows
 
--- what an action sends is such a letter
-abbrev pub SendsLetter : Program → Action → Type 0
-SendsLetter program (Sent p q time m) = IsLetter program (record { message = val_of m; time = time })
-SendsLetter program _ = Unit {0}
+-- what an action sends is such a message
+abbrev pub SendsMessage : Program → Action → Type 0
+SendsMessage program (Sent p q time m) = IsMessageOf program (record { message = val_of m; time = time })
+SendsMessage program _ = Unit {0}
 
 -- a message that arrives is one that may be in a history
 abbrev pub MayArrive : Program → Step → Type 0
 MayArrive program (Deliver m p time) = IsEntry program (record { message = m; peer = p; time = time })
 MayArrive program _ = Unit {0}
 
--- a step leaves a shaped world of the same process, and sends such letters
+-- a step leaves a shaped world of the same process, and sends such messages
 pub record StepsOn (program : Program) (w : World) (after : Stepped) : Type 0 where
   pub same : after.world.data'.me ≡ w.data'.me
   pub shaped : Shaped program after.world
-  pub sends : AllByRecursion (SendsLetter program) after.actions
+  pub sends : AllByRecursion (SendsMessage program) after.actions
 
 -- the opening of each process is shaped, and so is what a step leads to from a shaped world
 pub record StaysShaped (program : Program) : Type 0 where
@@ -103,11 +103,11 @@ put_numbers worlds (suc k) new numbers like (suc j) world is = elim (put_found w
 ]
 
 module _ (program : Program) (law : StaysShaped program) where
-  abbrev Letters : List Letter → Type 0
-  Letters letters = AllByRecursion (IsLetter program) letters
+  abbrev Messages : List MessageInFlight → Type 0
+  Messages messages = AllByRecursion (IsMessageOf program) messages
 
-  abbrev Row : List (List Letter) → Type 0
-  Row row = AllByRecursion Letters row
+  abbrev Row : List (List MessageInFlight) → Type 0
+  Row row = AllByRecursion Messages row
 
   opened_from : (first n : ℕ) → 0 < first → first + n ≤ length program.procs + 1 → AllByRecursion (Shaped program) (map (opening program) (range_with_len first n))
   opened_from first zero some most = tt
@@ -122,42 +122,42 @@ module _ (program : Program) (law : StaysShaped program) where
         worlds = opened_from 1 count (omega arith) (omega arith);
         numbers = start_numbers program count;
         square = square_opens count;
-        flat = stand_flat program (no_letters count) (square_opens count);
-        letters = all_replicate Row count (replicate count []) (all_replicate Letters count [] tt);
+        flat = stand_flat program (no_messages count) (square_opens count);
+        messages = all_replicate Row count (replicate count []) (all_replicate Messages count [] tt);
       }
 
   -- CHANNELS
 
-  pub letters_in : (channels : Channels) (p q : ℕ) → AllLetters program channels → Letters (channel channels p q)
-  letters_in channels p q all =
-      let row : Row (or_empty (at_number channels p)) = all_or_empty Letters (at_number channels p) (all_numbered Row channels p all) in
-      all_or_empty (IsLetter program) (at_number (or_empty (at_number channels p)) q) (all_numbered Letters (or_empty (at_number channels p)) q row)
+  pub messages_in : (channels : Channels) (p q : ℕ) → AllMessages program channels → Messages (channel channels p q)
+  messages_in channels p q all =
+      let row : Row (or_empty (at_number channels p)) = all_or_empty Messages (at_number channels p) (all_numbered Row channels p all) in
+      all_or_empty (IsMessageOf program) (at_number (or_empty (at_number channels p)) q) (all_numbered Messages (or_empty (at_number channels p)) q row)
 
-  letters_with : (channels : Channels) (p q : ℕ) (letters : List Letter) → AllLetters program channels → Letters letters → AllLetters program (with_channel channels p q letters)
-  letters_with channels p q letters all here =
+  messages_with : (channels : Channels) (p q : ℕ) (messages : List MessageInFlight) → AllMessages program channels → Messages messages → AllMessages program (with_channel channels p q messages)
+  messages_with channels p q messages all here =
       all_put Row channels p _ all
-      (λ row there fits. subst (λ (o : Option (List (List Letter))). Row (put_numbered (or_empty o) q letters)) (sym there) (all_put Letters row q letters fits (λ old at kept. here)))
+      (λ row there fits. subst (λ (o : Option (List (List MessageInFlight))). Row (put_numbered (or_empty o) q messages)) (sym there) (all_put Messages row q messages fits (λ old at kept. here)))
 
-  letters_after : (channels : Channels) (a : Action) → AllLetters program channels → SendsLetter program a → AllLetters program (after_action channels a)
-  letters_after channels (Sent p q t m) all sends = letters_with channels p q _ all (all_append (IsLetter program) (channel channels p q) (record { message = _; time = t } ∷ []) (letters_in channels p q all) (sends, tt))
-  letters_after channels _ all sends = all
+  messages_after : (channels : Channels) (a : Action) → AllMessages program channels → SendsMessage program a → AllMessages program (after_action channels a)
+  messages_after channels (Sent p q t m) all sends = messages_with channels p q _ all (all_append (IsMessageOf program) (channel channels p q) (record { message = _; time = t } ∷ []) (messages_in channels p q all) (sends, tt))
+  messages_after channels _ all sends = all
 
-  all_after : (channels : Channels) (actions : List Action) → AllLetters program channels → AllByRecursion (SendsLetter program) actions → AllLetters program (after_actions channels actions)
+  all_after : (channels : Channels) (actions : List Action) → AllMessages program channels → AllByRecursion (SendsMessage program) actions → AllMessages program (after_actions channels actions)
   all_after channels [] all sends = all
-  all_after channels (a ∷ others) all sends = all_after (after_action channels a) others (letters_after channels a all sends.0) sends.1
+  all_after channels (a ∷ others) all sends = all_after (after_action channels a) others (messages_after channels a all sends.0) sends.1
 
-  -- a state with other letters in one channel
-  sound_with : (s : SystemState) (p q : ℕ) (letters : List Letter) → IsSoundState program s → Letters letters → IsSoundState program (record s { channels = with_channel s.channels p q letters })
-  sound_with s p q letters sound here =
-      let square = square_with (length program.procs) s.channels p q letters sound.square in
+  -- a state with other messages in one channel
+  sound_with : (s : SystemState) (p q : ℕ) (messages : List MessageInFlight) → IsSoundState program s → Messages messages → IsSoundState program (record s { channels = with_channel s.channels p q messages })
+  sound_with s p q messages sound here =
+      let square = square_with (length program.procs) s.channels p q messages sound.square in
       record {
         kind = sound.kind;
         each = sound.each;
         worlds = sound.worlds;
         numbers = sound.numbers;
         square = square;
-        flat = stand_flat program (with_channel s.channels p q letters) square;
-        letters = letters_with s.channels p q letters sound.letters here;
+        flat = stand_flat program (with_channel s.channels p q messages) square;
+        messages = messages_with s.channels p q messages sound.messages here;
       }
 
   -- STEPS OF PROCESSES
@@ -177,7 +177,7 @@ module _ (program : Program) (law : StaysShaped program) where
         numbers = put_numbers s.worlds p after.world sound.numbers (λ old found. (let same : world ≡ old = cc in next.same ∙ ap (λ (w : World). w.data'.me) same));
         square = square;
         flat = stand_flat program (after_actions s.channels after.actions) square;
-        letters = all_after s.channels after.actions sound.letters next.sends;
+        messages = all_after s.channels after.actions sound.messages next.sends;
       }
 
   of_sound : (s : SystemState) (p : ℕ) (step : Step) (world : Option World) → at_number s.worlds p ≡ world → IsSoundState program s → IfSome world (Shaped program) → MayArrive program step → Keeps (step_of program s p world step)
@@ -187,7 +187,7 @@ module _ (program : Program) (law : StaysShaped program) where
   process_sound : (s : SystemState) (p : ℕ) (step : Step) → IsSoundState program s → MayArrive program step → Keeps (process_step program s p step)
   process_sound s p step sound may = of_sound s p step (at_number s.worlds p) refl sound (all_numbered (Shaped program) s.worlds p sound.worlds) may
 
-  -- LETTERS
+  -- MESSAGES
 
   -- a world that is there is that of a process
   there_process : (s : SystemState) (p : ℕ) → IsSoundState program s → is_some (at_number s.worlds p) ≡ true → IsProcess program p
@@ -198,25 +198,25 @@ module _ (program : Program) (law : StaysShaped program) where
       of zero (Some world) is some = absurd (false≢true (ap is_some is))
       of (suc place) (Some world) is some = (omega arith, omega (arith, slice_get_within s.worlds place world is, sound.each))
 
-  arrive_sound : (s : SystemState) (p q i : ℕ) (letter : Option Letter) → at_number (channel s.channels p q) i ≡ letter → IsSoundState program s → Keeps (arrive program s p q i letter)
+  arrive_sound : (s : SystemState) (p q i : ℕ) (message : Option MessageInFlight) → at_number (channel s.channels p q) i ≡ message → IsSoundState program s → Keeps (arrive program s p q i message)
   arrive_sound s p q i None is sound = tt
-  arrive_sound s p q i (Some letter) is sound =
-      let is_letter : IsLetter program letter = subst (λ (o : Option Letter). IfSome o (IsLetter program)) is (all_numbered (IsLetter program) (channel s.channels p q) i (letters_in s.channels p q sound.letters)) in
-      let both = letter_there s p q i letter (subst (λ n. IsSquare n s.channels) (sym sound.each) sound.square) is in
-      let rest : IsSoundState program (record s { channels = without_letter s.channels p q i }) =
-      sound_with s p q _ sound (all_without (IsLetter program) (channel s.channels p q) i (letters_in s.channels p q sound.letters)) in
-      process_sound (record s { channels = without_letter s.channels p q i }) q (Deliver letter.message p letter.time) rest
-      (record { proper = is_letter.proper; typed = is_letter.typed; peer = there_process s p sound both.0 })
+  arrive_sound s p q i (Some message) is sound =
+      let is_message_of : IsMessageOf program message = subst (λ (o : Option MessageInFlight). IfSome o (IsMessageOf program)) is (all_numbered (IsMessageOf program) (channel s.channels p q) i (messages_in s.channels p q sound.messages)) in
+      let both = message_there s p q i message (subst (λ n. IsSquare n s.channels) (sym sound.each) sound.square) is in
+      let rest : IsSoundState program (record s { channels = without_message s.channels p q i }) =
+      sound_with s p q _ sound (all_without (IsMessageOf program) (channel s.channels p q) i (messages_in s.channels p q sound.messages)) in
+      process_sound (record s { channels = without_message s.channels p q i }) q (Deliver message.message p message.time) rest
+      (record { proper = is_message_of.proper; typed = is_message_of.typed; peer = there_process s p sound both.0 })
 
-  drop_sound : (s : SystemState) (p q i : ℕ) (letter : Option Letter) → IsSoundState program s → Keeps (drop_letter s p q i letter)
+  drop_sound : (s : SystemState) (p q i : ℕ) (message : Option MessageInFlight) → IsSoundState program s → Keeps (drop_message s p q i message)
   drop_sound s p q i None sound = tt
-  drop_sound s p q i (Some letter) sound = sound_with s p q _ sound (all_without (IsLetter program) (channel s.channels p q) i (letters_in s.channels p q sound.letters))
+  drop_sound s p q i (Some message) sound = sound_with s p q _ sound (all_without (IsMessageOf program) (channel s.channels p q) i (messages_in s.channels p q sound.messages))
 
-  copy_sound : (s : SystemState) (p q i : ℕ) (letter : Option Letter) → at_number (channel s.channels p q) i ≡ letter → IsSoundState program s → Keeps (copy_letter s p q letter)
+  copy_sound : (s : SystemState) (p q i : ℕ) (message : Option MessageInFlight) → at_number (channel s.channels p q) i ≡ message → IsSoundState program s → Keeps (copy_message s p q message)
   copy_sound s p q i None is sound = tt
-  copy_sound s p q i (Some letter) is sound =
-      let is_letter : IsLetter program letter = subst (λ (o : Option Letter). IfSome o (IsLetter program)) is (all_numbered (IsLetter program) (channel s.channels p q) i (letters_in s.channels p q sound.letters)) in
-      sound_with s p q _ sound (all_append (IsLetter program) (channel s.channels p q) (letter ∷ []) (letters_in s.channels p q sound.letters) (is_letter, tt))
+  copy_sound s p q i (Some message) is sound =
+      let is_message_of : IsMessageOf program message = subst (λ (o : Option MessageInFlight). IfSome o (IsMessageOf program)) is (all_numbered (IsMessageOf program) (channel s.channels p q) i (messages_in s.channels p q sound.messages)) in
+      sound_with s p q _ sound (all_append (IsMessageOf program) (channel s.channels p q) (message ∷ []) (messages_in s.channels p q sound.messages) (is_message_of, tt))
 
   told_sound : (s : SystemState) (world : Option World) (tell : Data → List Action) → IsSoundState program s → Keeps (told s world tell)
   told_sound s None tell sound = tt

@@ -13,7 +13,7 @@ use Rattle.da_core.specs.declared.compiled.Compiled.{Compiled}
 use Rattle.da_core.specs.Compiled.{IsCompiled}
 use Rattle.da_core.specs.Compiled as compiled
 use Rattle.da_system.specs.declared.system.System.{System}
-use Rattle.da_system.specs.Channels.{no_letters, put_numbered}
+use Rattle.da_system.specs.Channels.{no_messages, put_numbered}
 use Rattle.da_system.specs.Queues as queues
 use Rattle.da_system.specs.SoundState.{IsSoundState}
 use Rattle.da_system.specs.State.{StandFrom, Stands, StandsAt, program_of}
@@ -99,10 +99,10 @@ module _ (program : Program) where
       subst (λ k. StandFrom program 1 (cores ++ core ∷ []) (map (opening program) (range_with_len 1 k))) (let next : suc n ≡ n + 1 = omega arith in next)
       (opened_from 1 n cores core stand (subst (λ k. StandsAt program k core (opening program k)) here at))
 
--- a system stands for the state before any event, where each core is that of a new process and nothing is under way
+-- a system stands for the state before any event, where each core is that of a new process and nothing is in flight
 pub opened_stands : (system : System) (n : ℕ) → system.spent ≡ false → IsCompiled system.compiled.now → n ≡ length (program_of system).procs
     → StandFrom (program_of system) 1 system.cores.items (map (opening (program_of system)) (range_with_len 1 n))
-    → queues.count_of system.channels ≡ length (program_of system).procs → queues.StandsFor system.channels (no_letters (length (program_of system).procs)) → Stands system (start (program_of system))
+    → queues.count_of system.channels ≡ length (program_of system).procs → queues.StandsFor system.channels (no_messages (length (program_of system).procs)) → Stands system (start (program_of system))
 opened_stands system n unspent compiled all stand count channels =
     let here : StandFrom (program_of system) 1 system.cores.items (map (opening (program_of system)) (range_with_len 1 (length (program_of system).procs))) =
     subst (λ k. StandFrom (program_of system) 1 system.cores.items (map (opening (program_of system)) (range_with_len 1 k))) all stand in

@@ -9,17 +9,17 @@ use Rattle.da_lang.specs.declared.program.Program.{Program}
 use Rattle.da_lang.specs.Steps.{Deliver, Step, Take, proc_step}
 use Rattle.da_lang.specs.World.{Data, World, at_number, class_of}
 use Rattle.da_types.proofs.sound.AcceptedLaws.{is_sound}
-use Rattle.da_machine.specs.RunsTo.{IsFront}
+use Rattle.da_machine.specs.RunsTo.{AddsPrefix}
 use Rattle.da_core.specs.declared.process.Core.{Core}
 use Rattle.da_core.specs.StandsFor as process
 use Rattle.da_core.specs.Told.{answers_of, kept_of}
-use Rattle.da_machine.proofs.Fronts.{same_front}
+use Rattle.da_machine.proofs.Prefixes.{same_prefix}
 use Rattle.da_system.specs.declared.system.System.{System}
-use Rattle.da_system.specs.Channels.{Channels, Letter, channel, may_arrive, without_letter}
+use Rattle.da_system.specs.Channels.{Channels, MessageInFlight, channel, may_arrive, without_message}
 use Rattle.da_system.specs.State.{HasBegun, HasStepped, Stands, StandsAt, program_of}
 use Rattle.da_system.specs.SystemStep.{SystemState, deliver, process_step, show, stat, step_of, stepped, sys_step, told}
 use Rattle.da_system.proofs.AcceptedStates.{never_steps}
-use Rattle.da_system.proofs.LetterLemmas.{arrives_is, stepped_some}
+use Rattle.da_system.proofs.MessageLemmas.{arrives_is, stepped_some}
 use Rattle.da_system.proofs.StandLemmas.{core_at, none_at, within, world_there}
 
 module _ (system : System) (s : SystemState) (stands : Stands system s) where
@@ -59,11 +59,11 @@ module _ (system : System) (s : SystemState) (stands : Stands system s) where
       (λ yes. same ∙ both.0 yes, λ some. both.1 (sym same ∙ some))
 
   -- and so is a delivery, where the kind allows it
-  pub takes_as : (p q i : ℕ) (letter : Letter) (core : Core) → at_number cores q ≡ Some core → at_number (channel s.channels p q) i ≡ Some letter → may_arrive s.kind i ≡ true → (b : Bool)
-      → process.Whichever core (λ w. IsTrue b ↔ IsSome (proc_step (process.program_of core) w (Deliver letter.message p letter.time))) → (IsTrue b ↔ IsSome (deliver program s p q i))
-  takes_as p q i letter core there found may b takes =
-      let both = may_as (without_letter s.channels p q i) q (Deliver letter.message p letter.time) core there b takes in
-      let same = ap is_some (arrives_is system s stands p q i letter found may) in
+  pub takes_as : (p q i : ℕ) (message : MessageInFlight) (core : Core) → at_number cores q ≡ Some core → at_number (channel s.channels p q) i ≡ Some message → may_arrive s.kind i ≡ true → (b : Bool)
+      → process.Whichever core (λ w. IsTrue b ↔ IsSome (proc_step (process.program_of core) w (Deliver message.message p message.time))) → (IsTrue b ↔ IsSome (deliver program s p q i))
+  takes_as p q i message core there found may b takes =
+      let both = may_as (without_message s.channels p q i) q (Deliver message.message p message.time) core there b takes in
+      let same = ap is_some (arrives_is system s stands p q i message found may) in
       (λ yes. same ∙ both.0 yes, λ some. both.1 (sym same ∙ some))
 
   -- WHAT IS TOLD
@@ -102,11 +102,11 @@ module _ (system : System) (s : SystemState) (stands : Stands system s) where
       added = added its.0 its.2.stands ∙ ap (λ (xs : List Action). old ++ xs) answers_are;
     }
 
-    pub begins_to_show : (old new : List Action) → process.Whichever core (λ w. IsFront old new (answers_of w.data'.me (class_of (process.program_of core) w.data'.me) w.data')) → HasBegun (show program s p) old new
+    pub begins_to_show : (old new : List Action) → process.Whichever core (λ w. AddsPrefix old new (answers_of w.data'.me (class_of (process.program_of core) w.data'.me) w.data')) → HasBegun (show program s p) old new
     begins_to_show old new front = record {
       after = record { state = s; actions = answers_of p (class_of program p) its.0.data' };
       is = told_is (answers_of p (class_of program p));
-      front = subst (IsFront old new) answers_are (front its.0 its.2.stands);
+      front = subst (AddsPrefix old new) answers_are (front its.0 its.2.stands);
     }
 
     module _ (n : ℕ) (is : process.Whichever core (λ w. n ≡ kept_of (class_of (process.program_of core) w.data'.me) w.data')) where
@@ -119,7 +119,7 @@ module _ (system : System) (s : SystemState) (stands : Stands system s) where
       keeps old new added = record { after = record { state = s; actions = Kept p n ∷ [] }; is = keeps_so; stands = stands; added = added }
 
       pub begins_to_keep : (old new : List Action) → new ≡ old → HasBegun (stat program s p) old new
-      begins_to_keep old new same = record { after = record { state = s; actions = Kept p n ∷ [] }; is = keeps_so; front = same_front old new (Kept p n ∷ []) same }
+      begins_to_keep old new same = record { after = record { state = s; actions = Kept p n ∷ [] }; is = keeps_so; front = same_prefix old new (Kept p n ∷ []) same }
 
   -- both are allowed exactly where there is such a process
   told_some : (o : Option World) (tell : Data → List Action) → is_some (told s o tell) ≡ is_some o

@@ -30,9 +30,9 @@ use Rattle.da_lang.specs.Turns.{AfterTurn as Turned, bind_all, bind_found, choos
 use Rattle.da_lang.specs.World.{Data, Do, Loop, New, Phase, Prepare, Task, Waiting, World, class_of, at_number}
 use Rattle.da_lang.proofs.RunBounds.{by_truth, go_after_has}
 use Rattle.da_core.specs.Told.{answers_of, kept_of, numbers_to}
-use Rattle.da_system.specs.Channels.{Letter, channel, may_arrive, may_lose, may_repeat}
+use Rattle.da_system.specs.Channels.{MessageInFlight, channel, may_arrive, may_lose, may_repeat}
 use Rattle.da_system.specs.SourceRun.{EndsByStop, SrcRun, at_event, src_run_from}
-use Rattle.da_system.specs.SystemStep.{AfterEvent, SystemState, arrive, copy_letter, drop_letter, process_step, step_of, stepped, sys_step, told}
+use Rattle.da_system.specs.SystemStep.{AfterEvent, SystemState, arrive, copy_message, drop_message, process_step, step_of, stepped, sys_step, told}
 
 abbrev IsNoStop : Action → Type 0
 IsNoStop (Stop i) = ⊥
@@ -229,17 +229,17 @@ of_stops program s p (Some world) step = stepped_stops s p (proc_step program wo
 process_stops : (program : Program) (s : SystemState) (p : ℕ) (step : Step) → NoneStops (process_step program s p step)
 process_stops program s p step = of_stops program s p (at_number s.worlds p) step
 
-arrive_stops : (program : Program) (s : SystemState) (p q i : ℕ) (letter : Option Letter) → NoneStops (arrive program s p q i letter)
+arrive_stops : (program : Program) (s : SystemState) (p q i : ℕ) (message : Option MessageInFlight) → NoneStops (arrive program s p q i message)
 arrive_stops program s p q i None = tt
-arrive_stops program s p q i (Some letter) = process_stops program _ q _
+arrive_stops program s p q i (Some message) = process_stops program _ q _
 
-drop_stops : (s : SystemState) (p q i : ℕ) (letter : Option Letter) → NoneStops (drop_letter s p q i letter)
+drop_stops : (s : SystemState) (p q i : ℕ) (message : Option MessageInFlight) → NoneStops (drop_message s p q i message)
 drop_stops s p q i None = tt
-drop_stops s p q i (Some letter) = (tt, tt)
+drop_stops s p q i (Some message) = (tt, tt)
 
-copy_stops : (s : SystemState) (p q : ℕ) (letter : Option Letter) → NoneStops (copy_letter s p q letter)
+copy_stops : (s : SystemState) (p q : ℕ) (message : Option MessageInFlight) → NoneStops (copy_message s p q message)
 copy_stops s p q None = tt
-copy_stops s p q (Some letter) = (tt, tt)
+copy_stops s p q (Some message) = (tt, tt)
 
 told_stops : (s : SystemState) (world : Option World) (tell : Data → List Action) → ((d : Data) → NoStop (tell d)) → NoneStops (told s world tell)
 told_stops s None tell tells = tt
@@ -265,11 +265,11 @@ step_stops program s (event.Stat p) = told_stops s (at_number s.worlds p) (λ d.
 
 -- THE RUN
 
--- what ends by a stop behind others that tell of none
-stop_behind : (xs rest : List Action) (k : ℕ) → NoStop xs → EndsByStop (xs ++ rest) k → EndsByStop rest k
-stop_behind [] rest k none ends = ends
-stop_behind (x ∷ xs) rest k none ([], is) = absurd (subst IsNoStop (let same : x ≡ Stop k = cc in same) none.0)
-stop_behind (x ∷ xs) rest k none (b ∷ bs, is) = stop_behind xs rest k none.1 (bs, cc)
+-- what ends by a stop after others that tell of none
+stop_after : (xs rest : List Action) (k : ℕ) → NoStop xs → EndsByStop (xs ++ rest) k → EndsByStop rest k
+stop_after [] rest k none ends = ends
+stop_after (x ∷ xs) rest k none ([], is) = absurd (subst IsNoStop (let same : x ≡ Stop k = cc in same) none.0)
+stop_after (x ∷ xs) rest k none (b ∷ bs, is) = stop_after xs rest k none.1 (bs, cc)
 
 module _ (program : Program) where
   -- a run that an event stops ends so
@@ -288,7 +288,7 @@ module _ (program : Program) where
   ended_by i k s None rest go none ([], is) = cc
   ended_by i k s None rest go none (b ∷ [], is) = absurd (let sizes : 1 ≡ 2 = ap length is in omega (arith, sizes))
   ended_by i k s None rest go none (b ∷ c ∷ bs, is) = absurd (let sizes : 1 ≡ suc (suc (length (bs ++ Stop k ∷ []))) = ap length is in omega (arith, sizes))
-  ended_by i k s (Some after) rest go none ends = go after.state (stop_behind after.actions (rest after.state).actions k none ends)
+  ended_by i k s (Some after) rest go none ends = go after.state (stop_after after.actions (rest after.state).actions k none ends)
 
   pub ends_stopped : (i : ℕ) (s : SystemState) (es : List Event) (k : ℕ) → EndsByStop (src_run_from program i s es).actions k → (src_run_from program i s es).stop ≡ Some k
   ends_stopped i s [] k ([], is) = absurd (let sizes : 0 ≡ 1 = ap length is in omega (arith, sizes))

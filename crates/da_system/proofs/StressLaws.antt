@@ -7,7 +7,7 @@ use Rattle.da_lang.specs.declared.event.Event.{Event}
 use Rattle.da_lang.specs.declared.program.Program.{Program}
 use Rattle.da_system.specs.Choices.{choices}
 use Rattle.da_system.specs.SourceRun.{SrcRun, and_then, at_event, src_run_from}
-use Rattle.da_system.specs.StressRun.{StressRun, at_pick, next_number, pick, place_in, state_behind, stress_from}
+use Rattle.da_system.specs.StressRun.{StressRun, at_pick, next_number, pick, place_in, state_after, stress_from}
 use Rattle.da_system.specs.SystemStep.{AfterEvent, SystemState, sys_step}
 use Rattle.da_system.proofs.ChoiceLemmas.{is_choice}
 
@@ -36,28 +36,28 @@ module _ (program : Program) where
       next = next_number x
 
       behind : Event → StressRun
-      behind e = stress_from program n next (state_behind s (sys_step program s e))
+      behind e = stress_from program n next (state_after s (sys_step program s e))
 
       of : (o : Option Event) → pick (choices program s) next ≡ o → ((after : AfterEvent) → stop_of (i + 1) after.state (stress_from program n next after.state).events ≡ None)
           → stop_of i s (at_pick x o behind).events ≡ None
       of None is others = refl
       of (Some e) is others =
           let (after, allowed) = pick_allowed s next e is in
-          let rest : Option AfterEvent → List Event = λ step. (stress_from program n next (state_behind s step)).events in
+          let rest : Option AfterEvent → List Event = λ step. (stress_from program n next (state_after s step)).events in
           ap (λ step. (at_event i s step (λ state. src_run_from program (i + 1) state (rest step))).stop) allowed ∙ others after
 
   pub at_most : (n x : ℕ) (s : SystemState) → length (stress_from program n x s).events ≤ n
   at_most zero x s = omega arith
-  at_most (suc n) x s = of (pick (choices program s) (next_number x)) (λ e. at_most n (next_number x) (state_behind s (sys_step program s e)))
+  at_most (suc n) x s = of (pick (choices program s) (next_number x)) (λ e. at_most n (next_number x) (state_after s (sys_step program s e)))
     where
-      of : (o : Option Event) → ((e : Event) → length (stress_from program n (next_number x) (state_behind s (sys_step program s e))).events ≤ n)
-          → length (at_pick x o (λ e. stress_from program n (next_number x) (state_behind s (sys_step program s e)))).events ≤ suc n
+      of : (o : Option Event) → ((e : Event) → length (stress_from program n (next_number x) (state_after s (sys_step program s e))).events ≤ n)
+          → length (at_pick x o (λ e. stress_from program n (next_number x) (state_after s (sys_step program s e)))).events ≤ suc n
       of None few = omega arith
       of (Some e) few = let rest = few e in omega (arith, rest)
 
   -- ONE EVENT MORE
 
-  -- behind a run without a stop one more event that is allowed
+  -- after a run without a stop one more event that is allowed
   pub run_more : (es : List Event) (i : ℕ) (s : SystemState) (e : Event) (after : AfterEvent) → stop_of i s es ≡ None → sys_step program (src_run_from program i s es).state e ≡ Some after
       → src_run_from program i s (es ++ e ∷ []) ≡ record { actions = (src_run_from program i s es).actions ++ after.actions; stop = None; state = after.state }
   run_more [] i s e after goes is =
@@ -82,9 +82,9 @@ module _ (program : Program) where
       → stress_from program m x s ≡ (let rest = stress_from program n (next_number x) after.state in record rest { events = e ∷ rest.events })
   picks_one m n x s e after is picks step =
       ap (λ k. stress_from program k x s) is
-      ∙ ap (λ o. at_pick x o (λ e. stress_from program n (next_number x) (state_behind s (sys_step program s e)))) picks
-      ∙ ap (λ step. let rest = stress_from program n (next_number x) (state_behind s step) in let run : StressRun = record rest { events = e ∷ rest.events } in run) step
+      ∙ ap (λ o. at_pick x o (λ e. stress_from program n (next_number x) (state_after s (sys_step program s e)))) picks
+      ∙ ap (λ step. let rest = stress_from program n (next_number x) (state_after s step) in let run : StressRun = record rest { events = e ∷ rest.events } in run) step
 
   pub picks_none : (m x : ℕ) (s : SystemState) → pick (choices program s) (next_number x) ≡ None → stress_from program m x s ≡ record { events = []; last = x }
   picks_none zero x s none = refl
-  picks_none (suc n) x s none = ap (λ o. at_pick x o (λ e. stress_from program n (next_number x) (state_behind s (sys_step program s e)))) none
+  picks_none (suc n) x s none = ap (λ o. at_pick x o (λ e. stress_from program n (next_number x) (state_after s (sys_step program s e)))) none

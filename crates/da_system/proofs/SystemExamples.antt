@@ -20,7 +20,7 @@ use Rattle.da_lang.specs.Turns.{last_time}
 use Rattle.da_lang.specs.World.{Data, Do, Entry, Phase, World, opening, New, Waiting, Ended}
 use Rattle.da_lang.proofs.LiveLaws.{living}
 use Rattle.da_lang.proofs.Computing.{stepping}
-use Rattle.da_system.specs.Channels.{Channels, Letter, after_actions, no_letters}
+use Rattle.da_system.specs.Channels.{Channels, MessageInFlight, after_actions, no_messages}
 use Rattle.da_system.specs.SourceRun.{src_run}
 use Rattle.da_system.specs.SystemStep.{AfterEvent, SystemState, start, sys_step}
 
@@ -56,8 +56,8 @@ program kind = record { kind = kind; messages = []; classes = class ∷ []; proc
 abbrev entry : ℕ → ℕ → ℕ → Entry
 entry n peer time = record { message = note n; peer = peer; time = time }
 
-abbrev pub letter : ℕ → ℕ → Letter
-letter n time = record { message = note n; time = time }
+abbrev pub message : ℕ → ℕ → MessageInFlight
+message n time = record { message = note n; time = time }
 
 -- process 1, which has sent notes 7 and 8 at the times 1 and 2
 abbrev pub first : World
@@ -70,27 +70,27 @@ knows received clock = record { me = 2; slots = []; sent = []; received = receiv
 abbrev pub second : Phase → Data → World
 second phase d = record { data' = d; todo = Do label ∷ []; phase = phase }
 
--- the letters under way from the first to the second
-abbrev pub under_way : List Letter → Channels
-under_way letters = ([] ∷ letters ∷ []) ∷ ([] ∷ [] ∷ []) ∷ []
+-- the messages in flight from the first to the second
+abbrev pub in_flight : List MessageInFlight → Channels
+in_flight messages = ([] ∷ messages ∷ []) ∷ ([] ∷ [] ∷ []) ∷ []
 
-abbrev pub system : ChannelKind → List Letter → World → SystemState
-system kind letters w = record { kind = kind; worlds = first ∷ w ∷ []; channels = under_way letters }
+abbrev pub system : ChannelKind → List MessageInFlight → World → SystemState
+system kind messages w = record { kind = kind; worlds = first ∷ w ∷ []; channels = in_flight messages }
 
-abbrev pub both : List Letter
-both = letter 7 1 ∷ letter 8 2 ∷ []
+abbrev pub both : List MessageInFlight
+both = message 7 1 ∷ message 8 2 ∷ []
 
 abbrev steps : ChannelKind → Event → Option AfterEvent
 steps kind e = sys_step (program kind) (system kind both (second Waiting (knows [] 0))) e
 
 -- THE OPENING
 
-opens : start (program FifoReliable) ≡ record { kind = FifoReliable; worlds = opening (program FifoReliable) 1 ∷ opening (program FifoReliable) 2 ∷ []; channels = under_way [] }
+opens : start (program FifoReliable) ≡ record { kind = FifoReliable; worlds = opening (program FifoReliable) 1 ∷ opening (program FifoReliable) 2 ∷ []; channels = in_flight [] }
 opens = refl
 
 -- DELIVERIES
 
-fifo_delivers_first : steps FifoReliable (Deliver 1 2 1) ≡ Some (record { state = system FifoReliable (letter 8 2 ∷ []) (second Waiting (knows (entry 7 1 1 ∷ []) 2)); actions = Got 2 1 1 (kept_note 7) ∷ [] })
+fifo_delivers_first : steps FifoReliable (Deliver 1 2 1) ≡ Some (record { state = system FifoReliable (message 8 2 ∷ []) (second Waiting (knows (entry 7 1 1 ∷ []) 2)); actions = Got 2 1 1 (kept_note 7) ∷ [] })
 unfolding last_time
 fifo_delivers_first = simp stepping
 
@@ -100,7 +100,7 @@ fifo_delivers_no_second = refl
 unreliable_fifo_delivers_no_second : steps FifoUnreliable (Deliver 1 2 2) ≡ None
 unreliable_fifo_delivers_no_second = refl
 
-unordered_delivers_second : steps UnorderedReliable (Deliver 1 2 2) ≡ Some (record { state = system UnorderedReliable (letter 7 1 ∷ []) (second Waiting (knows (entry 8 1 2 ∷ []) 3)); actions = Got 2 1 2 (kept_note 8) ∷ [] })
+unordered_delivers_second : steps UnorderedReliable (Deliver 1 2 2) ≡ Some (record { state = system UnorderedReliable (message 7 1 ∷ []) (second Waiting (knows (entry 8 1 2 ∷ []) 3)); actions = Got 2 1 2 (kept_note 8) ∷ [] })
 unfolding last_time
 unordered_delivers_second = simp stepping
 
@@ -126,12 +126,12 @@ delivers_none_to_new = refl
 delivers_none_to_ended : sys_step (program UnorderedReliable) (system UnorderedReliable both (second Ended (knows [] 0))) (Deliver 1 2 1) ≡ None
 delivers_none_to_ended = refl
 
--- LOSSES, in each unreliable kind, of any letter
+-- LOSSES, in each unreliable kind, of any message
 
-unreliable_loses : steps UnorderedUnreliable (Lose 1 2 1) ≡ Some (record { state = system UnorderedUnreliable (letter 8 2 ∷ []) (second Waiting (knows [] 0)); actions = Lost 1 2 1 ∷ [] })
+unreliable_loses : steps UnorderedUnreliable (Lose 1 2 1) ≡ Some (record { state = system UnorderedUnreliable (message 8 2 ∷ []) (second Waiting (knows [] 0)); actions = Lost 1 2 1 ∷ [] })
 unreliable_loses = refl
 
-unreliable_fifo_loses_second : steps FifoUnreliable (Lose 1 2 2) ≡ Some (record { state = system FifoUnreliable (letter 7 1 ∷ []) (second Waiting (knows [] 0)); actions = Lost 1 2 2 ∷ [] })
+unreliable_fifo_loses_second : steps FifoUnreliable (Lose 1 2 2) ≡ Some (record { state = system FifoUnreliable (message 7 1 ∷ []) (second Waiting (knows [] 0)); actions = Lost 1 2 2 ∷ [] })
 unreliable_fifo_loses_second = refl
 
 reliable_loses_none : steps UnorderedReliable (Lose 1 2 1) ≡ None
@@ -145,7 +145,7 @@ loses_no_third = refl
 
 -- REPETITIONS, in one kind: the copy is the last
 
-repeats : steps UnorderedUnreliable (Repeat 1 2 1) ≡ Some (record { state = system UnorderedUnreliable (letter 7 1 ∷ letter 8 2 ∷ letter 7 1 ∷ []) (second Waiting (knows [] 0)); actions = Again 1 2 1 ∷ [] })
+repeats : steps UnorderedUnreliable (Repeat 1 2 1) ≡ Some (record { state = system UnorderedUnreliable (message 7 1 ∷ message 8 2 ∷ message 7 1 ∷ []) (second Waiting (knows [] 0)); actions = Again 1 2 1 ∷ [] })
 repeats = refl
 
 repeats_no_third : steps UnorderedUnreliable (Repeat 1 2 3) ≡ None
@@ -179,7 +179,7 @@ keeps_no_third = refl
 
 -- WHAT ACTIONS SEND goes into the channels in order, to the process itself too; other actions send nothing
 
-sends : after_actions (no_letters 2) (Sent 1 1 1 (kept_note 7) ∷ Out 1 (kept_note 5) ∷ Sent 1 2 2 (kept_note 7) ∷ Sent 1 2 3 (kept_note 8) ∷ []) ≡ ((letter 7 1 ∷ []) ∷ (letter 7 2 ∷ letter 8 3 ∷ []) ∷ []) ∷ ([] ∷ [] ∷ []) ∷ []
+sends : after_actions (no_messages 2) (Sent 1 1 1 (kept_note 7) ∷ Out 1 (kept_note 5) ∷ Sent 1 2 2 (kept_note 7) ∷ Sent 1 2 3 (kept_note 8) ∷ []) ≡ ((message 7 1 ∷ []) ∷ (message 7 2 ∷ message 8 3 ∷ []) ∷ []) ∷ ([] ∷ [] ∷ []) ∷ []
 sends = refl
 
 -- A RUN, which stops at the first event that is not allowed

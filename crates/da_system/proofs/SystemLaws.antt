@@ -12,9 +12,9 @@ use Rattle.da_lang.specs.declared.event.Event.TheVariants as event
 use Rattle.da_lang.specs.declared.program.Program.{Program}
 use Rattle.da_lang.specs.Steps.{Go, Take, TimeOut, Step, Stepped, proc_step}
 use Rattle.da_lang.specs.World.{Data, World, at_number, opening}
-use Rattle.da_system.specs.Channels.{Channels, Letter, after_action, after_actions, channel, may_arrive, may_lose, may_repeat, no_letters, or_empty, put_numbered, with_channel}
+use Rattle.da_system.specs.Channels.{Channels, MessageInFlight, after_action, after_actions, channel, may_arrive, may_lose, may_repeat, no_messages, or_empty, put_numbered, with_channel}
 use Rattle.da_system.specs.SoundState.{IsSquare}
-use Rattle.da_system.specs.SystemStep.{AfterEvent, SystemState, arrive, copy_letter, drop_letter, process_step, start, step_of, stepped, sys_step, told}
+use Rattle.da_system.specs.SystemStep.{AfterEvent, SystemState, arrive, copy_message, drop_message, process_step, start, step_of, stepped, sys_step, told}
 use Rattle.da_system.proofs.WorldLemmas.{all_numbered, numbered_none}
 
 -- a channel for each pair of processes
@@ -31,16 +31,16 @@ pub length-opened : (program : Program) (first n : ℕ) → length (map (opening
 length-opened program first zero = refl
 length-opened program first (suc n) = let rest : length (map (opening program) (range_with_len (first + 1) n)) ≡ n = length-opened program (first + 1) n in omega (arith, rest)
 
-pub square_opens : (n : ℕ) → IsSquare n (no_letters n)
+pub square_opens : (n : ℕ) → IsSquare n (no_messages n)
 square_opens n = record {
   senders = length-replicate n (replicate n []);
-  recipients = all_replicate (λ (row : List (List Letter)). length row ≡ n) n (replicate n []) (length-replicate n []);
+  recipients = all_replicate (λ (row : List (List MessageInFlight)). length row ≡ n) n (replicate n []) (length-replicate n []);
 }
 
 pub start_whole : (program : Program) → IsWhole (start program)
-start_whole program = subst (λ n. IsSquare n (no_letters (length program.procs))) (sym (length-opened program 1 (length program.procs))) (square_opens (length program.procs))
+start_whole program = subst (λ n. IsSquare n (no_messages (length program.procs))) (sym (length-opened program 1 (length program.procs))) (square_opens (length program.procs))
 
--- BEHIND EACH EVENT
+-- AFTER EACH EVENT
 
 pub length-put : {A : Type 0} (xs : List A) (n : ℕ) (x : A) → length (put_numbered xs n x) ≡ length xs
 length-put xs zero x = refl
@@ -57,11 +57,11 @@ all_put P xs zero x all like = all
 all_put P xs (suc place) x all like = all_set P xs place x all like
 
 module _ (count : ℕ) where
-  pub square_with : (channels : Channels) (p q : ℕ) (letters : List Letter) → IsSquare count channels → IsSquare count (with_channel channels p q letters)
-  square_with channels p q letters square = record {
+  pub square_with : (channels : Channels) (p q : ℕ) (messages : List MessageInFlight) → IsSquare count channels → IsSquare count (with_channel channels p q messages)
+  square_with channels p q messages square = record {
     senders = length-put channels p _ ∙ square.senders;
-    recipients = all_put (λ (row : List (List Letter)). length row ≡ count) channels p _ square.recipients
-        (λ row there same. ap (λ (o : Option (List (List Letter))). length (put_numbered (or_empty o) q letters)) there ∙ length-put row q letters ∙ same);
+    recipients = all_put (λ (row : List (List MessageInFlight)). length row ≡ count) channels p _ square.recipients
+        (λ row there same. ap (λ (o : Option (List (List MessageInFlight))). length (put_numbered (or_empty o) q messages)) there ∙ length-put row q messages ∙ same);
   }
 
   square_after : (channels : Channels) (a : Action) → IsSquare count channels → IsSquare count (after_action channels a)
@@ -87,17 +87,17 @@ process_keeps program s p step whole = of (at_number s.worlds p)
     of None = tt
     of (Some world) = stepped_keeps s p (proc_step program world step) whole
 
-arrive_keeps : (program : Program) (s : SystemState) (p q i : ℕ) (letter : Option Letter) → IsWhole s → Keeps (arrive program s p q i letter)
+arrive_keeps : (program : Program) (s : SystemState) (p q i : ℕ) (message : Option MessageInFlight) → IsWhole s → Keeps (arrive program s p q i message)
 arrive_keeps program s p q i None whole = tt
-arrive_keeps program s p q i (Some letter) whole = process_keeps program _ q _ (square_with (length s.worlds) s.channels p q _ whole)
+arrive_keeps program s p q i (Some message) whole = process_keeps program _ q _ (square_with (length s.worlds) s.channels p q _ whole)
 
-drop_keeps : (s : SystemState) (p q i : ℕ) (letter : Option Letter) → IsWhole s → Keeps (drop_letter s p q i letter)
+drop_keeps : (s : SystemState) (p q i : ℕ) (message : Option MessageInFlight) → IsWhole s → Keeps (drop_message s p q i message)
 drop_keeps s p q i None whole = tt
-drop_keeps s p q i (Some letter) whole = square_with (length s.worlds) s.channels p q _ whole
+drop_keeps s p q i (Some message) whole = square_with (length s.worlds) s.channels p q _ whole
 
-copy_keeps : (s : SystemState) (p q : ℕ) (letter : Option Letter) → IsWhole s → Keeps (copy_letter s p q letter)
+copy_keeps : (s : SystemState) (p q : ℕ) (message : Option MessageInFlight) → IsWhole s → Keeps (copy_message s p q message)
 copy_keeps s p q None whole = tt
-copy_keeps s p q (Some letter) whole = square_with (length s.worlds) s.channels p q _ whole
+copy_keeps s p q (Some message) whole = square_with (length s.worlds) s.channels p q _ whole
 
 told_keeps : (s : SystemState) (world : Option World) (tell : Data → List Action) → IsWhole s → Keeps (told s world tell)
 told_keeps s None tell whole = tt
@@ -117,7 +117,7 @@ step_whole program s (event.Repeat p q i) whole = if_keeps (may_repeat s.kind) _
 step_whole program s (event.Show p) whole = told_keeps s (at_number s.worlds p) _ whole
 step_whole program s (event.Stat p) whole = told_keeps s (at_number s.worlds p) _ whole
 
--- SO WHERE THERE IS A LETTER there are both processes
+-- SO WHERE THERE IS A MESSAGE there are both processes
 
 get_there : {A : Type 0} (xs : List A) (k : ℕ) → k < length xs → is_some (slice_get xs k) ≡ true
 get_there [] k inside = absurd (omega (arith, inside))
@@ -128,26 +128,26 @@ numbered_there : {A B : Type 0} (xs : List A) (ys : List B) (n : ℕ) (x : A) �
 numbered_there xs ys zero x there same = absurd (false≢true (ap is_some there))
 numbered_there xs ys (suc place) x there same = get_there ys place (let inside : place < length xs = slice_get_within xs place x there in omega (arith, inside, same))
 
-module _ (s : SystemState) (p q i : ℕ) (letter : Letter) (whole : IsWhole s) where
+module _ (s : SystemState) (p q i : ℕ) (message : MessageInFlight) (whole : IsWhole s) where
   abbrev BothThere : Type 0
   BothThere = (is_some (at_number s.worlds p) ≡ true) × (is_some (at_number s.worlds q) ≡ true)
 
-  abbrev Fits : List (List Letter) → Type 0
+  abbrev Fits : List (List MessageInFlight) → Type 0
   Fits row = length row ≡ length s.worlds
 
-  no_letter_in : (letters : Option (List Letter)) → letters ≡ None → at_number (or_empty letters) i ≡ Some letter → BothThere
-  no_letter_in letters none there = absurd (false≢true (ap is_some (sym (numbered_none {A = Letter} i) ∙ ap (λ (o : Option (List Letter)). at_number (or_empty o) i) (sym none) ∙ there)))
+  no_message_in : (messages : Option (List MessageInFlight)) → messages ≡ None → at_number (or_empty messages) i ≡ Some message → BothThere
+  no_message_in messages none there = absurd (false≢true (ap is_some (sym (numbered_none {A = MessageInFlight} i) ∙ ap (λ (o : Option (List MessageInFlight)). at_number (or_empty o) i) (sym none) ∙ there)))
 
-  in_row : (row : List (List Letter)) → at_number s.channels p ≡ Some row → (letters : Option (List Letter)) → at_number row q ≡ letters → at_number (or_empty letters) i ≡ Some letter → BothThere
-  in_row row at None none there = no_letter_in None refl there
-  in_row row at (Some letters) is there = (
+  in_row : (row : List (List MessageInFlight)) → at_number s.channels p ≡ Some row → (messages : Option (List MessageInFlight)) → at_number row q ≡ messages → at_number (or_empty messages) i ≡ Some message → BothThere
+  in_row row at None none there = no_message_in None refl there
+  in_row row at (Some messages) is there = (
     numbered_there s.channels s.worlds p row at whole.senders,
-    numbered_there row s.worlds q letters is (subst (λ (o : Option (List (List Letter))). IfSome o Fits) at (all_numbered Fits s.channels p whole.recipients)),
+    numbered_there row s.worlds q messages is (subst (λ (o : Option (List (List MessageInFlight))). IfSome o Fits) at (all_numbered Fits s.channels p whole.recipients)),
   )
 
-  in_rows : (row : Option (List (List Letter))) → at_number s.channels p ≡ row → at_number (or_empty (at_number (or_empty row) q)) i ≡ Some letter → BothThere
-  in_rows None none there = no_letter_in (at_number [] q) (numbered_none {A = List Letter} q) there
+  in_rows : (row : Option (List (List MessageInFlight))) → at_number s.channels p ≡ row → at_number (or_empty (at_number (or_empty row) q)) i ≡ Some message → BothThere
+  in_rows None none there = no_message_in (at_number [] q) (numbered_none {A = List MessageInFlight} q) there
   in_rows (Some row) at there = in_row row at (at_number row q) refl there
 
-  pub letter_there : at_number (channel s.channels p q) i ≡ Some letter → BothThere
-  letter_there there = in_rows (at_number s.channels p) refl there
+  pub message_there : at_number (channel s.channels p q) i ≡ Some message → BothThere
+  message_there there = in_rows (at_number s.channels p) refl there

@@ -1,4 +1,4 @@
--- Channels: for each ordered pair of processes the messages that are under way.
+-- Channels: for each ordered pair of processes the messages in flight.
 --
 -- They stand in a list by the sender, of lists by the recipient, as the processes of a system do. So there is a channel
 -- for each pair of processes and for no other, and channels with the same messages are equal.
@@ -11,14 +11,14 @@ use Rattle.da_lang.specs.declared.ty.ChannelKind.{ChannelKind}
 use Rattle.da_lang.specs.declared.ty.ChannelKind.TheVariants.{FifoReliable, FifoUnreliable, UnorderedUnreliable}
 use Rattle.da_lang.specs.World.{at_number}
 
--- a message that is under way, with the time of its sending
-pub record Letter : Type 0 where
+-- a message in flight, with the time of its sending
+pub record MessageInFlight : Type 0 where
   pub message : Val
   pub time : ℕ
 
--- the letters of each channel, the eldest first
+-- the messages of each channel, the eldest first
 abbrev pub Channels : Type 0
-Channels = List (List (List Letter))
+Channels = List (List (List MessageInFlight))
 
 -- a list, empty where there is none
 abbrev pub or_empty : {A : Type 0} → Option (List A) → List A
@@ -36,28 +36,28 @@ without_numbered members zero = members
 without_numbered members (suc place) = remove members place
 
 -- the channels of so many processes before any event
-abbrev pub no_letters : ℕ → Channels
-no_letters count = replicate count (replicate count [])
+abbrev pub no_messages : ℕ → Channels
+no_messages count = replicate count (replicate count [])
 
 -- the channel from p to q
-abbrev pub channel : Channels → ℕ → ℕ → List Letter
+abbrev pub channel : Channels → ℕ → ℕ → List MessageInFlight
 channel channels p q = or_empty (at_number (or_empty (at_number channels p)) q)
 
--- with these letters as the channel from p to q
-abbrev pub with_channel : Channels → ℕ → ℕ → List Letter → Channels
-with_channel channels p q letters = put_numbered channels p (put_numbered (or_empty (at_number channels p)) q letters)
+-- with these messages as the channel from p to q
+abbrev pub with_channel : Channels → ℕ → ℕ → List MessageInFlight → Channels
+with_channel channels p q messages = put_numbered channels p (put_numbered (or_empty (at_number channels p)) q messages)
 
--- a letter goes to the end of its channel
-abbrev pub with_letter : Channels → ℕ → ℕ → Letter → Channels
-with_letter channels p q letter = with_channel channels p q (channel channels p q ++ letter ∷ [])
+-- a message goes to the end of its channel
+abbrev pub with_message : Channels → ℕ → ℕ → MessageInFlight → Channels
+with_message channels p q message = with_channel channels p q (channel channels p q ++ message ∷ [])
 
--- letter i leaves its channel
-abbrev pub without_letter : Channels → ℕ → ℕ → ℕ → Channels
-without_letter channels p q i = with_channel channels p q (without_numbered (channel channels p q) i)
+-- message i leaves its channel
+abbrev pub without_message : Channels → ℕ → ℕ → ℕ → Channels
+without_message channels p q i = with_channel channels p q (without_numbered (channel channels p q) i)
 
 -- a message that an action sends goes into its channel
 abbrev pub after_action : Channels → Action → Channels
-after_action channels (Sent p q time m) = with_letter channels p q (record { message = val_of m; time = time })
+after_action channels (Sent p q time m) = with_message channels p q (record { message = val_of m; time = time })
 after_action channels _ = channels
 
 -- those that actions send, one after the other
@@ -77,14 +77,14 @@ is_unreliable FifoUnreliable = true
 is_unreliable UnorderedUnreliable = true
 is_unreliable _ = false
 
--- letter i may arrive: in a fifo kind only the first
+-- message i may arrive: in a fifo kind only the first
 abbrev pub may_arrive : ChannelKind → ℕ → Bool
 may_arrive kind i = if is_fifo kind then i == 1 else true
 
--- letters may be lost
+-- messages may be lost
 abbrev pub may_lose : ChannelKind → Bool
 may_lose kind = is_unreliable kind
 
--- letters may be doubled
+-- messages may be doubled
 abbrev pub may_repeat : ChannelKind → Bool
 may_repeat kind = is_unreliable kind && not (is_fifo kind)

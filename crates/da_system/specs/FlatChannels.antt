@@ -3,17 +3,17 @@
 use Rattle.std.specs.Prelude.{◌≡◌, ℕ, ◌+◌, ◌*◌, ◌-◌, List, [], ◌∷◌, ◌++◌, length, slice_get, slice_set}
 use Rattle.da_lang.specs.declared.program.Program.{Program}
 use Rattle.da_lang.specs.Shaped.{IsProcess}
-use Rattle.da_system.specs.Channels.{Channels, Letter, channel, or_empty, with_channel}
+use Rattle.da_system.specs.Channels.{Channels, MessageInFlight, channel, or_empty, with_channel}
 
-abbrev pub flat : Channels → List (List Letter)
+abbrev pub flat : Channels → List (List MessageInFlight)
 flat [] = []
 flat (row ∷ rows) = row ++ flat rows
 
 abbrev pub place_of : ℕ → ℕ → ℕ → ℕ
 place_of count p q = (p - 1) * count + (q - 1)
 
--- the channel of each two processes stands there, and with other letters it is another member of the list
+-- the channel of each two processes stands there, and with other messages it is another member of the list
 pub record StandFlat (program : Program) (channels : Channels) : Type 0 where
   pub at_place : (p q : ℕ) → IsProcess program p → IsProcess program q → or_empty (slice_get (flat channels) (place_of (length program.procs) p q)) ≡ channel channels p q
-  pub changed : (p q : ℕ) (letters : List Letter) → IsProcess program p → IsProcess program q
-      → flat (with_channel channels p q letters) ≡ slice_set (flat channels) (place_of (length program.procs) p q) letters
+  pub changed : (p q : ℕ) (messages : List MessageInFlight) → IsProcess program p → IsProcess program q
+      → flat (with_channel channels p q messages) ≡ slice_set (flat channels) (place_of (length program.procs) p q) messages

@@ -18,9 +18,9 @@ Finds events j (Ok e) = slice_get events j ≡ Some e
 Finds events j (Err past) = j ≡ length events + past
 
 -- it is so of a list of at most so many events
-abbrev pub IsWithin : ℕ → ℕ → Result Event ℕ → Type 0
-IsWithin most j (Ok e) = j < most
-IsWithin most j (Err past) = j ≤ past + most
+abbrev pub IsOfAtMost : ℕ → ℕ → Result Event ℕ → Type 0
+IsOfAtMost most j (Ok e) = j < most
+IsOfAtMost most j (Err past) = j ≤ past + most
 
 -- the alternatives that a process may have to take which stands there
 abbrev pub alternatives_of : Place → ℕ

@@ -6,12 +6,12 @@ use Rattle.da_lang.specs.declared.event.Action.{Action}
 use Rattle.da_lang.specs.declared.event.Action.TheVariants.{Sent}
 use Rattle.da_system.specs.declared.channels.Channels.{Channels as Queues}
 use Rattle.da_system.specs.declared.queue.InFlight.{InFlight}
-use Rattle.da_system.specs.Channels.{Channels, Letter}
+use Rattle.da_system.specs.Channels.{Channels, MessageInFlight}
 use Rattle.da_system.specs.FlatChannels.{flat}
 use Rattle.da_system.specs.SoundState.{IsSquare}
 
-abbrev pub letter_of : InFlight → Letter
-letter_of x = record { message = val_of x.value; time = x.time }
+abbrev pub message_of : InFlight → MessageInFlight
+message_of x = record { message = val_of x.value; time = x.time }
 
 -- of how many processes they are
 abbrev pub count_of : Queues → ℕ
@@ -20,7 +20,7 @@ count_of queues = queues.count
 -- There is a queue for each channel, in one list, with the same messages and times in their order.
 pub record StandsFor (queues : Queues) (channels : Channels) : Type 0 where
   pub square : IsSquare queues.count channels
-  pub same : map (map letter_of) queues.queues ≡ flat channels
+  pub same : map (map message_of) queues.queues ≡ flat channels
 
 -- it holds of whatever channels they stand for
 abbrev pub Each : Queues → (Channels → Type 0) → Type 0

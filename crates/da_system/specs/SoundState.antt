@@ -9,27 +9,27 @@ use Rattle.da_lang.specs.declared.event.Event.TheVariants.{Move, Take, Timeout}
 use Rattle.da_lang.specs.declared.program.Program.{Program}
 use Rattle.da_lang.specs.Shaped.{Shaped, well_typed}
 use Rattle.da_lang.specs.World.{World, at_number}
-use Rattle.da_system.specs.Channels.{Channels, Letter}
+use Rattle.da_system.specs.Channels.{Channels, MessageInFlight}
 use Rattle.da_system.specs.Choices.{alternatives_at}
 use Rattle.da_system.specs.FlatChannels.{StandFlat}
 use Rattle.da_system.specs.SystemStep.{AfterEvent, SystemState, sys_step}
 
 -- a declared message of its types, whose processes are there, sent at a time of 63 bits
-pub record IsLetter (program : Program) (letter : Letter) : Type 0 where
-  pub proper : IsValue letter.message
-  pub typed : well_typed program letter.message ≡ true
-  pub in_time : letter.time < 2 ^ 63
+pub record IsMessageOf (program : Program) (message : MessageInFlight) : Type 0 where
+  pub proper : IsValue message.message
+  pub typed : well_typed program message.message ≡ true
+  pub in_time : message.time < 2 ^ 63
 
 -- so many lists of as many channels
 pub record IsSquare (count : ℕ) (channels : Channels) : Type 0 where
   pub senders : length channels ≡ count
-  pub recipients : AllByRecursion (λ (row : List (List Letter)). length row ≡ count) channels
+  pub recipients : AllByRecursion (λ (row : List (List MessageInFlight)). length row ≡ count) channels
 
-abbrev pub AllLetters : Program → Channels → Type 0
-AllLetters program channels = AllByRecursion (AllByRecursion (AllByRecursion (IsLetter program))) channels
+abbrev pub AllMessages : Program → Channels → Type 0
+AllMessages program channels = AllByRecursion (AllByRecursion (AllByRecursion (IsMessageOf program))) channels
 
 -- the program's kind of channels, a shaped world for each process, that of process p at number p, a channel for each pair of
--- them, also in one list, and in the channels such letters
+-- them, also in one list, and in the channels such messages
 pub record IsSoundState (program : Program) (s : SystemState) : Type 0 where
   pub kind : s.kind ≡ program.kind
   pub each : length s.worlds ≡ length program.procs
@@ -37,9 +37,9 @@ pub record IsSoundState (program : Program) (s : SystemState) : Type 0 where
   pub numbers : (p : ℕ) (world : World) → at_number s.worlds p ≡ Some world → world.data'.me ≡ p
   pub square : IsSquare (length program.procs) s.channels
   pub flat : StandFlat program s.channels
-  pub letters : AllLetters program s.channels
+  pub messages : AllMessages program s.channels
 
--- a move tells of itself first, and so does a timeout, by the number behind that of the last alternative
+-- a move tells of itself first, and so does a timeout, by the number after that of the last alternative
 abbrev pub TellsMove : SystemState → Event → List Action → Type 0
 TellsMove s (Move p) actions = (rest : List Action) × (actions ≡ Took p 0 ∷ rest)
 TellsMove s (Take p k) actions = (rest : List Action) × (actions ≡ Took p k ∷ rest)

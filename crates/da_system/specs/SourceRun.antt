@@ -6,7 +6,7 @@ use Rattle.da_lang.specs.declared.event.Event.{Event}
 use Rattle.da_lang.specs.declared.program.Program.{Program}
 use Rattle.da_system.specs.SystemStep.{AfterEvent, SystemState, start, sys_step}
 
--- what a run does, the number of the first event that is not allowed, and the state behind the events before it
+-- what a run does, the number of the first event that is not allowed, and the state after the events before it
 pub record SrcRun : Type 0 where
   pub actions : List Action
   pub stop : Option ℕ

@@ -3,7 +3,7 @@ use Rattle.std.specs.Prelude.{◌≡◌, ◌↔◌, ℕ, ◌+◌, Bool, true, fa
 use Rattle.da_lang.specs.declared.event.Action.{Action}
 use Rattle.da_lang.specs.declared.program.Program.{Program}
 use Rattle.da_lang.specs.World.{World}
-use Rattle.da_machine.specs.RunsTo.{IsFront}
+use Rattle.da_machine.specs.RunsTo.{AddsPrefix}
 use Rattle.da_core.specs.declared.place.StepFault.{StepFault}
 use Rattle.da_core.specs.declared.place.StepFault.TheVariants.{Forbidden, Memory, Spent}
 use Rattle.da_core.specs.declared.process.Core.{Core}
@@ -66,11 +66,11 @@ pub record HasStepped (step : Option AfterEvent) (system : System) (old new : Li
   pub stands : Stands system after.state
   pub added : new ≡ old ++ after.actions
 
--- the event was allowed, and a front of its actions was added
+-- the event was allowed, and a prefix of its actions was added
 pub record HasBegun (step : Option AfterEvent) (old new : List Action) : Type 0 where
   pub after : AfterEvent
   pub is : step ≡ Some after
-  pub front : IsFront old new after.actions
+  pub front : AddsPrefix old new after.actions
 
 -- what a system that is not spent answers to an event with this step, and what it leaves
 abbrev pub Answers : (SystemState → Option AfterEvent) → System → Result (Unit {0}) StepFault → System → List Action → List Action → Type 0

@@ -34,17 +34,17 @@ abbrev pub at_pick : ℕ → Option Event → (Event → StressRun) → StressRu
 at_pick x None go = record { events = []; last = x }
 at_pick x (Some e) go = let rest = go e in record rest { events = e ∷ rest.events }
 
--- the state behind an event, which changes nothing where it is not allowed
-abbrev pub state_behind : SystemState → Option AfterEvent → SystemState
-state_behind s None = s
-state_behind s (Some after) = after.state
+-- the state after an event, which changes nothing where it is not allowed
+abbrev pub state_after : SystemState → Option AfterEvent → SystemState
+state_after s None = s
+state_after s (Some after) = after.state
 
 -- at most n events from this state, where the last number was x
 abbrev pub stress_from : Program → ℕ → ℕ → SystemState → StressRun
 stress_from program zero x s = record { events = []; last = x }
 stress_from program (suc n) x s =
     let next = next_number x in
-    at_pick x (pick (choices program s) next) (λ e. stress_from program n next (state_behind s (sys_step program s e)))
+    at_pick x (pick (choices program s) next) (λ e. stress_from program n next (state_after s (sys_step program s e)))
 
 abbrev pub stress_run : Program → ℕ → ℕ → StressRun
 stress_run program x n = stress_from program n x (start program)

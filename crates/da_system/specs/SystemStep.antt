@@ -9,7 +9,7 @@ use Rattle.da_lang.specs.declared.ty.ChannelKind.{ChannelKind}
 use Rattle.da_lang.specs.Steps.{Step, Go, Take, TimeOut, Deliver, Stepped, proc_step}
 use Rattle.da_lang.specs.World.{Data, World, class_of, at_number, opening}
 use Rattle.da_core.specs.Told.{answers_of, kept_of, numbers_to}
-use Rattle.da_system.specs.Channels.{Channels, Letter, after_actions, channel, may_arrive, may_lose, may_repeat, no_letters, put_numbered, with_letter, without_letter}
+use Rattle.da_system.specs.Channels.{Channels, MessageInFlight, after_actions, channel, may_arrive, may_lose, may_repeat, no_messages, put_numbered, with_message, without_message}
 
 -- a system: the kind of its channels, its processes in the order of their numbers, and its channels
 pub record SystemState : Type 0 where
@@ -28,7 +28,7 @@ abbrev pub start : Program → SystemState
 start program = record {
   kind = program.kind;
   worlds = map (opening program) (numbers_to (length program.procs));
-  channels = no_letters (length program.procs);
+  channels = no_messages (length program.procs);
 }
 
 -- MOVES, TIMEOUTS AND DELIVERIES
@@ -49,32 +49,32 @@ step_of program s p (Some world) step = stepped s p (proc_step program world ste
 abbrev pub process_step : Program → SystemState → ℕ → Step → Option AfterEvent
 process_step program s p step = step_of program s p (at_number s.worlds p) step
 
--- letter i of the channel from p to q leaves the channel and arrives
-abbrev pub arrive : Program → SystemState → ℕ → ℕ → ℕ → Option Letter → Option AfterEvent
+-- message i of the channel from p to q leaves the channel and arrives
+abbrev pub arrive : Program → SystemState → ℕ → ℕ → ℕ → Option MessageInFlight → Option AfterEvent
 arrive program s p q i None = None
-arrive program s p q i (Some letter) =
-    process_step program (record s { channels = without_letter s.channels p q i }) q (Deliver letter.message p letter.time)
+arrive program s p q i (Some message) =
+    process_step program (record s { channels = without_message s.channels p q i }) q (Deliver message.message p message.time)
 
 abbrev pub deliver : Program → SystemState → ℕ → ℕ → ℕ → Option AfterEvent
 deliver program s p q i = if may_arrive s.kind i then arrive program s p q i (at_number (channel s.channels p q) i) else None
 
 -- LOSSES AND REPETITIONS
 
--- the letter leaves the channel
-abbrev pub drop_letter : SystemState → ℕ → ℕ → ℕ → Option Letter → Option AfterEvent
-drop_letter s p q i None = None
-drop_letter s p q i (Some letter) = Some (record { state = record s { channels = without_letter s.channels p q i }; actions = Lost p q letter.time ∷ [] })
+-- the message leaves the channel
+abbrev pub drop_message : SystemState → ℕ → ℕ → ℕ → Option MessageInFlight → Option AfterEvent
+drop_message s p q i None = None
+drop_message s p q i (Some message) = Some (record { state = record s { channels = without_message s.channels p q i }; actions = Lost p q message.time ∷ [] })
 
 abbrev pub lose : SystemState → ℕ → ℕ → ℕ → Option AfterEvent
-lose s p q i = if may_lose s.kind then drop_letter s p q i (at_number (channel s.channels p q) i) else None
+lose s p q i = if may_lose s.kind then drop_message s p q i (at_number (channel s.channels p q) i) else None
 
--- a copy of the letter goes to the end of the channel
-abbrev pub copy_letter : SystemState → ℕ → ℕ → Option Letter → Option AfterEvent
-copy_letter s p q None = None
-copy_letter s p q (Some letter) = Some (record { state = record s { channels = with_letter s.channels p q letter }; actions = Again p q letter.time ∷ [] })
+-- a copy of the message goes to the end of the channel
+abbrev pub copy_message : SystemState → ℕ → ℕ → Option MessageInFlight → Option AfterEvent
+copy_message s p q None = None
+copy_message s p q (Some message) = Some (record { state = record s { channels = with_message s.channels p q message }; actions = Again p q message.time ∷ [] })
 
 abbrev pub repeat : SystemState → ℕ → ℕ → ℕ → Option AfterEvent
-repeat s p q i = if may_repeat s.kind then copy_letter s p q (at_number (channel s.channels p q) i) else None
+repeat s p q i = if may_repeat s.kind then copy_message s p q (at_number (channel s.channels p q) i) else None
 
 -- WHAT IS TOLD OF A PROCESS
 

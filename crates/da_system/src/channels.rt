@@ -1,8 +1,8 @@
-//! The messages that are under way.
+//! The messages in flight.
 ghost use Rattle.da_lang.specs.World.{at_number};
-ghost use Rattle.da_system.specs.Channels.{after_action, after_actions, channel, may_arrive as arrive_lem, may_lose as lose_lem, may_repeat as repeat_lem, no_letters, with_letter, without_letter};
-ghost use Rattle.da_system.specs.FlatChannels.{place_of as place_lem};
-ghost use Rattle.da_system.specs.Queues.{AreSent, Each, HasPlace, IsAmong, IsNoPair, IsSent, StandsFor, count_of, letter_of};
+ghost use Rattle.da_system.specs.Channels.{after_action, after_actions, channel, may_arrive as arrive_def, may_lose as lose_def, may_repeat as repeat_def, no_messages, with_message, without_message};
+ghost use Rattle.da_system.specs.FlatChannels.{place_of as place_def};
+ghost use Rattle.da_system.specs.Queues.{AreSent, Each, HasPlace, IsAmong, IsNoPair, IsSent, StandsFor, count_of, message_of};
 ghost use Rattle.std.specs.Option.{option_copied, option_map};
 ghost use Rattle.std.specs.Prelude.{◌≡◌, ◌<◌, ◌^◌, IfOk, IfSome, MatchOption, OnOk, OnSome, length};
 
@@ -24,13 +24,13 @@ pub struct Channels {
 
 impl Model for Channels {
     ghost use Rattle.da_system.specs.Queued.{Queued};
-    ghost use Rattle.da_system.specs.contracts.queue.InFlight as letter;
+    ghost use Rattle.da_system.specs.contracts.queue.InFlight as message;
     ghost use Rattle.std.specs.Coded.{codes};
     ghost use Rattle.std.specs.Prelude.{◌≡◌, ◌*◌, ◌<◌, ◌^◌, vec_len};
 
     ghost Value = { Queued };
 
-    ghost coded = { Prim.hlevel (codes, letter.the_row.coded) };
+    ghost coded = { Prim.hlevel (codes, message.the_row.coded) };
 
     ghost view = { λ channels. record { count = channels.count; queues = channels.queues.items } };
 
@@ -39,11 +39,11 @@ impl Model for Channels {
 }
 
 impl Channels {
-    /// The channels of so many processes, with nothing under way.
+    /// The channels of so many processes, with nothing in flight.
     pub fn new(alloc: Global, count: usize) -> Result<Channels, NoMemory>
         requires { count < 2 ^ 16 }
         ensures count { IfOk result (λ channels. count_of channels ≡ count) }
-        ensures stands { IfOk result (λ channels. StandsFor channels (no_letters count)) }
+        ensures stands { IfOk result (λ channels. StandsFor channels (no_messages count)) }
     {
         let mut queues = Vec::new(alloc);
         for _place in 0..count * count {
@@ -60,9 +60,9 @@ impl Channels {
 
     /// Message `i` of the channel from `p` to `q`, counted from 1, or `None` where there is no such message. It takes no
     /// memory.
-    pub fn letter(&self, p: u32, q: u32, i: u32) -> Option<&InFlight>
+    pub fn message(&self, p: u32, q: u32, i: u32) -> Option<&InFlight>
         ensures value { Each self.now (λ channels.
-            option_map letter_of (option_copied result) ≡ at_number (channel channels p q) i) }
+            option_map message_of (option_copied result) ≡ at_number (channel channels p q) i) }
         ensures there { OnSome result (HasPlace (count_of self.now) p q i) }
         ensures numbers { OnSome result ((p < 2 ^ 16) × (q < 2 ^ 16)) }
     {
@@ -79,8 +79,8 @@ impl Channels {
         self.count as u32
     }
 
-    /// How many messages are under way from `p` to `q`. It takes no memory.
-    pub fn under_way(&self, p: u32, q: u32) -> usize
+    /// How many messages are in flight from `p` to `q`. It takes no memory.
+    pub fn in_flight(&self, p: u32, q: u32) -> usize
         ensures { Each self.now (λ channels. result ≡ length (channel channels p q)) }
     {
         match self.place_of(p, q) {
@@ -95,9 +95,9 @@ impl Channels {
         requires { HasPlace (count_of self.old) p q i }
         ensures count { count_of self.new ≡ count_of self.old }
         ensures value { Each self.old (λ channels.
-            option_map letter_of result ≡ at_number (channel channels p q) i) }
+            option_map message_of result ≡ at_number (channel channels p q) i) }
         ensures stands { Each self.old (λ channels.
-            StandsFor self.new (without_letter channels p q i)) }
+            StandsFor self.new (without_message channels p q i)) }
     {
         let Some(place) = self.place_of(p, q) else {
             unreachable!()
@@ -106,17 +106,17 @@ impl Channels {
     }
 
     /// A message goes to the end of the channel from `p` to `q`, which are there.
-    pub fn push(&mut self, p: u32, q: u32, letter: InFlight) -> Result<(), NoMemory>
+    pub fn push(&mut self, p: u32, q: u32, message: InFlight) -> Result<(), NoMemory>
         requires from { IsAmong (count_of self.old) p }
         requires to { IsAmong (count_of self.old) q }
         ensures count { count_of self.new ≡ count_of self.old }
         ensures stands { OnOk result (Each self.old (λ channels.
-            StandsFor self.new (with_letter channels p q (letter_of letter)))) }
+            StandsFor self.new (with_message channels p q (message_of message)))) }
     {
         let Some(place) = self.place_of(p, q) else {
             unreachable!()
         };
-        self.queues[place].push(letter)
+        self.queues[place].push(message)
     }
 
     /// The messages that these actions send go into their channels, one after the other.
@@ -152,15 +152,15 @@ impl Channels {
     pub fn repeat(&mut self, p: u32, q: u32, i: u32) -> Result<(), NoMemory>
         ensures count { count_of self.new ≡ count_of self.old }
         ensures stands { OnOk result (Each self.old (λ channels.
-            IfSome (at_number (channel channels p q) i) (λ letter.
-            StandsFor self.new (with_letter channels p q letter)))) }
+            IfSome (at_number (channel channels p q) i) (λ message.
+            StandsFor self.new (with_message channels p q message)))) }
     {
-        let Some(letter) = self.letter(p, q, i) else {
+        let Some(message) = self.message(p, q, i) else {
             return Ok(());
         };
         let copy = InFlight {
-            value: copy_value(self.alloc, &letter.value)?,
-            time: letter.time,
+            value: copy_value(self.alloc, &message.value)?,
+            time: message.time,
         };
         self.push(p, q, copy)
     }
@@ -169,7 +169,7 @@ impl Channels {
     fn place_of(&self, p: u32, q: u32) -> Option<usize>
         ensures { MatchOption result (IsNoPair (count_of self.now) p q)
             (λ place. IsAmong (count_of self.now) p × IsAmong (count_of self.now) q
-            × (place ≡ place_lem (count_of self.now) p q) × (place < length self.now.queues)) }
+            × (place ≡ place_def (count_of self.now) p q) × (place < length self.now.queues)) }
     {
         let from = (p as usize).checked_sub(1)?;
         let to = (q as usize).checked_sub(1)?;
@@ -181,7 +181,7 @@ impl Channels {
     }
 }
 
-// Each field by its name: a further one is refused here until it is named. The queues have the messages that are under way.
+// Each field by its name: a further one is refused here until it is named. The queues have the messages in flight.
 fn fields_are_whole(channels: &Channels) {
     let Channels {
         alloc: _,
@@ -192,7 +192,7 @@ fn fields_are_whole(channels: &Channels) {
 
 /// Whether message `i` of a channel of this kind may arrive, as far as the kind decides: in a fifo kind only the first.
 pub fn may_arrive(kind: ChannelKind, i: u32) -> bool
-    ensures { result ≡ arrive_lem kind i }
+    ensures { result ≡ arrive_def kind i }
 {
     match kind {
         ChannelKind::FifoReliable | ChannelKind::FifoUnreliable => i == 1,
@@ -202,7 +202,7 @@ pub fn may_arrive(kind: ChannelKind, i: u32) -> bool
 
 /// Whether messages may be lost in channels of this kind.
 pub fn may_lose(kind: ChannelKind) -> bool
-    ensures { result ≡ lose_lem kind }
+    ensures { result ≡ lose_def kind }
 {
     match kind {
         ChannelKind::FifoUnreliable | ChannelKind::UnorderedUnreliable => true,
@@ -212,7 +212,7 @@ pub fn may_lose(kind: ChannelKind) -> bool
 
 /// Whether messages may be doubled in channels of this kind.
 pub fn may_repeat(kind: ChannelKind) -> bool
-    ensures { result ≡ repeat_lem kind }
+    ensures { result ≡ repeat_def kind }
 {
     match kind {
         ChannelKind::UnorderedUnreliable => true,

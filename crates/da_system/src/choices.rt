@@ -3,8 +3,8 @@
 //! To find one of them, and to count them, the processes are walked for their moves and timeouts, and then the pairs of
 //! processes for the messages between them.
 ghost use Rattle.da_lang.specs.World.{at_number};
-ghost use Rattle.da_system.specs.Choices.{alternatives_at as alternatives_at_lem, choices, deliveries_from, deliveries_to, is_allowed, moves_of, processes};
-ghost use Rattle.da_system.specs.Picking.{Finds, HasChoice, IsWithin, alternatives_of as alternatives_lem};
+ghost use Rattle.da_system.specs.Choices.{alternatives_at as alternatives_at_def, choices, deliveries_from, deliveries_to, is_allowed, moves_of, processes};
+ghost use Rattle.da_system.specs.Picking.{Finds, HasChoice, IsOfAtMost, alternatives_of as alternatives_def};
 ghost use Rattle.da_system.specs.State.{Whichever, is_spent, program_of};
 ghost use Rattle.da_system.specs.SystemStep.{sys_step};
 ghost use Rattle.std.specs.List.{filter, flat_map};
@@ -35,7 +35,7 @@ impl System<'_> {
     }
 
     /// Event `j` of those that may be picked, counted from 0: first the moves by the numbers of their processes and
-    /// alternatives, with the timeout of a process behind them, and then the deliveries by the numbers of their senders,
+    /// alternatives, with the timeout of a process after them, and then the deliveries by the numbers of their senders,
     /// recipients and messages. It takes no memory.
     pub fn choice(&self, j: usize) -> Event
         requires { HasChoice self.now j }
@@ -53,7 +53,7 @@ impl System<'_> {
     // Event `j` of those that may be picked, or by how much `j` is past the last of them.
     fn find(&self, j: usize) -> Result<Event, usize>
         ensures found { Whichever self.now (λ s. Finds (choices (program_of self.now) s) j result) }
-        ensures few { IsWithin (2 ^ 49) j result }
+        ensures few { IsOfAtMost (2 ^ 49) j result }
     {
         match self.find_move(j) {
             Ok(event) => Ok(event),
@@ -65,7 +65,7 @@ impl System<'_> {
     fn find_move(&self, j: usize) -> Result<Event, usize>
         ensures found { Whichever self.now (λ s.
             Finds (filter (is_allowed (program_of self.now) s) (flat_map (moves_of s) (processes s))) j result) }
-        ensures few { IsWithin (2 ^ 48) j result }
+        ensures few { IsOfAtMost (2 ^ 48) j result }
     {
         let mut left = j;
         for place in 0..self.channels.processes() {
@@ -81,7 +81,7 @@ impl System<'_> {
     fn find_move_of(&self, p: u32, j: usize) -> Result<Event, usize>
         ensures found { Whichever self.now (λ s.
             Finds (filter (is_allowed (program_of self.now) s) (moves_of s p)) j result) }
-        ensures few { IsWithin (2 ^ 32 + 1) j result }
+        ensures few { IsOfAtMost (2 ^ 32 + 1) j result }
     {
         let mut left = match self.find_one(Event::Move { p }, j) {
             Ok(event) => return Ok(event),
@@ -100,7 +100,7 @@ impl System<'_> {
     fn find_delivery(&self, j: usize) -> Result<Event, usize>
         ensures found { Whichever self.now (λ s.
             Finds (filter (is_allowed (program_of self.now) s) (flat_map (deliveries_from s) (processes s))) j result) }
-        ensures few { IsWithin (2 ^ 34) j result }
+        ensures few { IsOfAtMost (2 ^ 34) j result }
     {
         let mut left = j;
         for place in 0..self.channels.processes() {
@@ -116,7 +116,7 @@ impl System<'_> {
     fn find_delivery_from(&self, p: u32, j: usize) -> Result<Event, usize>
         ensures found { Whichever self.now (λ s.
             Finds (filter (is_allowed (program_of self.now) s) (deliveries_from s p)) j result) }
-        ensures few { IsWithin (2 ^ 18) j result }
+        ensures few { IsOfAtMost (2 ^ 18) j result }
     {
         let mut left = j;
         for place in 0..self.channels.processes() {
@@ -132,9 +132,9 @@ impl System<'_> {
     fn find_delivery_to(&self, p: u32, q: u32, j: usize) -> Result<Event, usize>
         ensures found { Whichever self.now (λ s.
             Finds (filter (is_allowed (program_of self.now) s) (deliveries_to p q)) j result) }
-        ensures few { IsWithin 4 j result }
+        ensures few { IsOfAtMost 4 j result }
     {
-        if self.under_way(p, q) == 0 {
+        if self.in_flight(p, q) == 0 {
             return Err(j);
         }
         let mut left = j;
@@ -151,7 +151,7 @@ impl System<'_> {
     fn find_one(&self, e: Event, j: usize) -> Result<Event, usize>
         ensures found { Whichever self.now (λ s.
             Finds (filter (is_allowed (program_of self.now) s) (e ∷ [])) j result) }
-        ensures few { IsWithin 1 j result }
+        ensures few { IsOfAtMost 1 j result }
     {
         if !self.may_step(&e) {
             return Err(j);
@@ -164,7 +164,7 @@ impl System<'_> {
 
     // How many alternatives process `p` may have to take: those of the `await` at which it waits.
     fn alternatives(&self, p: u32) -> u32
-        ensures { Whichever self.now (λ s. result ≡ alternatives_at_lem (at_number s.worlds p)) }
+        ensures { Whichever self.now (λ s. result ≡ alternatives_at_def (at_number s.worlds p)) }
     {
         match self.core(p) {
             Some(core) => alternatives_at(core.place()),
@@ -175,7 +175,7 @@ impl System<'_> {
 
 // The alternatives of the `await` at which a process stands.
 fn alternatives_at(place: Place) -> u32
-    ensures { result ≡ alternatives_lem place }
+    ensures { result ≡ alternatives_def place }
 {
     match place {
         Place::Await(count) => count,

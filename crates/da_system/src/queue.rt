@@ -7,30 +7,30 @@ use std::alloc::Global;
 use std::collections::VecDeque;
 use std::marker::Model;
 
-/// A message that is under way, with the time of its sending.
+/// A message in flight, with the time of its sending.
 #[derive(Debug, Drop)]
 pub struct InFlight {
     pub value: Value,
     pub time: u64,
 }
 
-/// The messages that are under way in one channel, the eldest first, which is all that a contract sees.
+/// The messages in flight in one channel, the eldest first, which is all that a contract sees.
 #[derive(Debug, Drop)]
 pub struct Queue {
-    letters: VecDeque<InFlight>,
+    messages: VecDeque<InFlight>,
 }
 
 impl Model for Queue {
-    ghost use Rattle.da_system.specs.contracts.queue.InFlight as letter;
+    ghost use Rattle.da_system.specs.contracts.queue.InFlight as message;
     ghost use Rattle.da_system.specs.declared.queue.InFlight.{InFlight};
     ghost use Rattle.std.specs.Coded.{coded_list};
     ghost use Rattle.std.specs.Prelude.{List};
 
     ghost Value = { List InFlight };
 
-    ghost coded = { coded_list letter.the_row.coded };
+    ghost coded = { coded_list message.the_row.coded };
 
-    ghost view = { λ queue. queue.letters.items };
+    ghost view = { λ queue. queue.messages.items };
 }
 
 impl Queue {
@@ -39,7 +39,7 @@ impl Queue {
         ensures { result ≡ [] }
     {
         Queue {
-            letters: VecDeque::new(alloc),
+            messages: VecDeque::new(alloc),
         }
     }
 
@@ -47,14 +47,14 @@ impl Queue {
     pub fn len(&self) -> usize
         ensures { result ≡ length self.now }
     {
-        self.letters.len()
+        self.messages.len()
     }
 
     /// The message at a place, counted from 0, or `None` where there is none. It takes no memory.
     pub fn get(&self, at: usize) -> Option<&InFlight>
         ensures { option_copied result ≡ slice_get self.now at }
     {
-        self.letters.get(at)
+        self.messages.get(at)
     }
 
     /// The message at a place, counted from 0, leaves the channel, or `None` where there is none. It takes no memory, and
@@ -63,15 +63,15 @@ impl Queue {
         ensures value { result ≡ slice_get self.old at }
         ensures items { self.new ≡ remove self.old at }
     {
-        self.letters.remove(at)
+        self.messages.remove(at)
     }
 
     /// A message goes to the end of the channel. Where memory is refused it is dropped, and the channel is as it was.
-    pub fn push(&mut self, letter: InFlight) -> Result<(), NoMemory>
-        ensures ok { OnOk result (self.new ≡ self.old ++ letter ∷ []) }
+    pub fn push(&mut self, message: InFlight) -> Result<(), NoMemory>
+        ensures ok { OnOk result (self.new ≡ self.old ++ message ∷ []) }
         ensures err { OnErr result (self.new ≡ self.old) }
     {
-        match self.letters.push_back(letter) {
+        match self.messages.push_back(message) {
             Ok(()) => Ok(()),
             Err(_) => Err(NoMemory),
         }
@@ -80,5 +80,5 @@ impl Queue {
 
 // Each field by its name: a further one is refused here until it is named.
 fn fields_are_whole(queue: &Queue) {
-    let Queue { letters: _ } = queue;
+    let Queue { messages: _ } = queue;
 }

@@ -69,7 +69,7 @@ impl<'c> System<'c> {
 
     /// Makes the step of the event, and adds its actions to `out`. `Spent` comes exactly where an earlier step found no
     /// memory, and else `Forbidden` exactly where the event is not allowed; nothing has changed then. `Memory` leaves a
-    /// spent system, and `out` has a front of the actions of the step besides.
+    /// spent system, and `out` has a prefix of the actions of the step besides.
     pub fn step(&mut self, e: &Event, out: &mut List<Action>) -> Result<(), StepFault>
         requires { IsReady self.old }
         ensures ready { IsReady self.new }
@@ -86,7 +86,7 @@ impl<'c> System<'c> {
         ensures same { IsErrOf result StepFault.Forbidden
             → StandAlike self.old self.new × (out.new ≡ out.old) }
         ensures memory { IsErrOf result StepFault.Memory → is_spent self.new ≡ true }
-        ensures front { IsErrOf result StepFault.Memory → Whichever self.old (λ s.
+        ensures prefix { IsErrOf result StepFault.Memory → Whichever self.old (λ s.
             HasBegun (sys_step (program_of self.old) s e.now) out.old out.new) }
 
         // Of an accepted program each state stays sound: where the event is allowed, it leads to a sound one.
@@ -96,14 +96,14 @@ impl<'c> System<'c> {
         if self.spent {
             return Err(StepFault::Spent);
         }
-        self.carry_out(e, out)
+        self.execute(e, out)
     }
 
-    /// How many messages are under way from process `p` to process `q`. It takes no memory.
-    pub fn under_way(&self, p: u32, q: u32) -> usize
+    /// How many messages are in flight from process `p` to process `q`. It takes no memory.
+    pub fn in_flight(&self, p: u32, q: u32) -> usize
         ensures { Whichever self.now (λ s. result ≡ length (channel s.channels p q)) }
     {
-        self.channels.under_way(p, q)
+        self.channels.in_flight(p, q)
     }
 }
 
@@ -126,7 +126,7 @@ impl System<'_> {
     }
 
     // Makes the step of the event, where the system is not spent.
-    fn carry_out(&mut self, e: &Event, out: &mut List<Action>) -> Result<(), StepFault>
+    fn execute(&mut self, e: &Event, out: &mut List<Action>) -> Result<(), StepFault>
         requires ready { IsReady self.old }
         requires unspent { is_spent self.old ≡ false }
         ensures program { program_of self.new ≡ program_of self.old }
@@ -243,7 +243,7 @@ impl System<'_> {
         }
     }
 
-    // The messages that the actions behind the first `told` ones send go into their channels.
+    // The messages that the actions after the first `told` ones send go into their channels.
     fn post(&mut self, told: usize, out: &List<Action>) -> Result<(), StepFault>
         requires told { told ≤ length out.now }
         requires sent { AreSent (count_of self.old.channels) (drop told out.now) }
@@ -266,11 +266,11 @@ impl System<'_> {
         self.compiled.program().kind
     }
 
-    // Whether there is a message of number `i` among those that are under way from `p` to `q`.
-    fn has_letter(&self, p: u32, q: u32, i: u32) -> bool
+    // Whether there is a message of number `i` among those that are in flight from `p` to `q`.
+    fn has_message(&self, p: u32, q: u32, i: u32) -> bool
         ensures { Whichever self.now (λ s. result ≡ is_some (at_number (channel s.channels p q) i)) }
     {
-        self.channels.letter(p, q, i).is_some()
+        self.channels.message(p, q, i).is_some()
     }
 
     // Whether message `i` of the channel from `p` to `q` may arrive: its receiver waits and takes it.
@@ -281,11 +281,11 @@ impl System<'_> {
         if !may_arrive(self.kind(), i) {
             return false;
         }
-        let Some(letter) = self.channels.letter(p, q, i) else {
+        let Some(message) = self.channels.message(p, q, i) else {
             return false;
         };
         match self.core(q) {
-            Some(core) => core.can_take(p as u16, &letter.value),
+            Some(core) => core.can_take(p as u16, &message.value),
             None => false,
         }
     }
@@ -294,14 +294,14 @@ impl System<'_> {
     fn can_lose(&self, p: u32, q: u32, i: u32) -> bool
         ensures { Whichever self.now (λ s. IsTrue result ↔ IsSome (lose s p q i)) }
     {
-        may_lose(self.kind()) && self.has_letter(p, q, i)
+        may_lose(self.kind()) && self.has_message(p, q, i)
     }
 
     // Whether message `i` of the channel from `p` to `q` may be doubled.
     fn can_repeat(&self, p: u32, q: u32, i: u32) -> bool
         ensures { Whichever self.now (λ s. IsTrue result ↔ IsSome (repeat s p q i)) }
     {
-        may_repeat(self.kind()) && self.has_letter(p, q, i)
+        may_repeat(self.kind()) && self.has_message(p, q, i)
     }
 
     // The delivery of message `i` of the channel from `p` to `q`.
@@ -318,12 +318,12 @@ impl System<'_> {
         let Some(place) = self.place_of(q) else {
             unreachable!()
         };
-        let Some(letter) = self.channels.remove(p, q, i) else {
+        let Some(message) = self.channels.remove(p, q, i) else {
             unreachable!()
         };
         let told = out.len();
         let core = &mut self.cores[place];
-        match core.deliver(p as u16, letter.time, &letter.value, out) {
+        match core.deliver(p as u16, message.time, &message.value, out) {
             Ok(_) => self.post(told, out),
             Err(StepFault::Memory) => {
                 self.spent = true;
@@ -344,13 +344,13 @@ impl System<'_> {
         if !may_lose(self.kind()) {
             return Err(StepFault::Forbidden);
         }
-        let Some(letter) = self.channels.letter(p, q, i) else {
+        let Some(message) = self.channels.message(p, q, i) else {
             return Err(StepFault::Forbidden);
         };
         let lost = Action::Lost {
             p: p as u16,
             q: q as u16,
-            t: letter.time,
+            t: message.time,
         };
         if out.push(lost).is_err() {
             self.spent = true;
@@ -370,13 +370,13 @@ impl System<'_> {
         if !may_repeat(self.kind()) {
             return Err(StepFault::Forbidden);
         }
-        let Some(letter) = self.channels.letter(p, q, i) else {
+        let Some(message) = self.channels.message(p, q, i) else {
             return Err(StepFault::Forbidden);
         };
         let doubled = Action::Again {
             p: p as u16,
             q: q as u16,
-            t: letter.time,
+            t: message.time,
         };
         if out.push(doubled).is_err() || self.channels.repeat(p, q, i).is_err() {
             self.spent = true;

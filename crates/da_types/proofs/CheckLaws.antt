@@ -1,4 +1,4 @@
--- The least line of a program, and what it means that there is none.
+-- The earliest line of a program, and what it means that there is none.
 use Rattle.std.specs.Prelude.{◌≡◌, refl, Bool, true, false, ℕ, ◌<◌, List, [], ◌∷◌, ◌++◌, flat_map, length, remove, slice_get, Option, Some, None}
 use Rattle.std.proofs.Common.{◌∙◌, ap, sym, arith}
 use Rattle.std.proofs.lemmas.Grind.{flat_map-append}
@@ -54,7 +54,7 @@ pub taken_out : {A : Type 0} (left : List A) (x : A) (rest : List A) → Some x 
 taken_out [] x rest first others = cc
 taken_out (y ∷ left) x rest first others = cc
 
--- the line of `setup` of a process: of no class there is none; of a class it is told unless its arguments fit
+-- the line of `setup` of a process: of no class there is none; of a class it is reported unless its arguments fit
 pub call_of_none : (messages : List MessageDecl) (o : Option Class) (call : Option SetupCall) (told : Option ℕ) → o ≡ None → told ≡ telling told (call_breaks messages o call)
 unfolding telling
 call_of_none messages None call told none = refl

@@ -1,4 +1,4 @@
--- The slots behind statements, by their forms.
+-- The slots after statements, by their forms.
 use Rattle.std.specs.Prelude.{◌≡◌, refl, ℕ, List, [], ◌++◌, map, Option, Some, None, option_map, unwrap_or}
 use Rattle.std.proofs.Common.{◌∙◌, ap, sym}
 use Rattle.std.proofs.lemmas.List.{map-append}
@@ -17,7 +17,7 @@ module _ (messages : List MessageDecl) (queries : List Query) where
   pub flow-If : (branches : List RBranch) (other : List Item) (slots : Slots) → kind_flow messages queries (it.If branches other) slots ≡ in_turn (map (item_types messages queries) other) (in_turn (map (branch_flow messages queries) branches) slots)
   flow-If branches other slots = kind_flow_at-If messages queries branches other slots ∙ in_turn-append (map (branch_flow messages queries) branches) (map (item_types messages queries) other) slots
 
-  -- behind the block of a timeout, if there is one
+  -- after the block of a timeout, if there is one
   timeout_flow : (timeout : Option (List Item)) (slots : Slots)
       → in_turn (unwrap_or (option_map (map (item_types messages queries)) timeout) []) slots ≡ in_turn (map (item_types messages queries) (unwrap_or timeout [])) slots
   timeout_flow None slots = refl

@@ -1,4 +1,4 @@
--- Lines told one by one give the least of them.
+-- Lines reported one by one give the earliest of them.
 use Rattle.std.specs.Prelude.{◌≡◌, refl, ℕ, ◌+◌, ◌<◌, ◌≤◌, length, List, [], ◌∷◌, ◌++◌, map, flat_map, Option, Some, None}
 use Rattle.std.proofs.Common.{◌∙◌, ap, sym, arith, get_or, drop}
 use Rattle.std.proofs.lemmas.Bool.Decides.{nat_tests}

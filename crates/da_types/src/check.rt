@@ -1,10 +1,10 @@
-//! The types of the slots of a program, and the least line that breaks a rule of types.
+//! The types of the slots of a program, and the earliest line that breaks a rule of types.
 ghost use Rattle.da_lang.specs.Typing.{args_fit as args_fitting, breaks_in, call_breaks, class_breaks, filled as filled_program, filled_class, least as least_line};
 ghost use Rattle.da_types.specs.Telling.{telling};
 ghost use Rattle.std.specs.Prelude.{◌≡◌, IfOk, MatchOption, None, OnOk, Some, flat_map, map, slice_get};
 
+use crate::earliest::Earliest;
 use crate::flow::filled_slots;
-use crate::least::Least;
 use crate::lines::tell_class;
 use crate::rules::fits_slot;
 use da_lang::{Class, MessageDecl, ProcDecl, Program, RExpr};
@@ -60,14 +60,14 @@ fn fill_class(alloc: Global, messages: &[MessageDecl], class: Class) -> Result<C
     Ok(class)
 }
 
-/// The least line that breaks a rule of types, where the slots have the types that are known.
+/// The earliest line that breaks a rule of types, where the slots have the types that are known.
 #[tactic(auto, using(crate::proofs::CheckLaws::broken_rules), unfolding(da_lang::specs::Typing::breaks_in))]
 pub fn broken_line(alloc: Global, p: &Program) -> Result<Option<u32>, NoMemory>
     ensures { IfOk result (λ line. line ≡ least_line (breaks_in p.now)) }
 {
     let messages = p.messages.as_slice();
     let classes = p.classes.as_slice();
-    let mut least = Least::new();
+    let mut least = Earliest::new();
     tell_classes(alloc, messages, classes, &mut least)?;
     tell_procs(alloc, messages, classes, p.procs.as_slice(), &mut least)?;
     Ok(least.line())
@@ -78,7 +78,7 @@ fn tell_classes(
     alloc: Global,
     messages: &[MessageDecl],
     classes: &[Class],
-    least: &mut Least,
+    least: &mut Earliest,
 ) -> Result<(), NoMemory>
     ensures { OnOk result (least.new ≡ telling least.old (flat_map (class_breaks messages.now) classes.now)) }
 {
@@ -94,7 +94,7 @@ fn tell_procs(
     messages: &[MessageDecl],
     classes: &[Class],
     procs: &[ProcDecl],
-    least: &mut Least,
+    least: &mut Earliest,
 ) -> Result<(), NoMemory>
     ensures { OnOk result (least.new ≡ telling least.old (flat_map (λ d. call_breaks messages.now (slice_get classes.now d.class) d.setup) procs.now)) }
 {
@@ -111,7 +111,7 @@ fn tell_call(
     messages: &[MessageDecl],
     classes: &[Class],
     process: &ProcDecl,
-    least: &mut Least,
+    least: &mut Earliest,
 ) -> Result<(), NoMemory>
     ensures { OnOk result (least.new ≡ telling least.old (call_breaks messages.now (slice_get classes.now process.now.class) process.now.setup)) }
 {

@@ -148,7 +148,7 @@ pub fn handler_row(
     }
 }
 
-/// The slots behind a statement.
+/// The slots after a statement.
 #[cycle(flow)]
 #[tactic(auto, using(crate::proofs::FlowForms::flow_rules))]
 fn item_types(
@@ -163,7 +163,7 @@ fn item_types(
     kind_types(alloc, messages, queries, &item.kind, slots)
 }
 
-/// The slots behind what a statement does.
+/// The slots after what a statement does.
 #[cycle(flow)]
 #[tactic(auto, using(crate::proofs::FlowForms::flow_rules))]
 fn kind_types(
@@ -224,7 +224,7 @@ fn loop_type(
     }
 }
 
-/// The slots behind statements, one after the other.
+/// The slots after statements, one after the other.
 #[cycle(flow)]
 fn items_types(
     alloc: Global,
@@ -241,7 +241,7 @@ fn items_types(
     Ok(())
 }
 
-/// The slots behind branches, one after the other.
+/// The slots after branches, one after the other.
 #[cycle(flow)]
 fn branches_types(
     alloc: Global,
@@ -258,7 +258,7 @@ fn branches_types(
     Ok(())
 }
 
-/// The slots behind a branch, of which those that its `some` binds take their types.
+/// The slots after a branch, of which those that its `some` binds take their types.
 #[cycle(flow)]
 #[tactic(auto, using(crate::proofs::FlowForms::flow_rules))]
 fn branch_types(
@@ -275,7 +275,7 @@ fn branch_types(
     items_types(alloc, messages, queries, branch.body.as_slice(), slots)
 }
 
-/// The slots behind alternatives, one after the other.
+/// The slots after alternatives, one after the other.
 #[cycle(flow)]
 fn alts_types(
     alloc: Global,
@@ -292,7 +292,7 @@ fn alts_types(
     Ok(())
 }
 
-/// The slots behind an alternative, of which those that its `some` binds take their types.
+/// The slots after an alternative, of which those that its `some` binds take their types.
 #[cycle(flow)]
 #[tactic(auto, using(crate::proofs::FlowForms::flow_rules))]
 fn alt_types(
@@ -325,7 +325,7 @@ fn give_found(
     give_row(alloc, binds, &row, slots)
 }
 
-// The slots behind handlers, one after the other.
+// The slots after handlers, one after the other.
 fn handlers_types(
     alloc: Global,
     messages: &[MessageDecl],
@@ -341,7 +341,7 @@ fn handlers_types(
     Ok(())
 }
 
-// The slots behind a handler, of which those that its patterns bind take their types.
+// The slots after a handler, of which those that its patterns bind take their types.
 fn handler_types(
     alloc: Global,
     messages: &[MessageDecl],

@@ -2,8 +2,8 @@
 #![tactic(auto)]
 
 mod check;
+mod earliest;
 mod flow;
-mod least;
 mod lines;
 mod rules;
 mod top;

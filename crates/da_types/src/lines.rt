@@ -6,8 +6,8 @@ ghost use Rattle.da_types.specs.Rows.{heard_with};
 ghost use Rattle.da_types.specs.Telling.{telling};
 ghost use Rattle.std.specs.Prelude.{◌≡◌, IfOk, OnOk, flat_map};
 
+use crate::earliest::Earliest;
 use crate::flow::handler_row;
-use crate::least::Least;
 use crate::rules::{have_found, have_types as slots_have, keeps_rule};
 use da_lang::{Alt, Class, Handler, Item, ItemKind, MessageDecl, Query, RBranch};
 use da_typing::{Known, cond_holds, is_truth};
@@ -20,7 +20,7 @@ pub fn tell_class(
     alloc: Global,
     messages: &[MessageDecl],
     class: &Class,
-    least: &mut Least,
+    least: &mut Earliest,
 ) -> Result<(), NoMemory>
     ensures { OnOk result (least.new ≡ telling least.old (class_breaks messages.now class.now)) }
 {
@@ -39,7 +39,7 @@ fn tell_item(
     known: &Known<'_>,
     queries: &[Query],
     item: &Item,
-    least: &mut Least,
+    least: &mut Earliest,
 ) -> Result<(), NoMemory>
     ensures { OnOk result (least.new ≡ telling least.old (item_breaks known.now.messages.now queries.now known.now.slots.now item.now)) }
 {
@@ -56,7 +56,7 @@ fn tell_blocks(
     known: &Known<'_>,
     queries: &[Query],
     kind: &ItemKind,
-    least: &mut Least,
+    least: &mut Earliest,
 ) -> Result<(), NoMemory>
     ensures { OnOk result (least.new ≡ telling least.old (kind_broken known.now.messages.now queries.now known.now.slots.now kind.now).blocks) }
 {
@@ -92,7 +92,7 @@ fn tell_items(
     known: &Known<'_>,
     queries: &[Query],
     items: &[Item],
-    least: &mut Least,
+    least: &mut Earliest,
 ) -> Result<(), NoMemory>
     ensures { OnOk result (least.new ≡ telling least.old (flat_map (item_breaks known.now.messages.now queries.now known.now.slots.now) items.now)) }
 {
@@ -109,7 +109,7 @@ fn tell_branches(
     known: &Known<'_>,
     queries: &[Query],
     branches: &[RBranch],
-    least: &mut Least,
+    least: &mut Earliest,
 ) -> Result<(), NoMemory>
     ensures { OnOk result (least.new ≡ telling least.old (flat_map (branch_broken known.now.messages.now queries.now known.now.slots.now) branches.now)) }
 {
@@ -127,7 +127,7 @@ fn tell_branch(
     known: &Known<'_>,
     queries: &[Query],
     branch: &RBranch,
-    least: &mut Least,
+    least: &mut Earliest,
 ) -> Result<(), NoMemory>
     ensures { OnOk result (least.new ≡ telling least.old (branch_broken known.now.messages.now queries.now known.now.slots.now branch.now)) }
 {
@@ -145,7 +145,7 @@ fn tell_alts(
     known: &Known<'_>,
     queries: &[Query],
     alts: &[Alt],
-    least: &mut Least,
+    least: &mut Earliest,
 ) -> Result<(), NoMemory>
     ensures { OnOk result (least.new ≡ telling least.old (flat_map (alt_broken known.now.messages.now queries.now known.now.slots.now) alts.now)) }
 {
@@ -163,7 +163,7 @@ fn tell_alt(
     known: &Known<'_>,
     queries: &[Query],
     alt: &Alt,
-    least: &mut Least,
+    least: &mut Earliest,
 ) -> Result<(), NoMemory>
     ensures { OnOk result (least.new ≡ telling least.old (alt_broken known.now.messages.now queries.now known.now.slots.now alt.now)) }
 {
@@ -180,7 +180,7 @@ fn tell_handlers(
     known: &Known<'_>,
     queries: &[Query],
     handlers: &[Handler],
-    least: &mut Least,
+    least: &mut Earliest,
 ) -> Result<(), NoMemory>
     ensures { OnOk result (least.new ≡ telling least.old (flat_map (handler_breaks known.now.messages.now queries.now known.now.slots.now) handlers.now)) }
 {
@@ -197,7 +197,7 @@ fn tell_handler(
     known: &Known<'_>,
     queries: &[Query],
     handler: &Handler,
-    least: &mut Least,
+    least: &mut Earliest,
 ) -> Result<(), NoMemory>
     ensures { OnOk result (least.new ≡ telling least.old (handler_breaks known.now.messages.now queries.now known.now.slots.now handler.now)) }
 {

@@ -79,7 +79,7 @@ impl Typed {
 }
 
 /// A resolved program with the types of its slots: each that had none has the type that its loop, its `some` or its
-/// handler gives it. `Refused` comes exactly where a rule of types is broken, with the least such line. `Memory` comes only
+/// handler gives it. `Refused` comes exactly where a rule of types is broken, with the earliest such line. `Memory` comes only
 /// where memory was refused. Time and memory are in step with the program and its types.
 #[tactic(auto, using(crate::proofs::CheckLaws::top_rules), unfolding(da_lang::specs::Typing::type_breaks))]
 pub fn check_types(alloc: Global, p: Program) -> Result<Typed, TypeFault>

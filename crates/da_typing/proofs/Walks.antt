@@ -15,7 +15,7 @@ left_here xs i x within here = drop-cons xs i x within ∙ ap (λ y. y ∷ drop 
 pub at_element : {A : Type 0} (P : List A → Type 0) (xs : List A) (i : ℕ) (x : A) → i < length xs → x ≡ get_or xs i x → P (drop i xs) → P (x ∷ drop (i + 1) xs)
 at_element P xs i x within here said = subst P (left_here xs i x within here) said
 
--- what is said of what is left behind the last element
+-- what is said of what is left after the last element
 pub at_end : {A : Type 0} (P : List A → Type 0) (xs : List A) (i : ℕ) → length xs ≤ i → P (drop i xs) → P []
 at_end P xs i past said = subst P (drop_all i xs past) said
 
@@ -27,7 +27,7 @@ pub numbered_at : {A : Type 0} (members : List A) (number : ℕ) → 0 < number 
 numbered_at members zero some = absurd (omega arith)
 numbered_at members (suc place) some = let e : place ≡ suc place - 1 = omega arith in ap (slice_get members) e
 
--- the types of those that are done, in front of the types of those that are left
+-- the types of those that are done, before the types of those that are left
 abbrev pub Gathers : List Ty → List (Option Ty) → Option (List Ty) → Type 0
 Gathers done left whole = given (all_types left) (λ others. Some (done ++ others)) ≡ whole
 

@@ -17,7 +17,7 @@ operand_holds known queries ty part = takes (out-ChainPart part).op ty && is_typ
 abbrev pub chain_holds : Known → List Query → Ty → List ChainPart → Bool
 chain_holds known queries ty more = list_all (operand_holds known queries ty) more
 
--- the type of the first operand, where those behind it are of it
+-- the type of the first operand, where those after it are of it
 abbrev pub chained : Bool → Option Ty → Option Ty
 chained holds found = given found (λ ty. given (when holds ty) flat)
 

@@ -94,7 +94,7 @@ fn holds_if(
     }
 }
 
-/// The row of generators, where the condition behind them keeps the rules.
+/// The row of generators, where the condition after them keeps the rules.
 #[cycle(conditions)]
 pub fn rows_where(
     alloc: Global,
@@ -115,7 +115,7 @@ pub fn rows_where(
     }
 }
 
-/// Whether generators have a row where the condition behind them keeps the rules.
+/// Whether generators have a row where the condition after them keeps the rules.
 #[cycle(conditions)]
 fn has_rows(
     alloc: Global,

@@ -361,7 +361,7 @@ fn all_same(types: &[Ty], ty: &Ty) -> bool
     true
 }
 
-// The type of a chain whose first operand has this type, where those behind it are of it.
+// The type of a chain whose first operand has this type, where those after it are of it.
 fn chain_where(holds: bool, found: Option<Ty>) -> Option<Ty>
     ensures { result ≡ chained holds found }
 {

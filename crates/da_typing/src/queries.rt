@@ -81,7 +81,7 @@ fn type_of_side(side: Option<Side>) -> Option<Ty>
     }
 }
 
-// The row of generators, where the condition behind them keeps the rules.
+// The row of generators, where the condition after them keeps the rules.
 #[tactic(auto, using(crate::proofs::CondForms::written_as))]
 fn rows(
     alloc: Global,

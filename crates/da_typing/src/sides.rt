@@ -22,7 +22,7 @@ pub fn plain(ty: Ty) -> Side
     Side { ty, sum: false }
 }
 
-/// The side of a chain whose first operand is this side, where those behind it may stand in a chain.
+/// The side of a chain whose first operand is this side, where those after it may stand in a chain.
 pub fn chain_side(first: &Option<Side>, holds: bool) -> Option<Side>
     ensures { option_map side_of result ≡ (if operand_side (option_map side_of first.now) && holds then plain_side Int else None) }
 {

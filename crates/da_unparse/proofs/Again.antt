@@ -13,11 +13,11 @@ use Rattle.da_lang.specs.declared.ty.ChannelKind.TheVariants as kind
 use Rattle.da_lang.specs.Grammar as gr
 use Rattle.da_lang.specs.Grammar.{IsCount, IsMline, IsKind, IsMessage, IsMain, TypedParam, IsClass, IsDecls, IsProgram, IsTypedProgram}
 use Rattle.da_lang.specs.Spelling as g
-use Rattle.da_lang.specs.Spelling.{Spelling, Opens, Behind}
+use Rattle.da_lang.specs.Spelling.{Spelling, Opens, EachAfter}
 use Rattle.da_lang.specs.ExprGrammar.{deeper}
 use Rattle.da_unparse.specs.Expressions.{either}
 use Rattle.da_unparse.specs.Lines.{Line, lines_toks}
-use Rattle.da_unparse.specs.Pieces.{Piece, token, name, comma, colon, between, before, behind, in_parens}
+use Rattle.da_unparse.specs.Pieces.{Piece, token, name, comma, colon, between, before, each_after, in_parens}
 use Rattle.da_unparse.specs.Programs.{count, main_line_lines, main_lines, kind_lines, message_lines, class_lines, tree_lines}
 use Rattle.da_unparse.specs.Statements.{line}
 use Rattle.da_unparse.specs.Unlined.{unlined_main_line, unlined_message, unlined_class, unlined}
@@ -71,7 +71,7 @@ module _ (R : ℕ → Type 0) (down : (d : ℕ) → R (suc d) → R d) (f : ℕ)
     now = main_line.Setup w.text xs n;
     next = n + 1;
     same = refl;
-    spelled = rw (operands either xs, line-toks n level (token m.Setup (codes "setup") ∷ in_parens (name w.text ++ behind comma (map (operand either) xs))) rest, put-named_args n m.Setup (codes "setup") w.text (behind comma (map (operand either) xs)) (tok_of n m.Newline [] ∷ lines_toks (n + 1) level rest))
+    spelled = rw (operands either xs, line-toks n level (token m.Setup (codes "setup") ∷ in_parens (name w.text ++ each_after comma (map (operand either) xs))) rest, put-named_args n m.Setup (codes "setup") w.text (each_after comma (map (operand either) xs)) (tok_of n m.Newline [] ∷ lines_toks (n + 1) level rest))
         (gr.IsMline.setup (g.At.at refl) (opens-again op _ _ refl) (g.Named.named refl) (behind-again n (operand either) (below-again R down n f 1).disj m.Comma comma (λ s. simp putting (g.At.at refl)) xs _ _ l _) (g.At.at refl) (g.At.at refl));
   }
 

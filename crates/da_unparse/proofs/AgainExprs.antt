@@ -21,7 +21,7 @@ use Rattle.da_lang.specs.ExprGrammar.{IsSource, IsPeer, IsGen, IsGens, IsCond, I
 use Rattle.da_unparse.specs.Expressions.{Link, quantified, either, both, negation, comparison, sum, product, signed, shown, expr_pieces, pattern_pieces, gen_pieces, peer_pieces, link_of, linked, chain, is_sum, op_text, cmp_text, condition, source, peer, all_at_least, atom}
 use Rattle.da_unparse.specs.Pieces.{Piece, between, joined, listed}
 use Rattle.da_unparse.proofs.AgainPlaces.{operand, below, Held, HeldBelow, Fits, grouped, expr-below, held, fits-looser, fits-operand, fits-shown}
-use Rattle.da_unparse.proofs.AgainTools.{put, tok_of, putting, put-tupled, put-in_braces, put-described, put-behind_word, put-append, number_of-decimal, Again, number-again, quoted-again, separated-again, listed-again, closed-again}
+use Rattle.da_unparse.proofs.AgainTools.{put, tok_of, putting, put-tupled, put-in_braces, put-described, put-after_word, put-append, number_of-decimal, Again, number-again, quoted-again, separated-again, listed-again, closed-again}
 use Rattle.da_unparse.proofs.AgainTypes.{opens-again}
 use Rattle.da_unparse.proofs.ShownAt.{shown-Quant, shown-Or, shown-And, shown-Not, shown-Cmp, shown-Member, shown-Chain, shown-Int, shown-Text, shown-Truth, shown-Me, shown-Name, shown-Clock, shown-Range, shown-Tuple, shown-SetOf, shown-Comp, shown-Count, shown-Sum, shown-Min, shown-Max, pattern-Wild, pattern-Name, pattern-Int, pattern-Text, pattern-Truth, pattern-Me, pattern-Equal, pattern-Tuple, peer-From, peer-To, link_at, gen_at}
 
@@ -197,10 +197,10 @@ module _ (R : ℕ → Type 0) (down : (d : ℕ) → R (suc d) → R d) (n : ℕ)
 
     pub expr-again : (x : Expr) (i r : List Tok) → IsExpr (λ t. R d) (below R down n f d) x i r → Here quantified x
     expr-again _ i r (eg.IsExpr.quant (eg.IsQuant.«some» {gs} {o = cond} o l c)) =
-        fits-shown R down n _ (shown-Quant false gs cond) (omega arith) (λ s. rw (put-behind_word n m.Some (codes "some") (listed (map gen_pieces gs)) (condition (option_map shown cond)) s)
+        fits-shown R down n _ (shown-Quant false gs cond) (omega arith) (λ s. rw (put-after_word n m.Some (codes "some") (listed (map gen_pieces gs)) (condition (option_map shown cond)) s)
         (eg.IsExpr.quant (eg.IsQuant.«some» (opens-again o _ _ refl) (gens-again n b.pattern gs _ _ l _) (cond-again n exprs cond _ _ c s))))
     expr-again _ i r (eg.IsExpr.quant (eg.IsQuant.each {gs} {o = cond} o l c)) =
-        fits-shown R down n _ (shown-Quant true gs cond) (omega arith) (λ s. rw (put-behind_word n m.Each (codes "each") (listed (map gen_pieces gs)) (condition (option_map shown cond)) s)
+        fits-shown R down n _ (shown-Quant true gs cond) (omega arith) (λ s. rw (put-after_word n m.Each (codes "each") (listed (map gen_pieces gs)) (condition (option_map shown cond)) s)
         (eg.IsExpr.quant (eg.IsQuant.each (opens-again o _ _ refl) (gens-again n b.pattern gs _ _ l _) (cond-again n exprs cond _ _ c s))))
     expr-again x i r (eg.IsExpr.disj a) = fits-looser R down n (omega arith) (disj-again x i r a)
 

@@ -90,7 +90,7 @@ pub record Reprinted {A : Type 0} (Item : Spelling A) (lines : A → Block) (unl
   pub same : unlined now ≡ unlined x
   pub spelled : Item now (lines_toks n level (lines x level ++ rest)) (lines_toks next level rest)
 
--- behind INDENT
+-- after INDENT
 abbrev pub Indented : {A : Type 0} → Spelling A → Spelling A
 Indented {A} Inside x i r = (s : List Tok) × At m.Indent i s × Inside x s r
 

@@ -27,7 +27,7 @@ use Rattle.da_unparse.proofs.AgainExprs.{room-of}
 use Rattle.da_unparse.proofs.AgainLines.{Begins, line-toks, Reprints, all_lines, ended-again}
 use Rattle.da_unparse.proofs.AgainRules.{patterns-again}
 use Rattle.da_unparse.proofs.AgainStmts.{block-again, body-again}
-use Rattle.da_unparse.proofs.AgainTools.{put, tok_of, putting, put-behind_def, put-behind_receive, put-behind_call, put-between, Again, listed-again, closed-again}
+use Rattle.da_unparse.proofs.AgainTools.{put, tok_of, putting, put-after_def, put-after_receive, put-behind_call, put-between, Again, listed-again, closed-again}
 use Rattle.da_unparse.proofs.AgainTypes.{opens-again, type-again}
 
 param-again : (n : ℕ) {Type_ : Spelling Ty} → Again n Type_ Type_ type_pieces → Again n (IsParam Type_) (IsParam Type_) param
@@ -84,7 +84,7 @@ module _ (R : ℕ → Type 0) (down : (d : ℕ) → R (suc d) → R d) (f : ℕ)
         now = member.Setup ps now n;
         next = next;
         same = ap (λ z. member.Setup ps z 0) same;
-        spelled = rw (line-toks n level (before m.Def (codes "def") ++ token m.Setup (codes "setup") ∷ params ps ++ colon) (body_lines b level ++ rest), put-behind_def n m.Def (codes "def") m.Setup (codes "setup") (listed (map param ps)) (tok_of n m.Newline [] ∷ lines_toks (n + 1) level (body_lines b level ++ rest)))
+        spelled = rw (line-toks n level (before m.Def (codes "def") ++ token m.Setup (codes "setup") ∷ params ps ++ colon) (body_lines b level ++ rest), put-after_def n m.Def (codes "def") m.Setup (codes "setup") (listed (map param ps)) (tok_of n m.Newline [] ∷ lines_toks (n + 1) level (body_lines b level ++ rest)))
             (gr.IsMember.setup (g.At.at refl) (g.At.at refl) (opens-again o _ _ refl) (params-again n ps _ _ a _) (g.At.at refl) spelled);
       }
   member-again _ i r (gr.IsMember.run {b} {t} h k o a c l) n level rest low =
@@ -102,7 +102,7 @@ module _ (R : ℕ → Type 0) (down : (d : ℕ) → R (suc d) → R d) (f : ℕ)
         now = member.Method w.text ps now n;
         next = next;
         same = ap (λ z. member.Method w.text ps z 0) same;
-        spelled = rw (line-toks n level (before m.Def (codes "def") ++ name w.text ++ params ps ++ colon) (body_lines b level ++ rest), put-behind_def n m.Def (codes "def") m.Name w.text (listed (map param ps)) (tok_of n m.Newline [] ∷ lines_toks (n + 1) level (body_lines b level ++ rest)))
+        spelled = rw (line-toks n level (before m.Def (codes "def") ++ name w.text ++ params ps ++ colon) (body_lines b level ++ rest), put-after_def n m.Def (codes "def") m.Name w.text (listed (map param ps)) (tok_of n m.Newline [] ∷ lines_toks (n + 1) level (body_lines b level ++ rest)))
             (gr.IsMember.method (g.At.at refl) (g.Named.named refl) (opens-again o _ _ refl) (params-again n ps _ _ a _) (g.At.at refl) spelled);
       }
   member-again _ i r (gr.IsMember.receive {p} {o} {ns} {b} {t} h a e w c l) n level rest low =
@@ -112,7 +112,7 @@ module _ (R : ℕ → Type 0) (down : (d : ℕ) → R (suc d) → R d) (f : ℕ)
         now = member.Receive p o ns now n;
         next = next;
         same = ap (λ z. member.Receive p o ns z 0) same;
-        spelled = rw (line-toks n level (before m.Receive (codes "receive") ++ pattern_pieces p ++ sender o ++ labels ns ++ colon) (body_lines b level ++ rest), put-behind_receive n m.Receive (codes "receive") (pattern_pieces p) (sender o) (labels ns) (tok_of n m.Newline [] ∷ lines_toks (n + 1) level (body_lines b level ++ rest)))
+        spelled = rw (line-toks n level (before m.Receive (codes "receive") ++ pattern_pieces p ++ sender o ++ labels ns ++ colon) (body_lines b level ++ rest), put-after_receive n m.Receive (codes "receive") (pattern_pieces p) (sender o) (labels ns) (tok_of n m.Newline [] ∷ lines_toks (n + 1) level (body_lines b level ++ rest)))
             (gr.IsMember.receive (g.At.at refl) (patterns p _ _ a _) (from-again n patterns o _ _ e _) (at-again n ns _ _ w _) (g.At.at refl) spelled);
       }
 

@@ -79,7 +79,7 @@ module _ (R : ℕ → Type 0) (down : (d : ℕ) → R (suc d) → R d) (f d : �
   abbrev Body : Spelling (List Stmt)
   Body = BodyIn (λ d t. R d) f (suc d)
 
-  -- the block behind a header on the line n
+  -- the block after a header on the line n
   pub block-again : (b : List Stmt) (i r : List Tok) → IsBlock (λ t. R d) (deeper (λ d t. R d) f (suc d)) (BodyIn (λ d t. R d) f (suc d)) b i r → (n level : ℕ) (rest : List Line) → Low level rest
       → (now : List Stmt) × (next : ℕ) × (map unlined_stmt now ≡ map unlined_stmt b)
       × IsBlock (λ t. R d) (deeper (λ d t. R d) f (suc d)) (BodyIn (λ d t. R d) f (suc d)) now (tok_of n m.Newline [] ∷ lines_toks (n + 1) level (body_lines b level ++ rest)) (lines_toks next level rest)

@@ -15,11 +15,11 @@ use Rattle.da_values.specs.Marks.{Tok}
 use Rattle.da_values.specs.Piece.{in_quotes, number_max, number_of}
 use Rattle.da_lang.specs.Literals.{text_of, unquoted}
 use Rattle.da_lang.specs.Spelling as g
-use Rattle.da_lang.specs.Spelling.{Spelling, Room, At, Opens, Number, Quoted, Separated, Closed, Behind}
+use Rattle.da_lang.specs.Spelling.{Spelling, Room, At, Opens, Number, Quoted, Separated, Closed, EachAfter}
 use Rattle.da_unparse.specs.Lines.{piece_toks, toks_of}
-use Rattle.da_unparse.specs.Pieces.{Piece, gap, token, one, name, comma, colon, before, between, behind, joined, listed, in_parens, tupled}
+use Rattle.da_unparse.specs.Pieces.{Piece, gap, token, one, name, comma, colon, before, between, each_after, joined, listed, in_parens, tupled}
 
--- the tokens of pieces on this line, and others behind them
+-- the tokens of pieces on this line, and others after them
 unfoldable pub put : ℕ → List Piece → List Tok → List Tok
 put n ps s = toks_of n ps ++ s
 
@@ -109,9 +109,9 @@ quoted-again n (g.Quoted.quoted {b} {t} mark is) s = g.Quoted.quoted refl (text_
 abbrev pub Again : ℕ → {A : Type 0} → Spelling A → Spelling A → (A → List Piece) → Type 0
 Again n {A} Item Printed pieces = (x : A) (i r : List Tok) → Item x i r → (s : List Tok) → Printed x (put n (pieces x) s) s
 
--- an item behind its separator
+-- an item after its separator
 pub behind-more : {A : Type 0} (n : ℕ) (pieces : A → List Piece) (separator : List Piece) (y : A) (ys : List A) (s : List Tok)
-    → put n (behind separator (map pieces (y ∷ ys))) s ≡ put n separator (put n (joined separator (map pieces (y ∷ ys))) s)
+    → put n (each_after separator (map pieces (y ∷ ys))) s ≡ put n separator (put n (joined separator (map pieces (y ∷ ys))) s)
 behind-more n pieces separator y ys s = simp putting
 
 module _ (n : ℕ) {A : Type 0} {Item Printed : Spelling A} (pieces : A → List Piece) (item : Again n Item Printed pieces) where
@@ -120,16 +120,16 @@ module _ (n : ℕ) {A : Type 0} {Item Printed : Spelling A} (pieces : A → List
     pub separated-again : (xs : List A) (i r : List Tok) → Separated k Item xs i r → (s : List Tok) → Separated l Printed xs (put n (joined separator (map pieces xs)) s) s
     separated-again _ i r (g.Separated.last {x} a) s = rw (put-append n (pieces x) [] s, put-nil n s) (g.Separated.last (item x _ _ a s))
     separated-again _ i r (g.Separated.more {x} a h (g.Separated.last {x = y} b)) s =
-        rw (put-append n (pieces x) (behind separator (map pieces (y ∷ []))) s, behind-more n pieces separator y [] s)
+        rw (put-append n (pieces x) (each_after separator (map pieces (y ∷ []))) s, behind-more n pieces separator y [] s)
         (g.Separated.more (item x _ _ a _) (passes _) (separated-again (y ∷ []) _ _ (g.Separated.last b) s))
     separated-again _ i r (g.Separated.more {x} a h (g.Separated.more {x = y} {xs = ys} b f others)) s =
-        rw (put-append n (pieces x) (behind separator (map pieces (y ∷ ys))) s, behind-more n pieces separator y ys s)
+        rw (put-append n (pieces x) (each_after separator (map pieces (y ∷ ys))) s, behind-more n pieces separator y ys s)
         (g.Separated.more (item x _ _ a _) (passes _) (separated-again (y ∷ ys) _ _ (g.Separated.more b f others) s))
 
-    pub behind-again : (xs : List A) (i r : List Tok) → Behind k Item xs i r → (s : List Tok) → Behind l Printed xs (put n (behind separator (map pieces xs)) s) s
-    behind-again _ i r g.Behind.none s = rw (put-nil n s) g.Behind.none
-    behind-again _ i r (g.Behind.one {x} {xs} h a others) s =
-        simp putting (g.Behind.one (passes _) (item x _ _ a _) (behind-again xs _ _ others s))
+    pub behind-again : (xs : List A) (i r : List Tok) → EachAfter k Item xs i r → (s : List Tok) → EachAfter l Printed xs (put n (each_after separator (map pieces xs)) s) s
+    behind-again _ i r g.EachAfter.none s = rw (put-nil n s) g.EachAfter.none
+    behind-again _ i r (g.EachAfter.one {x} {xs} h a others) s =
+        simp putting (g.EachAfter.one (passes _) (item x _ _ a _) (behind-again xs _ _ others s))
 
   pub listed-again : (xs : List A) (i r : List Tok) → Separated m.Comma Item xs i r → (s : List Tok) → Separated m.Comma Printed xs (put n (listed (map pieces xs)) s) s
   listed-again = separated-again m.Comma comma (λ s. simp putting (g.At.at refl))
@@ -154,29 +154,29 @@ pub put-described : (n : ℕ) (ps qs rs : List Piece) (s : List Tok)
     ≡ tok_of n m.OpenBrace (codes "{") ∷ put n ps (tok_of n m.Colon (codes ":") ∷ put n qs (put n rs (tok_of n m.CloseBrace (codes "}") ∷ s)))
 put-described n ps qs rs s = simp putting
 
--- a word, and two parts behind it
-pub put-behind_word : (n : ℕ) (k : Mark) (bytes : List ℕ) (ps qs : List Piece) (s : List Tok) → put n (before k bytes ++ ps ++ qs) s ≡ tok_of n k bytes ∷ put n ps (put n qs s)
-put-behind_word n k bytes ps qs s = simp putting
+-- a word, and two parts after it
+pub put-after_word : (n : ℕ) (k : Mark) (bytes : List ℕ) (ps qs : List Piece) (s : List Tok) → put n (before k bytes ++ ps ++ qs) s ≡ tok_of n k bytes ∷ put n ps (put n qs s)
+put-after_word n k bytes ps qs s = simp putting
 
 -- a word or a name, and its arguments
 pub put-call : (n : ℕ) (k : Mark) (bytes : List ℕ) (ps : List Piece) (s : List Tok)
     → put n (token k bytes ∷ in_parens ps) s ≡ tok_of n k bytes ∷ tok_of n m.OpenParen (codes "(") ∷ put n ps (tok_of n m.CloseParen (codes ")") ∷ s)
 put-call n k bytes ps s = simp putting
 
--- the same behind a word
+-- the same after a word
 pub put-behind_call : (n : ℕ) (word : Mark) (letters : List ℕ) (k : Mark) (bytes : List ℕ) (ps : List Piece) (s : List Tok)
     → put n (before word letters ++ (token k bytes ∷ in_parens ps)) s ≡ tok_of n word letters ∷ tok_of n k bytes ∷ tok_of n m.OpenParen (codes "(") ∷ put n ps (tok_of n m.CloseParen (codes ")") ∷ s)
 put-behind_call n word letters k bytes ps s = simp putting
 
 -- and in a header
-pub put-behind_def : (n : ℕ) (word : Mark) (letters : List ℕ) (k : Mark) (bytes : List ℕ) (ps : List Piece) (s : List Tok)
+pub put-after_def : (n : ℕ) (word : Mark) (letters : List ℕ) (k : Mark) (bytes : List ℕ) (ps : List Piece) (s : List Tok)
     → put n (before word letters ++ (token k bytes ∷ in_parens ps) ++ colon) s ≡ tok_of n word letters ∷ tok_of n k bytes ∷ tok_of n m.OpenParen (codes "(") ∷ put n ps (tok_of n m.CloseParen (codes ")") ∷ tok_of n m.Colon (codes ":") ∷ s)
-put-behind_def n word letters k bytes ps s = simp putting
+put-after_def n word letters k bytes ps s = simp putting
 
 -- and three parts in a header
-pub put-behind_receive : (n : ℕ) (k : Mark) (bytes : List ℕ) (ps qs rs : List Piece) (s : List Tok)
+pub put-after_receive : (n : ℕ) (k : Mark) (bytes : List ℕ) (ps qs rs : List Piece) (s : List Tok)
     → put n (before k bytes ++ ps ++ qs ++ rs ++ colon) s ≡ tok_of n k bytes ∷ put n ps (put n qs (put n rs (tok_of n m.Colon (codes ":") ∷ s)))
-put-behind_receive n k bytes ps qs rs s = simp putting
+put-after_receive n k bytes ps qs rs s = simp putting
 
 -- a word with a space on each side
 pub put-between : (n : ℕ) (k : Mark) (bytes : List ℕ) (ps : List Piece) (s : List Tok) → put n (between k bytes ++ ps) s ≡ tok_of n k bytes ∷ put n ps s

@@ -16,7 +16,7 @@ use Rattle.da_unparse.proofs.LexedPieces.{Stays, end, front_stays, first_byte, t
 use Rattle.da_unparse.proofs.LexedSteps.{Goes, stands_still, goes_further, In, Before, token_goes, token_in, gap_in, spaces_before, line_ends}
 use Rattle.da_unparse.proofs.LexedLevels.{level_goes, finish_goes}
 
--- ---- what stands behind a token of a line
+-- ---- what stands after a token of a line
 
 record Behind (k : Mark) (rest : List ℕ) : Type 0 where
   next : ℕ
@@ -39,13 +39,13 @@ front_token k bytes ps more made touch =
 
 -- ---- the pieces of a line
 
--- where pieces behind the first token of a line lead
+-- where pieces after the first token of a line lead
 record Through (text : List ℕ) (s : Scan) (ps : List Piece) (place number blocks depth : ℕ) (more : List ℕ) : Type 0 where
   next : Scan
   there : In next (place + length (text_of ps)) number blocks (open_behind depth ps)
   goes : Goes text s (text_of ps ++ 10 ∷ more) (toks_of number ps) next (10 ∷ more)
 
--- behind one more piece
+-- after one more piece
 through_more : {text : List ℕ} {s next : Scan} {number blocks depth : ℕ} (p : Piece) (ps : List Piece) (place : ℕ) (more : List ℕ)
     → Goes text s (piece_text p ++ (text_of ps ++ 10 ∷ more)) (piece_toks number p) next (text_of ps ++ 10 ∷ more)
     → Through text next ps (place + length (piece_text p)) number blocks (opened depth p) more → Through text s (p ∷ ps) place number blocks depth more
@@ -108,7 +108,7 @@ parts l more = append_assoc (replicate (4 * l.level) 32 ++ text_of l.pieces) (10
 line_length : (l : Line) → length (line_text l) ≡ 4 * l.level + length (text_of l.pieces) + 1
 line_length l = omega (arith, length-append (replicate (4 * l.level) 32 ++ text_of l.pieces) (10 ∷ []), length-append (replicate (4 * l.level) 32) (text_of l.pieces), length-replicate {A = ℕ} (4 * l.level) 32)
 
--- the first token of a line, behind its spaces
+-- the first token of a line, after its spaces
 first_goes : {number blocks : ℕ} (text before more : List ℕ) (level : ℕ) (k : Mark) (bytes : List ℕ) (ps : List Piece) (s : Scan)
     → text ≡ before ++ (text_of (token k bytes ∷ ps) ++ 10 ∷ more) → Makes k bytes → Touch (token k bytes) ps gap → level ≤ blocks + 1
     → Before s (length before) number blocks (4 * level)

@@ -1,4 +1,4 @@
--- What the mark of a token tells of its bytes: of the first one, and of what may stand behind the last one.
+-- What the mark of a token tells of its bytes: of the first one, and of what may stand after the last one.
 use Rattle.std.proofs.Common.{◌≡◌, ℕ, Bool, true, false, cond, not, ◌&&◌, ◌||◌, List, [], ◌∷◌, ◌++◌, map, length, drop, append-nil, refl, ap, ◌∙◌, subst, arith, inl, inr}
 use Rattle.std.proofs.lemmas.Bool.Decides.{Decides-eqb, nat_tests}
 use Rattle.std.proofs.lemmas.List.{drop_all}
@@ -57,7 +57,7 @@ symbol_whole text entry is long =
     let whole : text ≡ entry.0 ++ drop (length entry.0) text = (starts_is Decides-eqb text entry.0 (starts_with ◌==◌ text entry.0) refl).0 starts in
     whole ∙ ap (λ r. entry.0 ++ r) (drop_all (length entry.0) text (omega (arith, long))) ∙ append-nil entry.0
 
--- a byte that goes on with no token in front of it
+-- a byte that goes on with no token before it
 abbrev pub ends : ℕ → Bool
 ends c = not (in_name c) && not (61 == c) && not (45 == c)
 
@@ -69,7 +69,7 @@ abbrev pub is_minus : Mark → Bool
 is_minus m.Minus = true
 is_minus _ = false
 
--- each symbol is the piece at the front with such bytes behind it
+-- each symbol is the piece at the front with such bytes after it
 pub alone_more : (c : ℕ) (z : List ℕ) → map (λ e. if stands_alone e.1 then front (e.0 ++ c ∷ z) else front e.0) symbols ≡ map (λ e. front e.0) symbols
 unfolding symbols piece
 alone_more c z = refl

@@ -1,4 +1,4 @@
--- A token's bytes with more bytes behind them begin with the same token; and what its first byte is, by its mark.
+-- A token's bytes with more bytes after them begin with the same token; and what its first byte is, by its mark.
 use Rattle.std.proofs.Common.{◌≡◌, ◌≢◌, ℕ, ◌+◌, ◌<◌, Bool, true, false, cond, not, ◌&&◌, ◌||◌, List, [], ◌∷◌, ◌++◌, map, length, take, drop, length-drop, refl, sym, ap, ◌∙◌, subst, arith, inl, inr}
 use Rattle.std.proofs.lemmas.Bool.Decides.{nat_tests}
 use Rattle.std.proofs.lemmas.List.{take_all, drop-append-le}
@@ -153,7 +153,7 @@ plain_parts k e = parts (opens k) (closes k) (divides k) (begins_equal k) (is_mi
     parts false false false false false false opening closing dividing equals sign assigns e =
         record { opens = opening; closes = closing; divides = dividing; equal = equals; minus = sign; assign = assigns }
 
--- ---- what may stand behind a token
+-- ---- what may stand after a token
 
 -- a byte that does not go on with a token of this mark
 pub data Stays (k : Mark) (c : ℕ) : Type 0 where
@@ -184,7 +184,7 @@ symbol_more k bytes c w is (minus e other) =
     ap (λ t. front (t ++ c ∷ w)) is.spelling ∙ chosen_first (is_minus is.entry.1) _ _ _ (ap is_minus (sym is.mark) ∙ e)
     (at_entry (λ (e : Entry). if is_minus e.1 then front (e.0 ++ c ∷ w) else front e.0) k bytes is (minus_more c w other))
 
--- behind other tokens only such a byte may stand
+-- after other tokens only such a byte may stand
 plain_ends : (k : Mark) (c : ℕ) → Plain k → Stays k c → ends c ≡ true
 plain_ends k c plain (end e) = e
 plain_ends k c plain (alone e) = (let no : stands_alone k ≡ false = rw (plain.opens, plain.closes, plain.divides) refl in cc)

@@ -67,12 +67,12 @@ pub record Ready (s : Scan) (place number blocks depth : ℕ) : Type 0 where
   pub levels : s.levels ≡ levels_of blocks
   pub brackets : s.brackets ≡ depth
 
--- on a line behind its first token
+-- on a line after its first token
 pub record In (s : Scan) (place number blocks depth : ℕ) : Type 0 where
   pub ready : Ready s place number blocks depth
   pub last_line : s.last_line ≡ number
 
--- at the beginning of a line, behind some spaces
+-- at the beginning of a line, after some spaces
 pub record Before (s : Scan) (place number blocks room : ℕ) : Type 0 where
   pub at : s.at ≡ place
   pub line : s.line ≡ number
@@ -103,7 +103,7 @@ bracketed-counted b s opening closing o c = rw (← o, ← c) (counted opening c
     counted false true = record { at = refl; line = refl; fresh = refl; levels = refl; brackets = refl; last_line = refl }
     counted false false = record { at = refl; line = refl; fresh = refl; levels = refl; brackets = refl; last_line = refl }
 
--- the scan behind a token of n bytes that begins with b
+-- the scan after a token of n bytes that begins with b
 abbrev behind : ℕ → ℕ → Scan → Scan
 behind n b s = let counted = bracketed b (record s { past = s.at + n; last_line = s.line }) in record counted { at = counted.at + n }
 
@@ -135,7 +135,7 @@ token_step : (s ready : Scan) (b n : ℕ) (z : List ℕ) (l : TokenKind) (ts : L
 unfolding step
 token_step s ready b n z l ts stands levels = ap (λ p. passed (size p) (step s b p)) stands ∙ ap (λ o. passed n (with_token l n b o)) levels
 
--- a token, behind the tokens of its line's level
+-- a token, after the tokens of its line's level
 pub token_goes : {number blocks depth : ℕ} (before bytes rest : List ℕ) (k : Mark) (s ready : Scan) (ts : List Token) → (made : Makes k bytes)
     → front (bytes ++ rest) ≡ piece_is.Token made.kind (length bytes) → levelled s ≡ Ok (ts, ready) → Ready ready (length before) number blocks depth
     → (next : Scan) × In next (length before + length bytes) number blocks (opened depth (token k bytes))
@@ -165,7 +165,7 @@ token_in before bytes rest k s made stands is =
 
 -- ---- spaces and the end of a line
 
--- a space behind a token
+-- a space after a token
 pub gap_in : {place number blocks depth : ℕ} (text rest : List ℕ) (s : Scan) → In s place number blocks depth
     → (next : Scan) × In next (place + 1) number blocks depth × Goes text s (32 ∷ rest) [] next rest
 unfolding step piece

@@ -17,8 +17,8 @@ use Rattle.da_unparse.specs.Pieces.{gap, name, colon}
 use Rattle.da_unparse.specs.Printable.{Makes}
 use Rattle.da_unparse.specs.Programs.{param, params, sender, labels, member_lines, message_lines, class_lines, count, main_line_lines}
 use Rattle.da_unparse.specs.Statements.{stmt_lines}
-use Rattle.da_unparse.proofs.PrintedParts.{solid, loose, Part, Optional, none, some, part, gap_part, join, next, as_solid, follow, behind_optional, joined_part, between_part, before_part}
-use Rattle.da_unparse.proofs.PrintedSteps.{Shows, past, past_open, name_shows, number_shows, EachHas, SomeHas, each_part, separated_shows, closed_shows, behind_shows, comma_part, parens, listed_parens}
+use Rattle.da_unparse.proofs.PrintedParts.{solid, loose, Part, Optional, none, some, part, gap_part, join, next, as_solid, follow, after_optional, joined_part, between_part, before_part}
+use Rattle.da_unparse.proofs.PrintedSteps.{Shows, past, past_open, name_shows, number_shows, EachHas, SomeHas, each_part, separated_shows, closed_shows, after_shows, comma_part, parens, listed_parens}
 use Rattle.da_unparse.proofs.PrintedTypes.{TypePart, types_show}
 use Rattle.da_unparse.proofs.PrintedOperators.{ExprPart, name_part, digits_part, each_at_least}
 use Rattle.da_unparse.proofs.PrintedExprs.{PatternPart, DeepShows, deeper_shows, pattern_shows}
@@ -102,8 +102,8 @@ mline_shows room deep d _ i r (IsMline.new {n} {c} {o} h e k op a l z nl) s =
     (λ level. line_starts level (next (join (name_part solid named refl) (between_part makes-Assign refl refl)) (join (part solid solid makes-New refl refl refl refl) (parens loose refl (some (follow (name_part solid class refl) many))))), past nl (past z v))
 mline_shows room deep d _ i r (IsMline.setup {n} {xs} h o a l z nl) s =
     let (named, t) = name_shows _ _ _ a (past_open o (past h s)) in
-    let (each, u) = behind_shows deep.disj ExprPart d.disj m.Comma xs _ _ l t in
-    let others = behind_optional comma_part (all_at_least either (map shown xs)) (each_at_least either xs each) in
+    let (each, u) = after_shows deep.disj ExprPart d.disj m.Comma xs _ _ l t in
+    let others = after_optional comma_part (all_at_least either (map shown xs)) (each_at_least either xs each) in
     (λ level. line_starts level (join (part solid solid makes-Setup refl refl refl refl) (parens loose refl (some (follow (name_part solid named refl) others)))), past nl (past z u))
 
 -- ---- messages and classes

@@ -77,7 +77,7 @@ each_at_least asked (x ∷ xs) each = (as_solid (at_least_part asked (shown x) e
 pub call_part : {k : Mark} {b : List ℕ} → Makes k b → begins_equal k ≡ false → opens k ≡ false → closes k ≡ false → (xs : List Expr) → EachHas ExprPart xs → IsOperand (call k b (all_at_least either (map shown xs)))
 call_part {k} {b} named e o c xs each = join (part operand solid named (ap not e) refl o c) (listed_parens loose refl (all_at_least either (map shown xs)) (each_at_least either xs each))
 
--- behind the `=` of a pattern
+-- after the `=` of a pattern
 or_third : (x y z : Bool) → z ≡ true → (x || y || z) ≡ true
 or_third true y z e = refl
 or_third false true z e = refl

@@ -2,7 +2,7 @@
 use Rattle.std.proofs.Common.{◌≡◌, ℕ, ◌+◌, ◌-◌, Bool, true, false, not, ◌||◌, List, [], ◌∷◌, ◌++◌, refl, sym, ap, ◌∙◌, subst, arith, append_assoc, append-nil}
 use Rattle.std.specs.Prelude.{if◌then◌else◌}
 use Rattle.da_values.specs.declared.token.Mark.{Mark}
-use Rattle.da_unparse.specs.Pieces.{Piece, gap, token, one, between, before, behind, joined}
+use Rattle.da_unparse.specs.Pieces.{Piece, gap, token, one, between, before, each_after, joined}
 use Rattle.da_unparse.specs.Printable.{Makes, opens, closes, stands_alone, begins_equal, leads, may_touch, Touch, opened, open_behind, IsPrintable}
 
 -- What a part begins or ends with: a token; one that is neither `=` nor `==`; a gap or a token that stands alone.
@@ -112,7 +112,7 @@ operand_solid (token k b) h = refl
 pub as_solid : {z : Side} {ps : List Piece} → Part operand z ps → Part solid z ps
 as_solid o = record { first = o.first; last = o.last; first_is = operand_solid o.first o.first_is; last_is = o.last_is; touch = o.touch; closed = o.closed }
 
--- what may be absent, behind a token
+-- what may be absent, after a token
 pub follow : {a : Side} {ps qs : List Piece} → Part a solid ps → Optional loose solid qs → Part a solid (ps ++ qs)
 follow {a} {ps} l none = subst (Part a solid) (sym (append-nil ps)) l
 follow l (some r) = join l r
@@ -126,7 +126,7 @@ ahead (some l) r = join l r
 pub between_part : {k : Mark} {b : List ℕ} → Makes k b → opens k ≡ false → closes k ≡ false → Part loose loose (between k b)
 between_part proper o c = next gap_part (join (part solid solid proper refl refl o c) gap_part)
 
--- a word with a space behind it
+-- a word with a space after it
 pub before_part : {k : Mark} {b : List ℕ} → Makes k b → begins_equal k ≡ false → opens k ≡ false → closes k ≡ false → Part operand loose (before k b)
 before_part proper e o c = join (part operand solid proper (ap not e) refl o c) gap_part
 
@@ -137,12 +137,12 @@ abbrev pub Each : List (List Piece) → Type 0
 Each [] = Unit {0}
 Each (ps ∷ pss) = Part solid solid ps × Each pss
 
-pub behind_optional : {separator : List Piece} → Part loose loose separator → (pss : List (List Piece)) → Each pss → Optional loose solid (behind separator pss)
-behind_optional s [] each = none
-behind_optional s (ps ∷ pss) each = some (follow (next s each.0) (behind_optional s pss each.1))
+pub after_optional : {separator : List Piece} → Part loose loose separator → (pss : List (List Piece)) → Each pss → Optional loose solid (each_after separator pss)
+after_optional s [] each = none
+after_optional s (ps ∷ pss) each = some (follow (next s each.0) (after_optional s pss each.1))
 
 pub joined_part : {a : Side} {separator ps : List Piece} → Part loose loose separator → Part a solid ps → (pss : List (List Piece)) → Each pss → Part a solid (joined separator (ps ∷ pss))
-joined_part s l pss each = follow l (behind_optional s pss each)
+joined_part s l pss each = follow l (after_optional s pss each)
 
 pub joined_optional : {separator : List Piece} → Part loose loose separator → (pss : List (List Piece)) → Each pss → Optional solid solid (joined separator pss)
 joined_optional s [] each = none

@@ -7,7 +7,7 @@ use Rattle.da_values.specs.declared.token.Mark.{Mark}
 use Rattle.da_values.specs.declared.token.Mark.TheVariants as m
 use Rattle.da_values.specs.Marks.{Tok}
 use Rattle.da_values.specs.Piece.{number_max, in_quotes}
-use Rattle.da_lang.specs.Spelling.{Spelling, Room, IsSpelled, At, at, Opens, opens, Named, named, Number, number, Quoted, quoted, Separated, Closed, Behind}
+use Rattle.da_lang.specs.Spelling.{Spelling, Room, IsSpelled, At, at, Opens, opens, Named, named, Number, number, Quoted, quoted, Separated, Closed, EachAfter}
 use Rattle.da_unparse.specs.Pieces.{Piece, token, comma, in_parens, listed, tupled}
 use Rattle.da_unparse.specs.Printable.{Makes}
 use Rattle.da_unparse.proofs.PrintedParts.{Side, solid, operand, loose, is_side, Part, Optional, some, part, gap_part, join, Each, joined_optional, bracketed}
@@ -17,7 +17,7 @@ use Rattle.da_unparse.proofs.PrintedWords.{makes-OpenParen, makes-CloseParen, ma
 abbrev pub Spelt : List Tok → Type 0
 Spelt = All IsSpelled
 
--- what these tokens spell has P, and the tokens behind it are spelled too
+-- what these tokens spell has P, and the tokens after it are spelled too
 abbrev pub Shows : {A : Type 0} → Spelling A → (A → Type 0) → Type 0
 Shows {A} G P = (x : A) (i r : List Tok) → G x i r → Spelt i → P x × Spelt r
 
@@ -70,11 +70,11 @@ module _ {A : Type 0} (Item : Spelling A) (P : A → Type 0) (shows : Shows Item
   closed_shows close _ i r (Closed.empty h) s = (tt, past h s)
   closed_shows close xs i r (Closed.full l h) s = let (more, t) = separated_shows m.Comma xs _ _ l s in (each_of_some P xs more, past h t)
 
-  pub behind_shows : (k : Mark) → Shows (Behind k Item) (EachHas P)
-  behind_shows k _ i r Behind.none s = (tt, s)
-  behind_shows k _ i r (Behind.one h a l) s =
+  pub after_shows : (k : Mark) → Shows (EachAfter k Item) (EachHas P)
+  after_shows k _ i r EachAfter.none s = (tt, s)
+  after_shows k _ i r (EachAfter.one h a l) s =
       let (x, t) = shows _ _ _ a (past h s) in
-      let (more, u) = behind_shows k _ _ _ l t in
+      let (more, u) = after_shows k _ _ _ l t in
       ((x, more), u)
 
 -- ---- commas and parentheses

@@ -16,7 +16,7 @@ use Rattle.da_lang.specs.declared.tree.Tree.{Tree}
 use Rattle.da_lang.specs.declared.ty.Ty.{Ty}
 use Rattle.da_unparse.specs.Expressions.{all_at_least, at_least, either, shown, pattern_pieces, type_pieces}
 use Rattle.da_unparse.specs.Lines.{Line, lines_text}
-use Rattle.da_unparse.specs.Pieces.{gap, token, one, name, before, between, behind, colon, comma, close_paren, in_parens, listed, text_of}
+use Rattle.da_unparse.specs.Pieces.{gap, token, one, name, before, between, each_after, colon, comma, close_paren, in_parens, listed, text_of}
 use Rattle.da_unparse.specs.Programs.{param, params, sender, labels, count, kind_lines, message_lines, member_lines, class_lines, main_line_lines, main_lines, tree_lines, tree_text}
 use Rattle.da_unparse.specs.ProgramTexts.{param_text, params_text, sender_text, labels_text, count_text, member_text, members_text, kind_text, message_text, messages_text, class_text, classes_text, main_line_text, main_lines_text, main_text}
 use Rattle.da_unparse.specs.Statements.{line}
@@ -42,7 +42,7 @@ unfolding sender_text pattern_text
 sender_is None = refl
 sender_is (Some p) = refl
 
-names_are : (ns : List (List ℕ)) → text_of (behind comma (map name ns)) ≡ flat_map (λ n. codes ", " ++ n) ns
+names_are : (ns : List (List ℕ)) → text_of (each_after comma (map name ns)) ≡ flat_map (λ n. codes ", " ++ n) ns
 names_are [] = refl
 names_are (n ∷ ns) = ap (λ t. codes ", " ++ (n ++ t)) (names_are ns)
 
@@ -109,10 +109,10 @@ main_line_text-New n c many at = line_is (name n ++ between m.Assign (codes "=")
 
 pub main_line_text-Setup : (n : List ℕ) (xs : List Expr) (at : ℕ) → main_line_text (main_line.Setup n xs at) ≡ codes "    setup(" ++ n ++ flat_map (λ x. codes ", " ++ text_at either x) xs ++ codes ")\n"
 unfolding main_line_text text_at margin
-main_line_text-Setup n xs at = line_is (token m.Setup (codes "setup") ∷ in_parens (name n ++ behind comma (all_at_least either (map shown xs)))) 1
+main_line_text-Setup n xs at = line_is (token m.Setup (codes "setup") ∷ in_parens (name n ++ each_after comma (all_at_least either (map shown xs)))) 1
     ∙ ap (λ t. codes "    setup(" ++ (n ++ t) ++ codes "\n")
-    (text_of-append (behind comma (all_at_least either (map shown xs))) close_paren
-    ∙ ap (λ t. t ++ codes ")") (ap (λ pss. text_of (behind comma pss)) (operands_are either xs) ∙ behind_is comma (λ x. at_least either (shown x)) xs))
+    (text_of-append (each_after comma (all_at_least either (map shown xs))) close_paren
+    ∙ ap (λ t. t ++ codes ")") (ap (λ pss. text_of (each_after comma pss)) (operands_are either xs) ∙ behind_is comma (λ x. at_least either (shown x)) xs))
     ∙ ended (codes "    setup(") n (flat_map (λ x. codes ", " ++ text_at either x) xs) (codes ")") (codes "\n")
 
 pub main_text-of : (ls : List MainLine) → main_text ls ≡ codes "def main():\n" ++ main_lines_text ls

@@ -50,7 +50,7 @@ three_front m n w e = two_front m n (w ++ e) ∙ two_front (m ++ n) w e
 pub ended : (m w e p q : List ℕ) → m ++ (w ++ (e ++ p)) ++ q ≡ m ++ w ++ e ++ (p ++ q)
 ended m w e p q = ap (λ t. t ++ q) (three_front m w e p) ∙ append_assoc (m ++ w ++ e) p q
 
--- a condition and a block behind a word
+-- a condition and a block after a word
 branch_is : (k : Mark) (bytes : List ℕ) (level : ℕ) (b : Branch) → lines_text (guarded k bytes (guarded_of b) level) ≡ branch_text (bytes ++ codes " ") level b
 unfolding branch_text worded_line expr_text
 branch_is k bytes level b =
@@ -71,7 +71,7 @@ branches_are k bytes l others level [] = refl
 branches_are k bytes l others level (b ∷ bs) =
     lines_text-append (guarded k bytes (guarded_of b) level) (each_guarded l others (map guarded_of bs) level) ∙ rw (branch_is k bytes level b, each_are l others level bs) refl
 
--- a block behind a word alone
+-- a block after a word alone
 block_alone : (k : Mark) (bytes : List ℕ) (level : ℕ) (body : List Stmt) → lines_text (headed (one k bytes) (map stmt_lines body) level) ≡ block_text (bytes ++ codes ":") level body
 unfolding block_text plain_line
 block_alone k bytes level body =

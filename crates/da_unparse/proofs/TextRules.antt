@@ -18,11 +18,11 @@ seen (Err e) old mid new t u wrote same = wrote
 pub told : {E : Type 0} (r : Result (Unit {0}) E) (old new t u : List ℕ) → OnOk r (new ≡ old ++ t) → t ≡ u → OnOk r (new ≡ old ++ u)
 told r old new t u wrote same = seen r old old new t u wrote (ap (λ v. old ++ v) same)
 
--- two texts behind one another
+-- two texts one after another
 pub two_parts : (old a first second all : List ℕ) → a ≡ old ++ first → all ≡ first ++ second → a ++ second ≡ old ++ all
 two_parts old a first second all one same = ap (λ u. u ++ second) one ∙ append_assoc old first second ∙ ap (λ u. old ++ u) (sym same)
 
--- three texts behind one another
+-- three texts one after another
 pub three_parts : (old a b first second third all : List ℕ) → a ≡ old ++ first → b ≡ a ++ second → all ≡ first ++ second ++ third → b ++ third ≡ old ++ all
 three_parts old a b first second third all one two same =
     ap (λ u. u ++ third) (two ∙ ap (λ u. u ++ second) one ∙ append_assoc old first second) ∙ append_assoc old (first ++ second) third ∙ ap (λ u. old ++ u) (sym same)
@@ -43,7 +43,7 @@ holds-first_link x (d ∷ links) c some here = at.holds-Chain x d links ∙ ap (
 
 pub ruleset type_rules = (append_assoc, at.type_text-Int, at.type_text-Bool, at.type_text-Text, at.type_text-Proc, at.type_text-Tuple, at.type_text-Set)
 
--- calls with one argument, behind the word with its parenthesis
+-- calls with one argument, after the word with its parenthesis
 pub expr_text-count : (x : Expr) → expr_text (ex.Count x) ≡ codes "count(" ++ text_at either x ++ codes ")"
 unfolding one_argument
 expr_text-count x = at.expr_text-Count x

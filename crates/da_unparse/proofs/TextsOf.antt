@@ -8,7 +8,7 @@ use Rattle.da_values.specs.declared.token.Mark.{Mark}
 use Rattle.da_values.specs.declared.token.Mark.TheVariants as m
 use Rattle.da_lang.specs.declared.tree.Expr.{Expr}
 use Rattle.da_unparse.specs.Expressions.{shown, at_least, all_at_least}
-use Rattle.da_unparse.specs.Pieces.{Piece, token, one, piece_text, text_of, joined, behind, comma, listed, tupled, in_parens}
+use Rattle.da_unparse.specs.Pieces.{Piece, token, one, piece_text, text_of, joined, each_after, comma, listed, tupled, in_parens}
 use Rattle.da_unparse.specs.Texts.{holds, text_at, expr_text, separated, tuple_end}
 
 pub text_of-append : (xs ys : List Piece) → text_of (xs ++ ys) ≡ text_of xs ++ text_of ys
@@ -18,14 +18,14 @@ pub text_of-three : (xs ys zs : List Piece) → text_of (xs ++ ys ++ zs) ≡ tex
 text_of-three xs ys zs = text_of-append (xs ++ ys) zs ∙ ap (λ t. t ++ text_of zs) (text_of-append xs ys)
 
 pub behind_is : {A : Type 0} (separator : List Piece) (f : A → List Piece) (xs : List A)
-    → text_of (behind separator (map f xs)) ≡ flat_map (λ y. text_of separator ++ text_of (f y)) xs
+    → text_of (each_after separator (map f xs)) ≡ flat_map (λ y. text_of separator ++ text_of (f y)) xs
 behind_is separator f [] = refl
-behind_is separator f (x ∷ xs) = rw (text_of-append (separator ++ f x) (behind separator (map f xs)), text_of-append separator (f x), behind_is separator f xs) refl
+behind_is separator f (x ∷ xs) = rw (text_of-append (separator ++ f x) (each_after separator (map f xs)), text_of-append separator (f x), behind_is separator f xs) refl
 
 pub joined_is : {A : Type 0} (separator : List Piece) (f : A → List Piece) (xs : List A)
     → text_of (joined separator (map f xs)) ≡ separated (text_of separator) (λ y. text_of (f y)) xs
 joined_is separator f [] = refl
-joined_is separator f (x ∷ xs) = text_of-append (f x) (behind separator (map f xs)) ∙ ap (λ t. text_of (f x) ++ t) (behind_is separator f xs)
+joined_is separator f (x ∷ xs) = text_of-append (f x) (each_after separator (map f xs)) ∙ ap (λ t. text_of (f x) ++ t) (behind_is separator f xs)
 
 pub bracketed_is : (front back : List ℕ) (k l : Mark) (ps : List Piece) → text_of (one k front ++ ps ++ one l back) ≡ front ++ text_of ps ++ back
 bracketed_is front back k l ps = rw (text_of-append (token k front ∷ ps) (one l back), append-nil back) refl

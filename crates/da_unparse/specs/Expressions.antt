@@ -101,7 +101,7 @@ call k bytes args = record { holds = signed; pieces = token k bytes ∷ in_paren
 abbrev pub atom : List Piece → Shown
 atom ps = record { holds = signed; pieces = ps }
 
--- a condition behind `|`
+-- a condition after `|`
 abbrev pub condition : Option Shown → List Piece
 condition None = []
 condition (Some x) = between m.Bar (codes "|") ++ x.pieces

@@ -38,17 +38,17 @@ close_paren = one m.CloseParen (codes ")")
 abbrev pub between : Mark → List ℕ → List Piece
 between k bytes = gap ∷ token k bytes ∷ gap ∷ []
 
--- a word with a space behind it
+-- a word with a space after it
 abbrev pub before : Mark → List ℕ → List Piece
 before k bytes = token k bytes ∷ gap ∷ []
 
 -- with something between each two
-abbrev pub behind : List Piece → List (List Piece) → List Piece
-behind separator = flat_map (λ ps. separator ++ ps)
+abbrev pub each_after : List Piece → List (List Piece) → List Piece
+each_after separator = flat_map (λ ps. separator ++ ps)
 
 abbrev pub joined : List Piece → List (List Piece) → List Piece
 joined separator [] = []
-joined separator (ps ∷ pss) = ps ++ behind separator pss
+joined separator (ps ∷ pss) = ps ++ each_after separator pss
 
 -- with commas between
 abbrev pub listed : List (List Piece) → List Piece
@@ -57,7 +57,7 @@ listed = joined comma
 abbrev pub in_parens : List Piece → List Piece
 in_parens ps = open_paren ++ ps ++ close_paren
 
--- the parts of a tuple; one part alone has a comma behind it
+-- the parts of a tuple; one part alone has a comma after it
 abbrev pub tupled : List (List Piece) → List Piece
 tupled (ps ∷ []) = open_paren ++ ps ++ one m.Comma (codes ",") ++ close_paren
 tupled pss = in_parens (listed pss)

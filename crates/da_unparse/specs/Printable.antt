@@ -68,7 +68,7 @@ abbrev pub Touch : Piece → List Piece → Piece → Type 0
 Touch p [] q = may_touch p q ≡ true
 Touch p (r ∷ ps) q = (may_touch p r ≡ true) × IsProper r × Touch r ps q
 
--- how many brackets are open behind a piece, and behind some
+-- how many brackets are open after a piece, and after some
 abbrev pub opened : ℕ → Piece → ℕ
 opened n gap = n
 opened n (token k bytes) = if opens k then n + 1 else if closes k then n - 1 else n

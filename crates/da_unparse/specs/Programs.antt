@@ -16,7 +16,7 @@ use Rattle.da_lang.specs.declared.ty.ChannelKind.{ChannelKind}
 use Rattle.da_lang.specs.declared.ty.ChannelKind.TheVariants as kind
 use Rattle.da_unparse.specs.Expressions.{all_at_least, either, shown, pattern_pieces, type_pieces}
 use Rattle.da_unparse.specs.Lines.{Line, lines_text}
-use Rattle.da_unparse.specs.Pieces.{Piece, gap, token, one, name, comma, colon, between, before, behind, in_parens, listed}
+use Rattle.da_unparse.specs.Pieces.{Piece, gap, token, one, name, comma, colon, between, before, each_after, in_parens, listed}
 use Rattle.da_unparse.specs.Statements.{Block, line, then, body_lines}
 
 -- a header with its colon, and the statements of its block
@@ -58,7 +58,7 @@ count (Some n) = comma ++ one m.Number (decimal n)
 
 abbrev pub main_line_lines : MainLine → Block
 main_line_lines (main_line.New n c many at) = line (name n ++ between m.Assign (codes "=") ++ token m.New (codes "new") ∷ in_parens (name c ++ count many))
-main_line_lines (main_line.Setup n xs at) = line (token m.Setup (codes "setup") ∷ in_parens (name n ++ behind comma (all_at_least either (map shown xs))))
+main_line_lines (main_line.Setup n xs at) = line (token m.Setup (codes "setup") ∷ in_parens (name n ++ each_after comma (all_at_least either (map shown xs))))
 
 abbrev pub main_lines : List MainLine → Block
 main_lines ls level = line (before m.Def (codes "def") ++ token m.Main (codes "main") ∷ in_parens [] ++ colon) level ++ flat_map (λ l. main_line_lines l (level + 1)) ls

@@ -18,7 +18,7 @@ pub fn put_expr(x: &Expr, out: &mut Buf) -> Result<(), NoMemory>
 {
     match x {
         Expr::Quant { each, gens, cond } => {
-            put_gens_behind(quantifier(*each), gens.as_slice(), out)?;
+            put_gens_after(quantifier(*each), gens.as_slice(), out)?;
             put_condition(cond, out)
         }
         Expr::Or(parts) => put_operands(b" or ", Level::Both, parts.as_slice(), out),
@@ -54,7 +54,7 @@ pub fn put_expr(x: &Expr, out: &mut Buf) -> Result<(), NoMemory>
         Expr::SetOf(elements) => put_parts(b"{", elements.as_slice(), b"}", out),
         Expr::Comp { term, gens, cond } => {
             put_behind(b"{", Level::Either, term.get(), out)?;
-            put_gens_behind(b": ", gens.as_slice(), out)?;
+            put_gens_after(b": ", gens.as_slice(), out)?;
             put_last_condition(cond, out)
         }
         Expr::Count(part) => put_within(b"count(", part.get(), b")", out),
@@ -85,7 +85,7 @@ pub fn put_at(asked: Level, x: &Expr, out: &mut Buf) -> Result<(), NoMemory>
     }
 }
 
-/// Appends a word, and behind it an expression in a place that asks for this level.
+/// Appends a word, and after it an expression in a place that asks for this level.
 #[cycle(exprs)]
 fn put_behind(word: &[u8], asked: Level, x: &Expr, out: &mut Buf) -> Result<(), NoMemory>
     ensures { OnOk result (out.new ≡ out.old ++ (word.now ++ text_at (rank asked) x.now)) }
@@ -135,7 +135,7 @@ pub fn put_operands(
     }
 }
 
-/// Appends the further operands of a chain, each behind its sign.
+/// Appends the further operands of a chain, each after its sign.
 #[cycle(exprs)]
 #[tactic(auto, unfolding(crate::specs::Texts::link_text))]
 fn put_links(asked: Level, links: &[ChainTree], out: &mut Buf) -> Result<(), NoMemory>
@@ -147,7 +147,7 @@ fn put_links(asked: Level, links: &[ChainTree], out: &mut Buf) -> Result<(), NoM
     Ok(())
 }
 
-/// Appends a condition behind `|`.
+/// Appends a condition after `|`.
 #[cycle(exprs)]
 #[tactic(auto, unfolding(crate::specs::Texts::condition_text))]
 fn put_condition(cond: &Option<Boxed<Expr>>, out: &mut Buf) -> Result<(), NoMemory>
@@ -162,7 +162,7 @@ fn put_condition(cond: &Option<Boxed<Expr>>, out: &mut Buf) -> Result<(), NoMemo
     }
 }
 
-/// Appends a condition behind `|`, where there is one, and closes the brace before it.
+/// Appends a condition after `|`, where there is one, and closes the brace before it.
 #[cycle(exprs)]
 fn put_last_condition(cond: &Option<Boxed<Expr>>, out: &mut Buf) -> Result<(), NoMemory>
     ensures { OnOk result (out.new ≡ out.old ++ (condition_text cond.now ++ codes "}")) }
@@ -171,9 +171,9 @@ fn put_last_condition(cond: &Option<Boxed<Expr>>, out: &mut Buf) -> Result<(), N
     out.append(b"}")
 }
 
-/// Appends a word, and behind it generators with commas between.
+/// Appends a word, and after it generators with commas between.
 #[cycle(exprs)]
-fn put_gens_behind(word: &[u8], gens: &[GenTree], out: &mut Buf) -> Result<(), NoMemory>
+fn put_gens_after(word: &[u8], gens: &[GenTree], out: &mut Buf) -> Result<(), NoMemory>
     ensures { OnOk result (out.new ≡ out.old ++ (word.now ++ separated (codes ", ") gen_text gens.now)) }
 {
     out.append(word)?;
@@ -205,11 +205,11 @@ fn put_gen(generator: &GenTree, out: &mut Buf) -> Result<(), NoMemory>
 {
     put_pattern(&generator.message, out)?;
     put_peer(&generator.peer, out)?;
-    put_source_behind(&generator.source, out)
+    put_source_after(&generator.source, out)
 }
 
-// Appends what a generator goes through, behind `in`.
-fn put_source_behind(source: &SourceTree, out: &mut Buf) -> Result<(), NoMemory>
+// Appends what a generator goes through, after `in`.
+fn put_source_after(source: &SourceTree, out: &mut Buf) -> Result<(), NoMemory>
     ensures { OnOk result (out.new ≡ out.old ++ (codes " in " ++ source_text source.now)) }
 {
     out.append(b" in ")?;
@@ -224,14 +224,14 @@ fn put_peer(peer: &Option<PeerTree>, out: &mut Buf) -> Result<(), NoMemory>
 {
     match peer {
         None => Ok(()),
-        Some(PeerTree::From(pattern)) => put_pattern_behind(b" from ", pattern, out),
-        Some(PeerTree::To(pattern)) => put_pattern_behind(b" to ", pattern, out),
+        Some(PeerTree::From(pattern)) => put_pattern_after(b" from ", pattern, out),
+        Some(PeerTree::To(pattern)) => put_pattern_after(b" to ", pattern, out),
     }
 }
 
-/// Appends a word, and behind it a pattern.
+/// Appends a word, and after it a pattern.
 #[cycle(exprs)]
-fn put_pattern_behind(word: &[u8], pattern: &PatternTree, out: &mut Buf) -> Result<(), NoMemory>
+fn put_pattern_after(word: &[u8], pattern: &PatternTree, out: &mut Buf) -> Result<(), NoMemory>
     ensures { OnOk result (out.new ≡ out.old ++ (word.now ++ pattern_text pattern.now)) }
 {
     out.append(word)?;
@@ -270,7 +270,7 @@ fn put_patterns(patterns: &[PatternTree], out: &mut Buf) -> Result<(), NoMemory>
         [first, rest @ ..] => {
             put_pattern(first, out)?;
             for pattern in rest {
-                put_pattern_behind(b", ", pattern, out)?;
+                put_pattern_after(b", ", pattern, out)?;
             }
             Ok(())
         }

@@ -1,6 +1,6 @@
 //! How tightly expressions hold together.
 ghost use Rattle.da_unparse.specs.Levels.{rank as rank_of};
-ghost use Rattle.da_unparse.specs.Texts.{asked_by as asked_by_lem, held_by as held_by_lem, holds};
+ghost use Rattle.da_unparse.specs.Texts.{asked_by as asked_by_def, held_by as held_by_def, holds};
 ghost use Rattle.std.specs.Prelude.{◌≡◌};
 
 use da_lang::{ArithOp, Expr};
@@ -47,7 +47,7 @@ impl Level {
 /// The level of a chain with this first sign.
 #[tactic(auto, unfolding(crate::specs::Texts::held_by))]
 pub fn held_by(op: ArithOp) -> Level
-    ensures { rank_of result ≡ held_by_lem op }
+    ensures { rank_of result ≡ held_by_def op }
 {
     match op {
         ArithOp::Plus | ArithOp::Minus => Level::Sum,
@@ -58,7 +58,7 @@ pub fn held_by(op: ArithOp) -> Level
 /// The level that the operands of such a chain ask for.
 #[tactic(auto, unfolding(crate::specs::Texts::asked_by))]
 pub fn asked_by(op: ArithOp) -> Level
-    ensures { rank_of result ≡ asked_by_lem op }
+    ensures { rank_of result ≡ asked_by_def op }
 {
     match op {
         ArithOp::Plus | ArithOp::Minus => Level::Product,

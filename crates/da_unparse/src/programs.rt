@@ -123,7 +123,7 @@ fn put_main(lines: &[MainLine], out: &mut Buf) -> Result<(), NoMemory>
     put_main_lines(lines, out)
 }
 
-/// Appends the lines of `main` behind its header.
+/// Appends the lines of `main` after its header.
 #[tactic(auto, unfolding(crate::specs::ProgramTexts::main_lines_text))]
 fn put_main_lines(lines: &[MainLine], out: &mut Buf) -> Result<(), NoMemory>
     ensures { OnOk result (out.new ≡ out.old ++ main_lines_text lines.now) }
@@ -180,7 +180,7 @@ fn put_count(count: Option<u64>, out: &mut Buf) -> Result<(), NoMemory>
     }
 }
 
-/// Appends arguments, each behind a comma.
+/// Appends arguments, each after a comma.
 fn put_arguments(args: &[Expr], out: &mut Buf) -> Result<(), NoMemory>
     ensures { OnOk result (out.new ≡ out.old ++ flat_map (λ x. codes ", " ++ text_at either x) args.now) }
 {

@@ -103,7 +103,7 @@ pub fn put_stmts(level: usize, stmts: &[Stmt], out: &mut Buf) -> Result<(), NoMe
     Ok(())
 }
 
-/// Appends conditions and their blocks, the first behind one word and the others behind another.
+/// Appends conditions and their blocks, the first after one word and the others after another.
 #[cycle(stmts)]
 #[tactic(auto, unfolding(crate::specs::Texts::branches_text))]
 fn put_branches(
@@ -127,7 +127,7 @@ fn put_branches(
     }
 }
 
-/// Appends a condition and its block behind a word.
+/// Appends a condition and its block after a word.
 #[cycle(stmts)]
 #[tactic(auto, unfolding(crate::specs::Texts::branch_text))]
 fn put_branch(level: usize, word: &[u8], branch: &Branch, out: &mut Buf) -> Result<(), NoMemory>
@@ -137,7 +137,7 @@ fn put_branch(level: usize, word: &[u8], branch: &Branch, out: &mut Buf) -> Resu
     put_stmts(deeper(level)?, branch.body.as_slice(), out)
 }
 
-/// Appends a block behind a word alone.
+/// Appends a block after a word alone.
 #[cycle(stmts)]
 #[tactic(auto, unfolding(crate::specs::Texts::block_text))]
 fn put_block(level: usize, word: &[u8], body: &[Stmt], out: &mut Buf) -> Result<(), NoMemory>

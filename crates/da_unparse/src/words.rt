@@ -1,5 +1,5 @@
 //! Strings, signs and words.
-ghost use Rattle.da_unparse.specs.Texts.{cmp_word as cmp_word_lem, op_word as op_word_lem, quantifier_text, source_text, truth_text, tuple_end};
+ghost use Rattle.da_unparse.specs.Texts.{cmp_word as cmp_word_def, op_word as op_word_def, quantifier_text, source_text, truth_text, tuple_end};
 ghost use Rattle.std.specs.Prelude.{◌≡◌, ◌++◌, codes, OnOk};
 
 use da_lang::{ArithOp, CmpOp, SourceTree};
@@ -25,7 +25,7 @@ pub fn truth(b: bool) -> &'static [u8]
     }
 }
 
-/// `some` or `each`, with the space behind it.
+/// `some` or `each`, with the space after it.
 #[tactic(auto, unfolding(crate::specs::Texts::quantifier_text))]
 pub fn quantifier(each: bool) -> &'static [u8]
     ensures { result.now ≡ quantifier_text each }
@@ -39,7 +39,7 @@ pub fn quantifier(each: bool) -> &'static [u8]
 /// The sign of an arithmetic operation, with the spaces round it.
 #[tactic(auto, unfolding(crate::specs::Texts::op_word))]
 pub fn op_word(op: ArithOp) -> &'static [u8]
-    ensures { result.now ≡ op_word_lem op }
+    ensures { result.now ≡ op_word_def op }
 {
     match op {
         ArithOp::Plus => b" + ",
@@ -53,7 +53,7 @@ pub fn op_word(op: ArithOp) -> &'static [u8]
 /// The sign of a comparison, with the spaces round it.
 #[tactic(auto, unfolding(crate::specs::Texts::cmp_word))]
 pub fn cmp_word(op: CmpOp) -> &'static [u8]
-    ensures { result.now ≡ cmp_word_lem op }
+    ensures { result.now ≡ cmp_word_def op }
 {
     match op {
         CmpOp::Eq => b" == ",
@@ -77,7 +77,7 @@ pub fn put_source(source: &SourceTree, out: &mut Buf) -> Result<(), NoMemory>
     }
 }
 
-/// What closes a tuple of so many parts; one part alone has a comma behind it.
+/// What closes a tuple of so many parts; one part alone has a comma after it.
 #[tactic(auto, unfolding(crate::specs::Texts::tuple_end))]
 pub fn tuple_end_of(parts: usize) -> &'static [u8]
     ensures { result.now ≡ tuple_end parts }

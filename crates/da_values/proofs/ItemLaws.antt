@@ -76,8 +76,8 @@ module _ (depth : ℕ) (bytes : List ℕ) (done : List Val) (left : List ℕ) (b
   tail_values : (y : Val) (ys : List Val) → AreValues (y ∷ ys) → AreValues ys
   tail_values y ys (more _ _ first others) = others
 
-  behind_comma : (a b : List ℕ) → codes ", " ++ a ≡ codes ", " ++ b → a ≡ b
-  behind_comma a b e = cc
+  after_comma : (a b : List ℕ) → codes ", " ++ a ≡ codes ", " ++ b → a ≡ b
+  after_comma a b e = cc
 
   pub read_more : (next : List ℕ) → rest ≡ codes ", " ++ next → ReadSoFar depth bytes (done ++ x ∷ []) next
   read_more next comma = record {
@@ -98,7 +98,7 @@ module _ (depth : ℕ) (bytes : List ℕ) (done : List Val) (left : List ℕ) (b
           let found = only y (later (z ∷ zs) ++ t) first.0 first.1 in (
             z ∷ zs,
             same ∙ ap (λ v. done ++ v ∷ z ∷ zs) (sym found.0) ∙ sym (append_assoc done (x ∷ []) (z ∷ zs)),
-            record { values = tail_values y (z ∷ zs) each.values; some = omega arith; nested = omega (arith, each.nested); is = behind_comma next (separated (map value_text (z ∷ zs)) ++ t) (sym comma ∙ found.1) },
+            record { values = tail_values y (z ∷ zs) each.values; some = omega arith; nested = omega (arith, each.nested); is = after_comma next (separated (map value_text (z ∷ zs)) ++ t) (sym comma ∙ found.1) },
           )
 
   pub all_read : SpellsEach depth (done ++ x ∷ []) bytes rest

@@ -85,9 +85,9 @@ module _ {A : Type 0} where
   pub IsAlike-trans : (xs ys zs : List A) → IsAlike xs ys → IsAlike ys zs → IsAlike xs zs
   IsAlike-trans xs ys zs f g z = (λ h. (g z).0 ((f z).0 h), λ h. (f z).1 ((g z).1 h))
 
-  behind_option : (o : Option A) (zs : List A) (z : A) → Has zs z → Has (cons_option o zs) z
-  behind_option None zs z h = h
-  behind_option (Some y) zs z h = inr h
+  after_option : (o : Option A) (zs : List A) (z : A) → Has zs z → Has (cons_option o zs) z
+  after_option None zs z h = h
+  after_option (Some y) zs z h = inr h
 
   at_option : (o : Option A) (zs : List A) (z : A) → o ≡ Some z → Has (cons_option o zs) z
   at_option None zs z e = absurd (cc)
@@ -124,7 +124,7 @@ module _ {A B : Type 0} where
   pub Has-filter_map : (f : A → Option B) (xs : List A) (x : A) (z : B) → Has xs x → f x ≡ Some z → Has (filter_map f xs) z
   Has-filter_map f [] x z h e = absurd h
   Has-filter_map f (y ∷ ys) x z (inl i) e = at_option (f y) (filter_map f ys) z (ap f (sym i) ∙ e)
-  Has-filter_map f (y ∷ ys) x z (inr h) e = behind_option (f y) (filter_map f ys) z (Has-filter_map f ys x z h e)
+  Has-filter_map f (y ∷ ys) x z (inr h) e = after_option (f y) (filter_map f ys) z (Has-filter_map f ys x z h e)
 
   pub of_filter_map : (f : A → Option B) (xs : List A) (z : B) → Has (filter_map f xs) z → (x : A) × Has xs x × (f x ≡ Some z)
   of_filter_map f [] z h = absurd h

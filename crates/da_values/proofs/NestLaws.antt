@@ -19,7 +19,7 @@ use Rattle.da_values.proofs.ReadLaws.{proper_at, no_stop_spelled}
 use Rattle.da_values.proofs.TextLemmas.{value_text_of}
 use Rattle.da_values.proofs.WordLaws.{first_same}
 
--- the values stand behind an opening bracket, and then the ending
+-- the values stand after an opening bracket, and then the ending
 pub record Inside (depth : ℕ) (xs : List Val) (bytes ending : List ℕ) : Type 0 where
   pub values : AreValues xs
   pub nested : 1 + deepest (map nesting xs) ≤ depth
@@ -99,7 +99,7 @@ pub none_or_each : (depth : ℕ) (xs : List Val) (bytes ending : List ℕ) → I
 none_or_each depth [] bytes ending inside = inl (refl, inside.is)
 none_or_each depth (y ∷ ys) bytes ending inside = inr (record { values = inside.values; some = omega arith; nested = omega (arith, inside.nested); is = inside.is })
 
--- where a byte that may stand behind a value comes first, nothing stands there
+-- where a byte that may stand after a value comes first, nothing stands there
 pub none_before_stop : (depth : ℕ) (xs : List Val) (b : ℕ) (rest ending : List ℕ) → is_stop b ≡ true → Ends ending → Inside depth xs (b ∷ rest) ending → (xs ≡ []) × (b ∷ rest ≡ ending)
 none_before_stop depth xs b rest ending stop ends inside = go xs (none_or_each depth xs (b ∷ rest) ending inside)
   where

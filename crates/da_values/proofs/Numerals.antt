@@ -64,7 +64,7 @@ IsAscii-signed_decimal_wide (pos n) fits i = IsAscii-decimal_wide n (below_wide 
 IsAscii-signed_decimal_wide (negsuc n) fits zero = omega arith
 IsAscii-signed_decimal_wide (negsuc n) fits (suc i) = IsAscii-decimal_wide (suc n) (below_wide (suc n) (omega (arith, fits.sfits))) i
 
--- no byte may stand behind a value
+-- no byte may stand after a value
 not_stop : (d : ℕ) → 48 ≤ d → d ≤ 57 → is_stop d ≡ false
 not_stop d low high = grind (arith, nat_tests)
 

@@ -12,35 +12,35 @@ use Rattle.da_values.specs.Piece.{is_plain, is_dropped, ends_line, in_comment, i
 use Rattle.da_values.specs.Words.{Entry, symbols, at_front, front_symbol}
 
 -- a piece has a byte, and no more than there are
-pub record IsWithin (p : Piece) (len : ℕ) : Type 0 where
+pub record PieceFits (p : Piece) (len : ℕ) : Type 0 where
   pub some : 1 ≤ size p
   pub within : size p ≤ len
 
-chosen : (b : Bool) (p q : Piece) (len : ℕ) → (b ≡ true → IsWithin p len) → (b ≡ false → IsWithin q len) → IsWithin (if b then p else q) len
+chosen : (b : Bool) (p q : Piece) (len : ℕ) → (b ≡ true → PieceFits p len) → (b ≡ false → PieceFits q len) → PieceFits (if b then p else q) len
 chosen true p q len first second = first refl
 chosen false p q len first second = second refl
 
-one : (p : Piece) (b : ℕ) (z : List ℕ) → size p ≡ 1 → IsWithin p (length (b ∷ z))
+one : (p : Piece) (b : ℕ) (z : List ℕ) → size p ≡ 1 → PieceFits p (length (b ∷ z))
 one p b z e = record { some = omega arith; within = omega arith }
 
 prefix-some : (test : ℕ → Bool) (b : ℕ) (z : List ℕ) → test b ≡ true → 1 ≤ prefix_len test (b ∷ z)
 prefix-some test b z passes = rw passes (omega arith)
 
-quote_end-within : (n : ℕ) (z : List ℕ) → IsWithin (quote_end n z) (n + 1 + length z)
+quote_end-within : (n : ℕ) (z : List ℕ) → PieceFits (quote_end n z) (n + 1 + length z)
 quote_end-within n [] = record { some = omega arith; within = omega arith }
 quote_end-within n (c ∷ z) =
     chosen (c == 39) _ _ _
     (λ yes. record { some = omega arith; within = omega arith })
     (λ no. chosen (ends_line (c ∷ z)) _ _ _ (λ e. record { some = omega arith; within = omega arith }) (λ e. record { some = omega arith; within = omega arith }))
 
-quoted-within : (b : ℕ) (z : List ℕ) → IsWithin (quoted z) (length (b ∷ z))
+quoted-within : (b : ℕ) (z : List ℕ) → PieceFits (quoted z) (length (b ∷ z))
 unfolding quoted
 quoted-within b z =
     let n = prefix_len in_quotes z in
     let e : n + 1 + length (drop n z) ≡ length (b ∷ z) = omega (arith, length-drop n z, prefix_len-le-length in_quotes z) in
     rw e at (quote_end-within n (drop n z))
 
-number-within : (digits : List ℕ) (len : ℕ) → 1 ≤ length digits → length digits ≤ len → IsWithin (number digits) len
+number-within : (digits : List ℕ) (len : ℕ) → 1 ≤ length digits → length digits ≤ len → PieceFits (number digits) len
 unfolding number
 number-within digits len some within =
     chosen (leads_with_zero digits || not (is_some (number_of digits))) _ _ _
@@ -55,7 +55,7 @@ taken-within test text = rw length-prefix_len (prefix_len-le-length test text)
 begins-in : (b : ℕ) → begins_name b ≡ true → in_name b ≡ true
 begins-in b begins = grind (arith, nat_tests)
 
-symbol-within : (text : List ℕ) (found : Option Entry) → IfSome found (λ entry. (1 ≤ length entry.0) × (length entry.0 ≤ length text)) → 1 ≤ length text → IsWithin (symbol found) (length text)
+symbol-within : (text : List ℕ) (found : Option Entry) → IfSome found (λ entry. (1 ≤ length entry.0) × (length entry.0 ≤ length text)) → 1 ≤ length text → PieceFits (symbol found) (length text)
 symbol-within text (Some entry) fits some = record { some = fits.0; within = fits.1 }
 symbol-within text None fits some = record { some = omega arith; within = some }
 
@@ -86,7 +86,7 @@ symbols-some : list_all (λ (entry : Entry). nat_le 1 (length entry.0)) symbols 
 unfolding symbols
 symbols-some = refl
 
-pub piece-within : (b : ℕ) (z : List ℕ) → IsWithin (piece b z) (length (b ∷ z))
+pub piece-within : (b : ℕ) (z : List ℕ) → PieceFits (piece b z) (length (b ∷ z))
 unfolding piece
 piece-within b z =
     chosen (b == 32) _ _ _ (λ e. one _ b z refl) (λ e.

@@ -83,7 +83,7 @@ opens_with depth v b bytes rest spelled =
     let first = first-value_text v (proper_at v spelled.value) in
     subst (Opens v) (sym (first_same b first.0 bytes (first.1 ++ rest) (spelled.is ∙ ap (λ t. t ++ rest) first.2))) first.3
 
--- a value's text begins with no byte that may stand behind a value
+-- a value's text begins with no byte that may stand after a value
 pub no_stop_spelled : (depth : ℕ) (x : Val) (b : ℕ) (bytes rest : List ℕ) → Spells depth x (b ∷ bytes) rest → is_stop b ≡ false
 no_stop_spelled depth x b bytes rest spelled = let v = value_of x in no_stop_first v b (opens_with depth v b bytes rest (kept_spelled depth x (b ∷ bytes) rest spelled))
 
@@ -243,7 +243,7 @@ module _ (front bytes rest : List ℕ) (split : bytes ≡ front ++ codes "'" ++ 
       let same = one_quote front t rest s plain (no_quote t other.0) (sym (append_assoc front (codes "'") rest) ∙ sym split ∙ other.1) in
       (other.0, same.0, same.1)
 
--- the value behind an opening byte
+-- the value after an opening byte
 module _ (depth : ℕ) (x : Val) (bytes r rest : List ℕ) where
   pub text_there : bytes ≡ codes "'" ++ r → Spells depth x bytes rest → (t : List ℕ) × (x ≡ val.Text t) × Spells 0 (val.Text t) (39 ∷ r) rest
   text_there begins spelled =
@@ -264,6 +264,6 @@ module _ (depth : ℕ) (x : Val) (bytes r rest : List ℕ) where
       let found = is_set depth x r rest there in
       (found.0, found.1, subst (λ y. Spells depth y (123 ∷ r) rest) found.1 there)
 
--- a text with nothing behind it
+-- a text with nothing after it
 pub whole_text : (bytes : List ℕ) (x : Val) → IsTextOf bytes x → Spells 64 x bytes []
 whole_text bytes x of = record { value = of.value; nested = of.nested; is = of.is ∙ sym (append-nil (value_text x)) }

@@ -75,7 +75,7 @@ wrote_first before out mid new vs k v here inside first so_far same wrote =
     let nothing : texts_to k vs ≡ [] = ap (λ n. texts_to n vs) first in
     wrote ∙ ap (λ x. x ++ value_text (val_of v)) (same ∙ so_far ∙ ap (λ x. before ++ x) nothing ∙ append-nil before) ∙ ap (λ x. before ++ x) (sym text)
 
--- a later text, written behind a comma and a space
+-- a later text, written after a comma and a space
 pub wrote_next : (before out mid new : List ℕ) (vs : List Value) (k : ℕ) (v : Value) → v ≡ slice_index_or vs k v → k < length vs → 0 < k
     → out ≡ before ++ texts_to k vs → mid ≡ out ++ codes ", " → new ≡ mid ++ value_text (val_of v) → new ≡ before ++ texts_to (k + 1) vs
 wrote_next before out mid new vs k v here inside later so_far comma wrote =

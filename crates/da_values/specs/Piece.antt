@@ -38,14 +38,14 @@ begins_name b = is_ascii_alphabetic b || b == 95
 abbrev pub in_name : ℕ → Bool
 in_name b = is_ascii_alphanumeric b || b == 95
 
--- what stands where the bytes of a text literal end, n bytes behind its first quote
+-- what stands where the bytes of a text literal end, n bytes after its first quote
 abbrev pub quote_end : ℕ → List ℕ → Piece
 quote_end n z =
     if slice_index z 0 == 39 then piece_is.Token kind.Quoted (n + 2)
     else if ends_line z then piece_is.Fault fault.Unclosed
     else piece_is.Fault fault.BadByte
 
--- a text literal, from behind its first quote on
+-- a text literal, from after its first quote on
 unfoldable pub quoted : List ℕ → Piece
 quoted z = quote_end (prefix_len in_quotes z) (drop (prefix_len in_quotes z) z)
 

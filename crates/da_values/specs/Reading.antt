@@ -15,7 +15,7 @@ pub record IsTextOf (text : List ℕ) (x : Val) : Type 0 where
   pub nested : nesting x ≤ 64
   pub is : text ≡ value_text x
 
--- a byte that may stand behind a value: `,`, `)` or `}`
+-- a byte that may stand after a value: `,`, `)` or `}`
 abbrev pub is_stop : ℕ → Bool
 is_stop b = (b == 44) || (b == 41) || (b == 125)
 
@@ -37,7 +37,7 @@ pub record SpellsEach (depth : ℕ) (xs : List Val) (bytes rest : List ℕ) : Ty
   pub nested : deepest (map nesting xs) ≤ depth
   pub is : bytes ≡ separated (map value_text xs) ++ rest
 
--- what may stand behind values that no other one follows
+-- what may stand after values that no other one follows
 pub record Ends (rest : List ℕ) : Type 0 where
   pub stops : Stops rest
   pub last : (next : List ℕ) → rest ≡ codes ", " ++ next → ⊥

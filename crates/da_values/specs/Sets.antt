@@ -34,7 +34,7 @@ abbrev pub set_has : {A : Type 0} → (A → A → Ordering) → List A → A �
 set_has c [] x = false
 set_has c (y ∷ ys) x = is_eq (c x y) || set_has c ys x
 
--- x goes in front of y, is y, or goes into what follows y
+-- x goes before y, is y, or goes into what follows y
 abbrev pub placed : {A : Type 0} → Ordering → A → A → List A → List A → List A
 placed Less x y ys rest = x ∷ y ∷ ys
 placed Equal x y ys rest = y ∷ ys

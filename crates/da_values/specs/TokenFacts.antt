@@ -21,7 +21,7 @@ has_bytes _ = true
 abbrev pub StandsIn : List ℕ → Token → Type 0
 StandsIn text t = MatchBool (has_bytes t.kind) (front (drop t.first text) ≡ piece_is.Token t.kind t.length) (t.length ≡ 0)
 
--- how many lines a text has, one behind its last LF included
+-- how many lines a text has, one after its last LF included
 abbrev pub line_count : List ℕ → ℕ
 line_count text = count_by (λ b. b == 10) text + 1
 

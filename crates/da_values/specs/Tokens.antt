@@ -92,7 +92,7 @@ with_token k n b (Err e) = Err e
 abbrev pub line_end : Scan → List Token
 line_end s = if s.is_fresh || not (s.brackets == 0) then [] else empty kind.Newline s.past s.line ∷ []
 
--- what a piece that begins with b gives: its tokens, and what is known behind it
+-- what a piece that begins with b gives: its tokens, and what is known after it
 unfoldable pub step : Scan → ℕ → Piece → Levelled
 step s b piece_is.Space = Ok ([], record s { spaces = s.spaces + 1 })
 step s b piece_is.LineEnd =

@@ -80,7 +80,7 @@ fn value_at(alloc: Global, bytes: &[u8], depth: u8) -> Result<(Value, &[u8]), Va
     }
 }
 
-// The tuple whose text goes on so behind its `(`, and what follows it.
+// The tuple whose text goes on so after its `(`, and what follows it.
 #[cycle(read)]
 fn parts_at(alloc: Global, bytes: &[u8], depth: u8) -> Result<(Row, &[u8]), ValueFault>
     ensures front { IfOk result (λ found. Spells depth (val.Tuple found.0) (codes "(" ++ bytes.now) found.1.now) }
@@ -100,7 +100,7 @@ fn parts_at(alloc: Global, bytes: &[u8], depth: u8) -> Result<(Row, &[u8]), Valu
     }
 }
 
-// The set whose text goes on so behind its `{`, and what follows it.
+// The set whose text goes on so after its `{`, and what follows it.
 #[cycle(read)]
 fn elements_at(alloc: Global, bytes: &[u8], depth: u8) -> Result<(SetVal, &[u8]), ValueFault>
     ensures front { IfOk result (λ found. Spells depth (val.Set found.0) (codes "{" ++ bytes.now) found.1.now) }
@@ -142,7 +142,7 @@ fn items_at(alloc: Global, bytes: &[u8], depth: u8) -> Result<(List<Value>, &[u8
     }
 }
 
-// The text that goes on so behind its first quote, and what follows it.
+// The text that goes on so after its first quote, and what follows it.
 fn text_at(alloc: Global, bytes: &[u8]) -> Result<(Str, &[u8]), ValueFault>
     ensures front { IfOk result (λ found. Spells 0 (val.Text found.0) (codes "'" ++ bytes.now) found.1.now) }
     ensures only { (text : List ℕ) (rest : List ℕ) → Spells 0 (val.Text text) (codes "'" ++ bytes.now) rest
@@ -158,7 +158,7 @@ fn text_at(alloc: Global, bytes: &[u8]) -> Result<(Str, &[u8]), ValueFault>
     }
 }
 
-// The bytes before the first quote and those behind it, or nothing exactly where there is no quote.
+// The bytes before the first quote and those after it, or nothing exactly where there is no quote.
 fn split_quote(bytes: &[u8]) -> Option<(&[u8], &[u8])>
     ensures none { MatchOption result (All (λ byte. byte ≢ 39) bytes.now) (λ found. All (λ byte. byte ≢ 39) found.0.now) }
     ensures some { IfSome result (λ found. bytes.now ≡ found.0.now ++ codes "'" ++ found.1.now) }

@@ -43,7 +43,7 @@ pub enum LexKind {
     BadByte,
     /// A line that goes back to a level which is not open.
     BadIndent,
-    /// No token begins so, or the number that does has a 0 in front of other digits or is greater than `NUMBER_MAX`.
+    /// No token begins so, or the number that does has a 0 before other digits or is greater than `NUMBER_MAX`.
     BadToken,
     /// A line ends inside a text literal, or the program inside a bracket.
     Unclosed,

@@ -9,7 +9,7 @@ use crate::value::Value;
 use itoa::Buffer;
 use std::str;
 
-// What follows the front of the bytes, or nothing exactly where they begin otherwise.
+// What follows a prefix of the bytes, or nothing exactly where they begin otherwise.
 pub(crate) fn strip<'a>(bytes: &'a [u8], front: &[u8]) -> Option<&'a [u8]>
     ensures { MatchOption result
         ((rest : List ℕ) → bytes.now ≡ front.now ++ rest → ⊥)
@@ -18,7 +18,7 @@ pub(crate) fn strip<'a>(bytes: &'a [u8], front: &[u8]) -> Option<&'a [u8]>
     bytes.strip_prefix(front)
 }
 
-// The bytes up to the first one that may stand behind a value, and the others.
+// The bytes up to the first one that may stand after a value, and the others.
 pub(crate) fn split_word(bytes: &[u8]) -> (&[u8], &[u8])
     ensures split { bytes.now ≡ result.0.now ++ result.1.now }
     ensures word { All (λ byte. is_stop_byte byte ≡ false) result.0.now }

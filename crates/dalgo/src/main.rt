@@ -61,7 +61,7 @@ fn main(rt: HostRuntime) -> ExitCode {
     })
 }
 
-// The words behind the name of the program.
+// The words after the name of the program.
 fn words_of_call(rt: &HostRuntime) -> Result<Vec<String>, NoWords> {
     let args = env::args(rt).map_err(|error| match error.kind() {
         ErrorKind::OutOfMemory => NoWords::Memory,

@@ -14,7 +14,7 @@ pub struct Watched<K> {
     seen: Seen,
 }
 
-// What went through: the front of the last line, the first line of a fault, how many there were, and the processes that are blocked.
+// What went through: a prefix of the last line, the first line of a fault, how many there were, and the processes that are blocked.
 #[derive(Drop)]
 struct Seen {
     line: Buf,

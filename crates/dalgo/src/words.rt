@@ -2,7 +2,7 @@
 use std::alloc::Global;
 use text_hints::{Nearest, Phrase};
 
-/// The commands, and how many words stand behind each; behind `join` there may be more.
+/// The commands, and how many words stand after each; after `join` there may be more.
 const COMMANDS: [(&[u8], usize); 7] = [
     (b"check", 1),
     (b"replay", 2),
@@ -113,7 +113,7 @@ pub fn why_not(alloc: Global, words: &[String]) -> Phrase {
     told
 }
 
-// How many words stand behind a command.
+// How many words stand after a command.
 fn count_of(command: &[u8]) -> Option<usize> {
     for known in &COMMANDS {
         if known.0 == command {

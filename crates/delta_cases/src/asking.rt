@@ -1,5 +1,5 @@
 //! What the rows of nodes tell of the numbered queries of a class, worked out anew.
-use crate::matching::Place;
+use crate::matching::TermScope;
 use crate::rows::put_value;
 use crate::sets::longer_row;
 use crate::world::World;
@@ -10,7 +10,7 @@ use std::slice::from_ref;
 
 // The set of a term over rows.
 fn term_set(alloc: Global, world: &World, term: &Term, rows: &[Row]) -> Result<SetVal, NoMemory> {
-    let at = Place {
+    let at = TermScope {
         alloc,
         world,
         row: &[],

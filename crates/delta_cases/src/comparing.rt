@@ -10,7 +10,7 @@ use std::sync::ledger::Ledger;
 
 /// The rows of all nodes, and the live rows of those that are generators over a history.
 #[derive(Debug, Drop)]
-pub struct Known {
+pub struct Anew {
     pub tables: List<List<Row>>,
     pub stored: List<List<Row>>,
 }
@@ -70,7 +70,7 @@ pub fn other_node<L: Ledger>(
     alloc: Global,
     answers: &Answers,
     pool: &Pool,
-    known: &Known,
+    known: &Anew,
     steps: &mut Steps<L>,
 ) -> Result<Option<Difference>, NoMemory> {
     for (number, rows) in known.tables.as_slice().iter().enumerate() {
@@ -93,7 +93,7 @@ pub fn other_live<L: Ledger>(
     alloc: Global,
     answers: &Answers,
     pool: &Pool,
-    known: &Known,
+    known: &Anew,
     firsts: &[u32],
     steps: &mut Steps<L>,
 ) -> Result<Option<Difference>, NoMemory> {
@@ -150,7 +150,7 @@ pub fn other_slot(
 }
 
 /// The first node that has a row where it is told to have none, or the other way round.
-pub fn other_flag(answers: &Answers, known: &Known) -> Option<Difference> {
+pub fn other_flag(answers: &Answers, known: &Anew) -> Option<Difference> {
     for (number, rows) in known.tables.as_slice().iter().enumerate() {
         if number >= 4_294_967_296 {
             return None;
@@ -168,7 +168,7 @@ pub fn other_flag(answers: &Answers, known: &Known) -> Option<Difference> {
 }
 
 /// How many live rows there are, where that is told otherwise.
-pub fn other_kept(answers: &Answers, known: &Known, firsts: &[u32]) -> Option<Difference> {
+pub fn other_kept(answers: &Answers, known: &Anew, firsts: &[u32]) -> Option<Difference> {
     let mut sum: u128 = 0;
     for node in firsts {
         let rows = rows_at(known.stored.as_slice(), *node);

@@ -1,15 +1,15 @@
 //! Conditions of nodes. They have no quantification and no aggregate; one that has some counts as false.
-use crate::matching::{Place, term_value};
+use crate::matching::{TermScope, term_value};
 use da_lang::{CmpOp, Cond, Operand, SignedOperand};
 use da_values::{NoMemory, Value, cmp_values};
 use std::cmp::Ordering;
 
 /// Whether a condition holds of a row.
 #[cycle(conditions)]
-pub fn holds(condition: &Cond, at: &Place<'_>) -> Result<bool, NoMemory> {
+pub fn holds(condition: &Cond, at: &TermScope<'_>) -> Result<bool, NoMemory> {
     match condition {
         Cond::Truth(term) => Ok(is_true(&term_value(term, at, &[])?)),
-        Cond::Cmp(op, a, b) => compared(*op, a.get(), b.get(), at),
+        Cond::Cmp(op, a, b) => compare_two(*op, a.get(), b.get(), at),
         Cond::Not(other) => Ok(!holds(other.get(), at)?),
         Cond::And(all) => all_hold(all.as_slice(), at),
         Cond::Or(some) => some_holds(some.as_slice(), at),
@@ -19,7 +19,7 @@ pub fn holds(condition: &Cond, at: &Place<'_>) -> Result<bool, NoMemory> {
 
 // Whether each of them holds.
 #[cycle(conditions)]
-fn all_hold(conditions: &[Cond], at: &Place<'_>) -> Result<bool, NoMemory> {
+fn all_hold(conditions: &[Cond], at: &TermScope<'_>) -> Result<bool, NoMemory> {
     for condition in conditions {
         if !holds(condition, at)? {
             return Ok(false);
@@ -30,7 +30,7 @@ fn all_hold(conditions: &[Cond], at: &Place<'_>) -> Result<bool, NoMemory> {
 
 // Whether one of them holds.
 #[cycle(conditions)]
-fn some_holds(conditions: &[Cond], at: &Place<'_>) -> Result<bool, NoMemory> {
+fn some_holds(conditions: &[Cond], at: &TermScope<'_>) -> Result<bool, NoMemory> {
     for condition in conditions {
         if holds(condition, at)? {
             return Ok(true);
@@ -40,7 +40,7 @@ fn some_holds(conditions: &[Cond], at: &Place<'_>) -> Result<bool, NoMemory> {
 }
 
 // Whether a comparison holds of a row.
-fn compared(op: CmpOp, a: &Operand, b: &Operand, at: &Place<'_>) -> Result<bool, NoMemory> {
+fn compare_two(op: CmpOp, a: &Operand, b: &Operand, at: &TermScope<'_>) -> Result<bool, NoMemory> {
     let left = operand_value(a, at)?;
     let right = operand_value(b, at)?;
     Ok(is_so(op, cmp_values(&left, &right)))
@@ -48,7 +48,7 @@ fn compared(op: CmpOp, a: &Operand, b: &Operand, at: &Place<'_>) -> Result<bool,
 
 // The value of a side of it. A sum outside an i128 answers `NoMemory`.
 #[cycle(operands)]
-fn operand_value(operand: &Operand, at: &Place<'_>) -> Result<Value, NoMemory> {
+fn operand_value(operand: &Operand, at: &TermScope<'_>) -> Result<Value, NoMemory> {
     match operand {
         Operand::Term(term) => term_value(term, at, &[]),
         Operand::Agg(_) => Ok(Value::Proc(0)),
@@ -61,17 +61,17 @@ fn operand_value(operand: &Operand, at: &Place<'_>) -> Result<Value, NoMemory> {
 
 // A number with others added to it or taken away.
 #[cycle(operands)]
-fn chain_value(more: &[SignedOperand], start: i128, at: &Place<'_>) -> Result<Value, NoMemory> {
+fn chain_value(more: &[SignedOperand], start: i128, at: &TermScope<'_>) -> Result<Value, NoMemory> {
     let mut sum = start;
     for part in more {
         let v = operand_value(part.operand.get(), at)?;
-        sum = added(sum, part.minus, int_of(&v))?;
+        sum = sum_with(sum, part.minus, int_of(&v))?;
     }
     Ok(Value::Int(sum))
 }
 
 /// The sum or the difference of two numbers. One outside an i128 answers `NoMemory`.
-pub fn added(sum: i128, minus: bool, number: i128) -> Result<i128, NoMemory> {
+pub fn sum_with(sum: i128, minus: bool, number: i128) -> Result<i128, NoMemory> {
     let found = if minus {
         sum.checked_sub(number)
     } else {

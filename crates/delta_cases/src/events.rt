@@ -40,7 +40,7 @@ enum Outcome {
 }
 
 /// Tells the updates of a file to processes of classes of these programs, or of one that stands before its updates. Each is
-/// compared as those by chance are, and its work with the number that stands behind it.
+/// compared as those by chance are, and its work with the number that stands after it.
 pub fn run_events<R: Print + AllocGlobal>(
     rt: &R,
     programs: &str,
@@ -213,11 +213,11 @@ fn outcome_of<L: Ledger>(
 {
     let mut tally = Tally::new();
     let found = update_once(subject, &event.update, trial, &mut tally, steps)?;
-    Ok(judged(found.is_some(), event.work, tally.all_nodes().work))
+    Ok(judge(found.is_some(), event.work, tally.all_nodes().work))
 }
 
-// What came of an update behind which answers may differ, with the work that it should take and the one that it takes.
-fn judged(differs: bool, wanted: u64, work: u64) -> Outcome {
+// What came of an update after which answers may differ, with the work that it should take and the one that it takes.
+fn judge(differs: bool, wanted: u64, work: u64) -> Outcome {
     if differs {
         Outcome::Differs
     } else if work == wanted {
@@ -231,13 +231,13 @@ fn judged(differs: bool, wanted: u64, work: u64) -> Outcome {
 fn tell_outcomes<R: Print>(rt: &R, lines: &str, outcomes: &[Outcome]) -> anyhow::Result<()> {
     for (line, outcome) in lines.lines().zip(outcomes) {
         println!(rt; "    {line}")?;
-        expected(outcome).context(line)?;
+        expect_same(outcome).context(line)?;
     }
     Ok(())
 }
 
 // Refuses what should not come of an update.
-fn expected(outcome: &Outcome) -> anyhow::Result<()> {
+fn expect_same(outcome: &Outcome) -> anyhow::Result<()> {
     match outcome {
         Outcome::Expected => Ok(()),
         Outcome::Differs => Err(anyhow!("answers differ")),

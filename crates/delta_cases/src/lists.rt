@@ -11,15 +11,15 @@ use crate::asking::{least_of_query, listed_of_query, value_of_query};
 use crate::chance::Chance;
 use crate::choosing::{first_world, next_update};
 use crate::comparing::{
-    Difference, Known, other_flag, other_kept, other_live, other_node, other_slot,
+    Anew, Difference, other_flag, other_kept, other_live, other_node, other_slot,
 };
 use crate::kinds::{Tally, update_kind};
-use crate::live::stored;
+use crate::live::live_of;
 use crate::naming::names;
 use crate::rows::{rows_at, tables};
 use crate::subject::Subject;
 use crate::telling::tell;
-use crate::updates::{Update, apply, slot_before, swapped};
+use crate::updates::{Update, apply, slot_before, swaps_of};
 use crate::work::{Turn, touch_of};
 use crate::world::World;
 use da_lang::{Node, QueryNode, Shape};
@@ -36,7 +36,7 @@ pub struct Trial {
     pub answers: Answers,
     pub pool: Pool,
     pub world: World,
-    pub known: Known,
+    pub known: Anew,
     pub firsts: List<u32>,
 }
 
@@ -50,10 +50,10 @@ pub struct Failed {
 }
 
 // What is worked out of a process.
-fn know(alloc: Global, world: &World, nodes: &[Node]) -> Result<Known, NoMemory> {
-    Ok(Known {
+fn know(alloc: Global, world: &World, nodes: &[Node]) -> Result<Anew, NoMemory> {
+    Ok(Anew {
         tables: tables(alloc, world, nodes)?,
-        stored: stored(alloc, world, nodes)?,
+        stored: live_of(alloc, world, nodes)?,
     })
 }
 
@@ -85,7 +85,7 @@ pub fn begin(subject: &Subject<'_>, world: World) -> Result<Trial, NoMemory>
 }
 
 // What differs, if anything does.
-fn compared<L: Ledger>(
+fn compare_trial<L: Ledger>(
     alloc: Global,
     trial: &Trial,
     steps: &mut Steps<L>,
@@ -142,7 +142,7 @@ fn swapped_by(
         Update::Assigns(slot, _) => *slot,
     };
     match before {
-        Some(before) => swapped(alloc, before, world.elements(slot)),
+        Some(before) => swaps_of(alloc, before, world.elements(slot)),
         None => Ok(List::new(alloc)),
     }
 }
@@ -175,7 +175,7 @@ fn go_on(
     subject: &Subject<'_>,
     update: &Update,
     world: &mut World,
-    known: &mut Known,
+    known: &mut Anew,
     tally: &mut Tally,
 ) -> Result<Option<usize>, NoMemory> {
     let swapped = move_world(subject.alloc, update, world)?;
@@ -232,7 +232,7 @@ pub fn update_once<L: Ledger>(
             anew: 0,
         }));
     }
-    compared(subject.alloc, trial, steps)
+    compare_trial(subject.alloc, trial, steps)
 }
 
 // Tells and compares the next update.
@@ -256,7 +256,7 @@ fn run_update<L: Ledger>(
     Ok(failed_at(number, update_kind(&update), found))
 }
 
-// What differs, if anything does, behind an update of this number and kind.
+// What differs, if anything does, after an update of this number and kind.
 fn failed_at(update: u64, kind: usize, found: Option<Difference>) -> Option<Failed> {
     match found {
         Some(difference) => Some(Failed {
@@ -306,7 +306,7 @@ fn run_trial<L: Ledger>(
     requires laid { IsLaid trial.old.answers trial.old.pool subject.now.plan.now.nodes }
     requires held { HoldsAll trial.old.pool (ids_of_answers trial.old.answers) }
 {
-    let first = compared(subject.alloc, trial, steps)?;
+    let first = compare_trial(subject.alloc, trial, steps)?;
     if first.is_some() {
         return Ok(failed_at(0, 0, first));
     }

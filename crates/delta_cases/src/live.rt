@@ -1,5 +1,5 @@
 //! Live patterns: which part of an entry a generator over a history needs, whatever the row and the slots are.
-use crate::matching::{Place, same, term_value};
+use crate::matching::{TermScope, same, term_value};
 use crate::sets::put_row;
 use crate::world::{Entry, World};
 use da_lang::{Node, Pattern, RGen, Source, Term};
@@ -39,7 +39,7 @@ pub fn is_history(g: &RGen) -> bool {
 
 // Whether a value matches the live pattern of a pattern. What it gives is added to what was found.
 #[cycle(catching)]
-fn catches(p: &Pattern, v: &Value, at: &Place<'_>, found: &mut Row) -> Result<bool, NoMemory> {
+fn catches(p: &Pattern, v: &Value, at: &TermScope<'_>, found: &mut Row) -> Result<bool, NoMemory> {
     match p {
         Pattern::Any => Ok(true),
         Pattern::Bind => {
@@ -57,7 +57,12 @@ fn catches(p: &Pattern, v: &Value, at: &Place<'_>, found: &mut Row) -> Result<bo
 }
 
 // The same of `=t`, which is a variable where t varies.
-fn catches_term(term: &Term, v: &Value, at: &Place<'_>, found: &mut Row) -> Result<bool, NoMemory> {
+fn catches_term(
+    term: &Term,
+    v: &Value,
+    at: &TermScope<'_>,
+    found: &mut Row,
+) -> Result<bool, NoMemory> {
     if varies(term) {
         found.push(copy_value(at.alloc, v)?)?;
         Ok(true)
@@ -72,7 +77,7 @@ fn catches_term(term: &Term, v: &Value, at: &Place<'_>, found: &mut Row) -> Resu
 fn all_caught(
     parts: &[Pattern],
     values: &[Value],
-    at: &Place<'_>,
+    at: &TermScope<'_>,
     found: &mut Row,
 ) -> Result<bool, NoMemory> {
     let mut left = values;
@@ -95,7 +100,7 @@ pub fn live_of_message(
     g: &RGen,
     message: &Value,
     peer: u16,
-    at: &Place<'_>,
+    at: &TermScope<'_>,
 ) -> Result<Option<Row>, NoMemory> {
     let mut found = Row::new(at.alloc);
     if !catches(&g.message, message, at, &mut found)? {
@@ -109,7 +114,7 @@ pub fn live_of_message(
 }
 
 /// The live row that an element of a set gives.
-pub fn live_of_element(g: &RGen, v: &Value, at: &Place<'_>) -> Result<Option<Row>, NoMemory> {
+pub fn live_of_element(g: &RGen, v: &Value, at: &TermScope<'_>) -> Result<Option<Row>, NoMemory> {
     let mut found = Row::new(at.alloc);
     if catches(&g.message, v, at, &mut found)? {
         Ok(Some(found))
@@ -119,7 +124,7 @@ pub fn live_of_element(g: &RGen, v: &Value, at: &Place<'_>) -> Result<Option<Row
 }
 
 /// The live rows of each node that is a generator over a history; none of the others.
-pub fn stored(alloc: Global, world: &World, nodes: &[Node]) -> Result<List<List<Row>>, NoMemory> {
+pub fn live_of(alloc: Global, world: &World, nodes: &[Node]) -> Result<List<List<Row>>, NoMemory> {
     let mut stored = List::new(alloc);
     for node in nodes {
         let rows = match node {
@@ -149,7 +154,7 @@ fn caught_rows(
     history: &[Entry],
 ) -> Result<List<Row>, NoMemory> {
     let mut rows = List::new(alloc);
-    let at = Place {
+    let at = TermScope {
         alloc,
         world,
         row: &[],

@@ -1,12 +1,12 @@
 //! Values of terms, and matching of patterns, from the rules of the language.
-use crate::world::{World, numbered};
+use crate::world::{World, part_at};
 use da_lang::{Pattern, RGen, Term};
 use da_values::{NoMemory, Row, Value, cmp_values, copy_value};
 use std::alloc::Global;
 
 /// Where a term or a pattern stands: the process, and the row so far.
 #[derive(Drop)]
-pub struct Place<'p> {
+pub struct TermScope<'p> {
     pub alloc: Global,
     pub world: &'p World,
     pub row: &'p [Value],
@@ -17,9 +17,9 @@ pub fn same(a: &Value, b: &Value) -> bool {
     cmp_values(a, b).is_eq()
 }
 
-// The part of a row, numbered from 1, behind which stand those that were found.
+// The part of a row, numbered from 1, after which stand those that were found.
 fn part<'v>(row: &'v [Value], found: &'v [Value], number: u16) -> Option<&'v Value> {
-    match numbered(row, number) {
+    match part_at(row, number) {
         Some(v) => Some(v),
         None => match usize::from(number).checked_sub(row.len()) {
             Some(behind) => match behind.checked_sub(1) {
@@ -32,21 +32,21 @@ fn part<'v>(row: &'v [Value], found: &'v [Value], number: u16) -> Option<&'v Val
 }
 
 // A copy of what is there; process 0 stands for what is not.
-fn copied(alloc: Global, found: Option<&Value>) -> Result<Value, NoMemory> {
+fn copy_of(alloc: Global, found: Option<&Value>) -> Result<Value, NoMemory> {
     match found {
         Some(v) => copy_value(alloc, v),
         None => Ok(Value::Proc(0)),
     }
 }
 
-/// The value of a term over the row, with what was found behind it.
+/// The value of a term over the row, with what was found after it.
 #[cycle(terms)]
-pub fn term_value(term: &Term, at: &Place<'_>, found: &[Value]) -> Result<Value, NoMemory> {
+pub fn term_value(term: &Term, at: &TermScope<'_>, found: &[Value]) -> Result<Value, NoMemory> {
     match term {
         Term::Const(v) => copy_value(at.alloc, v),
         Term::Me => Ok(Value::Proc(at.world.me)),
-        Term::Slot(s) => copied(at.alloc, at.world.slot(*s)),
-        Term::Part(k) => copied(at.alloc, part(at.row, found, *k)),
+        Term::Slot(s) => copy_of(at.alloc, at.world.slot(*s)),
+        Term::Part(k) => copy_of(at.alloc, part(at.row, found, *k)),
         Term::Tuple(terms) => term_values(terms.as_slice(), at, found),
         Term::Foreign => Ok(Value::Proc(0)),
     }
@@ -54,7 +54,7 @@ pub fn term_value(term: &Term, at: &Place<'_>, found: &[Value]) -> Result<Value,
 
 // The tuple of some terms.
 #[cycle(terms)]
-fn term_values(terms: &[Term], at: &Place<'_>, found: &[Value]) -> Result<Value, NoMemory> {
+fn term_values(terms: &[Term], at: &TermScope<'_>, found: &[Value]) -> Result<Value, NoMemory> {
     let mut parts = Row::new(at.alloc);
     for term in terms {
         parts.push(term_value(term, at, found)?)?;
@@ -64,7 +64,7 @@ fn term_values(terms: &[Term], at: &Place<'_>, found: &[Value]) -> Result<Value,
 
 // Whether a value matches a pattern. What its variables take is added to what was found.
 #[cycle(patterns)]
-fn fits(p: &Pattern, v: &Value, at: &Place<'_>, found: &mut Row) -> Result<bool, NoMemory> {
+fn fits(p: &Pattern, v: &Value, at: &TermScope<'_>, found: &mut Row) -> Result<bool, NoMemory> {
     match p {
         Pattern::Any => Ok(true),
         Pattern::Bind => {
@@ -89,7 +89,7 @@ fn fits(p: &Pattern, v: &Value, at: &Place<'_>, found: &mut Row) -> Result<bool,
 fn all_fit(
     parts: &[Pattern],
     values: &[Value],
-    at: &Place<'_>,
+    at: &TermScope<'_>,
     found: &mut Row,
 ) -> Result<bool, NoMemory> {
     let mut left = values;
@@ -108,7 +108,7 @@ fn all_fit(
 }
 
 /// What a generator finds in an element of a set, if it matches.
-pub fn found_in_element(g: &RGen, v: &Value, at: &Place<'_>) -> Result<Option<Row>, NoMemory> {
+pub fn found_in_element(g: &RGen, v: &Value, at: &TermScope<'_>) -> Result<Option<Row>, NoMemory> {
     let mut found = Row::new(at.alloc);
     if fits(&g.message, v, at, &mut found)? {
         Ok(Some(found))
@@ -122,7 +122,7 @@ pub fn found_in_message(
     g: &RGen,
     message: &Value,
     peer: u16,
-    at: &Place<'_>,
+    at: &TermScope<'_>,
 ) -> Result<Option<Row>, NoMemory> {
     let mut found = Row::new(at.alloc);
     if !fits(&g.message, message, at, &mut found)? {

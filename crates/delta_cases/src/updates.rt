@@ -92,7 +92,7 @@ fn put_slot(slots: &mut Row, slot: u16, value: Value) {
 }
 
 /// The elements that are in exactly one of the sets that a slot has before and after.
-pub fn swapped(alloc: Global, before: &Value, after: &[Value]) -> Result<List<Value>, NoMemory> {
+pub fn swaps_of(alloc: Global, before: &Value, after: &[Value]) -> Result<List<Value>, NoMemory> {
     let before = elements_of(before);
     let mut swapped = List::new(alloc);
     put_others(alloc, before, after, &mut swapped)?;

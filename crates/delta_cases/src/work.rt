@@ -1,7 +1,7 @@
 //! How many rows an update may read, by its definition.
 use crate::agreeing::{agreeing_size, meeting_size, origins_of};
 use crate::live::{live_of_element, live_of_message};
-use crate::matching::Place;
+use crate::matching::TermScope;
 use crate::naming::names;
 use crate::rows::rows_at;
 use crate::sets::{extends, has_row};
@@ -236,7 +236,7 @@ fn gen_reads(
         let is_new = !has_row(old, row.as_slice());
         if is_new || named {
             let row = row.as_slice();
-            let at = Place {
+            let at = TermScope {
                 alloc: turn.alloc,
                 world: turn.world,
                 row,
@@ -291,7 +291,7 @@ fn message_reads(
     message: &Value,
     peer: u16,
 ) -> Result<u64, NoMemory> {
-    let at = Place {
+    let at = TermScope {
         alloc: turn.alloc,
         world: turn.world,
         row: &[],
@@ -309,7 +309,7 @@ fn swapped_reads(
     g: &RGen,
     rows: &[Row],
 ) -> Result<u64, NoMemory> {
-    let at = Place {
+    let at = TermScope {
         alloc: turn.alloc,
         world: turn.world,
         row: &[],

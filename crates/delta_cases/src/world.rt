@@ -20,7 +20,7 @@ pub struct World {
 impl World {
     /// The value of a slot, numbered from 1.
     pub fn slot(&self, number: u16) -> Option<&Value> {
-        numbered(self.slots.as_slice(), number)
+        part_at(self.slots.as_slice(), number)
     }
 
     /// The elements of the set in a slot; none where there is no set.
@@ -33,7 +33,7 @@ impl World {
 }
 
 /// The part that is numbered so, from 1.
-pub fn numbered(parts: &[Value], number: u16) -> Option<&Value> {
+pub fn part_at(parts: &[Value], number: u16) -> Option<&Value> {
     match number.checked_sub(1) {
         Some(at) => parts.get(usize::from(at)),
         None => None,

@@ -41,9 +41,9 @@ pub no_first : (all : List Row) → ◌≡◌ {A = Option Row} None (slice_get a
 no_first [] none = refl
 no_first (row ∷ rows) none = absurd (cc none)
 
-pub no_front : (all : List Row) → ◌≡◌ {A = Option Row} None (slice_get all 0) → [] ≡ take 1 all
-no_front [] none = refl
-no_front (row ∷ rows) none = absurd (cc none)
+pub no_prefix : (all : List Row) → ◌≡◌ {A = Option Row} None (slice_get all 0) → [] ≡ take 1 all
+no_prefix [] none = refl
+no_prefix (row ∷ rows) none = absurd (cc none)
 
 -- the rows of each set ascend
 module _ (pool : Cells) where

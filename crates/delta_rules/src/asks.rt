@@ -32,7 +32,7 @@ impl Answers {
     ghost use Rattle.delta_rules.specs.Keeping.{Keeps};
     ghost use Rattle.delta_rules.specs.Laid.{IsLaid};
     ghost use Rattle.delta_rules.specs.Told.{asked, kept_rows, least_found, set_listed};
-    ghost use Rattle.query_plan.specs.Told.{told_least, told_shown, told_value as told_value_lem};
+    ghost use Rattle.query_plan.specs.Told.{told_least, told_shown, told_value as told_value_def};
     ghost use Rattle.std.specs.List.{All};
     ghost use Rattle.std.specs.Prelude.{◌≡◌, IfOk, map, take};
 
@@ -125,7 +125,7 @@ impl Answers {
     // As many of them as the value of a query needs: of a comprehension all, and else the first.
     fn rows_for(&self, alloc: Global, query: &QueryNode, pool: &Pool) -> Result<List<Row>, NoMemory>
         ensures { IfOk result (λ rows. (d : Data)
-            → told_value_lem d query.now.shape rows ≡ told_value_lem d query.now.shape (kept_rows self.now pool.now query.now.node)) }
+            → told_value_def d query.now.shape rows ≡ told_value_def d query.now.shape (kept_rows self.now pool.now query.now.node)) }
     {
         match query.shape {
             Shape::Exists => self.front_at(alloc, query.node, pool),
@@ -138,7 +138,7 @@ impl Answers {
     // The value of a query.
     fn value_at(&self, alloc: Global, query: &QueryNode, pool: &Pool) -> Result<Value, NoMemory>
         ensures { IfOk result (λ v. (d : Data) → d.me ≡ self.now.me → d.slots ≡ row_in pool.now self.now.slots
-            → val_of v ≡ told_value_lem d query.now.shape (kept_rows self.now pool.now query.now.node)) }
+            → val_of v ≡ told_value_def d query.now.shape (kept_rows self.now pool.now query.now.node)) }
     {
         let rows = self.rows_for(alloc, query, pool)?;
         let slots = self.slot_values(alloc, pool)?;

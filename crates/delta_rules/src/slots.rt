@@ -3,9 +3,9 @@ ghost use Rattle.da_lang.specs.World.{at_number, or_nothing, value_in, with_slot
 ghost use Rattle.da_values.specs.declared.val.Val.{Val};
 ghost use Rattle.da_values.specs.declared.val.Val.TheVariants as val;
 ghost use Rattle.da_values.specs.Order.{val_cmp};
-ghost use Rattle.da_values.specs.Sets.{Distinct, set_insert as insert_lem, set_remove as remove_lem};
+ghost use Rattle.da_values.specs.Sets.{Distinct, set_insert as insert_def, set_remove as remove_def};
 ghost use Rattle.da_values.specs.Value.{val_of, vals};
-ghost use Rattle.da_values.specs.Views.{elements_of as elements_lem};
+ghost use Rattle.da_values.specs.Views.{elements_of as elements_def};
 ghost use Rattle.answer_index.specs.Rows.{row_in, row_of};
 ghost use Rattle.delta_rules.specs.Passing.{IsSwap, lacking};
 ghost use Rattle.row_pool.specs.Cells.{Cells, count};
@@ -77,7 +77,7 @@ pub fn put(slots: &mut IdRow, s: u16, v: &Value, pool: &mut Pool) -> Result<(), 
 // The set that was found, or the empty one where there is none.
 #[tactic(auto, using(crate::proofs::SlotLaws::viewing))]
 fn set_of(alloc: Global, found: Option<Value>) -> SetVal
-    ensures { result ≡ elements_lem (or_nothing (option_map val_of found)) }
+    ensures { result ≡ elements_def (or_nothing (option_map val_of found)) }
 {
     match found {
         Some(v) => set_in(alloc, v),
@@ -88,7 +88,7 @@ fn set_of(alloc: Global, found: Option<Value>) -> SetVal
 // The set that a value is, or the empty one where it is none.
 #[tactic(auto, using(crate::proofs::SlotLaws::viewing))]
 fn set_in(alloc: Global, v: Value) -> SetVal
-    ensures { result ≡ elements_lem (val_of v) }
+    ensures { result ≡ elements_def (val_of v) }
 {
     match v {
         Value::Set(set) => set,
@@ -105,8 +105,8 @@ pub fn add_to(
     pool: &mut Pool,
 ) -> Result<bool, NoMemory>
     requires held { Holds pool.old slots.old.ids }
-    ensures slots { OnOk result (row_in pool.new slots.new ≡ with_slot (row_in pool.old slots.old) s (val.Set (insert_lem val_cmp (elements_lem (value_in (row_in pool.old slots.old) s)) (val_of v.now)))) }
-    ensures swap { IfOk result (λ fresh. IsSwap (elements_lem (value_in (row_in pool.old slots.old) s)) (elements_lem (value_in (row_in pool.new slots.new) s)) (if fresh then val_of v.now ∷ [] else []) []) }
+    ensures slots { OnOk result (row_in pool.new slots.new ≡ with_slot (row_in pool.old slots.old) s (val.Set (insert_def val_cmp (elements_def (value_in (row_in pool.old slots.old) s)) (val_of v.now)))) }
+    ensures swap { IfOk result (λ fresh. IsSwap (elements_def (value_in (row_in pool.old slots.old) s)) (elements_def (value_in (row_in pool.new slots.new) s)) (if fresh then val_of v.now ∷ [] else []) []) }
     ensures trades { OnOk result (Trades pool.old slots.old.ids pool.new slots.new.ids) }
 {
     if !is_slot(slots, s) {
@@ -128,8 +128,8 @@ pub fn take_from(
     pool: &mut Pool,
 ) -> Result<bool, NoMemory>
     requires held { Holds pool.old slots.old.ids }
-    ensures slots { OnOk result (row_in pool.new slots.new ≡ with_slot (row_in pool.old slots.old) s (val.Set (remove_lem val_cmp (elements_lem (value_in (row_in pool.old slots.old) s)) (val_of v.now)))) }
-    ensures swap { IfOk result (λ there. IsSwap (elements_lem (value_in (row_in pool.old slots.old) s)) (elements_lem (value_in (row_in pool.new slots.new) s)) [] (if there then val_of v.now ∷ [] else [])) }
+    ensures slots { OnOk result (row_in pool.new slots.new ≡ with_slot (row_in pool.old slots.old) s (val.Set (remove_def val_cmp (elements_def (value_in (row_in pool.old slots.old) s)) (val_of v.now)))) }
+    ensures swap { IfOk result (λ there. IsSwap (elements_def (value_in (row_in pool.old slots.old) s)) (elements_def (value_in (row_in pool.new slots.new) s)) [] (if there then val_of v.now ∷ [] else [])) }
     ensures trades { OnOk result (Trades pool.old slots.old.ids pool.new slots.new.ids) }
 {
     if !is_slot(slots, s) {
@@ -185,7 +185,7 @@ pub fn assign(
 ) -> Result<Swap, NoMemory>
     requires held { Holds pool.old slots.old.ids }
     ensures slots { OnOk result (row_in pool.new slots.new ≡ with_slot (row_in pool.old slots.old) s (val_of v.now)) }
-    ensures swap { IfOk result (λ swap. IsSwap (elements_lem (value_in (row_in pool.old slots.old) s)) (elements_lem (value_in (row_in pool.new slots.new) s)) (vals swap.came) (vals swap.left)) }
+    ensures swap { IfOk result (λ swap. IsSwap (elements_def (value_in (row_in pool.old slots.old) s)) (elements_def (value_in (row_in pool.new slots.new) s)) (vals swap.came) (vals swap.left)) }
     ensures once { IfOk result (λ swap. Distinct (vals swap.came) × Distinct (vals swap.left)) }
     ensures trades { OnOk result (Trades pool.old slots.old.ids pool.new slots.new.ids) }
 {

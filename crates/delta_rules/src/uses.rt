@@ -1,7 +1,7 @@
 //! Which slots the nodes of a plan use. They are noted in a list, each once.
 ghost use Rattle.da_lang.specs.Naming.{gen_names, names, pattern_names};
 ghost use Rattle.delta_rules.specs.Naming.{cond_names, operand_names, part_names};
-ghost use Rattle.delta_rules.specs.SlotUse.{Adds, AreNamed, ListsNamed, goes_over, is_listed as is_listed_lem, is_set_of, is_used, uses};
+ghost use Rattle.delta_rules.specs.SlotUse.{Adds, AreNamed, ListsNamed, goes_over, is_listed as is_listed_def, is_set_of, is_used, uses};
 ghost use Rattle.query_plan.specs.PlainNodes.{ArePlain, ArePlainSigned, PlainNodes, is_plain, is_plain_node, is_plain_operand};
 ghost use Rattle.query_plan.specs.PlanTerms.{default_terms, named_in, node_names, term_if};
 ghost use Rattle.std.specs.List.{list_any};
@@ -13,7 +13,7 @@ use std::alloc::Global;
 
 /// Whether a slot is in a list of slots. It takes no memory.
 pub fn is_listed(slots: &[u16], slot: u16) -> bool
-    ensures { result ≡ is_listed_lem slot slots.now }
+    ensures { result ≡ is_listed_def slot slots.now }
 {
     for other in slots {
         if *other == slot {
@@ -275,7 +275,7 @@ pub fn all_named(alloc: Global, nodes: &[Node]) -> Result<List<List<u16>>, NoMem
 /// The slots that the nodes of a plan use, each once.
 pub fn used_slots(alloc: Global, nodes: &[Node]) -> Result<List<u16>, NoMemory>
     requires { PlainNodes nodes.now }
-    ensures { IfOk result (λ slots. (s : ℕ) → is_listed_lem s slots ≡ is_used s nodes.now) }
+    ensures { IfOk result (λ slots. (s : ℕ) → is_listed_def s slots ≡ is_used s nodes.now) }
 {
     let mut slots = List::new(alloc);
     for node in nodes {

@@ -1,7 +1,7 @@
 //! Cases, and how files hold them.
 //!
-//! A line `=== check`, `=== sizes`, `=== code`, `=== plan` or `=== print`, behind which a remark may stand, begins a case. The
-//! lines behind it are its text, up to the next such line. In a text `@COUNT PART@` stands for so many copies of the part, in
+//! A line `=== check`, `=== sizes`, `=== code`, `=== plan` or `=== print`, after which a remark may stand, begins a case. The
+//! lines after it are its text, up to the next such line. In a text `@COUNT PART@` stands for so many copies of the part, in
 //! which `#` is the number of the copy, from 1 on, and `~` the next number.
 use std::alloc::{AllocError, Global};
 
@@ -36,7 +36,7 @@ pub fn cases_of(alloc: Global, file: &str) -> Result<Vec<Case>, AllocError> {
     Ok(cases)
 }
 
-// The case of what stands behind its sign.
+// The case of what stands after its sign.
 fn case_of(alloc: Global, part: &str) -> Result<Case, AllocError> {
     let (what, text) = part.split_once('\n').unwrap_or((part, ""));
     let asked = match what.split(' ').next() {

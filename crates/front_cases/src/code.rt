@@ -33,7 +33,7 @@ fn tell_point<R: Print>(rt: &R, point: &YieldPoint) -> anyhow::Result<()> {
     tell_places(rt, what, point.entries.as_slice())
 }
 
-// Places in code, behind what they are.
+// Places in code, after what they are.
 fn tell_places<R: Print>(rt: &R, what: &str, places: &[u64]) -> anyhow::Result<()> {
     print!(rt; "{what}")?;
     for place in places {

@@ -1,4 +1,4 @@
-//! Texts, through the front of the compiler.
+//! Texts, through the front end of the compiler.
 ghost use Rattle.da_lang.specs.Accepted.{IsWritten};
 ghost use Rattle.std.specs.Prelude.{IfOk};
 

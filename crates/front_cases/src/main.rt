@@ -1,4 +1,4 @@
-//! Runs texts through the front of the compiler, and prints for each whether it is accepted, or why not.
+//! Runs texts through the front end of the compiler, and prints for each whether it is accepted, or why not.
 #![tactic(auto)]
 
 mod cases;

@@ -45,7 +45,7 @@ fn put_flags(flags: &[u32], out: &mut Buf) -> Result<(), NoMemory> {
     out.append(b"\n")
 }
 
-// The lines of nodes, each behind its number.
+// The lines of nodes, each after its number.
 fn put_nodes(nodes: &[Buf], out: &mut Buf) -> Result<(), NoMemory> {
     for (number, node) in nodes.iter().enumerate() {
         write_number(number as u64, out)?;

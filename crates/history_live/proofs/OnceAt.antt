@@ -1,4 +1,4 @@
--- A further generator behind others: its live pattern is the last, or one of those before.
+-- A further generator after others: its live pattern is the last, or one of those before.
 use Rattle.std.specs.Prelude.{◌≡◌, ◌⊎◌, ◌↔◌, Bool, true, false, not, cond, List, [], ◌∷◌, ◌++◌, map, refl}
 use Rattle.std.specs.List.{filter}
 use Rattle.std.proofs.Common.{ap, sym, subst, ◌∙◌, inl, inr, append-nil}

@@ -14,16 +14,16 @@ use Rattle.da_lang.specs.declared.query.Source.{Source}
 use Rattle.da_lang.specs.Live.{is_history, live_gen, live_pattern}
 use Rattle.da_lang.specs.Matching.{Row, and_then, matched, matched_entry}
 use Rattle.da_lang.specs.World.{Data}
-use Rattle.da_lang.proofs.LiveMatchLaws.{behind, caught, caught_entry, entry_live, match_live}
+use Rattle.da_lang.proofs.LiveMatchLaws.{after_row_of, caught, caught_entry, entry_live, match_live}
 use Rattle.da_lang.proofs.OnceLaws.{of_once}
 use Rattle.da_values.proofs.Members.{of_map}
 use Rattle.history_live.proofs.FrontsAt.{has_here, of_one_more}
 use Rattle.history_live.specs.Reading.{CanGive, IsMatch, Matches}
 use Rattle.query_plan.specs.PlanLive.{history_lives, node_gens}
 
-some_behind : (row : Row) (found : Option Row) → is_some (behind row found) ≡ is_some found
-some_behind row None = refl
-some_behind row (Some more) = refl
+some_after : (row : Row) (found : Option Row) → is_some (after_row_of row found) ≡ is_some found
+some_after row None = refl
+some_after row (Some more) = refl
 
 -- both patterns match
 both_some : (found : Option Row) (go_on : Row → Option Row) (b : Bool) → ((row : Row) → is_some (go_on row) ≡ b) → is_some (and_then found go_on) ≡ (is_some found && b)
@@ -40,13 +40,13 @@ module _ (me : ℕ) (message peer : Pattern) (x : Val) (p : ℕ) where
   caught_both : is_some (caught_entry me message peer x p) ≡ (takes_message && takes_peer)
   caught_both =
       both_some (caught me message x) (matched me [] (live_pattern peer) (val.Proc p)) takes_peer
-      (λ row. ap is_some (match_live me peer [] (val.Proc p) row) ∙ some_behind row (caught me peer (val.Proc p)))
+      (λ row. ap is_some (match_live me peer [] (val.Proc p) row) ∙ some_after row (caught me peer (val.Proc p)))
 
   -- an entry is matched exactly where both parts are
   entry_both : (d : Data) → d.me ≡ me → is_some (matched_entry d (live_pattern message) (live_pattern peer) x p []) ≡ (takes_message && takes_peer)
   entry_both d same =
       ap is_some (entry_live d message peer x p [])
-      ∙ some_behind [] (caught_entry d.me message peer x p)
+      ∙ some_after [] (caught_entry d.me message peer x p)
       ∙ ap (λ z. is_some (caught_entry z message peer x p)) same
       ∙ caught_both
 

@@ -1,5 +1,5 @@
 //! The live patterns of a plan.
-ghost use Rattle.da_lang.specs.Live.{is_history as is_history_lem, once};
+ghost use Rattle.da_lang.specs.Live.{is_history as is_history_def, once};
 ghost use Rattle.da_values.specs.Sets.{Has};
 ghost use Rattle.query_plan.specs.PlanLive.{history_lives, plan_live};
 ghost use Rattle.std.specs.Prelude.{◌≡◌, ◌↔◌, ◌∷◌, ◌++◌, [], IfOk, IsTrue, OnOk};
@@ -19,7 +19,7 @@ pub struct Live {
 
 /// Whether a source is a history.
 pub fn is_history(source: Source) -> bool
-    ensures { result ≡ is_history_lem source }
+    ensures { result ≡ is_history_def source }
 {
     match source {
         Source::Received => true,

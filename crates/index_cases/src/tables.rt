@@ -44,7 +44,7 @@ fn tuple_of(alloc: Global, text: &[u8]) -> anyhow::Result<Row> {
 }
 
 // A copy of a row.
-fn copied(alloc: Global, row: &Row) -> Result<Row, NoMemory> {
+fn copy_of(alloc: Global, row: &Row) -> Result<Row, NoMemory> {
     let mut copy = Row::new(alloc);
     for part in row.as_slice() {
         copy.push(copy_value(alloc, part)?)?;
@@ -58,7 +58,7 @@ fn rows_of_text(alloc: Global, text: &[u8]) -> anyhow::Result<List<Row>> {
     let mut rows = List::new(alloc);
     for part in parts.as_slice() {
         if let Value::Tuple(row) = part {
-            rows.push(copied(alloc, row)?)?;
+            rows.push(copy_of(alloc, row)?)?;
         }
     }
     Ok(rows)
@@ -69,7 +69,7 @@ fn choices_of(alloc: Global, rows: &[Row], keep: bool) -> Result<List<Choice>, N
     let mut choices = List::new(alloc);
     for row in rows {
         choices.push(Choice {
-            row: copied(alloc, row)?,
+            row: copy_of(alloc, row)?,
             keep,
         })?;
     }

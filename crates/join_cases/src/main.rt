@@ -83,7 +83,7 @@ fn runs_of(alloc: Global, text: &str, kind: &str) -> anyhow::Result<Tally> {
     Ok(tally)
 }
 
-// The line of runs. Where something went otherwise, the last number from which it did comes behind.
+// The line of runs. Where something went otherwise, the last number from which it did follows.
 fn show<R: Print>(rt: &R, name: &str, kind: &str, tally: &Tally) -> anyhow::Result<()> {
     let spoilt = tally.rejoined.saturating_add(tally.blocked);
     println!(rt;

@@ -12,7 +12,7 @@ use std::alloc::Global;
 /// The most events of a run.
 const EVENTS: usize = 60;
 
-/// The events of a run, each of which is allowed behind those before it.
+/// The events of a run, each of which is allowed after those before it.
 pub fn walk(
     alloc: Global,
     compiled: &Compiled,

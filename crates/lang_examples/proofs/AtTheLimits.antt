@@ -27,7 +27,7 @@ use Rattle.da_lang.specs.declared.tree.SourceTree.TheVariants as source
 use Rattle.da_lang.specs.declared.tree.Stmt.{Stmt}
 use Rattle.da_lang.specs.declared.tree.Stmt.TheVariants as stmt
 use Rattle.da_lang.specs.declared.ty.Ty.TheVariants as ty
-use Rattle.da_lang.specs.BodyMeaning.{Copy, Stating, Behind, block, class_slots, copies, copy_of, item_at, stating}
+use Rattle.da_lang.specs.BodyMeaning.{Copy, Stating, AfterStmt, block, class_slots, copies, copy_of, item_at, stating}
 use Rattle.da_lang.specs.Calls.{leads_within}
 use Rattle.da_lang.specs.ClassParts.{InMethod, Body, bodies_where, is_handler, method_of}
 use Rattle.da_lang.specs.Deeds.{Deed}
@@ -58,7 +58,7 @@ pass = roll-Item (record { line = 6; kind = it.Pass })
 abbrev no_tables : Tables
 no_tables = record { slots = []; queries = [] }
 
--- CLASSES: the line of the one behind the 32nd is told
+-- CLASSES: the line of the one after the 32nd is reported
 
 abbrev idle : ℕ → ClassTree
 idle line = record (class_of (stmt.Pass 6 ∷ [])) { line = line }
@@ -130,7 +130,7 @@ nest_means copy s i means (suc n) scope =
 pass_means : (copy : Copy) → Means copy (stmt.Pass 6) pass
 pass_means copy scope = ap (λ (made : Stating). made None scope no_tables) (stating-Pass copy 6)
 
-abbrev copied : Copy → ClassTree → Scope Meaning → Option Body → Behind
+abbrev copied : Copy → ClassTree → Scope Meaning → Option Body → AfterStmt
 copied inner c scope method = let kind = copy_of inner c method [] no_tables in record { item = item_at 6 kind.0; label = None; scope = scope; tables = kind.1 }
 
 call_means : (c : ClassTree) (most : ℕ) (name : List ℕ) (s : Stmt) (i : Item) → method_of c name ≡ Some (record { place = InMethod name; params = []; stmts = s ∷ []; line = 7 }) → Means (copies most c) s i → Means (copies (suc most) c) (calls name) (call i)
@@ -138,7 +138,7 @@ unfolding copies
 call_means c most name s i is means scope =
     ap (λ (made : Stating). made None scope no_tables) (stating-Call (copies (suc most) c) name [] 6)
     ∙ ap (copied (copies most c) c scope) is
-    ∙ ap (λ (first : Behind). record { item = item_at 6 (it.Call [] (first.item ∷ [])); label = None; scope = scope; tables = first.tables }) (means (class_slots c))
+    ∙ ap (λ (first : AfterStmt). record { item = item_at 6 (it.Call [] (first.item ∷ [])); label = None; scope = scope; tables = first.tables }) (means (class_slots c))
 
 abbrev chain : ℕ → ClassTree
 chain n = record (class_of []) {
@@ -166,7 +166,7 @@ f_means n = call_means (chain n) 2 (codes "f") (nest (calls (codes "g")) 30) (in
 chain_resolved : (n : ℕ) → resolved_class (chain n) ≡ with_items (in_run n ∷ [])
 unfolding resolved_class
 chain_resolved n =
-    ap (λ (first : Behind). record (with_items (first.item ∷ [])) { slots = first.tables.slots; queries = first.tables.queries })
+    ap (λ (first : AfterStmt). record (with_items (first.item ∷ [])) { slots = first.tables.slots; queries = first.tables.queries })
     (nest_means (copies 3 (chain n)) (calls (codes "f")) (call (in_f n)) (f_means n) 30 [])
 
 nested_depth : (i : Item) (n : ℕ) → item_depth (nested i n) ≡ n + item_depth i
@@ -223,7 +223,7 @@ one_slot_more : variables_over (with_vars 1025) ≡ 1 ∷ []
 unfolding most_variables resolved_class
 one_slot_more = ap (λ s. line_if (nat_lt most_variables (slots_by (with_vars 1025) s) || list_any is_large (reached_deeds (with_vars 1025))) 1) (stating-Pass (copies (length (with_vars 1025).members) (with_vars 1025)) 6)
 
--- PARTS: a tuple of n ones, and a message with n parts behind its tag
+-- PARTS: a tuple of n ones, and a message with n parts after its tag
 
 unfoldable ones : ℕ → Expr
 ones n = ex.Tuple (replicate n (ex.Int (pos 1)))
@@ -285,7 +285,7 @@ one_message_part_more : parts_in_message (message 255) ≡ 2 ∷ []
 unfolding most_parts
 one_message_part_more = refl
 
--- GENERATORS: k times `_ in s`, with a tuple of n ones behind them
+-- GENERATORS: k times `_ in s`, with a tuple of n ones after them
 
 abbrev anything : GenTree
 anything = roll-GenTree (record { message = pattern.Wild; peer = None; source = source.Name (codes "s") })

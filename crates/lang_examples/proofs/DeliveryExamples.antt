@@ -24,7 +24,7 @@ use Rattle.da_lang.proofs.HandlerLaws.{handle_late, handle_none, handle_passes, 
 use Rattle.da_lang.proofs.MoveLaws.{step_delivers}
 use Rattle.da_lang.proofs.RunLaws.{run_fails, run_goes, run_to_yield_end}
 use Rattle.da_lang.specs.Labels.{takes}
-use Rattle.da_lang.specs.Runs.{Ran, Faults, UsedUp, behind, max_turns, run_to_yield, stopped}
+use Rattle.da_lang.specs.Runs.{Ran, Faults, UsedUp, ran_after, max_turns, run_to_yield, stopped}
 use Rattle.da_lang.specs.Steps.{Deliver, Stepped, handle, handled, proc_step}
 use Rattle.da_lang.specs.Turns.{last_time, max_packet}
 use Rattle.da_lang.specs.World.{Entry, Data, Task, Do, World, put_slot, Waiting, Faulted}
@@ -52,7 +52,7 @@ replies = on 14 (it.Send (ex.Tuple (ex.Const (literal.Text (codes "ok")) ∷ ex.
 abbrev counts : Item
 counts = on 15 (it.Assign 3 (ex.Chain (ex.Slot 3) (roll-ChainPart (record { op = Plus; operand = ex.Const (literal.Int (pos 1)) }) ∷ [])))
 
--- `receive ('go', n) from who`, and behind it `receive ('go', =x)`, which prints x
+-- `receive ('go', n) from who`, and after it `receive ('go', =x)`, which prints x
 abbrev at_go : Handler
 at_go = record { message = Tuple (Const (literal.Text (codes "go")) ∷ Bind ∷ []); from = Bind; at = []; binds = 1 ∷ 2 ∷ []; body = replies ∷ counts ∷ []; line = 13 }
 
@@ -116,7 +116,7 @@ first_body : run_to_yield class 1 (bound 0) (Do replies ∷ Do counts ∷ []) �
 unfolding last_time max_packet
 first_body =
     run_goes class 1 (bound 0) (replied 0) (Do replies) (Do counts ∷ []) (Do counts ∷ []) reply (early 1 (omega arith)) (simp turning) (simp turning)
-    ∙ ap (behind reply)
+    ∙ ap (ran_after reply)
     (run_goes class 2 (replied 0) (put_slot (replied 0) 3 (num 1)) (Do counts) [] [] [] (early 2 (omega arith)) (simp turning) (simp turning)
     ∙ run_to_yield_end class 3 (put_slot (replied 0) 3 (num 1)))
 
@@ -126,20 +126,20 @@ seen = Out 2 (literal.Int (pos 1)) ∷ []
 second_body : run_to_yield class 4 (put_slot (replied 0) 3 (num 1)) (Do (on 17 (it.Output (ex.Slot 3))) ∷ []) ≡ record { data' = put_slot (replied 0) 3 (num 1); todo = []; actions = seen; turns = 5; halt = UsedUp }
 second_body =
     run_goes class 4 (put_slot (replied 0) 3 (num 1)) (put_slot (replied 0) 3 (num 1)) (Do (on 17 (it.Output (ex.Slot 3)))) [] [] seen (early 4 (omega arith)) (simp turning) (simp turning)
-    ∙ ap (behind seen) (run_to_yield_end class 5 (put_slot (replied 0) 3 (num 1)))
+    ∙ ap (ran_after seen) (run_to_yield_end class 5 (put_slot (replied 0) 3 (num 1)))
 
 both_match : steps 0 go ≡ Some (record { world = record { data' = put_slot (replied 0) 3 (num 1); todo = todo; phase = Waiting }; actions = Got 2 1 1 (value_of go) ∷ Sent 2 1 3 (literal.Tuple (val.Text (codes "ok") ∷ num 1 ∷ [])) ∷ Out 2 (literal.Int (pos 1)) ∷ [] })
 both_match =
     step_is 0 go _ (simp taking)
     (handle_runs class go 1 at_go (at_x ∷ []) 0 (came go 0) (num 1 ∷ val.Proc 1 ∷ []) _ (early 0 (omega arith)) (simp turning) first_body
-    ∙ ap (behind reply) (handle_runs class go 1 at_x [] 3 (put_slot (replied 0) 3 (num 1)) [] _ (early 3 (omega arith)) (simp turning) second_body))
+    ∙ ap (ran_after reply) (handle_runs class go 1 at_x [] 3 (put_slot (replied 0) 3 (num 1)) [] _ (early 3 (omega arith)) (simp turning) second_body))
 
 -- a fault of the first handler: what it did stands, the second one is not tried, and the process keeps what it had to do
 failing_body : run_to_yield class 1 (bound greatest) (Do replies ∷ Do counts ∷ []) ≡ record { data' = replied greatest; todo = []; actions = reply; turns = 3; halt = Faults Overflow 15 }
 unfolding last_time max_packet
 failing_body =
     run_goes class 1 (bound greatest) (replied greatest) (Do replies) (Do counts ∷ []) (Do counts ∷ []) reply (early 1 (omega arith)) (simp turning) (simp turning)
-    ∙ ap (behind reply) (run_fails class 2 (replied greatest) (replied greatest) (Do counts) [] [] [] Overflow 15 (early 2 (omega arith)) (simp turning) (simp turning))
+    ∙ ap (ran_after reply) (run_fails class 2 (replied greatest) (replied greatest) (Do counts) [] [] [] Overflow 15 (early 2 (omega arith)) (simp turning) (simp turning))
 
 fails : steps greatest go ≡ Some (record { world = record { data' = replied greatest; todo = todo; phase = Faulted }; actions = Got 2 1 1 (value_of go) ∷ Sent 2 1 3 (literal.Tuple (val.Text (codes "ok") ∷ num 1 ∷ [])) ∷ Fault 2 Overflow 15 ∷ [] })
 fails = step_is greatest go _ (simp taking) (handle_runs class go 1 at_go (at_x ∷ []) 0 (came go greatest) (num 1 ∷ val.Proc 1 ∷ []) _ (early 0 (omega arith)) (simp turning) failing_body)

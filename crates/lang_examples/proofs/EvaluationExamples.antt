@@ -139,7 +139,7 @@ quotient_divides = simp (evaluating, asking)
 remainder_divides : gives (chain (int (pos 1)) Mod (int (pos 0))) ≡ Err Divide
 remainder_divides = simp (evaluating, asking)
 
--- an operation comes before the operands behind it
+-- an operation comes before the operands after it
 fault_from_the_left : gives (ex.Chain (int (pos greatest)) (part Plus (int (pos 1)) ∷ part Plus zero_divisor ∷ [])) ≡ Err Overflow
 fault_from_the_left = simp (evaluating, asking)
 
@@ -208,7 +208,7 @@ negation = simp (evaluating, asking)
 all_of : gives (ex.And (truth true ∷ ex.Slot 4 ∷ [])) ≡ Ok (val.Bool true)
 all_of = simp (evaluating, asking)
 
--- behind what decides nothing is evaluated
+-- after what decides nothing is evaluated
 false_decides : gives (ex.And (truth false ∷ zero_divisor ∷ [])) ≡ Ok (val.Bool false)
 false_decides = simp (evaluating, asking)
 

@@ -38,7 +38,7 @@ use Rattle.da_lang.proofs.HandlerLaws.{handle_none, handle_runs}
 use Rattle.da_lang.proofs.MoveLaws.{step_at_label, step_delivers}
 use Rattle.da_lang.proofs.RunLaws.{run_goes, run_to_yield_end, run_to_yield_yield}
 use Rattle.da_lang.specs.Labels.{open_handlers, takes}
-use Rattle.da_lang.specs.Runs.{UsedUp, behind, run_to_yield, stopped}
+use Rattle.da_lang.specs.Runs.{UsedUp, ran_after, run_to_yield, stopped}
 use Rattle.da_lang.specs.Steps.{Go, Take, TimeOut, Deliver, handle, handled, moved, proc_step}
 use Rattle.da_lang.specs.Turns.{last_time, max_packet}
 use Rattle.da_lang.specs.World.{Data, Task, Do, World, New, Waiting, Ended}
@@ -113,7 +113,7 @@ begins =
     let told = Sent 1 1 1 (literal.Tuple (val.Text (codes "go") ∷ num 4 ∷ [])) ∷ [] in
     ap (λ ran. Some (moved 1 0 ran))
     (run_goes class 0 new (here 0 0) (Do sends) at_shut at_shut told (early 0 (omega arith)) (simp stepping) (simp stepping)
-    ∙ ap (behind told) (run_to_yield_yield class 1 (here 0 0) (Do shut) (Do sets ∷ Do gate ∷ Do waits ∷ []) (simp stepping)))
+    ∙ ap (ran_after told) (run_to_yield_yield class 1 (here 0 0) (Do shut) (Do sets ∷ Do gate ∷ Do waits ∷ []) (simp stepping)))
 
 shut_out : proc_step program (at (here 0 0) at_shut) (Deliver go 1 1) ≡ None
 shut_out = simp taking
@@ -126,7 +126,7 @@ goes_on =
     (run_goes class 1 (here 0 0) (here 1 0) (Do sets) at_gate at_gate [] (early 1 (omega arith)) (simp turning) (simp turning)
     ∙ run_to_yield_yield class 2 (here 1 0) (Do gate) at_await (simp turning))
 
--- THERE IT IS OPEN, and at the `await` behind the label too: x becomes 4
+-- THERE IT IS OPEN, and at the `await` after the label too: x becomes 4
 body_runs : run_to_yield class 1 (came 1 4) (Do (on 14 (it.Assign 1 (ex.Slot 2))) ∷ []) ≡ stopped (came 4 4) [] 2 UsedUp
 body_runs =
     run_goes class 1 (came 1 4) (came 4 4) (Do (on 14 (it.Assign 1 (ex.Slot 2)))) [] [] [] (early 1 (omega arith)) (simp turning) (simp turning)
@@ -169,7 +169,7 @@ takes_first : proc_step program (at (came 4 4) at_await) (Take 1) ≡ Some (reco
 takes_first =
     simp stepping (ap (λ ran. Some (moved 1 1 ran))
     (run_goes class 1 (came 4 4) (came 4 4) (Do (on 10 (it.Output (ex.Slot 1)))) [] [] (Out 1 (literal.Int (pos 4)) ∷ []) (early 1 (omega arith)) (simp stepping) (simp stepping)
-    ∙ ap (behind (Out 1 (literal.Int (pos 4)) ∷ [])) (run_to_yield_end class 2 (came 4 4))))
+    ∙ ap (ran_after (Out 1 (literal.Int (pos 4)) ∷ [])) (run_to_yield_end class 2 (came 4 4))))
 
 times_out_not : proc_step program (at (came 4 4) at_await) TimeOut ≡ None
 times_out_not = simp stepping
@@ -179,7 +179,7 @@ times_out : proc_step program (at (here 1 0) at_await) TimeOut ≡ Some (record 
 times_out =
     simp stepping (ap (λ ran. Some (moved 1 2 ran))
     (run_goes class 1 (here 1 0) (here 1 0) (Do (on 12 (it.Output (ex.Const (literal.Int (pos 0)))))) [] [] (Out 1 (literal.Int (pos 0)) ∷ []) (early 1 (omega arith)) (simp stepping) (simp stepping)
-    ∙ ap (behind (Out 1 (literal.Int (pos 0)) ∷ [])) (run_to_yield_end class 2 (here 1 0))))
+    ∙ ap (ran_after (Out 1 (literal.Int (pos 0)) ∷ [])) (run_to_yield_end class 2 (here 1 0))))
 
 takes_none : proc_step program (at (here 1 0) at_await) (Take 1) ≡ None
 takes_none = simp stepping

@@ -105,7 +105,7 @@ tree = record {
   line = 1;
 }
 
--- a copy of g: n has the slot s, x the next one, and a, b and c the three behind it; its queries have the numbers from q
+-- a copy of g: n has the slot s, x the next one, and a, b and c the three after it; its queries have the numbers from q
 abbrev copy : ℕ → ℕ → List Item
 copy s q =
     at 7
@@ -149,7 +149,7 @@ third = record { slots = second.slots ++ copy_slots ++ None ∷ None ∷ []; que
 abbrev last : Tables
 last = record { slots = third.slots ++ copy_slots; queries = third.queries ++ copy_queries 17 }
 
--- the body of g, with n in the slot s behind what was met
+-- the body of g, with n in the slot s after what was met
 abbrev scope : List (List ℕ × Meaning)
 scope = (codes "t", InSlot 2) ∷ (codes "s", InSlot 1) ∷ []
 

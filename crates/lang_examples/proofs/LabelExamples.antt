@@ -58,23 +58,23 @@ module _ (copy : Copy) (scope : Scope Meaning) where
   abbrev Becomes : List Stmt → List Item → Type 0
   Becomes stmts items = block (map (stating copy) stmts) scope no_tables ≡ (items, no_tables)
 
-  behind_label : Becomes (label (codes "l") 6 ∷ wait 7 ∷ []) (at 6 (it.Label (copy.number (codes "l"))) ∷ waits 7 (Some (copy.number (codes "l"))) ∷ [])
-  behind_label = simp (resolving, awaits, each, timeout_block) refl
+  after_label : Becomes (label (codes "l") 6 ∷ wait 7 ∷ []) (at 6 (it.Label (copy.number (codes "l"))) ∷ waits 7 (Some (copy.number (codes "l"))) ∷ [])
+  after_label = simp (resolving, awaits, each, timeout_block) refl
 
   -- one without a block too
-  behind_label_alone : Becomes (label (codes "l") 6 ∷ stmt.AwaitOne (ex.Truth true) 7 ∷ []) (at 6 (it.Label (copy.number (codes "l"))) ∷ waits 7 (Some (copy.number (codes "l"))) ∷ [])
-  behind_label_alone = simp resolving refl
+  after_label_alone : Becomes (label (codes "l") 6 ∷ stmt.AwaitOne (ex.Truth true) 7 ∷ []) (at 6 (it.Label (copy.number (codes "l"))) ∷ waits 7 (Some (copy.number (codes "l"))) ∷ [])
+  after_label_alone = simp resolving refl
 
   -- `pass` between them takes it away, and so does another `await`
-  behind_pass : Becomes (label (codes "l") 6 ∷ stmt.Pass 7 ∷ wait 8 ∷ []) (at 6 (it.Label (copy.number (codes "l"))) ∷ at 7 it.Pass ∷ waits 8 None ∷ [])
-  behind_pass = simp (resolving, awaits, each, timeout_block) refl
+  after_pass : Becomes (label (codes "l") 6 ∷ stmt.Pass 7 ∷ wait 8 ∷ []) (at 6 (it.Label (copy.number (codes "l"))) ∷ at 7 it.Pass ∷ waits 8 None ∷ [])
+  after_pass = simp (resolving, awaits, each, timeout_block) refl
 
-  behind_await : Becomes (label (codes "l") 6 ∷ wait 7 ∷ wait 8 ∷ []) (at 6 (it.Label (copy.number (codes "l"))) ∷ waits 7 (Some (copy.number (codes "l"))) ∷ waits 8 None ∷ [])
-  behind_await = simp (resolving, awaits, each, timeout_block) refl
+  after_await : Becomes (label (codes "l") 6 ∷ wait 7 ∷ wait 8 ∷ []) (at 6 (it.Label (copy.number (codes "l"))) ∷ waits 7 (Some (copy.number (codes "l"))) ∷ waits 8 None ∷ [])
+  after_await = simp (resolving, awaits, each, timeout_block) refl
 
   -- of two labels it is the second one
-  behind_two : Becomes (label (codes "l") 6 ∷ label (codes "m") 7 ∷ wait 8 ∷ []) (at 6 (it.Label (copy.number (codes "l"))) ∷ at 7 (it.Label (copy.number (codes "m"))) ∷ waits 8 (Some (copy.number (codes "m"))) ∷ [])
-  behind_two = simp (resolving, awaits, each, timeout_block) refl
+  after_two : Becomes (label (codes "l") 6 ∷ label (codes "m") 7 ∷ wait 8 ∷ []) (at 6 (it.Label (copy.number (codes "l"))) ∷ at 7 (it.Label (copy.number (codes "m"))) ∷ waits 8 (Some (copy.number (codes "m"))) ∷ [])
+  after_two = simp (resolving, awaits, each, timeout_block) refl
 
   -- the first statement of a block has none: that of a loop, an alternative, and a `timeout`
   first_of_loop : Becomes (label (codes "l") 6 ∷ stmt.While (ex.Truth true) (wait 8 ∷ []) 7 ∷ [])
@@ -87,7 +87,7 @@ module _ (copy : Copy) (scope : Scope Meaning) where
   first_of_blocks = simp (resolving, awaits, each, timeout_block) refl
 
 -- THE NUMBERS go on through the class, over a method that nothing calls; the copies of a method have the same one, and the
--- statement behind a call has no label
+-- statement after a call has no label
 --     2 def f():
 --     3     -- k
 --     4 def g():

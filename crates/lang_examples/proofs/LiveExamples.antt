@@ -81,7 +81,7 @@ acks = simp living
 keeps_two : kept of_lamport (lamport [] (ack 5 1 ∷ ack 4 3 ∷ ack 5 1 ∷ [])) ≡ 2
 keeps_two = simp living
 
--- a constant behind `=` is another pattern than the constant
+-- a constant after `=` is another pattern than the constant
 abbrev of_both : Class
 of_both = waits (query.Quant false (record { source = Sent; message = Me; peer = Any } ∷ record { source = Sent; message = Equal term.Me; peer = Any } ∷ []) None ∷ []) (cond.Truth (term.Const (literal.Bool false)))
 

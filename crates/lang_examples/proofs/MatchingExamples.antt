@@ -1,4 +1,4 @@
--- Each kind of pattern, in process 3 whose slot 1 is 6, behind a row with the one part 5.
+-- Each kind of pattern, in process 3 whose slot 1 is 6, after a row with the one part 5.
 use Rattle.std.specs.Prelude.{◌≡◌, pos, negsuc, true, [], ◌∷◌, Option, Some, None, codes}
 use Rattle.da_values.specs.declared.val.Val.{Val}
 use Rattle.da_values.specs.declared.val.Val.TheVariants as val
@@ -70,7 +70,7 @@ within_foreign = simp matching
 parts : matches (Tuple (Bind ∷ Any ∷ Bind ∷ [])) (val.Tuple (six ∷ five ∷ val.Proc 2 ∷ [])) ≡ Some (five ∷ six ∷ val.Proc 2 ∷ [])
 parts = simp matching
 
--- a variable of the same pattern, from behind its place
+-- a variable of the same pattern, from after its place
 variable_of_same_pattern : matches (Tuple (Bind ∷ Equal (term.Part 2) ∷ [])) (val.Tuple (six ∷ six ∷ [])) ≡ Some (five ∷ six ∷ [])
 variable_of_same_pattern = simp matching
 

@@ -44,7 +44,7 @@ nothing_refused : name_fault (tree_of (member.Var (codes "x") ty.Int 2 ∷ run (
 unfolding name_refusals leads_within yields_within
 nothing_refused = simp finding refl
 
--- a `timeout` behind an alternative
+-- a `timeout` after an alternative
 timeout : name_fault (tree_of (run (stmt.Await (roll-Branch (record { cond = ex.Truth true; body = stmt.Pass 7 ∷ []; line = 6 }) ∷ []) (Some (roll-TimeoutTree (record { body = stmt.Pass 9 ∷ []; line = 8 }))) 6 ∷ []) ∷ []) []) ≡ None
 unfolding name_refusals leads_within yields_within
 timeout = simp finding refl
@@ -65,7 +65,7 @@ at_label_twice : name_fault (at_labels (codes "l" ∷ codes "l" ∷ [])) ≡ tol
 unfolding name_refusals leads_within yields_within
 at_label_twice = simp finding refl
 
--- where a name is no label and another one is named twice, the first is told
+-- where a name is no label and another one is named twice, the first is reported
 at_both : name_fault (at_labels (codes "l" ∷ codes "l" ∷ codes "m" ∷ [])) ≡ told refusal.Unknown 7
 unfolding name_refusals leads_within yields_within
 at_both = simp finding refl
@@ -192,10 +192,10 @@ unknown_source : name_fault (tree_of (member.Var (codes "y") (ty.Set ty.Int) 2 �
 unfolding name_refusals leads_within yields_within
 unknown_source = simp finding refl
 
--- `some (x, =x) in y`: in a query a variable is in scope behind its place
-equal_behind_its_variable : name_fault (tree_of (member.Var (codes "y") (ty.Set (ty.Tuple (ty.Int ∷ ty.Int ∷ []))) 2 ∷ run (stmt.Output (ex.Quant false (roll-GenTree (record { message = pattern.Tuple (pattern.Name (codes "x") ∷ pattern.Equal (ex.Name (codes "x")) ∷ []); peer = None; source = source.Name (codes "y") }) ∷ []) None) 6 ∷ []) ∷ []) []) ≡ None
+-- `some (x, =x) in y`: in a query a variable is in scope after its place
+equal_after_its_variable : name_fault (tree_of (member.Var (codes "y") (ty.Set (ty.Tuple (ty.Int ∷ ty.Int ∷ []))) 2 ∷ run (stmt.Output (ex.Quant false (roll-GenTree (record { message = pattern.Tuple (pattern.Name (codes "x") ∷ pattern.Equal (ex.Name (codes "x")) ∷ []); peer = None; source = source.Name (codes "y") }) ∷ []) None) 6 ∷ []) ∷ []) []) ≡ None
 unfolding name_refusals leads_within yields_within
-equal_behind_its_variable = simp finding refl
+equal_after_its_variable = simp finding refl
 
 -- `some (=x, x) in y`
 equal_before_its_variable : name_fault (tree_of (member.Var (codes "y") (ty.Set (ty.Tuple (ty.Int ∷ ty.Int ∷ []))) 2 ∷ run (stmt.Output (ex.Quant false (roll-GenTree (record { message = pattern.Tuple (pattern.Equal (ex.Name (codes "x")) ∷ pattern.Name (codes "x") ∷ []); peer = None; source = source.Name (codes "y") }) ∷ []) None) 6 ∷ []) ∷ []) []) ≡ told refusal.Unknown 6

@@ -31,7 +31,7 @@ use Rattle.da_lang.specs.declared.ty.ChannelKind.TheVariants.{UnorderedUnreliabl
 use Rattle.da_lang.proofs.HandlerLaws.{handle_none, handle_passes, handle_runs}
 use Rattle.da_lang.proofs.MoveLaws.{step_delivers}
 use Rattle.da_lang.proofs.RunLaws.{run_goes, run_to_yield_end, run_to_yield_yield}
-use Rattle.da_lang.specs.Runs.{behind}
+use Rattle.da_lang.specs.Runs.{ran_after}
 use Rattle.da_lang.specs.Steps.{Go, Take, Deliver, handled, moved, proc_step}
 use Rattle.da_lang.specs.Turns.{last_time, max_packet}
 use Rattle.da_lang.specs.World.{Entry, Data, Task, Do, Prepare, World, put_slot, New, Waiting, Ended}
@@ -124,7 +124,7 @@ begins =
     (run_goes class 0 new set_up (Prepare (call 2 16)) (Do sends ∷ to_wait) (Do keeps ∷ Do sends ∷ to_wait) [] (early 0 (omega arith)) refl (simp stepping)
     ∙ run_goes class 1 set_up knows (Do keeps) (Do sends ∷ to_wait) (Do sends ∷ to_wait) [] (early 1 (omega arith)) (simp stepping) (simp stepping)
     ∙ run_goes class 2 knows has_sent (Do sends) to_wait to_wait told (early 2 (omega arith)) (simp stepping) (simp stepping)
-    ∙ ap (behind told) (run_to_yield_yield class 3 has_sent (Do awaits) (Do prints ∷ []) (simp stepping)))
+    ∙ ap (ran_after told) (run_to_yield_yield class 3 has_sent (Do awaits) (Do prints ∷ []) (simp stepping)))
 
 -- there is no pong yet
 takes_none : proc_step program (record { data' = has_sent; todo = to_wait; phase = Waiting }) (Take 1) ≡ None
@@ -150,7 +150,7 @@ takes =
     simp stepping
     (ap (λ ran. Some (moved 1 1 ran))
     (run_goes class 1 has_read has_read (Do prints) [] [] (Out 1 (literal.Int (pos 6)) ∷ []) (early 1 (omega arith)) (simp stepping) (simp stepping)
-    ∙ ap (behind (Out 1 (literal.Int (pos 6)) ∷ [])) (run_to_yield_end class 2 has_read)))
+    ∙ ap (ran_after (Out 1 (literal.Int (pos 6)) ∷ [])) (run_to_yield_end class 2 has_read)))
 
 -- PROCESS 2, which has sent its own ping
 
@@ -176,5 +176,5 @@ gets_ping =
     ∙ ap (λ ran. Some (handled to_wait 2 ping 1 1 ran))
     (handle_runs class ping 1 at_ping [] 0 has_ping (num 5 ∷ val.Proc 1 ∷ []) _ (early 0 (omega arith)) (simp stepping)
     (run_goes class 1 bound has_replied (Do replies) [] [] reply (early 1 (omega arith)) (simp stepping) (simp stepping)
-    ∙ ap (behind reply) (run_to_yield_end class 2 has_replied)))
+    ∙ ap (ran_after reply) (run_to_yield_end class 2 has_replied)))
     ∙ simp stepping

@@ -18,7 +18,7 @@ use Rattle.da_lang.specs.declared.program.RExpr.TheVariants as ex
 use Rattle.da_lang.specs.declared.tree.ArithOp.TheVariants.{Div}
 use Rattle.da_lang.specs.Arithmetic.{numbers_from}
 use Rattle.da_lang.proofs.RunLaws.{run_fails, run_goes, run_to_yield_end, run_to_yield_late, run_to_yield_yield}
-use Rattle.da_lang.specs.Runs.{behind, AtYield, UsedUp, Faults, max_turns, run, run_to_yield, stopped}
+use Rattle.da_lang.specs.Runs.{ran_after, AtYield, UsedUp, Faults, max_turns, run, run_to_yield, stopped}
 use Rattle.da_lang.specs.Turns.{failed, last_time, max_packet, packet_len, send, send_if}
 use Rattle.da_lang.specs.World.{Data, Task, Do, put_slot}
 use Rattle.da_lang.proofs.Computing.{early, turning}
@@ -44,7 +44,7 @@ zero_divisor = ex.Chain (int 1) (roll-ChainPart (record { op = Div; operand = in
 
 -- `output(7)`
 prints : run_to_yield class 0 here (on 3 (it.Output (int 7)) ∷ []) ≡ record { data' = here; todo = []; actions = Out 1 (literal.Int (pos 7)) ∷ []; turns = 1; halt = UsedUp }
-prints = run_goes class 0 here here (on 3 (it.Output (int 7))) [] [] (Out 1 (literal.Int (pos 7)) ∷ []) (early 0 (omega arith)) (simp turning) (simp turning) ∙ ap (behind (Out 1 (literal.Int (pos 7)) ∷ [])) (run_to_yield_end class 1 here)
+prints = run_goes class 0 here here (on 3 (it.Output (int 7))) [] [] (Out 1 (literal.Int (pos 7)) ∷ []) (early 0 (omega arith)) (simp turning) (simp turning) ∙ ap (ran_after (Out 1 (literal.Int (pos 7)) ∷ [])) (run_to_yield_end class 1 here)
 
 waits : (rest : List Task) → run_to_yield class 5 here (on 3 it.Pass ∷ on 4 (it.Label 1) ∷ rest) ≡ stopped here (on 4 (it.Label 1) ∷ rest) 6 AtYield
 waits rest = run_goes class 5 here here (on 3 it.Pass) (on 4 (it.Label 1) ∷ rest) (on 4 (it.Label 1) ∷ rest) [] (early 5 (omega arith)) (simp turning) (simp turning) ∙ run_to_yield_yield class 6 here (on 4 (it.Label 1)) rest (simp turning)
@@ -55,7 +55,7 @@ faults rest =
     run_goes class 0 here (put_slot here 1 (num 8)) (on 3 (it.Assign 1 (int 8))) (on 4 (it.Output zero_divisor) ∷ rest) (on 4 (it.Output zero_divisor) ∷ rest) [] (early 0 (omega arith)) (simp turning) (simp turning)
     ∙ run_fails class 1 (put_slot here 1 (num 8)) (put_slot here 1 (num 8)) (on 4 (it.Output zero_divisor)) rest rest [] Divide 4 (early 1 (omega arith)) (simp turning) (simp turning)
 
--- behind the last turn nothing more is taken, but a yield point is reached
+-- after the last turn nothing more is taken, but a yield point is reached
 late : (rest : List Task) → run_to_yield class max_turns here (on 3 (it.Output zero_divisor) ∷ rest) ≡ stopped here (on 3 (it.Output zero_divisor) ∷ rest) max_turns (Faults TooLong 3)
 late rest = run_to_yield_late class max_turns here (on 3 (it.Output zero_divisor)) rest (omega arith) (simp turning)
 

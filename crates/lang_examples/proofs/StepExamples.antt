@@ -26,7 +26,7 @@ use Rattle.da_lang.specs.declared.query.Term.TheVariants as term
 use Rattle.da_lang.specs.declared.tree.ArithOp.TheVariants.{Div}
 use Rattle.da_lang.specs.declared.ty.ChannelKind.TheVariants.{UnorderedUnreliable}
 use Rattle.da_lang.proofs.RunLaws.{run_fails, run_goes, run_to_yield_end, run_to_yield_yield}
-use Rattle.da_lang.specs.Runs.{behind}
+use Rattle.da_lang.specs.Runs.{ran_after}
 use Rattle.da_lang.specs.Steps.{Step, Go, Take, Deliver, Stepped, moved, proc_step}
 use Rattle.da_lang.specs.World.{Data, Task, Do, Prepare, World, Phase, New, Waiting, Ended, Faulted}
 use Rattle.da_lang.proofs.Computing.{early, stepping}
@@ -103,7 +103,7 @@ await_goes_not : steps (at Waiting (Do two_ways ∷ [])) Go ≡ None
 await_goes_not = simp stepping
 
 takes : steps (at Waiting (Do two_ways ∷ [])) (Take 1) ≡ Some (record { world = at Ended []; actions = Took 1 1 ∷ Out 1 (literal.Int (pos 7)) ∷ End 1 ∷ [] })
-takes = simp stepping (ap (λ ran. Some (moved 1 1 ran)) (run_goes class 1 here here (Do (on 5 (it.Output (int 7)))) [] [] (Out 1 (literal.Int (pos 7)) ∷ []) (early 1 (omega arith)) (simp stepping) (simp stepping) ∙ ap (behind (Out 1 (literal.Int (pos 7)) ∷ [])) (run_to_yield_end class 2 here)))
+takes = simp stepping (ap (λ ran. Some (moved 1 1 ran)) (run_goes class 1 here here (Do (on 5 (it.Output (int 7)))) [] [] (Out 1 (literal.Int (pos 7)) ∷ []) (early 1 (omega arith)) (simp stepping) (simp stepping) ∙ ap (ran_after (Out 1 (literal.Int (pos 7)) ∷ [])) (run_to_yield_end class 2 here)))
 
 takes_no_false_one : steps (at Waiting (Do two_ways ∷ [])) (Take 2) ≡ None
 takes_no_false_one = simp stepping
@@ -113,7 +113,7 @@ takes_no_third_one = simp stepping
 
 -- of three, the third one is taken although the first one is true too
 takes_third : steps (at Waiting (Do three_ways ∷ [])) (Take 3) ≡ Some (record { world = at Ended []; actions = Took 1 3 ∷ Out 1 (literal.Int (pos 9)) ∷ End 1 ∷ [] })
-takes_third = simp stepping (ap (λ ran. Some (moved 1 3 ran)) (run_goes class 1 here here (Do (on 5 (it.Output (int 9)))) [] [] (Out 1 (literal.Int (pos 9)) ∷ []) (early 1 (omega arith)) (simp stepping) (simp stepping) ∙ ap (behind (Out 1 (literal.Int (pos 9)) ∷ [])) (run_to_yield_end class 2 here)))
+takes_third = simp stepping (ap (λ ran. Some (moved 1 3 ran)) (run_goes class 1 here here (Do (on 5 (it.Output (int 9)))) [] [] (Out 1 (literal.Int (pos 9)) ∷ []) (early 1 (omega arith)) (simp stepping) (simp stepping) ∙ ap (ran_after (Out 1 (literal.Int (pos 9)) ∷ [])) (run_to_yield_end class 2 here)))
 
 takes_no_second_of_three : steps (at Waiting (Do three_ways ∷ [])) (Take 2) ≡ None
 takes_no_second_of_three = simp stepping
@@ -141,7 +141,7 @@ faulted_takes_none todo k = refl
 faulted_gets_none : (todo : List Task) (m : Val) (p time : ℕ) → steps (at Faulted todo) (Deliver m p time) ≡ None
 faulted_gets_none todo m p time = refl
 
--- A FAULT OF THE FIRST TURN of a move: `output(1 // 0)` on line 3 is gone, and what stands behind it is kept
+-- A FAULT OF THE FIRST TURN of a move: `output(1 // 0)` on line 3 is gone, and what stands after it is kept
 
 abbrev divides : Item
 divides = on 3 (it.Output (ex.Chain (int 1) (roll-ChainPart (record { op = Div; operand = int 0 }) ∷ [])))
@@ -186,7 +186,7 @@ binds_least =
     simp stepping
     (ap (λ ran. Some (moved 1 1 ran))
     (run_goes class2 1 (with_slots 5 2) (with_slots 5 2) (Do (on 6 (it.Output (ex.Slot 3)))) [] [] (Out 1 (literal.Int (pos 2)) ∷ []) (early 1 (omega arith)) (simp stepping) (simp stepping)
-    ∙ ap (behind (Out 1 (literal.Int (pos 2)) ∷ [])) (run_to_yield_end class2 2 (with_slots 5 2))))
+    ∙ ap (ran_after (Out 1 (literal.Int (pos 2)) ∷ [])) (run_to_yield_end class2 2 (with_slots 5 2))))
 
 -- with no element there is no row
 binds_none : proc_step program2 (record { data' = record (with_slots 5 0) { slots = num 5 ∷ val.Set [] ∷ num 0 ∷ [] }; todo = Do binding ∷ []; phase = Waiting }) (Take 1) ≡ None

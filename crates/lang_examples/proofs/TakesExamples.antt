@@ -47,12 +47,12 @@ at_another = simp taking
 at_both : takes (class_with (on_go Any Any (2 ∷ 1 ∷ []) ∷ [])) (at (it.Label 1)) go 1 ≡ true
 at_both = simp taking
 
--- at an `await` behind label 1, and at one behind none
-behind_this : takes (class_with (on_go Any Any (1 ∷ []) ∷ [])) (at (it.Await [] None (Some 1))) go 1 ≡ true
-behind_this = simp taking
+-- at an `await` after label 1, and at one after none
+after_this : takes (class_with (on_go Any Any (1 ∷ []) ∷ [])) (at (it.Await [] None (Some 1))) go 1 ≡ true
+after_this = simp taking
 
-behind_none : takes (class_with (on_go Any Any (1 ∷ []) ∷ [])) (at (it.Await [] None None)) go 1 ≡ false
-behind_none = simp taking
+after_none : takes (class_with (on_go Any Any (1 ∷ []) ∷ [])) (at (it.Await [] None None)) go 1 ≡ false
+after_none = simp taking
 
 everywhere : takes (class_with (on_go Any Any [] ∷ [])) (at (it.Await [] None None)) go 1 ≡ true
 everywhere = simp taking

@@ -151,7 +151,7 @@ impl Network {
         Ok(taken)
     }
 
-    // The place of the datagram that arrives next for a process: that of the first one, or of one behind it.
+    // The place of the datagram that arrives next for a process: that of the first one, or of one after it.
     fn next_place(&mut self, to: u16) -> Option<usize> {
         let first = place_from(self.parcels.as_slice(), 0, to)?;
         if !self.happens(self.habits.reorders) {
@@ -176,7 +176,7 @@ fn place_from(parcels: &[Parcel], from: usize, to: u16) -> Option<usize> {
         .map(|(place, _)| place)
 }
 
-// Puts bytes into the front of a buffer that has room for them.
+// Puts bytes at the start of a buffer that has room for them.
 fn put(bytes: &[u8], buf: &mut [u8]) -> Taken
     ensures { HasRoom result buf.new }
 {

@@ -1,4 +1,4 @@
-//! How many values the first process of a program holds: before any event, and behind each event of its own.
+//! How many values the first process of a program holds: before any event, and after each event of its own.
 ghost use Rattle.da_core.specs.Arrivals.{MayArrive};
 ghost use Rattle.da_core.specs.Compiled.{IsCompiled, program_of as compiled_program};
 ghost use Rattle.da_core.specs.StandsFor.{IsReady, program_of};
@@ -31,7 +31,7 @@ fn tell_size<R: Print>(rt: &R, core: &Core<'_>) -> anyhow::Result<()> {
     Ok(())
 }
 
-// Makes the move of this number, and prints how many there are behind it.
+// Makes the move of this number, and prints how many there are after it.
 fn make_move<R: Print + AllocGlobal>(rt: &R, core: &mut Core<'_>, k: u32) -> anyhow::Result<()>
     requires { IsReady core.old }
     ensures program { program_of core.new ≡ program_of core.old }
@@ -41,7 +41,7 @@ fn make_move<R: Print + AllocGlobal>(rt: &R, core: &mut Core<'_>, k: u32) -> any
     tell_size(rt, core)
 }
 
-// Takes in a message that process 2 sent at time 3, and prints how many there are behind that.
+// Takes in a message that process 2 sent at time 3, and prints how many there are after that.
 fn take_in<R: Print + AllocGlobal>(
     rt: &R,
     compiled: &Compiled,

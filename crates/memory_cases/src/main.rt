@@ -1,5 +1,5 @@
 //! Makes the step of each event of a schedule, and prints what the system answers to it. With ample memory each step is made
-//! but the last, which is not allowed. Where memory is refused in a step, all steps behind it are answered as spent:
+//! but the last, which is not allowed. Where memory is refused in a step, all steps after it are answered as spent:
 //! `.ci/refused` of this repository runs the program so. Where it was not refused, the program prints besides how many values
 //! a process of another program holds.
 #![tactic(auto)]

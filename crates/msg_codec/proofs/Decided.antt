@@ -22,10 +22,10 @@ use Rattle.da_values.specs.Sets.{Ascends, Below}
 use Rattle.da_values.specs.Str.{IsTextByte}
 use Rattle.da_values.specs.Value.{val_of}
 use Rattle.msg_codec.specs.Packets.{IsPacket, joined, truth_byte, value_bytes}
-use Rattle.msg_codec.specs.Pieces.{Begins, BeginsEach, Behind, IsHead}
+use Rattle.msg_codec.specs.Pieces.{Begins, BeginsEach, AfterLetter, IsHead}
 use Rattle.msg_codec.proofs.CarriedLaws.{fits_of_i64, i64_of_fits}
-use Rattle.msg_codec.proofs.PacketLaws.{head_of, packet_there, same_each, same_value, small_rest, value_behind}
-use Rattle.msg_codec.proofs.PieceLaws.{begins_behind, behind_begins, every_val, first_of, no_bytes, rest_of}
+use Rattle.msg_codec.proofs.PacketLaws.{head_of, packet_there, same_each, same_value, small_rest, value_after}
+use Rattle.msg_codec.proofs.PieceLaws.{begins_after, after_begins, every_val, first_of, no_bytes, rest_of}
 use Rattle.msg_codec.proofs.ReadLaws.{begins_first, most_values}
 
 -- DECIDED
@@ -136,13 +136,13 @@ abbrev AtFront : ℕ → Type 0
 AtFront depth = (bytes : List ℕ) → length bytes ≤ 60000 → Decided (ValueAt depth bytes)
 
 module _ (depth letter : ℕ) (bytes : List ℕ) where
-  -- what is kept in a value of one kind behind the letter, and the rest
+  -- what is kept in a value of one kind after the letter, and the rest
   abbrev Of : {A : Type 0} → (A → Value) → Type 0
-  Of {A} kind = (found : A × List ℕ) × Behind depth (kind found.0) letter bytes found.1
+  Of {A} kind = (found : A × List ℕ) × AfterLetter depth (kind found.0) letter bytes found.1
 
   of_integer : Decided (Of kept.Int)
   of_integer =
-      decided_at (λ found. Behind depth (kept.Int found.0) letter bytes found.1) (cast_signed w64 (from_be_bytes w64 (take 8 bytes)), drop 8 bytes)
+      decided_at (λ found. AfterLetter depth (kept.Int found.0) letter bytes found.1) (cast_signed w64 (from_be_bytes w64 (take 8 bytes)), drop 8 bytes)
       (λ found behind. only found.0 found.1 behind.1 behind.2)
       (decided_three (same_number letter 105) (fits_signed _) (are_bytes bytes _))
     where
@@ -165,7 +165,7 @@ module _ (depth letter : ℕ) (bytes : List ℕ) where
 
   of_process : Decided (Of kept.Proc)
   of_process =
-      decided_at (λ found. Behind depth (kept.Proc found.0) letter bytes found.1) (from_be_bytes w16 (take 2 bytes), drop 2 bytes)
+      decided_at (λ found. AfterLetter depth (kept.Proc found.0) letter bytes found.1) (from_be_bytes w16 (take 2 bytes), drop 2 bytes)
       (λ found behind. only found.0 found.1 behind.2 behind.3)
       (decided_by (λ all. (all.0, all.1.0, all.1.1, all.1.2)) (λ all. (all.0, (all.1, all.2, all.3)))
       (decided_both (same_number letter 112) (decided_three (is_under 0 _) (is_under _ (2 ^ 16)) (are_bytes bytes _))))
@@ -178,7 +178,7 @@ module _ (depth letter : ℕ) (bytes : List ℕ) where
 
   of_text : length bytes ≤ 60000 → Decided (Of kept.Text)
   of_text small =
-      decided_at (λ found. Behind depth (kept.Text found.0) letter bytes found.1) (take size front, drop size front)
+      decided_at (λ found. AfterLetter depth (kept.Text found.0) letter bytes found.1) (take size front, drop size front)
       (λ found behind. only found.0 found.1 behind.2)
       (decided_three (same_number letter 115) (is_text (take size front)) (are_bytes bytes _))
     where
@@ -204,16 +204,16 @@ module _ (depth letter : ℕ) (bytes : List ℕ) where
     of_tuple : Decided (Of kept.Tuple)
     of_tuple = go bytes small
       where
-        go : (bytes : List ℕ) → length bytes ≤ 60000 → Decided ((found : List Val × List ℕ) × Behind depth (kept.Tuple found.0) letter bytes found.1)
+        go : (bytes : List ℕ) → length bytes ≤ 60000 → Decided ((found : List Val × List ℕ) × AfterLetter depth (kept.Tuple found.0) letter bytes found.1)
         go [] small = inl (λ found. omega (arith, ap length found.1.3))
         go (count ∷ front) small = decided_by there back
             (decided_three (same_number letter 116) (at_most count 255) (decided_then (is_under 0 depth) (λ some. inside count front some (omega (arith, small)))))
           where
-            there : (letter ≡ 116) × (count ≤ 255) × ((0 < depth) × ValuesAt (depth - 1) count front) → (found : List Val × List ℕ) × Behind depth (kept.Tuple found.0) letter (count ∷ front) found.1
+            there : (letter ≡ 116) × (count ≤ 255) × ((0 < depth) × ValuesAt (depth - 1) count front) → (found : List Val × List ℕ) × AfterLetter depth (kept.Tuple found.0) letter (count ∷ front) found.1
             there all = let each = all.2.1.1 in
                 (all.2.1.0, (all.0, omega (arith, all.1, each.counted), (all.2.0, each.carried), (λ i. sym each.counted i ∷ each.is i)))
 
-            back : (found : List Val × List ℕ) × Behind depth (kept.Tuple found.0) letter (count ∷ front) found.1 → (letter ≡ 116) × (count ≤ 255) × ((0 < depth) × ValuesAt (depth - 1) count front)
+            back : (found : List Val × List ℕ) × AfterLetter depth (kept.Tuple found.0) letter (count ∷ front) found.1 → (letter ≡ 116) × (count ≤ 255) × ((0 < depth) × ValuesAt (depth - 1) count front)
             back found = let behind = found.1 in
                 let counted = first_of _ _ _ _ behind.3 in
                 (behind.0, omega (arith, behind.1, counted), (behind.2.0, (found.0, record { carried = behind.2.1; counted = sym counted; is = rest_of _ _ _ _ behind.3 })))
@@ -263,11 +263,11 @@ module _ (depth letter : ℕ) (bytes : List ℕ) where
               (found.1.2.0, (found.0, (record { carried = found.1.2.1; counted = sym counted; is = behind }, found.1.1))),
             )
 
-    of_any : Decided ((found : Value × List ℕ) × Behind depth found.0 letter bytes found.1)
+    of_any : Decided ((found : Value × List ℕ) × AfterLetter depth found.0 letter bytes found.1)
     of_any = go of_integer of_truth (of_text small) of_process of_tuple of_set
       where
         go : Decided (Of kept.Int) → Decided (Of kept.Bool) → Decided (Of kept.Text) → Decided (Of kept.Proc) → Decided (Of kept.Tuple) → Decided (Of kept.Set)
-            → Decided ((found : Value × List ℕ) × Behind depth found.0 letter bytes found.1)
+            → Decided ((found : Value × List ℕ) × AfterLetter depth found.0 letter bytes found.1)
         go (inr found) _ _ _ _ _ = inr ((kept.Int found.0.0, found.0.1), found.1)
         go (inl integer) (inr found) _ _ _ _ = inr ((kept.Bool found.0.0, found.0.1), found.1)
         go (inl integer) (inl truth) (inr found) _ _ _ = inr ((kept.Text found.0.0, found.0.1), found.1)
@@ -276,7 +276,7 @@ module _ (depth letter : ℕ) (bytes : List ℕ) where
         go (inl integer) (inl truth) (inl text) (inl process) (inl tuple) (inr found) = inr ((kept.Set found.0.0, found.0.1), found.1)
         go (inl integer) (inl truth) (inl text) (inl process) (inl tuple) (inl set) = inl (λ found. never found.0.0 found.0.1 found.1)
           where
-            never : (v : Value) (rest : List ℕ) → Behind depth v letter bytes rest → ⊥
+            never : (v : Value) (rest : List ℕ) → AfterLetter depth v letter bytes rest → ⊥
             never (kept.Int number) rest behind = integer ((number, rest), behind)
             never (kept.Bool b) rest behind = truth ((b, rest), behind)
             never (kept.Text t) rest behind = text ((t, rest), behind)
@@ -286,7 +286,7 @@ module _ (depth letter : ℕ) (bytes : List ℕ) where
 
 -- WHAT STANDS AT THE FRONT
 
--- a value and so many others, by what is decided of these behind it
+-- a value and so many others, by what is decided of these after it
 one_more : (depth count : ℕ) (bytes : List ℕ) → length bytes ≤ 60000 → ((left : List ℕ) → length left ≤ 60000 → Decided (ValuesAt depth count left)) → Decided (ValueAt depth bytes) → Decided (ValuesAt depth (suc count) bytes)
 one_more depth count bytes small go_on (inl never) = inl (λ found. go found.0.0 found.0.1 found.1)
   where
@@ -332,13 +332,13 @@ several depth at (suc count) bytes small = one_more depth count bytes small (sev
 value_step : (depth : ℕ) → (0 < depth → AtFront (depth - 1)) → AtFront depth
 value_step depth below [] small = inl (λ found. no_bytes depth found.0.0 [] found.0.1 refl found.1)
 value_step depth below (letter ∷ front) small =
-    decided_by (λ found. ((val_of found.0.0, found.0.1), behind_begins depth front found.0.1 found.0.0 letter found.1)) back
+    decided_by (λ found. ((val_of found.0.0, found.0.1), after_begins depth front found.0.1 found.0.0 letter found.1)) back
     (of_any depth letter front (omega (arith, small)) (λ count bytes some fewer. several (depth - 1) (below some) count bytes fewer))
   where
-    back : ValueAt depth (letter ∷ front) → (found : Value × List ℕ) × Behind depth found.0 letter front found.1
+    back : ValueAt depth (letter ∷ front) → (found : Value × List ℕ) × AfterLetter depth found.0 letter front found.1
     back found =
         let v = every_val found.0.0 in
-        ((v.0, found.0.1), begins_behind depth front found.0.1 v.0 letter (subst (λ x. Begins depth x (letter ∷ front) found.0.1) (sym v.1) found.1))
+        ((v.0, found.0.1), begins_after depth front found.0.1 v.0 letter (subst (λ x. Begins depth x (letter ∷ front) found.0.1) (sym v.1) found.1))
 
 value_front : (depth : ℕ) → AtFront depth
 value_front zero = value_step zero (λ some. absurd (omega (arith, some)))
@@ -368,8 +368,8 @@ head_front bytes =
 pub packet_once : {s c s' c' : ℕ} {v v' : Val} {bytes : List ℕ} → IsPacket s c v bytes → IsPacket s' c' v' bytes → (s ≡ s') × (c ≡ c') × (v ≡ v')
 packet_once {s} {c} {s'} {c'} {v} {v'} {bytes} one two =
     let head = head_of s c v bytes one in
-    let behind = value_behind s c bytes (value_bytes v) head s' c' v' two in
-    let here : Begins 32 v (value_bytes v) [] = (value_behind s c bytes (value_bytes v) head s c v one).2 in
+    let behind = value_after s c bytes (value_bytes v) head s' c' v' two in
+    let here : Begins 32 v (value_bytes v) [] = (value_after s c bytes (value_bytes v) head s c v one).2 in
     (behind.0, behind.1, (same_value 32 v v' (value_bytes v) [] [] (small_rest s c bytes (value_bytes v) head one.small) here behind.2).0)
 
 -- a message whose packet these bytes are
@@ -377,8 +377,8 @@ abbrev PacketOf : List ℕ → Type 0
 PacketOf bytes = (sender : ℕ) × (clock : ℕ) × (v : Val) × IsPacket sender clock v bytes
 
 module _ (bytes : List ℕ) (small : length bytes ≤ 60000) where
-  behind_head : (s c : ℕ) (rest : List ℕ) → IsHead s c bytes rest → Decided (PacketOf bytes)
-  behind_head s c rest head = value (value_front 32 rest fewer)
+  after_head : (s c : ℕ) (rest : List ℕ) → IsHead s c bytes rest → Decided (PacketOf bytes)
+  after_head s c rest head = value (value_front 32 rest fewer)
     where
       fewer : length rest ≤ 60000
       fewer = small_rest s c bytes rest head small
@@ -386,11 +386,11 @@ module _ (bytes : List ℕ) (small : length bytes ≤ 60000) where
       whole : (x : Val) (left : List ℕ) → Begins 32 x rest left → Decided (left ≡ []) → Decided (PacketOf bytes)
       whole x left begins (inr end) = inr (s, c, x, packet_there s c bytes rest head x left small begins end)
       whole x left begins (inl more) = inl (λ packet.
-          let meant = value_behind s c bytes rest head packet.0 packet.1 packet.2 packet.3 in
+          let meant = value_after s c bytes rest head packet.0 packet.1 packet.2 packet.3 in
           more (same_value 32 x packet.2 rest left [] fewer begins meant.2).1)
 
       value : Decided (ValueAt 32 rest) → Decided (PacketOf bytes)
-      value (inl never) = inl (λ packet. never ((packet.2, []), (value_behind s c bytes rest head packet.0 packet.1 packet.2 packet.3).2))
+      value (inl never) = inl (λ packet. never ((packet.2, []), (value_after s c bytes rest head packet.0 packet.1 packet.2 packet.3).2))
       value (inr found) = whole found.0.0 found.0.1 found.1 (are_bytes found.0.1 [])
 
   small_packet : Decided (PacketOf bytes)
@@ -398,7 +398,7 @@ module _ (bytes : List ℕ) (small : length bytes ≤ 60000) where
     where
       go : Decided ((head : ℕ × ℕ × List ℕ) × IsHead head.0 head.1 bytes head.2) → Decided (PacketOf bytes)
       go (inl never) = inl (λ packet. never ((packet.0, packet.1, value_bytes packet.2), head_of packet.0 packet.1 packet.2 bytes packet.3))
-      go (inr found) = behind_head found.0.0 found.0.1 found.0.2 found.1
+      go (inr found) = after_head found.0.0 found.0.1 found.0.2 found.1
 
 packet_decided : (bytes : List ℕ) → Decided (PacketOf bytes)
 packet_decided bytes = go (at_most (length bytes) 60000)

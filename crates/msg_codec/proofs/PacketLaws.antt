@@ -14,10 +14,10 @@ use Rattle.msg_codec.specs.declared.packet.CodecFault.{CodecFault}
 use Rattle.msg_codec.specs.declared.packet.CodecFault.TheVariants.{Memory, NotAPacket}
 use Rattle.msg_codec.specs.declared.packet.Packet.{Packet}
 use Rattle.msg_codec.specs.Packets.{IsPacket, joined, mark, truth_byte, value_bytes}
-use Rattle.msg_codec.specs.Pieces.{Begins, BeginsEach, Behind, IsHead}
+use Rattle.msg_codec.specs.Pieces.{Begins, BeginsEach, AfterLetter, IsHead}
 use Rattle.msg_codec.proofs.CarriedLaws.{asked, packet_carries}
 use Rattle.msg_codec.proofs.Numbers.{same_short, same_long}
-use Rattle.msg_codec.proofs.PieceLaws.{begins_behind, every_val, first_of, no_bytes, rest_of}
+use Rattle.msg_codec.proofs.PieceLaws.{begins_after, every_val, first_of, no_bytes, rest_of}
 use Rattle.msg_codec.proofs.ReadLaws.{begins_first, integer_only, most_values, set_only, text_only, tuple_only}
 
 -- THE HEAD
@@ -28,9 +28,9 @@ same_head s c s' c' bytes r r' fits few is head =
     let clocks = same_long c c' r r' fits (omega (arith, head.clock_fits)) senders.1 in
     (senders.0, clocks.0, clocks.1)
 
--- a time stands behind the sender
-pub time_behind : (s s' c' : ℕ) (bytes front back rest : List ℕ) → bytes ≡ mark ++ front → front ≡ to_be_bytes w16 s ++ back → IsHead s' c' bytes rest → back ≡ to_be_bytes w64 c' ++ rest
-time_behind s s' c' bytes front back rest marked read head = ap (drop 5) (sym (marked ∙ ap (λ t. mark ++ t) read) ∙ head.is)
+-- a time stands after the sender
+pub time_after : (s s' c' : ℕ) (bytes front back rest : List ℕ) → bytes ≡ mark ++ front → front ≡ to_be_bytes w16 s ++ back → IsHead s' c' bytes rest → back ≡ to_be_bytes w64 c' ++ rest
+time_after s s' c' bytes front back rest marked read head = ap (drop 5) (sym (marked ∙ ap (λ t. mark ++ t) read) ∙ head.is)
 
 -- a time that is too great has no head
 pub no_head : (s c : ℕ) (bytes r : List ℕ) → c < 2 ^ 64 → s < 2 ^ 16 → 2 ^ 63 ≤ c → bytes ≡ mark ++ to_be_bytes w16 s ++ to_be_bytes w64 c ++ r → (s' c' : ℕ) (r' : List ℕ) → IsHead s' c' bytes r' → ⊥
@@ -43,9 +43,9 @@ pub small_rest : (s c : ℕ) (bytes rest : List ℕ) → IsHead s c bytes rest �
 small_rest s c bytes rest head small = omega (arith, ap length head.is, small)
 
 module _ (s c : ℕ) (bytes rest : List ℕ) (head : IsHead s c bytes rest) where
-  -- the value of a packet stands behind its head
-  pub value_behind : (s' c' : ℕ) (v : Val) → IsPacket s' c' v bytes → (s ≡ s') × (c ≡ c') × Begins 32 v rest []
-  value_behind s' c' v packet =
+  -- the value of a packet stands after its head
+  pub value_after : (s' c' : ℕ) (v : Val) → IsPacket s' c' v bytes → (s ≡ s') × (c ≡ c') × Begins 32 v rest []
+  value_after s' c' v packet =
       let same = same_head s c s' c' bytes rest (value_bytes v) (omega (arith, head.clock_fits)) head.sender_fits head.is (head_of s' c' v bytes packet) in
       (same.0, same.1, record { carries = packet_carries s' c' v bytes packet; is = same.2 ∙ sym (append-nil (value_bytes v)) })
 
@@ -62,11 +62,11 @@ module _ (s c : ℕ) (bytes rest : List ℕ) (head : IsHead s c bytes rest) wher
   }
 
   pub packet_failed : (P : Type 0) → ((y : Val) (t : List ℕ) → Begins 32 y rest t → P) → (s' c' : ℕ) (v : Val) → IsPacket s' c' v bytes → P
-  packet_failed P fails s' c' v packet = fails v [] (value_behind s' c' v packet).2
+  packet_failed P fails s' c' v packet = fails v [] (value_after s' c' v packet).2
 
   pub packet_only : (x : Val) (left : List ℕ) → ((y : Val) (t : List ℕ) → Begins 32 y rest t → (x ≡ y) × (left ≡ t)) → (s' c' : ℕ) (v : Val) → IsPacket s' c' v bytes → (s ≡ s') × (c ≡ c') × (x ≡ v) × (left ≡ [])
   packet_only x left only s' c' v packet =
-      let behind = value_behind s' c' v packet in
+      let behind = value_after s' c' v packet in
       let found = only v [] behind.2 in
       (behind.0, behind.1, found.0, found.1)
 
@@ -105,7 +105,7 @@ truth_same true true same = refl
 truth_same false true same = absurd (omega (arith, same))
 truth_same true false same = absurd (omega (arith, same))
 
-truth_only : (depth : ℕ) (truth : Bool) (bytes left : List ℕ) → bytes ≡ truth_byte truth ∷ left → (w : Value) (rest : List ℕ) → Behind depth w 98 bytes rest → (kept.Bool truth ≡ w) × (left ≡ rest)
+truth_only : (depth : ℕ) (truth : Bool) (bytes left : List ℕ) → bytes ≡ truth_byte truth ∷ left → (w : Value) (rest : List ℕ) → AfterLetter depth w 98 bytes rest → (kept.Bool truth ≡ w) × (left ≡ rest)
 truth_only depth truth bytes left read (kept.Bool other) rest (first, there) =
     let same = sym read ∙ there in
     (ap kept.Bool (truth_same truth other (first_of _ _ _ _ same)), rest_of _ _ _ _ same)
@@ -115,7 +115,7 @@ truth_only depth truth bytes left read (kept.Proc process) rest there = absurd (
 truth_only depth truth bytes left read (kept.Tuple parts) rest there = absurd (omega (arith, there.0))
 truth_only depth truth bytes left read (kept.Set elements) rest there = absurd (omega (arith, there.0))
 
-process_only : (depth process : ℕ) (bytes left : List ℕ) → process < 2 ^ 16 → bytes ≡ to_be_bytes w16 process ++ left → (w : Value) (rest : List ℕ) → Behind depth w 112 bytes rest → (kept.Proc process ≡ w) × (left ≡ rest)
+process_only : (depth process : ℕ) (bytes left : List ℕ) → process < 2 ^ 16 → bytes ≡ to_be_bytes w16 process ++ left → (w : Value) (rest : List ℕ) → AfterLetter depth w 112 bytes rest → (kept.Proc process ≡ w) × (left ≡ rest)
 process_only depth process bytes left fits read (kept.Proc other) rest (first, some, few, there) =
     let same = same_short process other left rest fits few (sym read ∙ there) in
     (ap kept.Proc same.0, same.1)
@@ -127,26 +127,26 @@ process_only depth process bytes left fits read (kept.Set elements) rest there =
 
 -- by what stands inside, one level further in
 module _ (depth : ℕ) (below : 0 < depth → SameAt (depth - 1)) (front r s : List ℕ) (small : length front ≤ 60000) where
-  same_kept : (v w : Value) (letter : ℕ) → Behind depth v letter front r → Behind depth w letter front s → (v ≡ w) × (r ≡ s)
+  same_kept : (v w : Value) (letter : ℕ) → AfterLetter depth v letter front r → AfterLetter depth w letter front s → (v ≡ w) × (r ≡ s)
   same_kept (kept.Int number) w letter (first, fits, is) two =
-      integer_only (cast_unsigned w64 number) number front r (laws.of_z_fits w64 number fits).fits is (sym (to_z-of_z w64 number fits)) depth w s (subst (λ l. Behind depth w l front s) first two)
-  same_kept (kept.Bool truth) w letter (first, is) two = truth_only depth truth front r is w s (subst (λ l. Behind depth w l front s) first two)
+      integer_only (cast_unsigned w64 number) number front r (laws.of_z_fits w64 number fits).fits is (sym (to_z-of_z w64 number fits)) depth w s (subst (λ l. AfterLetter depth w l front s) first two)
+  same_kept (kept.Bool truth) w letter (first, is) two = truth_only depth truth front r is w s (subst (λ l. AfterLetter depth w l front s) first two)
   same_kept (kept.Text text) w letter (first, allowed, is) two =
       let sizes : length front ≡ 2 + (length text + length r) = ap length is ∙ omega (arith, length-append text r) in
       let found =
       text_only (length text) front (text ++ r) text r small (omega (arith, sizes, small)) is (sym (take-append-le (length text) text r (omega arith) ∙ take-length text))
-      (sym (drop-append-le (length text) text r (omega arith) ∙ ap (λ none. none ++ r) (drop_all (length text) text (omega arith)))) depth w s (subst (λ l. Behind depth w l front s) first two) in
+      (sym (drop-append-le (length text) text r (omega arith) ∙ ap (λ none. none ++ r) (drop_all (length text) text (omega arith)))) depth w s (subst (λ l. AfterLetter depth w l front s) first two) in
       (found.0, found.1)
-  same_kept (kept.Proc process) w letter (first, some, fits, is) two = process_only depth process front r fits is w s (subst (λ l. Behind depth w l front s) first two)
+  same_kept (kept.Proc process) w letter (first, some, fits, is) two = process_only depth process front r fits is w s (subst (λ l. AfterLetter depth w l front s) first two)
   same_kept (kept.Tuple parts) w letter (first, few, (some, each), is) two =
-      let meant = tuple_only depth (length parts) front (joined (map value_bytes parts) ++ r) is w s (subst (λ l. Behind depth w l front s) first two) in
+      let meant = tuple_only depth (length parts) front (joined (map value_bytes parts) ++ r) is w s (subst (λ l. AfterLetter depth w l front s) first two) in
       let sizes : length (joined (map value_bytes parts) ++ r) ≤ 60000 = omega (arith, ap length is, small) in
       let same = same_each (depth - 1) (length parts) (below some) parts meant.0 (joined (map value_bytes parts) ++ r) r s sizes (record { carried = each; counted = refl; is = refl }) meant.2 in
       (ap kept.Tuple same.0 ∙ meant.1, same.1)
   same_kept (kept.Set elements) w letter (first, ascends, (some, each), is) two =
       let sizes : length (joined (map value_bytes elements) ++ r) ≤ 60000 = omega (arith, ap length is, small) in
       let fits : length elements < 2 ^ 32 = omega (arith, most_values elements, length-append (joined (map value_bytes elements)) r, sizes) in
-      let meant = set_only depth (length elements) front (joined (map value_bytes elements) ++ r) small fits is w s (subst (λ l. Behind depth w l front s) first two) in
+      let meant = set_only depth (length elements) front (joined (map value_bytes elements) ++ r) small fits is w s (subst (λ l. AfterLetter depth w l front s) first two) in
       let same = same_each (depth - 1) (length elements) (below some) elements meant.0 (joined (map value_bytes elements) ++ r) r s sizes (record { carried = each; counted = refl; is = refl }) meant.3 in
       (ap kept.Set same.0 ∙ meant.1, same.1)
 
@@ -156,8 +156,8 @@ same_step depth below x y (letter ∷ front) r s small one two = go (every_val x
   where
     go : (v : Value) × (val_of v ≡ x) → (w : Value) × (val_of w ≡ y) → (x ≡ y) × (r ≡ s)
     go (v, is_x) (w, is_y) =
-        let behind_x = begins_behind depth front r v letter (subst (λ z. Begins depth z (letter ∷ front) r) (sym is_x) one) in
-        let behind_y = begins_behind depth front s w letter (subst (λ z. Begins depth z (letter ∷ front) s) (sym is_y) two) in
+        let behind_x = begins_after depth front r v letter (subst (λ z. Begins depth z (letter ∷ front) r) (sym is_x) one) in
+        let behind_y = begins_after depth front s w letter (subst (λ z. Begins depth z (letter ∷ front) s) (sym is_y) two) in
         let same = same_kept depth below front r s (omega (arith, small)) v w letter behind_x behind_y in
         (sym is_x ∙ ap val_of same.0 ∙ is_y, same.1)
 
@@ -170,7 +170,7 @@ pub nothing_more : (s c s' c' : ℕ) (x v : Val) (bytes more : List ℕ) → IsP
 nothing_more s c s' c' x v bytes more one two =
     let there : bytes ++ more ≡ mark ++ to_be_bytes w16 s ++ to_be_bytes w64 c ++ (value_bytes x ++ more) = ap (λ t. t ++ more) one.is in
     let head : IsHead s c (bytes ++ more) (value_bytes x ++ more) = record { sender_fits = one.sender_fits; clock_fits = one.clock_fits; is = there } in
-    let behind = value_behind s c (bytes ++ more) (value_bytes x ++ more) head s' c' v two in
+    let behind = value_after s c (bytes ++ more) (value_bytes x ++ more) head s' c' v two in
     (same_value 32 x v (value_bytes x ++ more) more [] (small_rest s c (bytes ++ more) (value_bytes x ++ more) head two.small) (record { carries = packet_carries s c x bytes one; is = refl }) behind.2).1
 
 pub whole_of : (bytes : List ℕ) (result : Result Packet CodecFault) → IfOk result (λ packet. IsPacket packet.sender packet.clock (val_of packet.value) bytes)

@@ -1,4 +1,4 @@
--- A value at the front of some bytes, by its letter and what stands behind that.
+-- A value at the front of some bytes, by its letter and what stands after that.
 use Rattle.std.specs.Prelude.{◌≡◌, ℕ, zero, suc, ◌<◌, List, [], ◌∷◌, ◌++◌, drop, length, slice_index_or, Result, Ok, Err, IfOk, MatchResult, refl}
 use Rattle.std.specs.Borrow.{Bor}
 use Rattle.std.specs.List.{AllByRecursion}
@@ -11,7 +11,7 @@ use Rattle.da_values.specs.Layer.{layer, out-val_of}
 use Rattle.da_values.specs.Value.{val_of}
 use Rattle.da_values.proofs.Induction.{val_induction}
 use Rattle.msg_codec.specs.Packets.{value_bytes}
-use Rattle.msg_codec.specs.Pieces.{AreInside, Begins, Behind, Carries, CarriesLayer}
+use Rattle.msg_codec.specs.Pieces.{AreInside, Begins, AfterLetter, Carries, CarriesLayer}
 use Rattle.msg_codec.specs.declared.packet.CodecFault.{CodecFault}
 use Rattle.msg_codec.specs.declared.packet.CodecFault.TheVariants.{Memory}
 use Rattle.msg_codec.proofs.BytesAt.{bytes_at, value_bytes_of}
@@ -62,28 +62,28 @@ cons_of : (a b : ℕ) (s t : List ℕ) → a ≡ b → s ≡ t → a ∷ s ≡ b
 cons_of a b s t first rest i = first i ∷ rest i
 
 module _ (depth : ℕ) (bytes rest : List ℕ) where
-  behind_of : (v : Value) (letter : ℕ) → CarriesLayer (AreInside depth) (layer v) → letter ∷ bytes ≡ bytes_at v ++ rest → Behind depth v letter bytes rest
-  behind_of (kept.Int number) letter carried is = (first_of _ _ _ _ is, carried, rest_of _ _ _ _ is)
-  behind_of (kept.Bool truth) letter carried is = (first_of _ _ _ _ is, rest_of _ _ _ _ is)
-  behind_of (kept.Text text) letter carried is = (first_of _ _ _ _ is, carried, rest_of _ _ _ _ is)
-  behind_of (kept.Proc process) letter carried is = (first_of _ _ _ _ is, carried.0, carried.1, rest_of _ _ _ _ is)
-  behind_of (kept.Tuple parts) letter carried is = (first_of _ _ _ _ is, carried.0, carried.1, rest_of _ _ _ _ is)
-  behind_of (kept.Set elements) letter carried is = (first_of _ _ _ _ is, carried.0, carried.1, rest_of _ _ _ _ is)
+  after_of : (v : Value) (letter : ℕ) → CarriesLayer (AreInside depth) (layer v) → letter ∷ bytes ≡ bytes_at v ++ rest → AfterLetter depth v letter bytes rest
+  after_of (kept.Int number) letter carried is = (first_of _ _ _ _ is, carried, rest_of _ _ _ _ is)
+  after_of (kept.Bool truth) letter carried is = (first_of _ _ _ _ is, rest_of _ _ _ _ is)
+  after_of (kept.Text text) letter carried is = (first_of _ _ _ _ is, carried, rest_of _ _ _ _ is)
+  after_of (kept.Proc process) letter carried is = (first_of _ _ _ _ is, carried.0, carried.1, rest_of _ _ _ _ is)
+  after_of (kept.Tuple parts) letter carried is = (first_of _ _ _ _ is, carried.0, carried.1, rest_of _ _ _ _ is)
+  after_of (kept.Set elements) letter carried is = (first_of _ _ _ _ is, carried.0, carried.1, rest_of _ _ _ _ is)
 
-  of_behind : (v : Value) (letter : ℕ) → Behind depth v letter bytes rest → CarriesLayer (AreInside depth) (layer v) × (letter ∷ bytes ≡ bytes_at v ++ rest)
-  of_behind (kept.Int number) letter (first, fits, is) = (fits, cons_of _ _ _ _ first is)
-  of_behind (kept.Bool truth) letter (first, is) = (tt, cons_of _ _ _ _ first is)
-  of_behind (kept.Text text) letter (first, allowed, is) = (allowed, cons_of _ _ _ _ first is)
-  of_behind (kept.Proc process) letter (first, some, fits, is) = ((some, fits), cons_of _ _ _ _ first is)
-  of_behind (kept.Tuple parts) letter (first, few, inside, is) = ((few, inside), cons_of _ _ _ _ first is)
-  of_behind (kept.Set elements) letter (first, ascends, inside, is) = ((ascends, inside), cons_of _ _ _ _ first is)
+  of_after : (v : Value) (letter : ℕ) → AfterLetter depth v letter bytes rest → CarriesLayer (AreInside depth) (layer v) × (letter ∷ bytes ≡ bytes_at v ++ rest)
+  of_after (kept.Int number) letter (first, fits, is) = (fits, cons_of _ _ _ _ first is)
+  of_after (kept.Bool truth) letter (first, is) = (tt, cons_of _ _ _ _ first is)
+  of_after (kept.Text text) letter (first, allowed, is) = (allowed, cons_of _ _ _ _ first is)
+  of_after (kept.Proc process) letter (first, some, fits, is) = ((some, fits), cons_of _ _ _ _ first is)
+  of_after (kept.Tuple parts) letter (first, few, inside, is) = ((few, inside), cons_of _ _ _ _ first is)
+  of_after (kept.Set elements) letter (first, ascends, inside, is) = ((ascends, inside), cons_of _ _ _ _ first is)
 
-  pub begins_behind : (v : Value) (letter : ℕ) → Begins depth (val_of v) (letter ∷ bytes) rest → Behind depth v letter bytes rest
-  begins_behind v letter begins = behind_of v letter (carried_layer depth v begins.carries) (begins.is ∙ ap (λ t. t ++ rest) (value_bytes_of v))
+  pub begins_after : (v : Value) (letter : ℕ) → Begins depth (val_of v) (letter ∷ bytes) rest → AfterLetter depth v letter bytes rest
+  begins_after v letter begins = after_of v letter (carried_layer depth v begins.carries) (begins.is ∙ ap (λ t. t ++ rest) (value_bytes_of v))
 
-  pub behind_begins : (v : Value) (letter : ℕ) → Behind depth v letter bytes rest → Begins depth (val_of v) (letter ∷ bytes) rest
-  behind_begins v letter behind =
-      let there = of_behind v letter behind in
+  pub after_begins : (v : Value) (letter : ℕ) → AfterLetter depth v letter bytes rest → Begins depth (val_of v) (letter ∷ bytes) rest
+  after_begins v letter behind =
+      let there = of_after v letter behind in
       record { carries = layer_carried depth v there.0; is = there.1 ∙ ap (λ t. t ++ rest) (sym (value_bytes_of v)) }
 
 -- EACH VALUE HAS BYTES
@@ -100,7 +100,7 @@ some_bytes x = let found = every_val x in subst (λ y. 0 < length (value_bytes y
     go (kept.Set elements) = omega arith
 
 -- no value has bytes that begin otherwise
-pub no_letter : (depth : ℕ) (v : Value) (letter : ℕ) (bytes rest : List ℕ) → (letter ≡ 105 → ⊥) → (letter ≡ 98 → ⊥) → (letter ≡ 115 → ⊥) → (letter ≡ 112 → ⊥) → (letter ≡ 116 → ⊥) → (letter ≡ 83 → ⊥) → Behind depth v letter bytes rest → ⊥
+pub no_letter : (depth : ℕ) (v : Value) (letter : ℕ) (bytes rest : List ℕ) → (letter ≡ 105 → ⊥) → (letter ≡ 98 → ⊥) → (letter ≡ 115 → ⊥) → (letter ≡ 112 → ⊥) → (letter ≡ 116 → ⊥) → (letter ≡ 83 → ⊥) → AfterLetter depth v letter bytes rest → ⊥
 no_letter depth (kept.Int number) letter bytes rest i b s p t S behind = i behind.0
 no_letter depth (kept.Bool truth) letter bytes rest i b s p t S behind = b behind.0
 no_letter depth (kept.Text text) letter bytes rest i b s p t S behind = s behind.0
@@ -116,7 +116,7 @@ no_bytes depth x bytes rest none begins = omega (arith, some_bytes x, length-app
 
 -- from what it says of kept values to what it says of values
 pub value_only : (depth : ℕ) (letter : ℕ) (bytes front : List ℕ) (result : Result (Value × Bor (List ℕ)) CodecFault) → bytes ≡ letter ∷ front
-    → ((v : Value) (rest : List ℕ) → Behind depth v letter front rest → MatchResult result (λ found. (found.0 ≡ v) × (found.1.now ≡ rest)) (λ fault. fault ≡ Memory))
+    → ((v : Value) (rest : List ℕ) → AfterLetter depth v letter front rest → MatchResult result (λ found. (found.0 ≡ v) × (found.1.now ≡ rest)) (λ fault. fault ≡ Memory))
     → (x : Val) (rest : List ℕ) → Begins depth x bytes rest → MatchResult result (λ found. (val_of found.0 ≡ x) × (found.1.now ≡ rest)) (λ fault. fault ≡ Memory)
 value_only depth letter bytes front result is only x rest begins = let v = every_val x in at v.0 v.1
   where
@@ -130,9 +130,9 @@ value_only depth letter bytes front result is only x rest begins = let v = every
     at : (v : Value) → val_of v ≡ x → MatchResult result (λ found. (val_of found.0 ≡ x) × (found.1.now ≡ rest)) (λ fault. fault ≡ Memory)
     at v same =
         subst (λ y. MatchResult result (λ found. (val_of found.0 ≡ y) × (found.1.now ≡ rest)) (λ fault. fault ≡ Memory)) same
-        (kept_only v (only v rest (begins_behind depth front rest v letter (subst (λ b. Begins depth (val_of v) b rest) is (subst (λ y. Begins depth y bytes rest) (sym same) begins)))))
+        (kept_only v (only v rest (begins_after depth front rest v letter (subst (λ b. Begins depth (val_of v) b rest) is (subst (λ y. Begins depth y bytes rest) (sym same) begins)))))
 
 pub value_there : (depth : ℕ) (letter : ℕ) (bytes front : List ℕ) (result : Result (Value × Bor (List ℕ)) CodecFault) → bytes ≡ letter ∷ front
-    → IfOk result (λ found. Behind depth found.0 letter front found.1.now) → IfOk result (λ found. Begins depth (val_of found.0) bytes found.1.now)
-value_there depth letter bytes front (Ok found) is there = subst (λ b. Begins depth (val_of found.0) b found.1.now) (sym is) (behind_begins depth front found.1.now found.0 letter there)
+    → IfOk result (λ found. AfterLetter depth found.0 letter front found.1.now) → IfOk result (λ found. Begins depth (val_of found.0) bytes found.1.now)
+value_there depth letter bytes front (Ok found) is there = subst (λ b. Begins depth (val_of found.0) b found.1.now) (sym is) (after_begins depth front found.1.now found.0 letter there)
 value_there depth letter bytes front (Err fault) is there = tt

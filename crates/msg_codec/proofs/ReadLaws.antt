@@ -1,4 +1,4 @@
--- What a reader finds behind a letter, and that nothing else stands there.
+-- What a reader finds after a letter, and that nothing else stands there.
 use Rattle.std.specs.Prelude.{◌≡◌, ℕ, ℤ, ◌-◌, ◌+◌, ◌^◌, ◌<◌, ◌≤◌, List, [], ◌∷◌, ◌++◌, drop, take, length, map, refl}
 use Rattle.std.specs.Int.{w16, w32, w64, w128, cast_signed, cast_unsigned, to_be_bytes}
 use Rattle.std.specs.Int.RustNames.{FitsSigned}
@@ -15,7 +15,7 @@ use Rattle.da_values.specs.Order.{val_cmp}
 use Rattle.da_values.specs.Sets.{Ascends}
 use Rattle.da_values.specs.Str.{IsTextByte}
 use Rattle.msg_codec.specs.Packets.{joined, value_bytes}
-use Rattle.msg_codec.specs.Pieces.{Begins, BeginsEach, Behind, Carries}
+use Rattle.msg_codec.specs.Pieces.{Begins, BeginsEach, AfterLetter, Carries}
 use Rattle.msg_codec.proofs.Numbers.{same_short, same_word, same_long}
 use Rattle.msg_codec.proofs.PieceLaws.{first_of, rest_of, some_bytes}
 
@@ -26,10 +26,10 @@ pub widened : (z : ℤ) → FitsSigned w64 z → cast_signed w128 (cast_unsigned
 widened z fits = ap (λ y. cast_signed w128 (cast_unsigned w128 y)) (to_z-of_z w64 z fits) ∙ to_z-of_z w128 z (record { sfits = omega (arith, fits.sfits) })
 
 module _ (n : ℕ) (z : ℤ) (bytes left : List ℕ) (small : n < 2 ^ 64) (read : bytes ≡ to_be_bytes w64 n ++ left) (is : z ≡ cast_signed w64 n) where
-  pub integer_there : (depth : ℕ) → Behind depth (kept.Int z) 105 bytes left
+  pub integer_there : (depth : ℕ) → AfterLetter depth (kept.Int z) 105 bytes left
   integer_there depth = rw is (refl, laws.to_z-Fits w64 n (record { fits = small }), read ∙ ap (λ k. to_be_bytes w64 k ++ left) (sym (of_z-to_z w64 n small)))
 
-  pub integer_only : (depth : ℕ) (v : Value) (rest : List ℕ) → Behind depth v 105 bytes rest → (kept.Int z ≡ v) × (left ≡ rest)
+  pub integer_only : (depth : ℕ) (v : Value) (rest : List ℕ) → AfterLetter depth v 105 bytes rest → (kept.Int z ≡ v) × (left ≡ rest)
   integer_only depth (kept.Int k) rest (first, fits, there) =
       let same = same_long n (cast_unsigned w64 k) left rest small (laws.of_z_fits w64 k fits).fits (sym read ∙ there) in
       (ap kept.Int (is ∙ ap (cast_signed w64) same.0 ∙ to_z-of_z w64 k fits), same.1)
@@ -51,7 +51,7 @@ module _ (n : ℕ) (bytes front text left : List ℕ) (small : length bytes ≤ 
         behind ∙ ap (λ k. drop k front) same.0 ∙ ap (drop (length t)) same.1 ∙ drop-append-le (length t) t rest (omega arith) ∙ ap (λ none. none ++ rest) (drop_all (length t) t (omega arith)),
       )
 
-  pub text_only : (depth : ℕ) (v : Value) (rest : List ℕ) → Behind depth v 115 bytes rest → (kept.Text text ≡ v) × (left ≡ rest) × All IsTextByte text
+  pub text_only : (depth : ℕ) (v : Value) (rest : List ℕ) → AfterLetter depth v 115 bytes rest → (kept.Text text ≡ v) × (left ≡ rest) × All IsTextByte text
   text_only depth (kept.Text t) rest (first, allowed, there) = let found = text_meant t rest there in (ap kept.Text found.0, found.1, subst (All IsTextByte) (sym found.0) allowed)
   text_only depth (kept.Int number) rest there = absurd (omega (arith, there.0))
   text_only depth (kept.Bool truth) rest there = absurd (omega (arith, there.0))
@@ -66,11 +66,11 @@ pub most_values : (xs : List Val) → length xs ≤ length (joined (map value_by
 most_values [] = omega arith
 most_values (x ∷ xs) = omega (arith, some_bytes x, most_values xs, length-append (value_bytes x) (joined (map value_bytes xs)))
 
-pub tuple_there : (depth count : ℕ) (xs parts : List Val) (bytes front left : List ℕ) → 0 < depth → count ≤ 255 → bytes ≡ count ∷ front → BeginsEach (depth - 1) count xs front left → parts ≡ xs → Behind depth (kept.Tuple parts) 116 bytes left
+pub tuple_there : (depth count : ℕ) (xs parts : List Val) (bytes front left : List ℕ) → 0 < depth → count ≤ 255 → bytes ≡ count ∷ front → BeginsEach (depth - 1) count xs front left → parts ≡ xs → AfterLetter depth (kept.Tuple parts) 116 bytes left
 tuple_there depth count xs parts bytes front left some few read each is =
     rw is (refl, omega (arith, few, each.counted), (some, each.carried), read ∙ (λ i. sym each.counted i ∷ each.is i))
 
-pub tuple_only : (depth count : ℕ) (bytes front : List ℕ) → bytes ≡ count ∷ front → (v : Value) (rest : List ℕ) → Behind depth v 116 bytes rest → (parts : List Val) × (kept.Tuple parts ≡ v) × BeginsEach (depth - 1) count parts front rest
+pub tuple_only : (depth count : ℕ) (bytes front : List ℕ) → bytes ≡ count ∷ front → (v : Value) (rest : List ℕ) → AfterLetter depth v 116 bytes rest → (parts : List Val) × (kept.Tuple parts ≡ v) × BeginsEach (depth - 1) count parts front rest
 tuple_only depth count bytes front read (kept.Tuple parts) rest (first, few, inside, there) =
     let same = sym read ∙ there in
     (parts, refl, record { carried = inside.1; counted = sym (first_of _ _ _ _ same); is = rest_of _ _ _ _ same })
@@ -80,7 +80,7 @@ tuple_only depth count bytes front read (kept.Text text) rest there = absurd (om
 tuple_only depth count bytes front read (kept.Proc process) rest there = absurd (omega (arith, there.0))
 tuple_only depth count bytes front read (kept.Set elements) rest there = absurd (omega (arith, there.0))
 
-pub set_there : (depth count : ℕ) (xs elements : List Val) (bytes front left : List ℕ) → 0 < depth → bytes ≡ to_be_bytes w32 count ++ front → BeginsEach (depth - 1) count xs front left → elements ≡ xs → Ascends val_cmp elements → Behind depth (kept.Set elements) 83 bytes left
+pub set_there : (depth count : ℕ) (xs elements : List Val) (bytes front left : List ℕ) → 0 < depth → bytes ≡ to_be_bytes w32 count ++ front → BeginsEach (depth - 1) count xs front left → elements ≡ xs → Ascends val_cmp elements → AfterLetter depth (kept.Set elements) 83 bytes left
 set_there depth count xs elements bytes front left some read each is ascends = (
   refl,
   ascends,
@@ -89,7 +89,7 @@ set_there depth count xs elements bytes front left some read each is ascends = (
       ∙ (λ i. to_be_bytes w32 (sym each.counted i) ++ (joined (map value_bytes xs) ++ left)) ∙ ap (λ ys. to_be_bytes w32 (length ys) ++ (joined (map value_bytes ys) ++ left)) (sym is),
 )
 
-pub set_only : (depth count : ℕ) (bytes front : List ℕ) → length bytes ≤ 60000 → count < 2 ^ 32 → bytes ≡ to_be_bytes w32 count ++ front → (v : Value) (rest : List ℕ) → Behind depth v 83 bytes rest
+pub set_only : (depth count : ℕ) (bytes front : List ℕ) → length bytes ≤ 60000 → count < 2 ^ 32 → bytes ≡ to_be_bytes w32 count ++ front → (v : Value) (rest : List ℕ) → AfterLetter depth v 83 bytes rest
     → (elements : List Val) × (kept.Set elements ≡ v) × Ascends val_cmp elements × BeginsEach (depth - 1) count elements front rest
 set_only depth count bytes front small fits read (kept.Set elements) rest (first, ascends, inside, there) =
     let sizes : length bytes ≡ 4 + (length (joined (map value_bytes elements)) + length rest) = ap length there ∙ omega (arith, length-append (joined (map value_bytes elements)) rest) in

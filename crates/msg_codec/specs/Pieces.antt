@@ -59,14 +59,14 @@ pub record BeginsEach (depth : ℕ) (count : ℕ) (xs : List Val) (bytes rest : 
   pub counted : length xs ≡ count
   pub is : bytes ≡ joined (map value_bytes xs) ++ rest
 
--- a kept value by its letter and what stands behind that
-abbrev pub Behind : ℕ → Value → ℕ → List ℕ → List ℕ → Type 0
-Behind depth (Int number) letter bytes rest = (letter ≡ 105) × FitsSigned w64 number × (bytes ≡ to_be_bytes w64 (cast_unsigned w64 number) ++ rest)
-Behind depth (Truth truth) letter bytes rest = (letter ≡ 98) × (bytes ≡ truth_byte truth ∷ rest)
-Behind depth (Text text) letter bytes rest = (letter ≡ 115) × All IsTextByte text × (bytes ≡ to_be_bytes w16 (length text) ++ text ++ rest)
-Behind depth (Proc process) letter bytes rest = (letter ≡ 112) × (0 < process) × (process < 2 ^ 16) × (bytes ≡ to_be_bytes w16 process ++ rest)
-Behind depth (Tuple parts) letter bytes rest = (letter ≡ 116) × (length parts ≤ 255) × AreInside depth parts × (bytes ≡ length parts ∷ joined (map value_bytes parts) ++ rest)
-Behind depth (Set elements) letter bytes rest = (letter ≡ 83) × Ascends val_cmp elements × AreInside depth elements × (bytes ≡ to_be_bytes w32 (length elements) ++ joined (map value_bytes elements) ++ rest)
+-- a kept value by its letter and what stands after that
+abbrev pub AfterLetter : ℕ → Value → ℕ → List ℕ → List ℕ → Type 0
+AfterLetter depth (Int number) letter bytes rest = (letter ≡ 105) × FitsSigned w64 number × (bytes ≡ to_be_bytes w64 (cast_unsigned w64 number) ++ rest)
+AfterLetter depth (Truth truth) letter bytes rest = (letter ≡ 98) × (bytes ≡ truth_byte truth ∷ rest)
+AfterLetter depth (Text text) letter bytes rest = (letter ≡ 115) × All IsTextByte text × (bytes ≡ to_be_bytes w16 (length text) ++ text ++ rest)
+AfterLetter depth (Proc process) letter bytes rest = (letter ≡ 112) × (0 < process) × (process < 2 ^ 16) × (bytes ≡ to_be_bytes w16 process ++ rest)
+AfterLetter depth (Tuple parts) letter bytes rest = (letter ≡ 116) × (length parts ≤ 255) × AreInside depth parts × (bytes ≡ length parts ∷ joined (map value_bytes parts) ++ rest)
+AfterLetter depth (Set elements) letter bytes rest = (letter ≡ 83) × Ascends val_cmp elements × AreInside depth elements × (bytes ≡ to_be_bytes w32 (length elements) ++ joined (map value_bytes elements) ++ rest)
 
 -- WHERE MEMORY MAY BE WANTED
 

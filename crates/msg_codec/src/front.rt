@@ -16,7 +16,7 @@ pub(crate) fn head_at(bytes: &[u8]) -> Option<(u16, u64, &[u8])>
         ((sender clock : ℕ) (rest : List ℕ) → IsHead sender clock bytes.now rest → ⊥)
         (λ found. IsHead found.0 found.1 bytes.now found.2.now) }
 {
-    let rest = behind_mark(bytes)?;
+    let rest = after_mark(bytes)?;
     let (sender, rest) = short_at(rest)?;
     let (clock, rest) = long_at(rest)?;
     if clock >= CLOCK_BOUND {
@@ -26,7 +26,7 @@ pub(crate) fn head_at(bytes: &[u8]) -> Option<(u16, u64, &[u8])>
 }
 
 // What follows the mark of a packet, or nothing exactly where the bytes begin otherwise.
-pub(crate) fn behind_mark(bytes: &[u8]) -> Option<&[u8]>
+pub(crate) fn after_mark(bytes: &[u8]) -> Option<&[u8]>
     ensures { MatchOption result
         ((rest : List ℕ) → bytes.now ≡ mark ++ rest → ⊥)
         (λ rest. bytes.now ≡ mark ++ rest.now) }

@@ -3,7 +3,7 @@ ghost use Rattle.da_values.specs.Value.{val_of, vals};
 ghost use Rattle.da_values.specs.declared.val.Val.{Val};
 ghost use Rattle.da_values.specs.declared.value.Value.{Value as Kept};
 ghost use Rattle.msg_codec.specs.Packets.{IsPacket};
-ghost use Rattle.msg_codec.specs.Pieces.{Begins, BeginsEach, Behind, MayHoldMuch, MayWantMemory, TakesMemory};
+ghost use Rattle.msg_codec.specs.Pieces.{Begins, BeginsEach, AfterLetter, MayHoldMuch, MayWantMemory, TakesMemory};
 ghost use Rattle.msg_codec.specs.declared.packet.CodecFault.TheVariants.{Memory, NotAPacket};
 ghost use Rattle.std.specs.Prelude.{◌≡◌, ◌≤◌, ℕ, List, [], ◌++◌, length, IfErr, IfOk, IsErrOf, MatchResult};
 
@@ -75,12 +75,12 @@ fn value_at(alloc: Global, bytes: &[u8], depth: u8) -> Result<(Value, &[u8]), Co
     }
 }
 
-// The value whose bytes stand behind this letter, and what follows it.
+// The value whose bytes stand after this letter, and what follows it.
 #[cycle(read)]
 fn behind(alloc: Global, letter: u8, bytes: &[u8], depth: u8) -> Result<(Value, &[u8]), CodecFault>
     requires { length bytes.now ≤ 60000 }
-    ensures front { IfOk result (λ found. Behind depth found.0 letter bytes.now found.1.now) }
-    ensures only { (v : Kept) (rest : List ℕ) → Behind depth v letter bytes.now rest
+    ensures front { IfOk result (λ found. AfterLetter depth found.0 letter bytes.now found.1.now) }
+    ensures only { (v : Kept) (rest : List ℕ) → AfterLetter depth v letter bytes.now rest
         → MatchResult result (λ found. (found.0 ≡ v) × (found.1.now ≡ rest)) (λ fault. fault ≡ Memory) }
     ensures memory { IsErrOf result Memory → TakesMemory letter }
 {
@@ -95,10 +95,10 @@ fn behind(alloc: Global, letter: u8, bytes: &[u8], depth: u8) -> Result<(Value, 
     }
 }
 
-// The integer whose bytes stand behind its letter, and what follows it.
+// The integer whose bytes stand after its letter, and what follows it.
 fn integer_at(bytes: &[u8]) -> Result<(Value, &[u8]), CodecFault>
-    ensures front { IfOk result (λ found. (depth : ℕ) → Behind depth found.0 105 bytes.now found.1.now) }
-    ensures only { (depth : ℕ) (v : Kept) (rest : List ℕ) → Behind depth v 105 bytes.now rest
+    ensures front { IfOk result (λ found. (depth : ℕ) → AfterLetter depth found.0 105 bytes.now found.1.now) }
+    ensures only { (depth : ℕ) (v : Kept) (rest : List ℕ) → AfterLetter depth v 105 bytes.now rest
         → MatchResult result (λ found. (found.0 ≡ v) × (found.1.now ≡ rest)) (λ fault. fault ≡ Memory) }
     ensures refused { IfErr result (λ fault. fault ≡ NotAPacket) }
 {
@@ -108,10 +108,10 @@ fn integer_at(bytes: &[u8]) -> Result<(Value, &[u8]), CodecFault>
     }
 }
 
-// The truth value whose byte stands behind its letter, and what follows it.
+// The truth value whose byte stands after its letter, and what follows it.
 fn truth_at(bytes: &[u8]) -> Result<(Value, &[u8]), CodecFault>
-    ensures front { IfOk result (λ found. (depth : ℕ) → Behind depth found.0 98 bytes.now found.1.now) }
-    ensures only { (depth : ℕ) (v : Kept) (rest : List ℕ) → Behind depth v 98 bytes.now rest
+    ensures front { IfOk result (λ found. (depth : ℕ) → AfterLetter depth found.0 98 bytes.now found.1.now) }
+    ensures only { (depth : ℕ) (v : Kept) (rest : List ℕ) → AfterLetter depth v 98 bytes.now rest
         → MatchResult result (λ found. (found.0 ≡ v) × (found.1.now ≡ rest)) (λ fault. fault ≡ Memory) }
     ensures refused { IfErr result (λ fault. fault ≡ NotAPacket) }
 {
@@ -122,11 +122,11 @@ fn truth_at(bytes: &[u8]) -> Result<(Value, &[u8]), CodecFault>
     }
 }
 
-// The text whose length and bytes stand behind its letter, and what follows it.
+// The text whose length and bytes stand after its letter, and what follows it.
 fn text_at(alloc: Global, bytes: &[u8]) -> Result<(Value, &[u8]), CodecFault>
     requires { length bytes.now ≤ 60000 }
-    ensures front { IfOk result (λ found. (depth : ℕ) → Behind depth found.0 115 bytes.now found.1.now) }
-    ensures only { (depth : ℕ) (v : Kept) (rest : List ℕ) → Behind depth v 115 bytes.now rest
+    ensures front { IfOk result (λ found. (depth : ℕ) → AfterLetter depth found.0 115 bytes.now found.1.now) }
+    ensures only { (depth : ℕ) (v : Kept) (rest : List ℕ) → AfterLetter depth v 115 bytes.now rest
         → MatchResult result (λ found. (found.0 ≡ v) × (found.1.now ≡ rest)) (λ fault. fault ≡ Memory) }
 {
     let Some((length, rest)) = short_at(bytes) else {
@@ -142,10 +142,10 @@ fn text_at(alloc: Global, bytes: &[u8]) -> Result<(Value, &[u8]), CodecFault>
     }
 }
 
-// The process whose number stands behind its letter, and what follows it.
+// The process whose number stands after its letter, and what follows it.
 fn process_at(bytes: &[u8]) -> Result<(Value, &[u8]), CodecFault>
-    ensures front { IfOk result (λ found. (depth : ℕ) → Behind depth found.0 112 bytes.now found.1.now) }
-    ensures only { (depth : ℕ) (v : Kept) (rest : List ℕ) → Behind depth v 112 bytes.now rest
+    ensures front { IfOk result (λ found. (depth : ℕ) → AfterLetter depth found.0 112 bytes.now found.1.now) }
+    ensures only { (depth : ℕ) (v : Kept) (rest : List ℕ) → AfterLetter depth v 112 bytes.now rest
         → MatchResult result (λ found. (found.0 ≡ v) × (found.1.now ≡ rest)) (λ fault. fault ≡ Memory) }
     ensures refused { IfErr result (λ fault. fault ≡ NotAPacket) }
 {
@@ -156,12 +156,12 @@ fn process_at(bytes: &[u8]) -> Result<(Value, &[u8]), CodecFault>
     }
 }
 
-// The tuple whose count and parts stand behind its letter, and what follows it.
+// The tuple whose count and parts stand after its letter, and what follows it.
 #[cycle(read)]
 fn tuple_at(alloc: Global, bytes: &[u8], depth: u8) -> Result<(Value, &[u8]), CodecFault>
     requires { length bytes.now ≤ 60000 }
-    ensures front { IfOk result (λ found. Behind depth found.0 116 bytes.now found.1.now) }
-    ensures only { (v : Kept) (rest : List ℕ) → Behind depth v 116 bytes.now rest
+    ensures front { IfOk result (λ found. AfterLetter depth found.0 116 bytes.now found.1.now) }
+    ensures only { (v : Kept) (rest : List ℕ) → AfterLetter depth v 116 bytes.now rest
         → MatchResult result (λ found. (found.0 ≡ v) × (found.1.now ≡ rest)) (λ fault. fault ≡ Memory) }
 {
     if depth == 0 {
@@ -174,12 +174,12 @@ fn tuple_at(alloc: Global, bytes: &[u8], depth: u8) -> Result<(Value, &[u8]), Co
     Ok((Value::Tuple(Row::from_list(parts)), rest))
 }
 
-// The set whose count and elements stand behind its letter, and what follows it.
+// The set whose count and elements stand after its letter, and what follows it.
 #[cycle(read)]
 fn set_at(alloc: Global, bytes: &[u8], depth: u8) -> Result<(Value, &[u8]), CodecFault>
     requires { length bytes.now ≤ 60000 }
-    ensures front { IfOk result (λ found. Behind depth found.0 83 bytes.now found.1.now) }
-    ensures only { (v : Kept) (rest : List ℕ) → Behind depth v 83 bytes.now rest
+    ensures front { IfOk result (λ found. AfterLetter depth found.0 83 bytes.now found.1.now) }
+    ensures only { (v : Kept) (rest : List ℕ) → AfterLetter depth v 83 bytes.now rest
         → MatchResult result (λ found. (found.0 ≡ v) × (found.1.now ≡ rest)) (λ fault. fault ≡ Memory) }
 {
     if depth == 0 {

@@ -11,7 +11,7 @@ ghost use Rattle.std.specs.Prelude.{◌≡◌, ◌+◌, ◌^◌, ◌<◌, ◌≤
 
 use da_values::{Buf, NoMemory, Row, SetVal, Str, Value, encoded_len};
 
-/// The bytes of a packet in front of its value.
+/// The bytes of a packet before its value.
 const PACKET_HEAD: u64 = 13;
 
 /// How many bytes the packet of a message takes, whoever sends it and when; from the greatest u64 on, that number. `encode`

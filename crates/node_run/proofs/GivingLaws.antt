@@ -8,8 +8,8 @@ use Rattle.da_outside.specs.declared.link.LinkEntry.{LinkEntry}
 use Rattle.da_outside.specs.declared.outside.Trouble.{Trouble}
 use Rattle.da_outside.specs.declared.outside.Trouble.TheVariants as trouble
 use Rattle.da_outside.specs.Link.{Gains}
-use Rattle.da_outside.specs.Outside.{AppendsFront}
-use Rattle.da_outside.proofs.OutsideLemmas.{appends_none, front_none}
+use Rattle.da_outside.specs.Outside.{AppendsPrefix}
+use Rattle.da_outside.proofs.OutsideLemmas.{appends_none, prefix_none}
 use Rattle.sched_text.specs.ActionText.{action_text}
 use Rattle.node_run.specs.Faults.{link_fault, sink_fault}
 use Rattle.node_run.specs.Gifts.{CutText, GainsSome, IsCutShort, MayLeave, due}
@@ -59,11 +59,11 @@ link_cut why actions told_before told_after taken some = record {
     unwritten : (why : Trouble) (left : List LinkEntry) → 0 < length left → CutText (link_fault why) taken taken (due left (action_text actions))
     unwritten why [] left = absurd (omega arith)
     unwritten trouble.Failed (entry ∷ more) left = appends_none taken
-    unwritten trouble.Memory (entry ∷ more) left = front_none taken []
+    unwritten trouble.Memory (entry ∷ more) left = prefix_none taken []
 
 -- a sink that did not take all
 pub sink_cut : (why : Trouble) (actions : List Action) (told_before told_after : Option (List LinkEntry)) (before after : Option (List ℕ)) → Gains told_before told_after (gifts actions)
-    → AppendsFront before after (action_text actions) → IsCutShort (sink_fault why) actions told_before told_after before after
+    → AppendsPrefix before after (action_text actions) → IsCutShort (sink_fault why) actions told_before told_after before after
 sink_cut why actions told_before told_after before after gave front = record {
   gained = record { given = gifts actions; left = []; told = gave; whole = sym (append-nil (gifts actions)) };
   left = by_trouble why;

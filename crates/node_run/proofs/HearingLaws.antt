@@ -1,4 +1,4 @@
--- What may be given behind an event, and what a node does at any answer.
+-- What may be given after an event, and what a node does at any answer.
 use Rattle.std.specs.Prelude.{◌≡◌, refl, ℕ, ◌+◌, ◌<◌, ◌≤◌, ◌⊎◌, ◌↔◌, nat_le, nat_lt, Bool, true, false, ◌&&◌, List, [], ◌∷◌, ◌++◌, length, Option, Some, None, IsSome, is_some, Result, Ok, Err, IfErr, OnErr, OnOk}
 use Rattle.std.specs.List.{All}
 use Rattle.std.proofs.Common.{◌∙◌, ap, sym, subst, subst₂, arith, inl, inr, ltb-true, ltb-false, leb-true, leb-false}
@@ -23,7 +23,7 @@ use Rattle.da_outside.specs.declared.link.LinkAnswer.TheVariants.{Datagram, Noth
 use Rattle.da_outside.specs.declared.link.LinkEntry.{LinkEntry}
 use Rattle.da_outside.specs.Link.{Gains}
 use Rattle.da_outside.specs.Outside.{Appends}
-use Rattle.da_outside.proofs.OutsideLemmas.{appends_none, front_none}
+use Rattle.da_outside.proofs.OutsideLemmas.{appends_none, prefix_none}
 use Rattle.da_types.specs.KeepsShaped.{IsSending, MayStep, MayTell}
 use Rattle.da_types.proofs.sound.AcceptedShaped.{keeps_shaped}
 use Rattle.da_core.specs.declared.place.Stopped.{Stopped}
@@ -86,7 +86,7 @@ pub nothing_given : (actions : List Action) (told : Option (List LinkEntry)) (ta
 nothing_given actions told taken = record {
   gained = record { given = []; left = gifts actions; told = gains_nothing told; whole = refl };
   left = tt;
-  written = front_none taken (due (gifts actions) (action_text actions));
+  written = prefix_none taken (due (gifts actions) (action_text actions));
 }
 
 -- MESSAGES
@@ -197,7 +197,7 @@ step_given running core answer step actions stepped (node, stood) may count boun
     let has = stepped.made node.process stood.stands in
     subst₂ MayGiveAll (sym bound) (sym has.added) (gifts_allowed running.core node.process stood.stands step has.after may has.leads)
 
--- behind a step that it takes where nothing comes
+-- after a step that it takes where nothing comes
 abbrev pub stepped_on : Running → Core → Stopped → Running
 stepped_on running core answer = record { core = core; stopped = answer; held = running.held; idle = 0 }
 

@@ -18,7 +18,7 @@ some_of (Some after) some = (after, refl)
 
 -- THE PACKET THAT IS FOUND
 
--- it may come, and one packet less is held behind it
+-- it may come, and one packet less is held after it
 pub record IsFound (program : Program) (w : World) (before later : List Held) (x : Held) (held : List Held) : Type 0 where
   pub after : Stepped
   pub leads : proc_step program w (arrival_of x) ≡ Some after
@@ -51,11 +51,11 @@ pub held_then : (xs ys : List Packet) → held_in (xs ++ ys) ≡ held_in xs ++ h
 held_then [] ys = refl
 held_then (x ∷ xs) ys = ap (λ l. held_of x ∷ l) (held_then xs ys)
 
--- what is found of all is found behind the first so many
+-- what is found of all is found after the first so many
 abbrev pub FindsFrom : Program → World → List Packet → ℕ → Type 0
 FindsFrom program w packets n = find_held program w [] (held_in packets) ≡ find_held program w (held_in (take n packets)) (held_in (drop n packets))
 
--- the packet at a place, by those before it and behind it
+-- the packet at a place, by those before it and after it
 record StandsAt (packets : List Packet) (n : ℕ) (packet : Packet) : Type 0 where
   later : drop n packets ≡ packet ∷ drop (suc n) packets
   earlier : take (suc n) packets ≡ take n packets ++ packet ∷ []

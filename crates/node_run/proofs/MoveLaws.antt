@@ -53,7 +53,7 @@ first_later d k zero (alt ∷ alts) inside false' = skips (holds d (out-Alt alt)
     skips false not_true = refl
 first_later d k (suc n) (alt ∷ alts) inside false' = first_later d k n alts (omega (arith, inside)) false'
 
--- behind the last one there is none
+-- after the last one there is none
 pub first_none : (d : Data) (k n : ℕ) (alts : List Alt) → length alts ≤ n → first_true d k (drop n alts) ≡ None
 first_none d k zero [] past = refl
 first_none d k (suc n) [] past = refl
@@ -100,7 +100,7 @@ take_exactly class d rest k (Some alt) = by_truth (holds d (out-Alt alt).cond []
     by_truth true after = (λ some. refl, λ true'. refl)
     by_truth false after = (λ some. absurd (false≢true some), λ true'. absurd (false≢true true'))
 
--- its move is the first of these alternatives that is true, and stands behind so many of them
+-- its move is the first of these alternatives that is true, and stands after so many of them
 abbrev pub LeadsFrom : World → List Alt → ℕ → Type 0
 LeadsFrom w alts n = move_of w ≡ first_true w.data' (suc n) (drop n alts)
 
@@ -184,7 +184,7 @@ module _ (core : Core) where
       not_waiting stands (inr (inl is)) waits = let both : Ended ≡ Waiting = sym (ap phase_at is) ∙ waits in cc
       not_waiting stands (inr (inr is)) waits = let both : Faulted ≡ Waiting = sym (ap phase_at is) ∙ waits in cc
 
-  -- at an `await` of so many alternatives its move is the first that is true, and stands behind the first n of them
+  -- at an `await` of so many alternatives its move is the first that is true, and stands after the first n of them
   abbrev pub Tried : ℕ → ℕ → Type 0
   Tried count n = Whichever core (λ w. w.phase ≡ Waiting → (at : Awaits w.todo count) → LeadsFrom w at.alts n)
 
@@ -213,7 +213,7 @@ module _ (core : Core) where
 
 -- THE STEP WHERE NOTHING COMES
 
--- its move, or else the timeout behind so many idle turns
+-- its move, or else the timeout after so many idle turns
 pub step_by : (program : Program) (node : Node) (k : ℕ) → move_of node.process ≡ Some k → step_of program node ≡ Some (move_step k)
 step_by program node k is = ap (λ move. step_for move (may_time_out program node)) is
 

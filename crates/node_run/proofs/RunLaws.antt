@@ -18,7 +18,7 @@ use Rattle.node_run.specs.declared.outcome.NodeOutcome.{NodeOutcome}
 use Rattle.node_run.specs.declared.outcome.NodeOutcome.TheVariants as outcome
 use Rattle.node_run.specs.Gifts.{CutText, IsCutShort, MayLeave, due}
 use Rattle.node_run.specs.HeldPackets.{Held, held_with, is_unreliable, most_held}
-use Rattle.node_run.specs.NodeCall.{HasEnded, HasRun, WasCut, WroteAll, WroteFront, WroteGiven, answers_in}
+use Rattle.node_run.specs.NodeCall.{HasEnded, HasRun, WasCut, WroteAll, WrotePrefix, WroteGiven, answers_in}
 use Rattle.node_run.specs.NodeRun.{Node, NodeEnd, Done, Faulted, Idle, Spent, AsksAgain, Hears, comes_in, drops, steps, idles, GoesOn, stays, delivers, hears, NodeRun, Round, after_delivery, end_in, end_of, event_round, first_node, gifts, next_held, talk_of, text_of}
 use Rattle.node_run.proofs.HeldLaws.{found_one}
 use Rattle.node_run.proofs.TalkLaws.{WroteUpTo, all_up_to, answers_then, cut_later, gains_then, no_answer, no_answer_given, talk_then, text_one, text_then}
@@ -84,7 +84,7 @@ pub record Settles (program : Program) (idle turns : ℕ) (node : Node) : Type 0
   pub goes : GoesOn program idle turns node [] rounds last
   pub rests : next_held program last ≡ None
 
--- by what is delivered next; how it goes on behind that is handed in
+-- by what is delivered next; how it goes on after that is handed in
 settles_by : (program : Program) (idle turns : ℕ) (node : Node) (next : Option (Held × List Held)) → next_held program node ≡ next
     → ((held : List Held) (process : World) → length node.held ≡ suc (length held) → Settles program idle turns (after_delivery node held process)) → Settles program idle turns node
 settles_by program idle turns node None is others = record { rounds = []; last = node; goes = stays node; rests = is }
@@ -141,7 +141,7 @@ module _ {program : Program} {me idle turns : ℕ} {told_before told_after : Opt
   pub cut_by_write : (how : NodeOutcome) → IsCut how program me idle turns told_before told_after before after → how ≡ outcome.WriteFault → WasCut program me idle turns told_before told_after before after WroteGiven
   cut_by_write how cut is = subst (λ h. WasCut program me idle turns told_before told_after before after (WroteUpTo h)) is cut
 
-  pub cut_by_memory : (how : NodeOutcome) → IsCut how program me idle turns told_before told_after before after → how ≡ outcome.Memory → WasCut program me idle turns told_before told_after before after WroteFront
+  pub cut_by_memory : (how : NodeOutcome) → IsCut how program me idle turns told_before told_after before after → how ≡ outcome.Memory → WasCut program me idle turns told_before told_after before after WrotePrefix
   cut_by_memory how cut is = subst (λ h. WasCut program me idle turns told_before told_after before after (WroteUpTo h)) is cut
 
 -- THE START

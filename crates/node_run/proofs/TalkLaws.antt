@@ -10,13 +10,13 @@ use Rattle.da_lang.specs.declared.event.Action.{Action}
 use Rattle.da_lang.specs.declared.event.Action.TheVariants.{Sent}
 use Rattle.da_outside.specs.declared.link.LinkEntry.{LinkEntry}
 use Rattle.da_outside.specs.Link.{Carries, Gains, is_binding}
-use Rattle.da_outside.specs.Outside.{Appends, AppendsFront}
+use Rattle.da_outside.specs.Outside.{Appends, AppendsPrefix}
 use Rattle.da_outside.proofs.OutsideLemmas.{appends_then}
 use Rattle.sched_text.specs.ActionText.{action_line, action_text}
 use Rattle.node_run.specs.declared.outcome.NodeOutcome.{NodeOutcome}
 use Rattle.node_run.specs.declared.outcome.NodeOutcome.TheVariants as outcome
 use Rattle.node_run.specs.Gifts.{CutText, MayLeave, due}
-use Rattle.node_run.specs.NodeCall.{WroteAll, WroteFront, WroteGiven, answer_in, answers_in, given_rounds, passed_rounds}
+use Rattle.node_run.specs.NodeCall.{WroteAll, WrotePrefix, WroteGiven, answer_in, answers_in, given_rounds, passed_rounds}
 use Rattle.node_run.specs.NodeRun.{Round, actions_of, gift_of, gifts, talk_of, text_of}
 
 -- WHAT A LINK TELLS AND A SINK TAKES
@@ -130,7 +130,7 @@ given_within (round ∷ rounds) told = by_test (nat_le (length round.talk) told)
         omega (arith, here, later, length-append round.talk (talk_of (given_rounds (told - length round.talk) rounds)))
     by_test false test later = omega arith
 
--- ROUNDS BEHIND WHICH MORE WAS TOLD
+-- ROUNDS AFTER WHICH MORE WAS TOLD
 
 text_next : (round : Round) (rounds : List Round) → length (text_of (round ∷ rounds)) ≡ length (action_text round.actions) + length (text_of rounds)
 text_next round rounds =
@@ -167,17 +167,17 @@ passed_all (first ∷ rounds) told = by_test (nat_lt (length first.talk) told) (
 abbrev pub WroteUpTo : NodeOutcome → ℕ → Option (List ℕ) → Option (List ℕ) → List Round → Type 0
 WroteUpTo outcome.LinkFault = WroteAll
 WroteUpTo outcome.WriteFault = WroteGiven
-WroteUpTo outcome.Memory = WroteFront
+WroteUpTo outcome.Memory = WrotePrefix
 WroteUpTo _ = λ told before after rounds. ⊥
 
--- a front of a text was written, with at least so much of it
+-- a prefix of a text was written, with at least so much of it
 record WroteSome (before after : Option (List ℕ)) (least : ℕ) (text : List ℕ) : Type 0 where
   size : ℕ
   written : Appends before after (take size text)
   reaches : least ≤ size
 
--- a text was written, and a front of one that stands behind it
-some_then : (before mid after : Option (List ℕ)) (done next more whole : List ℕ) → whole ≡ done ++ (next ++ more) → Appends before mid done → AppendsFront mid after next
+-- a text was written, and a prefix of one that stands after it
+some_then : (before mid after : Option (List ℕ)) (done next more whole : List ℕ) → whole ≡ done ++ (next ++ more) → Appends before mid done → AppendsPrefix mid after next
     → WroteSome before after (length done) whole
 some_then before mid after done next more whole is written (n, front) =
     let size = length done + length (take n next) in
@@ -197,7 +197,7 @@ some_then before mid after done next more whole is written (n, front) =
     }
 
 front_of : (told : ℕ) (before after : Option (List ℕ)) (rounds : List Round) (least : ℕ) → length (text_of (passed_rounds told rounds)) ≤ least
-    → WroteSome before after least (text_of (given_rounds told rounds)) → WroteFront told before after rounds
+    → WroteSome before after least (text_of (given_rounds told rounds)) → WrotePrefix told before after rounds
 front_of told before after rounds least within some = record { size = some.size; written = some.written; reaches = omega (arith, within, some.reaches) }
 
 -- all lines of these rounds, where no more was written
@@ -208,7 +208,7 @@ all_up_to how before mid after rounds written cut = by_outcome how cut
     told : ℕ
     told = length (talk_of rounds)
 
-    front : AppendsFront mid after [] → WroteFront told before after rounds
+    front : AppendsPrefix mid after [] → WrotePrefix told before after rounds
     front empty =
         front_of told before after rounds (length (text_of rounds)) (passed_all rounds told)
         (some_then before mid after (text_of rounds) [] [] (text_of (given_rounds told rounds)) (ap text_of (given_all rounds) ∙ sym (append-nil (text_of rounds))) written empty)
@@ -220,7 +220,7 @@ all_up_to how before mid after rounds written cut = by_outcome how cut
     by_outcome outcome.Memory empty = front empty
     by_outcome _ empty = absurd empty
 
--- behind earlier rounds one that was cut short, and others that were not begun
+-- after earlier rounds one that was cut short, and others that were not begun
 pub cut_later : (how : NodeOutcome) (before mid after : Option (List ℕ)) (rounds more : List Round) (round : Round) (given left : List LinkEntry) → round.talk ≡ given ++ left → MayLeave how left
     → Appends before mid (text_of rounds) → CutText how mid after (due left (action_text round.actions)) → WroteUpTo how (length (talk_of rounds ++ given)) before after (rounds ++ round ∷ more)
 cut_later how before mid after rounds more round given left whole may written cut = by_left left whole how may cut
@@ -251,7 +251,7 @@ cut_later how before mid after rounds more round given left whole may written cu
         ∙ text_then rounds (round ∷ given_rounds 0 more)
         ∙ ap (λ l. text_of rounds ++ l) (flat_map-append action_line round.actions (actions_of (given_rounds 0 more)))
 
-    front : round.talk ≡ given ++ [] → AppendsFront mid after (action_text round.actions) → WroteFront told before after (rounds ++ round ∷ more)
+    front : round.talk ≡ given ++ [] → AppendsPrefix mid after (action_text round.actions) → WrotePrefix told before after (rounds ++ round ∷ more)
     front whole cut =
         front_of told before after (rounds ++ round ∷ more) (length (text_of rounds)) (within [] whole)
         (some_then before mid after (text_of rounds) (action_text round.actions) (text_of (given_rounds 0 more)) (text_of (given_rounds told (rounds ++ round ∷ more))) (text_is whole) written cut)

@@ -7,7 +7,7 @@ use Rattle.da_lang.specs.declared.event.Action.{Action}
 use Rattle.da_lang.specs.declared.event.Action.TheVariants.{Sent}
 use Rattle.da_outside.specs.declared.link.LinkEntry.{LinkEntry}
 use Rattle.da_outside.specs.Link.{Gains}
-use Rattle.da_outside.specs.Outside.{Appends, AppendsFront}
+use Rattle.da_outside.specs.Outside.{Appends, AppendsPrefix}
 use Rattle.da_values.specs.declared.value.Value.{Value}
 use Rattle.msg_codec.specs.Packets.{has_few_parts, packet_bytes}
 use Rattle.sched_text.specs.ActionText.{action_text}
@@ -31,14 +31,14 @@ MayGive count _ = Unit {0}
 abbrev pub MayGiveAll : ℕ → List Action → Type 0
 MayGiveAll count = AllByRecursion (MayGive count)
 
--- a link gained some of these entries, from the front, and others are left
+-- a link gained the first ones of these entries, and others are left
 pub record GainsFront (before after : Option (List LinkEntry)) (entries : List LinkEntry) : Type 0 where
   pub given : List LinkEntry
   pub left : List LinkEntry
   pub told : Gains before after given
   pub whole : entries ≡ given ++ left
 
--- a link gained some of these entries, from the front, but not all
+-- a link gained the first ones of these entries, but not all
 pub record GainsSome (before after : Option (List LinkEntry)) (entries : List LinkEntry) : Type 0 where
   pub front : GainsFront before after entries
   pub some_left : 0 < length front.left
@@ -51,8 +51,8 @@ due (entry ∷ entries) text = []
 -- what was written of a text that was due, by what cut it short
 abbrev pub CutText : NodeOutcome → Option (List ℕ) → Option (List ℕ) → List ℕ → Type 0
 CutText LinkFault before after text = Appends before after text
-CutText WriteFault before after text = AppendsFront before after text
-CutText Memory before after text = AppendsFront before after text
+CutText WriteFault before after text = AppendsPrefix before after text
+CutText Memory before after text = AppendsPrefix before after text
 CutText _ before after text = ⊥
 
 -- by a link that failed something is left, and by a sink that failed nothing
@@ -61,8 +61,8 @@ MayLeave LinkFault left = 0 < length left
 MayLeave WriteFault left = left ≡ []
 MayLeave _ left = Unit {0}
 
--- The packets of some actions were given, and their lines written, up to what cut that short: a link gained a front of the gifts, and the
--- lines were written, or a front of them, where none was left.
+-- The packets of some actions were given, and their lines written, up to what cut that short: a link gained a prefix of the gifts,
+-- and the lines were written, or a prefix of them, where none was left.
 pub record IsCutShort (outcome : NodeOutcome) (actions : List Action) (told_before told_after : Option (List LinkEntry)) (before after : Option (List ℕ)) : Type 0 where
   pub gained : GainsFront told_before told_after (gifts actions)
   pub left : MayLeave outcome gained.left

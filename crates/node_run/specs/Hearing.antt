@@ -87,7 +87,7 @@ pub record WasCutBeginning (outcome : NodeOutcome) (program : Program) (me : ℕ
 
 -- A HELD PACKET
 
--- the packet at this place is the one that is found, and the others are held behind it; or none is found
+-- the packet at this place is the one that is found, and the others are held after it; or none is found
 abbrev pub IsFoundAt : List Packet → Option (Held × List Held) → Option ℕ → Type 0
 IsFoundAt packets found None = found ≡ None
 IsFoundAt packets found (Some place) =
@@ -152,7 +152,7 @@ pub record HasHeard (program : Program) (node : Node) (running : Running) (told_
   pub answered : Gains told_before told_between (Answered answer ∷ [])
   pub acted : HasActed program node answer running told_between told_after before after
 
--- that was cut short, before the answer or behind it
+-- that was cut short, before the answer or after it
 pub data WasCutHearing (outcome : NodeOutcome) (program : Program) (node : Node) (told_before told_after : Option (List LinkEntry)) (before after : Option (List ℕ)) : Type 0 where
   unanswered : Gains told_before told_after [] → CutText outcome before after [] → WasCutHearing outcome program node told_before told_after before after
   behind : (answer : LinkAnswer) (told_between : Option (List LinkEntry)) → Gains told_before told_between (Answered answer ∷ [])

@@ -47,7 +47,7 @@ may_come program w x = is_some (proc_step program w (arrival_of x))
 abbrev pub goes_first : ChannelKind → List Held → Held → Bool
 goes_first kind before x = not (is_fifo kind && list_any (λ y. y.sender == x.sender) before)
 
--- the first of these packets, behind those before, that is delivered; and what is held without it
+-- the first of these packets, after those before, that is delivered; and what is held without it
 abbrev pub find_held : Program → World → List Held → List Held → Option (Held × List Held)
 find_held program w before [] = None
 find_held program w before (x ∷ later) =

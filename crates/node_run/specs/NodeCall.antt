@@ -29,7 +29,7 @@ given_rounds told [] = []
 given_rounds told (round ∷ rounds) =
     if nat_le (length round.talk) told then round ∷ given_rounds (told - length round.talk) rounds else []
 
--- those of them behind which more was told
+-- those of them after which more was told
 abbrev pub passed_rounds : ℕ → List Round → List Round
 passed_rounds told [] = []
 passed_rounds told (round ∷ rounds) =
@@ -39,15 +39,15 @@ passed_rounds told (round ∷ rounds) =
 abbrev pub WroteAll : ℕ → Option (List ℕ) → Option (List ℕ) → List Round → Type 0
 WroteAll told before after rounds = Appends before after (text_of (given_rounds told rounds))
 
--- a front of them was written, in which nothing is missing of a round behind which more was told
-pub record WroteFront (told : ℕ) (before after : Option (List ℕ)) (rounds : List Round) : Type 0 where
+-- a prefix of them was written, in which nothing is missing of a round after which more was told
+pub record WrotePrefix (told : ℕ) (before after : Option (List ℕ)) (rounds : List Round) : Type 0 where
   pub size : ℕ
   pub written : Appends before after (take size (text_of (given_rounds told rounds)))
   pub reaches : length (text_of (passed_rounds told rounds)) ≤ size
 
 -- the same, where no other round was begun: what was told is their talk
 pub record WroteGiven (told : ℕ) (before after : Option (List ℕ)) (rounds : List Round) : Type 0 where
-  pub front : WroteFront told before after rounds
+  pub front : WrotePrefix told before after rounds
   pub whole : length (talk_of (given_rounds told rounds)) ≡ told
 
 -- HOW FAR IT RAN
@@ -63,7 +63,7 @@ pub record HasRun (program : Program) (me idle turns : ℕ) (end : NodeEnd) (tol
   pub whole : talk ≡ talk_of rounds
   pub written : Appends before after (text_of rounds)
 
--- A node was cut short: the link told a front of the talk of the run over the answers that it gave. So much was written of the
+-- A node was cut short: the link told a prefix of the talk of the run over the answers that it gave. So much was written of the
 -- lines of its rounds.
 pub record WasCut (program : Program) (me idle turns : ℕ) (told_before told_after : Option (List LinkEntry)) (before after : Option (List ℕ))
     (Wrote : ℕ → Option (List ℕ) → Option (List ℕ) → List Round → Type 0) : Type 0 where

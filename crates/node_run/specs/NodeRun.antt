@@ -71,7 +71,7 @@ pub record Node : Type 0 where
   pub idle : ℕ
   pub taken : ℕ
 
--- behind so many idle turns the time runs out
+-- after so many idle turns the time runs out
 abbrev pub idle_turns_to_timeout : ℕ
 idle_turns_to_timeout = 999
 
@@ -89,7 +89,7 @@ step_of program node = step_for (move_of node.process) (may_time_out program nod
 
 -- THE RULES
 
--- with these packets behind an answer that was a datagram, which is no idle turn
+-- with these packets after an answer that was a datagram, which is no idle turn
 abbrev pub after_datagram : Node → List Held → Node
 after_datagram node held = record { process = node.process; held = held; idle = 0; taken = node.taken + 1 }
 
@@ -103,11 +103,11 @@ after_idle_turn node = record { process = node.process; held = node.held; idle =
 abbrev pub after_delivery : Node → List Held → World → Node
 after_delivery node held process = record { process = process; held = held; idle = node.idle; taken = node.taken }
 
--- the held packet that is delivered next, and what is held behind it
+-- the held packet that is delivered next, and what is held after it
 abbrev pub next_held : Program → Node → Option (Held × List Held)
 next_held program node = find_held program node.process [] node.held
 
--- what a node does at an answer, and what it is behind it
+-- what a node does at an answer, and what it is after it
 pub data Hears (program : Program) (node : Node) : LinkAnswer → List Action → Node → Type 0 where
   comes_in : (bytes : List ℕ) (x : Held) → IsMessage program bytes x
       → Hears program node (Datagram bytes) [] (after_datagram node (held_with program.kind node.held x))

@@ -1,6 +1,6 @@
-//! What a node gives and writes behind an event: the packets of what was sent, and then the lines of all actions.
+//! What a node gives and writes after an event: the packets of what was sent, and then the lines of all actions.
 ghost use Rattle.da_outside.specs.Link.{Carries, Gains};
-ghost use Rattle.da_outside.specs.Outside.{Appends, AppendsFront, HasCause};
+ghost use Rattle.da_outside.specs.Outside.{Appends, AppendsPrefix, HasCause};
 ghost use Rattle.da_outside.specs.declared.link.LinkEntry.TheVariants.{Gave};
 ghost use Rattle.da_values.specs.Value.{val_of};
 ghost use Rattle.msg_codec.specs.Packets.{packet_bytes};
@@ -49,7 +49,7 @@ pub(crate) fn tell<L: Link, K: Sink>(
 fn give_all<L: Link>(alloc: Global, actions: &[Action], link: &mut L) -> Result<(), Trouble>
     requires { MayGiveAll (L.count link.old) actions.now }
     ensures given { OnOk result (Gains (L.told link.old) (L.told link.new) (gifts actions.now)) }
-    ensures front { OnErr result (GainsSome (L.told link.old) (L.told link.new) (gifts actions.now)) }
+    ensures prefix { OnErr result (GainsSome (L.told link.old) (L.told link.new) (gifts actions.now)) }
     ensures carries { Carries (L.carried link.old) (L.carried link.new) [] }
     ensures kept { L.count link.new ≡ L.count link.old }
     ensures cause { HasCause (L.faults link.old) (L.faults link.new) (IsErrOf result Trouble.Failed) }
@@ -102,7 +102,7 @@ fn give_message<L: Link>(
 // Writes the lines of some actions.
 fn write_actions<K: Sink>(alloc: Global, actions: &[Action], sink: &mut K) -> Result<(), Trouble>
     ensures written { OnOk result (Appends (K.taken sink.old) (K.taken sink.new) (action_text actions.now)) }
-    ensures front { OnErr result (AppendsFront (K.taken sink.old) (K.taken sink.new) (action_text actions.now)) }
+    ensures prefix { OnErr result (AppendsPrefix (K.taken sink.old) (K.taken sink.new) (action_text actions.now)) }
     ensures cause { HasCause (K.faults sink.old) (K.faults sink.new) (IsErrOf result Trouble.Failed) }
 {
     let mut text = List::new(alloc);

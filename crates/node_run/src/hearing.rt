@@ -23,7 +23,7 @@ use da_values::{List, NoMemory};
 use msg_codec::{CodecFault, Packet, decode};
 use std::alloc::Global;
 
-/// Behind so many idle turns in a row the time runs out.
+/// After so many idle turns in a row the time runs out.
 const IDLE_TURNS_TO_TIMEOUT: u64 = 999;
 
 /// A process that runs as a node: how it has stopped, the packets that are held for it, and how many answers up to now were
@@ -203,7 +203,7 @@ fn arrive(
 {
     match decode(alloc, bytes) {
         Ok(packet) => {
-            if is_message(c, &packet) {
+            if is_sendable(c, &packet) {
                 running.idle = 0;
                 return hold(c.program().kind, packet, &mut running.held);
             }
@@ -217,7 +217,7 @@ fn arrive(
 
 // Whether a packet is held: whether a process of the program sent it, and its message is a declared one of its types. It
 // takes no memory.
-fn is_message(c: &Compiled, packet: &Packet) -> bool
+fn is_sendable(c: &Compiled, packet: &Packet) -> bool
     ensures { IsTrue result ↔ (IsProcess (program_of c.now) packet.now.sender
         × (typed (program_of c.now) (val_of packet.now.value) ≡ true)) }
 {

@@ -5,7 +5,7 @@ ghost use Rattle.da_outside.specs.Link.{Carries};
 ghost use Rattle.da_outside.specs.Outside.{HasCause};
 ghost use Rattle.da_lang.specs.declared.program.Program.{Program};
 ghost use Rattle.node_run.specs.Hearing.{HasDelivered, HasDeliveredNext, IsFoundAt, IsStanding, MayAllArrive, StandsAs, WasCutDelivering, held_in, held_of};
-ghost use Rattle.node_run.specs.HeldPackets.{find_held, goes_first as goes_first_lem, held_with, is_fifo as is_fifo_lem, is_unreliable as is_unreliable_lem};
+ghost use Rattle.node_run.specs.HeldPackets.{find_held, goes_first as goes_first_def, held_with, is_fifo as is_fifo_def, is_unreliable as is_unreliable_def};
 ghost use Rattle.node_run.specs.NodeRun.{Node, next_held};
 ghost use Rattle.da_core.specs.Arrivals.{MayArrive};
 ghost use Rattle.std.specs.List.{list_any};
@@ -87,7 +87,7 @@ fn next_place(kind: ChannelKind, core: &Core<'_>, held: &[Packet]) -> Option<usi
 
 // Whether, in a fifo kind, none of the packets before it has its sender.
 fn goes_first(kind: ChannelKind, before: &[Packet], packet: &Packet) -> bool
-    ensures { result ≡ goes_first_lem kind (held_in before.now) (held_of packet.now) }
+    ensures { result ≡ goes_first_def kind (held_in before.now) (held_of packet.now) }
 {
     !is_fifo(kind) || !is_among(before, packet.sender)
 }
@@ -145,7 +145,7 @@ fn deliver<L: Link, K: Sink>(
 
 // Whether messages of this kind arrive in the order of their sending.
 fn is_fifo(kind: ChannelKind) -> bool
-    ensures { result ≡ is_fifo_lem kind }
+    ensures { result ≡ is_fifo_def kind }
 {
     match kind {
         ChannelKind::FifoReliable => true,
@@ -157,7 +157,7 @@ fn is_fifo(kind: ChannelKind) -> bool
 
 // Whether messages of this kind may be lost.
 fn is_unreliable(kind: ChannelKind) -> bool
-    ensures { result ≡ is_unreliable_lem kind }
+    ensures { result ≡ is_unreliable_def kind }
 {
     match kind {
         ChannelKind::FifoUnreliable => true,

@@ -3,8 +3,8 @@ ghost use Rattle.da_core.specs.Compiled.{IsCompiled, program_of};
 ghost use Rattle.da_lang.specs.Shaped.{IsProcess};
 ghost use Rattle.da_outside.specs.Link.{Carries};
 ghost use Rattle.da_outside.specs.Outside.{HasCause};
-ghost use Rattle.node_run.specs.Hearing.{end_at as end_lem};
-ghost use Rattle.node_run.specs.NodeCall.{GivesPackets, HasEnded, HasRun, WasCut, WroteAll, WroteFront, WroteGiven, end_for};
+ghost use Rattle.node_run.specs.Hearing.{end_at as end_def};
+ghost use Rattle.node_run.specs.NodeCall.{GivesPackets, HasEnded, HasRun, WasCut, WroteAll, WrotePrefix, WroteGiven, end_for};
 ghost use Rattle.std.specs.Prelude.{◌≡◌, ◌≤◌, [], length};
 
 use crate::hearing::{begin, hear};
@@ -16,7 +16,7 @@ use std::alloc::Global;
 
 /// Runs process `me` of a program as a node, and writes the lines of its actions. The process starts; then the link is asked
 /// again and again. The message of a packet is held until the process takes it where it waits. Where nothing comes the process
-/// makes its move, or the time runs out behind 999 idle turns. Behind each event the packets of what it sent are given, and then
+/// makes its move, or the time runs out after 999 idle turns. After each event the packets of what it sent are given, and then
 /// its lines are written. It ends where the process has ended, where the last `idle` answers were idle turns, or where `turns`
 /// answers were taken.
 ///
@@ -40,12 +40,12 @@ pub fn node<L: Link, K: Sink>(
     // Where the rules end it: the link told the talk of the run over the answers that it gave, and the sink gained its lines.
     ensures ran { HasEnded result → HasRun (program_of c.now) me idle turns (end_for result) (L.told link.old) (L.told link.new) (K.taken sink.old) (K.taken sink.new) }
 
-    // Where the link or the sink failed or memory was refused: the link told a front of the talk of the run over these answers.
+    // Where the link or the sink failed or memory was refused: the link told a prefix of the talk of the run over these answers.
     // Where the link failed the lines were written of the rounds whose packets were all given. Else some of them may be missing,
-    // but none of a round behind which the link told more; where the sink failed, the packets of each round that was begun were given.
+    // but none of a round after which the link told more; where the sink failed, the packets of each round that was begun were given.
     ensures link { result ≡ NodeOutcome.LinkFault → WasCut (program_of c.now) me idle turns (L.told link.old) (L.told link.new) (K.taken sink.old) (K.taken sink.new) WroteAll }
     ensures write { result ≡ NodeOutcome.WriteFault → WasCut (program_of c.now) me idle turns (L.told link.old) (L.told link.new) (K.taken sink.old) (K.taken sink.new) WroteGiven }
-    ensures memory { result ≡ NodeOutcome.Memory → WasCut (program_of c.now) me idle turns (L.told link.old) (L.told link.new) (K.taken sink.old) (K.taken sink.new) WroteFront }
+    ensures memory { result ≡ NodeOutcome.Memory → WasCut (program_of c.now) me idle turns (L.told link.old) (L.told link.new) (K.taken sink.old) (K.taken sink.new) WrotePrefix }
 
     // However it ended, the link was given nothing but packets of messages that this process sent.
     ensures packets { GivesPackets me (L.told link.old) (L.told link.new) }
@@ -83,7 +83,7 @@ pub fn node<L: Link, K: Sink>(
 
 // The end that has come for a process that has stopped so, when so many answers up to now were idle turns.
 fn end_at(stopped: Stopped, idle: u64, most: u64) -> Option<NodeOutcome>
-    ensures { result ≡ end_lem stopped idle most }
+    ensures { result ≡ end_def stopped idle most }
 {
     match stopped {
         Stopped::Ended => Some(NodeOutcome::Done),

@@ -7,7 +7,7 @@ use da_values::{
 use std::alloc::Global;
 
 /// What a call on bytes gives: `mark KIND BYTES` the mark of a token, `word BYTES` that of a reserved word, `front BYTES`
-/// that of the symbol in front and its length, `number BYTES` the number, and `digits NUMBER NUMBER` writes two numbers.
+/// that of the first symbol and its length, `number BYTES` the number, and `digits NUMBER NUMBER` writes two numbers.
 pub fn mark_reply(alloc: Global, kind: &str, words: &str, out: &mut Buf) -> Result<(), RowFault> {
     match kind {
         "mark" => {

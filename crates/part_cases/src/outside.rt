@@ -10,8 +10,8 @@ use std::alloc::Global;
 use std::fmt::Display;
 use std::{fs, io, rt};
 
-/// What calls on the outside give. They have `; ` between them, and before them stands what they are made on: behind `files`
-/// and `sink` the numbers of the calls that fail, behind `sink` and `narrow` first how many bytes it takes a call.
+/// What calls on the outside give. They have `; ` between them, and before them stands what they are made on: after `files`
+/// and `sink` the numbers of the calls that fail, after `sink` and `narrow` first how many bytes it takes a call.
 pub fn outside_reply<R: rt::Files + AllocGlobal>(
     rt: &R,
     kind: &str,
@@ -92,7 +92,7 @@ fn tell_count(count: Result<usize, Trouble>, out: &mut Buf) -> Result<(), RowFau
     }
 }
 
-// What calls on a sink in memory give, and its bytes behind them.
+// What calls on a sink in memory give, and its bytes after them.
 fn tell_sink(alloc: Global, head: &str, calls: &str, out: &mut Buf) -> Result<(), RowFault> {
     let (most, script) = head.split_once(' ').unwrap_or((head, ""));
     let most = usize::from(number_of(most)?);

@@ -12,8 +12,8 @@ const ME: u16 = 3;
 /// The values of its slots.
 const SLOTS: &str = "(7, (1, p1))";
 
-/// The row that a match gives, or `none`. The words are a pattern, a value and the row before, with `; ` between: behind
-/// `part` stands one pattern, behind `tuple` those of a tuple's parts, and behind `terms` the terms of a tuple that is to be
+/// The row that a match gives, or `none`. The words are a pattern, a value and the row before, with `; ` between: after
+/// `part` stands one pattern, after `tuple` those of a tuple's parts, and after `terms` the terms of a tuple that is to be
 /// the value, with ` | ` between.
 pub fn pattern_reply(
     alloc: Global,

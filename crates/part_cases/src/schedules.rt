@@ -85,7 +85,7 @@ fn short(word: &str) -> Result<u16, RowFault> {
     word.parse::<u16>().map_err(|_| RowFault::Unread)
 }
 
-// The words of an event or an action: its name, and up to three behind it.
+// The words of an event or an action: its name, and up to three after it.
 #[derive(Clone, Copy)]
 struct Told<'a> {
     name: &'a str,
@@ -121,7 +121,7 @@ fn event_of(words: &str) -> Result<Event, RowFault> {
     }
 }
 
-// The line of an action; its value stands behind `; `.
+// The line of an action; its value stands after `; `.
 fn tell_action(alloc: Global, words: &str, out: &mut Buf) -> Result<(), RowFault> {
     let action = match words.split_once("; ") {
         Some((words, value)) => action_with(told_of(words), value_of(alloc, value)?)?,

@@ -54,7 +54,7 @@ fn push_escaped(text: &str, bytes: &mut Buf) -> Result<(), NoMemory> {
     Ok(())
 }
 
-// Adds what stands behind a `\`.
+// Adds what stands after a `\`.
 fn push_escape(piece: &[u8], bytes: &mut Buf) -> Result<(), NoMemory> {
     match piece {
         [b'x', high, low, rest @ ..] => {
@@ -62,7 +62,7 @@ fn push_escape(piece: &[u8], bytes: &mut Buf) -> Result<(), NoMemory> {
             bytes.append(rest)
         }
         [letter, rest @ ..] => {
-            bytes.push(escaped(*letter))?;
+            bytes.push(unescape(*letter))?;
             bytes.append(rest)
         }
         [] => Ok(()),
@@ -70,7 +70,7 @@ fn push_escape(piece: &[u8], bytes: &mut Buf) -> Result<(), NoMemory> {
 }
 
 // The byte for the letter of an escape.
-fn escaped(letter: u8) -> u8 {
+fn unescape(letter: u8) -> u8 {
     match letter {
         b'n' => b'\n',
         b'r' => b'\r',
@@ -121,7 +121,7 @@ pub fn tell_truth(truth: bool, out: &mut Buf) -> Result<(), NoMemory> {
     }
 }
 
-/// Writes `; ` behind what was written so far.
+/// Writes `; ` after what was written so far.
 pub fn part_from(out: &mut Buf) -> Result<(), NoMemory> {
     if out.len() > 0 {
         return out.append(b"; ");

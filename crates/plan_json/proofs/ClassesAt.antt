@@ -33,7 +33,7 @@ classes_more classes place class old new value here within shown so_far grown =
     ∙ ap (λ c. map class_data (take place classes ++ c ∷ [])) here
     ∙ sym (ap (map class_data) (take_more classes place class within))
 
--- behind the last class
+-- after the last class
 pub classes_all : (program : Program) (classes : List Class) (place : ℕ) (values : List Value)
     → classes ≡ program.classes → length classes ≤ place → map view values ≡ map class_data (take place classes)
     → array (items_of (map view values)) ≡ plan_data program

@@ -1,6 +1,6 @@
 //! The plans of classes.
 ghost use Rattle.da_core.specs.Compiled.{IsCompiled, program_of};
-ghost use Rattle.plan_json.specs.PlanJson.{class_data, named_plan as named_plan_lem, plan_data, plan_text};
+ghost use Rattle.plan_json.specs.PlanJson.{class_data, named_plan as named_plan_def, plan_data, plan_text};
 ghost use Rattle.query_plan.specs.PlanLive.{plan_live};
 ghost use Rattle.query_plan.specs.PlanText.{live_text};
 ghost use Rattle.serde_json.specs.View.{view};
@@ -47,7 +47,7 @@ fn program_value(alloc: Global, compiled: &Compiled) -> Result<Value, NoMemory>
 
 // A name, and the flags, the live patterns, the nodes and the queries of a plan.
 fn named_plan(alloc: Global, name: &[u8], plan: &Plan) -> Result<Value, NoMemory>
-    ensures { IfOk result (λ v. view v ≡ named_plan_lem name.now plan.now) }
+    ensures { IfOk result (λ v. view v ≡ named_plan_def name.now plan.now) }
 {
     let flags = numbers(alloc, plan.flags.as_slice())?;
     let live = live_lines(alloc, plan)?;

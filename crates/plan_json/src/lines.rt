@@ -1,5 +1,5 @@
 //! JSON of texts and numbers.
-ghost use Rattle.plan_json.specs.PlanJson.{numbers as numbers_lem, texts as texts_lem};
+ghost use Rattle.plan_json.specs.PlanJson.{numbers as numbers_def, texts as texts_def};
 ghost use Rattle.serde_json.specs.Data.{string};
 ghost use Rattle.serde_json.specs.View.{view};
 ghost use Rattle.std.specs.Prelude.{◌≡◌, [], ◌∷◌, ◌++◌, IfOk, OnOk};
@@ -25,7 +25,7 @@ pub fn text(alloc: Global, bytes: &[u8]) -> Result<Value, NoMemory>
 
 /// Texts as a JSON array.
 pub fn texts(alloc: Global, lines: &[Buf]) -> Result<Value, NoMemory>
-    ensures { IfOk result (λ v. view v ≡ texts_lem lines.now) }
+    ensures { IfOk result (λ v. view v ≡ texts_def lines.now) }
 {
     let mut values = Vec::new(alloc);
     for line in lines {
@@ -36,7 +36,7 @@ pub fn texts(alloc: Global, lines: &[Buf]) -> Result<Value, NoMemory>
 
 /// Numbers as a JSON array.
 pub fn numbers(alloc: Global, list: &[u32]) -> Result<Value, NoMemory>
-    ensures { IfOk result (λ v. view v ≡ numbers_lem list.now) }
+    ensures { IfOk result (λ v. view v ≡ numbers_def list.now) }
 {
     let mut values = Vec::new(alloc);
     for number in list {
@@ -45,7 +45,7 @@ pub fn numbers(alloc: Global, list: &[u32]) -> Result<Value, NoMemory>
     Ok(Value::Array(values))
 }
 
-/// Puts a value behind the others.
+/// Puts a value after the others.
 pub fn put_value(value: Value, values: &mut Vec<Value>) -> Result<(), NoMemory>
     ensures { OnOk result (values.new.items ≡ values.old.items ++ value ∷ []) }
 {

@@ -1,5 +1,5 @@
 //! Members of an object.
-ghost use Rattle.plan_json.specs.PlanJson.{texts as texts_lem};
+ghost use Rattle.plan_json.specs.PlanJson.{texts as texts_def};
 ghost use Rattle.serde_json.specs.Data.{put as with_member};
 ghost use Rattle.serde_json.specs.View.{members_view, view};
 ghost use Rattle.std.specs.Prelude.{◌≡◌, OnOk};
@@ -31,7 +31,7 @@ pub fn put_texts(
     lines: &[Buf],
     members: &mut Map<String, Value>,
 ) -> Result<(), NoMemory>
-    ensures { OnOk result (members_view members.new.entries ≡ with_member key.now (texts_lem lines.now) (members_view members.old.entries)) }
+    ensures { OnOk result (members_view members.new.entries ≡ with_member key.now (texts_def lines.now) (members_view members.old.entries)) }
 {
     let array = texts(alloc, lines)?;
     put_member(alloc, key, array, members)

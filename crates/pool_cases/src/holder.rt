@@ -7,7 +7,7 @@ ghost use Rattle.std.specs.Prelude.{[], ◌∷◌, ◌++◌};
 use da_values::{List, NoMemory, Value};
 use row_pool::{Id, Pool};
 
-/// Puts the id of a value behind the others, and answers the place of the first id that is the same.
+/// Puts the id of a value after the others, and answers the place of the first id that is the same.
 pub fn intern(pool: &mut Pool, ids: &mut List<Id>, v: &Value) -> Result<usize, NoMemory>
     requires { HoldsAll pool.old ids.old }
     ensures { HoldsAll pool.new ids.new }
@@ -16,7 +16,7 @@ pub fn intern(pool: &mut Pool, ids: &mut List<Id>, v: &Value) -> Result<usize, N
     put(pool, ids, id)
 }
 
-/// Puts the id of a value behind the others.
+/// Puts the id of a value after the others.
 pub fn add(pool: &mut Pool, ids: &mut List<Id>, v: &Value) -> Result<(), NoMemory>
     requires { HoldsAll pool.old ids.old }
     ensures { HoldsAll pool.new ids.new }
@@ -87,7 +87,7 @@ pub fn value(pool: &Pool, ids: &List<Id>, at: usize) -> Result<Option<Value>, No
     }
 }
 
-// Puts an id that was given behind the others, or gives it back where memory is refused. It answers the place of the
+// Puts an id that was given after the others, or gives it back where memory is refused. It answers the place of the
 // first id that is the same.
 fn put(pool: &mut Pool, ids: &mut List<Id>, id: Id) -> Result<usize, NoMemory>
     requires { HoldsAll pool.old (ids.old ++ id ∷ []) }
@@ -112,7 +112,7 @@ fn push(pool: &mut Pool, ids: &mut List<Id>, id: Id) -> Result<(), NoMemory>
     }
 }
 
-// The place of the first id that is the same, or behind all.
+// The place of the first id that is the same, or after all.
 fn place_of(ids: &List<Id>, id: &Id) -> usize {
     for (place, other) in ids.as_slice().iter().enumerate() {
         if other == id {

@@ -18,7 +18,7 @@ pub fn many_pairs(alloc: Global, many: u32) -> Result<Found, NoMemory> {
     let mut pool = Pool::new(alloc);
     let mut ids = List::new(alloc);
     fill(alloc, &mut pool, &mut ids, many)?;
-    Ok(emptied(&mut pool, &mut ids))
+    Ok(drain_pool(&mut pool, &mut ids))
 }
 
 /// Puts in a value with so many tuples in one another.
@@ -30,7 +30,7 @@ pub fn deep_value(alloc: Global, depth: u32) -> Result<Found, NoMemory> {
         value = tuple(alloc, value, None)?;
     }
     add(&mut pool, &mut ids, &value)?;
-    Ok(emptied(&mut pool, &mut ids))
+    Ok(drain_pool(&mut pool, &mut ids))
 }
 
 // Puts the pairs in.
@@ -57,7 +57,7 @@ fn tuple(alloc: Global, first: Value, second: Option<Value>) -> Result<Value, No
 }
 
 // Gives all ids back.
-fn emptied(pool: &mut Pool, ids: &mut List<Id>) -> Found
+fn drain_pool(pool: &mut Pool, ids: &mut List<Id>) -> Found
     requires { HoldsAll pool.old ids.old }
 {
     let there = pool.live();

@@ -8,9 +8,9 @@ use row_pool::{Id, Pool};
 use std::alloc::Global;
 use std::cmp::Ordering;
 
-/// What steps give, one behind the other, with `; ` between them. All begin with an empty pool and no id.
+/// What steps give, one after the other, with `; ` between them. All begin with an empty pool and no id.
 ///
-/// `intern VALUE`, `keep PLACE` and `part PLACE I` put an id behind the others, and write the place of the first id that
+/// `intern VALUE`, `keep PLACE` and `part PLACE I` put an id after the others, and write the place of the first id that
 /// is the same, or `none`. `give PLACE` gives one back, `all` gives all back; both write how many values there are then,
 /// and so does `live`. `value PLACE` writes the value of an id, and `cmp PLACE PLACE` the order of two.
 pub fn steps_reply(alloc: Global, steps: &str, out: &mut Buf) -> Result<(), RowFault> {

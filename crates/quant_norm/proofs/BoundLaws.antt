@@ -25,25 +25,25 @@ use Rattle.da_lang.proofs.MatchingLaws.{term-Part}
 use Rattle.da_lang.proofs.QueryLaws.{holds-Cmp, operand-Term}
 use Rattle.da_lang.proofs.RowLaws.{extends_itself}
 use Rattle.query_plan.specs.Nodes.{extends, bound_part, node_rows}
-use Rattle.query_plan.specs.Plans.{Place, behind_agg, known, rename, rename_other, filter_on, semi_on, compared}
+use Rattle.query_plan.specs.Plans.{Place, after_agg, known, rename, rename_other, filter_on, semi_on, compared}
 use Rattle.query_plan.proofs.NodeLaws.{Extends-from_test, test_from_Extends}
 use Rattle.quant_norm.specs.GoodPlaces.{AllIn, Good}
 use Rattle.quant_norm.proofs.PlaceLaws.{Grown, grown_itself, grown_on, width_stays, good_on, Made, later, sooner, row_wide, Kept, kept_by, filter_kept, semi_kept}
 use Rattle.quant_norm.proofs.RangeLaws.{one_front, Ranged, of_longer, in_longer, whole_grown}
 use Rattle.quant_norm.specs.Filtering.{seen}
-use Rattle.quant_norm.proofs.RenameLaws.{wider, seen_front, get_behind, known_value}
+use Rattle.quant_norm.proofs.RenameLaws.{wider, seen_front, get_after, known_value}
 
 pub two_same : {A B : Type 0} (a b : A) (x y : B) → a ≡ b → x ≡ y → ◌≡◌ {A = A × B} (a, x) (b, y)
 two_same a b x y e f = cc
 
 module _ (d : Data) where
-  -- the variables of a row of the place stay where they are behind it
-  pub seen_behind : (nodes : List Node) (at : Place) (r more : Row) → Good nodes at → Has (node_rows d nodes at.node) r → seen at.vars (r ++ more) ≡ seen at.vars r
-  seen_behind nodes at r more good h = seen_front at.vars r more (subst (AllIn at.vars) (sym (row_wide d nodes at good r h)) good.vars_in)
+  -- the variables of a row of the place stay where they are after it
+  pub seen_after : (nodes : List Node) (at : Place) (r more : Row) → Good nodes at → Has (node_rows d nodes at.node) r → seen at.vars (r ++ more) ≡ seen at.vars r
+  seen_after nodes at r more good h = seen_front at.vars r more (subst (AllIn at.vars) (sym (row_wide d nodes at good r h)) good.vars_in)
 
-  pub term_behind : (nodes : List Node) (at : Place) (r more : Row) (t : Term) → Good nodes at → Has (node_rows d nodes at.node) r → value_at d (r ++ more) (rename (known at.vars) t) ≡ value_at d (seen at.vars r) t
-  term_behind nodes at r more t good h =
-      known_value d.me d.slots at.vars (r ++ more) t ∙ ap (λ z. value_at d z t) (seen_behind nodes at r more good h)
+  pub term_after : (nodes : List Node) (at : Place) (r more : Row) (t : Term) → Good nodes at → Has (node_rows d nodes at.node) r → value_at d (r ++ more) (rename (known at.vars) t) ≡ value_at d (seen at.vars r) t
+  term_after nodes at r more t good h =
+      known_value d.me d.slots at.vars (r ++ more) t ∙ ap (λ z. value_at d z t) (seen_after nodes at r more good h)
 
   -- `value` is what the thing that was made is worth in a row, and `meant` what it is to be worth in a row of variables
   pub record Bound {X V : Type 0} (value : X → Row → V) (meant : Row → V) (nodes : List Node) (at : Place) (end : List Node × Place × X) : Type 0 where
@@ -78,7 +78,7 @@ module _ (d : Data) where
     from = λ q h.
         let (p, most, between, longest, second) = two.from q h in
         let (r, more, there, longer, first) = one.from p between in
-        let same_vars : seen middle.1.vars p ≡ seen at.vars r = ap (λ vs. seen vs p) one.vars_same ∙ ap (seen at.vars) longer ∙ seen_behind nodes at r more good there in (
+        let same_vars : seen middle.1.vars p ≡ seen at.vars r = ap (λ vs. seen vs p) one.vars_same ∙ ap (seen at.vars) longer ∙ seen_after nodes at r more good there in (
           r,
           more ++ most,
           there,
@@ -165,9 +165,9 @@ module _ (d : Data) where
     compared_kept = choose (at.node == last.node) refl
 
   -- aggregates
-  others_behind : (nodes : List Node) (at : Place) (other : Option Term) (r : Row) → Good nodes at → Has (node_rows d nodes at.node) r → other_value d r (rename_other (known at.vars) other) ≡ other_value d (seen at.vars r) other
-  others_behind nodes at None r good h = refl
-  others_behind nodes at (Some t) r good h = known_value d.me d.slots at.vars r t
+  others_after : (nodes : List Node) (at : Place) (other : Option Term) (r : Row) → Good nodes at → Has (node_rows d nodes at.node) r → other_value d r (rename_other (known at.vars) other) ≡ other_value d (seen at.vars r) other
+  others_after nodes at None r good h = refl
+  others_after nodes at (Some t) r good h = known_value d.me d.slots at.vars r t
 
   module _ (op : AggOp) (t : Term) (other : Option Term) (more : Row → List Row) (test : Row → Bool) (nodes : List Node) (at : Place) (last : List Node × Place) (child : List Node × ℕ) (good : Good nodes at) (ranged : Ranged d more nodes at last) (kept : Kept d (λ q. test (seen last.1.vars q) ≡ true) last.0 last.1 child) where
     abbrev inner : Term
@@ -205,7 +205,7 @@ module _ (d : Data) where
 
     part_same : (r : Row) → Has (node_rows d nodes at.node) r → bound_part d (node_rows d child.0) child.1 op inner outer r ≡ meant_part (seen at.vars r)
     part_same r h =
-        ap (λ z. aggregate op z (term_set d inner (longer_rows r))) (others_behind nodes at other r good h)
+        ap (λ z. aggregate op z (term_set d inner (longer_rows r))) (others_after nodes at other r good h)
         ∙ ap (aggregate op (other_value d (seen at.vars r) other))
         (canon_alike val_cmp val_order same_from_val_cmp (map (λ q. value_at d q inner) (longer_rows r)) (map (λ s. value_at d s t) (found r)) (λ x. (out_of r h x, back_in r h x)))
 
@@ -220,9 +220,9 @@ module _ (d : Data) where
         operand-Term d ((r ++ x ∷ []) ++ u) (term.Part (suc at.width))
         ∙ term-Part d.me d.slots ((r ++ x ∷ []) ++ u) (suc at.width)
         ∙ ap (λ z. or_nothing (slice_get z at.width)) (append_assoc r (x ∷ []) u)
-        ∙ ap or_nothing (get_behind r (x ∷ u) 0 at.width (omega (arith, row_wide d nodes at good r h)))
+        ∙ ap or_nothing (get_after r (x ∷ u) 0 at.width (omega (arith, row_wide d nodes at good r h)))
 
-    pub agg_bound_law : (end : List Node × ℕ) → Made d agg_at child.0 end → Bound (operand_value d) meant_part nodes at (end.0, behind_agg at end.1, part_term)
+    pub agg_bound_law : (end : List Node × ℕ) → Made d agg_at child.0 end → Bound (operand_value d) meant_part nodes at (end.0, after_agg at end.1, part_term)
     agg_bound_law end made =
         let grown : Grown nodes child.0 = whole_grown d more test nodes at last child good ranged kept in
         let part : Row → Val = λ r. bound_part d (node_rows d child.0) child.1 op inner outer r in

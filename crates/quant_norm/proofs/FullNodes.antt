@@ -1,4 +1,4 @@
--- Where code halts since there are too many nodes, what it was to make has too many: whatever else is made behind a part
+-- Where code halts since there are too many nodes, what it was to make has too many: whatever else is made after a part
 -- only adds to its nodes. One lemma for each way out of a function that makes nodes for conditions, but for the last one,
 -- where `over_as` serves.
 use Rattle.std.specs.Prelude.{◌≡◌, ◌<◌, ◌≤◌, ◌+◌, ℕ, suc, true, List, [], ◌∷◌, ◌++◌, map, length, position, get_or, Option, Some, None, Result, Ok, Err, IsErrAnd, refl}
@@ -17,7 +17,7 @@ use Rattle.da_lang.specs.declared.query.SignedOperand.{SignedOperand, roll-Signe
 use Rattle.da_lang.specs.declared.query.Term.TheVariants as term
 use Rattle.da_lang.specs.declared.tree.CmpOp.{CmpOp}
 use Rattle.query_plan.specs.Nodes.{parts_added}
-use Rattle.query_plan.specs.Plans.{Place, placed, added, vars_behind, gen_node, gens_on, all_on, or_on, denied_on, all_bound, compared, known, rename_gen, norm, norm_if, operand_bound, signed_bound}
+use Rattle.query_plan.specs.Plans.{Place, placed, added, vars_after, gen_node, gens_on, all_on, or_on, denied_on, all_bound, compared, known, rename_gen, norm, norm_if, operand_bound, signed_bound}
 use Rattle.query_plan.specs.Spelled.{same_node}
 use Rattle.query_plan.proofs.PlansAt.{norm-Cmp, bound-Chain}
 use Rattle.quant_norm.specs.declared.limit.Halt.{Halt}
@@ -26,7 +26,7 @@ use Rattle.quant_norm.specs.Either.{either_of, any_from}
 use Rattle.quant_norm.specs.Making.{Over, Makes, Binds, one_gen}
 use Rattle.quant_norm.proofs.GrowthLaws.{added_grows, longer_by, gens_grow, all_grow, or_grow, compared_grows, operand_grows, others_grow, each_grows}
 use Rattle.quant_norm.proofs.PlaceLaws.{Grown, grown_itself, grown_on}
-use Rattle.quant_norm.proofs.NodeSteps.{compared_behind}
+use Rattle.quant_norm.proofs.NodeSteps.{compared_after}
 use Rattle.quant_norm.proofs.PlanSteps.{End, EndAt, EndWith, dropped, with_bound, cmp_made, all_further, any_further, denied_none, chain_made, signed_further}
 
 -- a halt that is handed on
@@ -66,13 +66,13 @@ pub compared_over : (at last : Place) (b : Cond) (nodes : List Node) → (at.nod
 compared_over at last b nodes differ over =
     let child : End = added nodes (node.Filter last.node b) in
     let end : End = added child.0 (node.Semi at.node child.1) in
-    over_then (compared at last b nodes) end child.0 (compared_behind at last b nodes child.0 child.1 end differ refl refl) (added_grows child.0 (node.Semi at.node child.1)) over
+    over_then (compared at last b nodes) end child.0 (compared_after at last b nodes child.0 child.1 end differ refl refl) (added_grows child.0 (node.Semi at.node child.1)) over
 
 -- Generators.
 
 pub gen_over : (g made : RGen) (at : Place) (vars : List ℕ) (nodes : List Node) (more : ℕ) → more ≡ parts_added g → vars ≡ at.vars ++ range_with_len (suc at.width) more → made ≡ rename_gen (known vars) g → Over (added nodes (node.Gen at.node made)).0 → Over (one_gen g at nodes).0
 gen_over g made at vars nodes more e h i over =
-    let vs : vars_behind at g ≡ vars = ap (λ n. at.vars ++ range_with_len (suc at.width) n) (sym e) ∙ sym h in
+    let vs : vars_after at g ≡ vars = ap (λ n. at.vars ++ range_with_len (suc at.width) n) (sym e) ∙ sym h in
     let same : gen_node at g ≡ node.Gen at.node made = ap (λ v. node.Gen at.node (rename_gen (known v) g)) vs ∙ ap (node.Gen at.node) (sym i) in
     over_as (added nodes (gen_node at g)) (added nodes (node.Gen at.node made)) (ap (added nodes) same) over
 

@@ -50,14 +50,14 @@ over_rest whole part rest e grown over = over_put whole rest e (more_over part.0
 
 -- Queries.
 
-query_behind : (each : Bool) (gens : List RGen) (b : Option Cond) (nodes : List Node) → Grown (gens_on gens root nodes).0 (query_node nodes (query.Quant each gens b)).0
-query_behind true gens b nodes = let last = gens_on gens root nodes in denied_grows b (guard_grows b) last.1 last.0
-query_behind false gens b nodes = let last = gens_on gens root nodes in test_grows b (guard_grows b) last.1 last.0
+query_after : (each : Bool) (gens : List RGen) (b : Option Cond) (nodes : List Node) → Grown (gens_on gens root nodes).0 (query_node nodes (query.Quant each gens b)).0
+query_after true gens b nodes = let last = gens_on gens root nodes in denied_grows b (guard_grows b) last.1 last.0
+query_after false gens b nodes = let last = gens_on gens root nodes in test_grows b (guard_grows b) last.1 last.0
 
 pub asked_over_gens : (whole : Query) (each : Bool) (gens read : List RGen) (b : Option Cond) (at : Place) (nodes : List Node) → whole ≡ query.Quant each gens b → read ≡ gens → at ≡ root → Over (gens_on read at nodes).0 → Over (query_node nodes whole).0
 asked_over_gens whole each gens read b at nodes form q r over =
     over_as (query_node nodes whole) (query_node nodes (query.Quant each read b)) (ap (query_node nodes) (form ∙ ap (λ gs. query.Quant each gs b) (sym q)))
-    (more_over (gens_on read root nodes).0 (query_node nodes (query.Quant each read b)).0 (query_behind each read b nodes) (subst (λ p. Over (gens_on read p nodes).0) r over))
+    (more_over (gens_on read root nodes).0 (query_node nodes (query.Quant each read b)).0 (query_after each read b nodes) (subst (λ p. Over (gens_on read p nodes).0) r over))
 
 pub each_asked_over : (whole : Query) (each : Bool) (gens read : List RGen) (b : Option Cond) (at last : Place) (nodes first : List Node) → whole ≡ query.Quant each gens b → read ≡ gens → at ≡ root → ◌≡◌ {A = EndAt} (gens_on read at nodes) (first, last) → each ≡ true
     → Over (denied_on (norm_if b) last first).0 → Over (query_node nodes whole).0

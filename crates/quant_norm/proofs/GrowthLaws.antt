@@ -21,7 +21,7 @@ use Rattle.da_lang.specs.declared.tree.CmpOp.{CmpOp}
 use Rattle.da_lang.proofs.CondInduction.{Where, cond_induction, agg_induction, Cases}
 use Rattle.da_lang.proofs.TermInduction.{bare, all_of-bare}
 use Rattle.query_plan.specs.declared.plan.Plan.{Plan}
-use Rattle.query_plan.specs.Plans.{Place, Norm, Binding, placed, added, at_node, filter_on, semi_on, behind, gen_node, gens_on, all_on, or_on, any_on, test_on, denied_on, all_bound, compared, cond_step, agg_node, agg_step, known, rename, norm, norm_if, operand_bound, agg_bound, signed_bound}
+use Rattle.query_plan.specs.Plans.{Place, Norm, Binding, placed, added, at_node, filter_on, semi_on, place_after, gen_node, gens_on, all_on, or_on, any_on, test_on, denied_on, all_bound, compared, cond_step, agg_node, agg_step, known, rename, norm, norm_if, operand_bound, agg_bound, signed_bound}
 use Rattle.query_plan.specs.Questions.{Met, Asked, Awaited, root, query_node, with_query, with_flag, with_asked, with_all, with_met}
 use Rattle.query_plan.specs.Spelled.{same_node}
 use Rattle.query_plan.proofs.PlansAt.{norm-Truth, norm-Cmp, norm-Not, norm-And, norm-Or, norm-Quant, bound-Term, bound-Agg, bound-Chain, bound-agg, bound-signed}
@@ -34,7 +34,7 @@ placed_grows n nodes (Some k) = grown_itself nodes
 pub added_grows : (nodes : List Node) (n : Node) → Grown nodes (added nodes n).0
 added_grows nodes n = placed_grows n nodes (position (same_node n) nodes)
 
--- further nodes behind those that were made
+-- further nodes after those that were made
 pub then_added : (a b : List Node) (n : Node) → Grown a b → Grown a (added b n).0
 then_added a b n grown = grown_on a b (added b n).0 grown (added_grows b n)
 
@@ -51,7 +51,7 @@ pub gens_grow : (gens : List RGen) (at : Place) (nodes : List Node) → Grown no
 gens_grow [] at nodes = grown_itself nodes
 gens_grow (g ∷ gs) at nodes =
     let first = added nodes (gen_node at g) in
-    grown_on nodes first.0 (gens_on gs (behind at g first.1) first.0).0 (added_grows nodes (gen_node at g)) (gens_grow gs (behind at g first.1) first.0)
+    grown_on nodes first.0 (gens_on gs (place_after at g first.1) first.0).0 (added_grows nodes (gen_node at g)) (gens_grow gs (place_after at g first.1) first.0)
 
 pub all_grow : {A : Type 0} (f : A → Norm) (xs : List A) → AllByRecursion (λ x. Grows (f x)) xs → Grows (all_on (map f xs))
 all_grow f [] each at nodes = grown_itself nodes

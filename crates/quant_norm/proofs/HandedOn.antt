@@ -122,7 +122,7 @@ some_over_rows each gens b at nodes is over =
     let rows : EndAt = rows_on b gens at nodes in
     over_as (norm (cond.Quant each gens b) at nodes) (semi_over at rows) (quant_some each gens b at nodes is) (more_over rows.0 (semi_over at rows).0 (added_grows rows.0 (node.Semi at.node rows.1.node)) over)
 
--- Behind generators.
+-- After generators.
 
 pub rows_made : (b : Option Cond) (gens : List RGen) (at last : Place) (nodes first second : List Node) (k : ℕ) → ◌≡◌ {A = EndAt} (gens_on gens at nodes) (first, last) → ◌≡◌ {A = End} (test_on (norm_if b) last first) (second, k) → ◌≡◌ {A = EndAt} (rows_on b gens at nodes) (second, at_node last k)
 rows_made b gens at last nodes first second k e f =

@@ -27,7 +27,7 @@ use Rattle.da_lang.proofs.LiveLaws.{operand_gens, signed_gens, gens-Truth, gens-
 use Rattle.da_lang.proofs.typing.QueryTypesAt.{cond_holds_at-Cmp, cond_holds_at-Not, cond_holds_at-And, cond_holds_at-Or, cond_holds_at-Quant, operand_side_at-Agg, operand_side_at-Chain, agg_side_at-of, signed_side_at-of}
 use Rattle.query_plan.specs.Nodes.{parts_added}
 use Rattle.query_plan.specs.PlanLive.{history_lives}
-use Rattle.query_plan.specs.Plans.{Place, Binding, added, at_node, filter_on, semi_on, anti_on, vars_behind, behind, gen_node, gens_on, all_on, or_on, any_on, test_on, denied_on, all_bound, compared, cond_step, agg_node, agg_step, known as part_for, rename, rename_gen, norm, norm_if, operand_bound, agg_bound, signed_bound}
+use Rattle.query_plan.specs.Plans.{Place, Binding, added, at_node, filter_on, semi_on, anti_on, vars_after, place_after, gen_node, gens_on, all_on, or_on, any_on, test_on, denied_on, all_bound, compared, cond_step, agg_node, agg_step, known as part_for, rename, rename_gen, norm, norm_if, operand_bound, agg_bound, signed_bound}
 use Rattle.query_plan.proofs.PlansAt.{norm-Truth, norm-Cmp, norm-Not, norm-And, norm-Or, norm-Quant, bound-Term, bound-Agg, bound-Chain, bound-agg, bound-signed}
 use Rattle.quant_norm.proofs.GatherLaws.{Gathers, gathers_none, gathers_then, gathers_more, gathers_alike, alike_as, one_lives, added_gathers}
 use Rattle.quant_norm.proofs.VariesLaws.{given_found, held_found, when_found, gen_lives}
@@ -60,11 +60,11 @@ module _ (rules : Known) where
   Few row at = length row ≤ length at.vars
 
   -- one generator
-  gen_gathers : (g : RGen) (row longer : List Ty) (at : Place) (nodes : List Node) → gen_row rules g row ≡ Some longer → Few row at → Gathers (g ∷ []) nodes (added nodes (gen_node at g)).0 × (length longer ≤ length (vars_behind at g))
+  gen_gathers : (g : RGen) (row longer : List Ty) (at : Place) (nodes : List Node) → gen_row rules g row ≡ Some longer → Few row at → Gathers (g ∷ []) nodes (added nodes (gen_node at g)).0 × (length longer ≤ length (vars_after at g))
   gen_gathers g row longer at nodes e few =
-      let (long, same) = gen_lives rules (vars_behind at g) g row longer e in
-      let less : length longer ≤ length (vars_behind at g) = omega (arith, long, few, length-append at.vars (range_with_len (suc at.width) (parts_added g)), length-range_with_len (suc at.width) (parts_added g)) in
-      let renamed : RGen = rename_gen (part_for (vars_behind at g)) g in (
+      let (long, same) = gen_lives rules (vars_after at g) g row longer e in
+      let less : length longer ≤ length (vars_after at g) = omega (arith, long, few, length-append at.vars (range_with_len (suc at.width) (parts_added g)), length-range_with_len (suc at.width) (parts_added g)) in
+      let renamed : RGen = rename_gen (part_for (vars_after at g)) g in (
         gathers_alike (renamed ∷ []) (g ∷ []) nodes (added nodes (gen_node at g)).0 (alike_as (history_lives (renamed ∷ [])) (history_lives (g ∷ [])) (one_lives renamed g refl (same less))) (added_gathers nodes (gen_node at g)),
         less,
       )
@@ -75,8 +75,8 @@ module _ (rules : Known) where
       let (middle, one, others) = given_found (gen_row rules g row) (gens_row rules gs) longer e in
       let first = added nodes (gen_node at g) in
       let (own, less) = gen_gathers g row middle at nodes one few in
-      let (more, further) = gens_gather gs middle longer (behind at g first.1) first.0 others less in
-      (gathers_then (g ∷ []) gs nodes first.0 (gens_on gs (behind at g first.1) first.0).0 own more, further)
+      let (more, further) = gens_gather gs middle longer (place_after at g first.1) first.0 others less in
+      (gathers_then (g ∷ []) gs nodes first.0 (gens_on gs (place_after at g first.1) first.0).0 own more, further)
 
   abbrev pub OfCond : Cond → Type 0
   OfCond b = (row : List Ty) (at : Place) (nodes : List Node) → cond_holds rules b row ≡ true → Few row at → Gathers (cond_gens b) nodes (norm b at nodes).0

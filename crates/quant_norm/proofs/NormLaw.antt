@@ -30,8 +30,8 @@ use Rattle.da_lang.specs.World.{Data}
 use Rattle.da_lang.proofs.CondInduction.{Where, cond_induction, agg_induction, Cases}
 use Rattle.da_lang.proofs.MatchingLaws.{term-Const}
 use Rattle.da_lang.proofs.QueryLaws.{holds-Truth, holds-Cmp, holds-Not, holds-And, holds-Or, holds-Some, holds-Each, operand-Term, operand-Agg, operand-Chain, signed-made, agg-made}
-use Rattle.query_plan.specs.Plans.{Place, Norm, Binding, added, at_node, filter_on, anti_on, gens_on, all_on, or_on, any_on, test_on, denied_on, some_on, each_on, all_bound, compared, cond_step, operand_step, behind_agg, agg_step, signed_step, norm, operand_bound, agg_bound, signed_bound, norm_if, known, rename, rename_other}
-use Rattle.quant_norm.proofs.BoundLaws.{Bound, bound_none, bound_then, bound_by, compared_kept, agg_bound_law, term_behind}
+use Rattle.query_plan.specs.Plans.{Place, Norm, Binding, added, at_node, filter_on, anti_on, gens_on, all_on, or_on, any_on, test_on, denied_on, some_on, each_on, all_bound, compared, cond_step, operand_step, after_agg, agg_step, signed_step, norm, operand_bound, agg_bound, signed_bound, norm_if, known, rename, rename_other}
+use Rattle.quant_norm.proofs.BoundLaws.{Bound, bound_none, bound_then, bound_by, compared_kept, agg_bound_law, term_after}
 use Rattle.quant_norm.specs.GoodPlaces.{Good}
 use Rattle.quant_norm.proofs.PlaceLaws.{Grown, grown_on, still_there, width_stays, good_on, added_made, Kept, kept_by, kept_then, kept_all, filter_kept, union_kept}
 use Rattle.quant_norm.proofs.RangeLaws.{IsNorm, gens_ranged, not_kept, some_kept, each_kept}
@@ -187,7 +187,7 @@ module _ (d : Data) where
       binding_as (operand_value d) (operand_value d (operand.Term t)) (operand_bound (operand.Term t)) (operand_step (Operand-F.Term t))
       (bound-Term t)
       (λ nodes at good. bound_none d (operand_value d) (operand_value d (operand.Term t)) nodes at (operand.Term (rename (known at.vars) t)) good
-      (λ r u h. operand-Term d (r ++ u) (rename (known at.vars) t) ∙ term_behind d nodes at r u t good h ∙ sym (operand-Term d (seen at.vars r) t)))
+      (λ r u h. operand-Term d (r ++ u) (rename (known at.vars) t) ∙ term_after d nodes at r u t good h ∙ sym (operand-Term d (seen at.vars r) t)))
 
   agg_case : (a : Agg) → OfAgg a → OfOperand (operand.Agg a)
   agg_case a law =
@@ -244,7 +244,7 @@ module _ (d : Data) where
       let grown : Grown nodes child.0 = grown_on nodes last.0 child.0 ranged.grown kept.grown in
       let end = added child.0 n in
       bound_by d (operand_value d) (λ s. aggregate op (other_value d s other) (term_set d t (filter (holds_where d b) (extensions d gens s)))) (operand_value d) (agg_value d (made_agg op gens b t other))
-      (λ x. x) (λ z. z) nodes at (end.0, behind_agg at end.1, operand.Term (term.Part (suc at.width))) (λ x r. refl) (λ r. agg-made d r op gens b t other)
+      (λ x. x) (λ z. z) nodes at (end.0, after_agg at end.1, operand.Term (term.Part (suc at.width))) (λ x r. refl) (λ r. agg-made d r op gens b t other)
       (agg_bound_law d op t other (extensions d gens) (holds_where d b) nodes at last child good ranged kept end
       (added_made d child.0 n kept.good.plan (still_there nodes child.0 at.node grown good.there, (kept.good.there, tt))
       (omega (arith, width_stays nodes child.0 at.node grown good.there, good.wide, kept.good.wide, ranged.no_narrower))))

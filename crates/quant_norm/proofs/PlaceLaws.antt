@@ -56,8 +56,8 @@ last_got : {A : Type 0} (xs : List A) (x : A) → slice_get (xs ++ x ∷ []) (le
 last_got [] x = refl
 last_got (y ∷ xs) x = last_got xs x
 
-one_behind : {A : Type 0} (xs : List A) (x : A) → length (xs ++ x ∷ []) ≡ length xs + 1
-one_behind xs x = length-append xs (x ∷ [])
+one_after : {A : Type 0} (xs : List A) (x : A) → length (xs ++ x ∷ []) ≡ length xs + 1
+one_after xs x = length-append xs (x ∷ [])
 
 pub plan_push : (nodes : List Node) (n : Node) → IsPlan nodes → ReadsBelow (length nodes) n → IsEven (width_of nodes) n → IsPlan (nodes ++ n ∷ [])
 plan_push nodes n plan below even i m there = elim (cases_lt i (length nodes)) [
@@ -66,7 +66,7 @@ plan_push nodes n plan below even i m there = elim (cases_lt i (length nodes)) [
       (reads_below, even_local (width_of nodes) (width_of (nodes ++ n ∷ [])) m (same_widths nodes (n ∷ []) (reads m) i (omega (arith, less)) reads_below) is_even))
   | inr past ↦ (
       let within : i < length (nodes ++ n ∷ []) = slice_get_within (nodes ++ n ∷ []) i m there in
-      let last : i ≡ length nodes = omega (arith, past, within, one_behind nodes n) in
+      let last : i ≡ length nodes = omega (arith, past, within, one_after nodes n) in
       let found : ◌≡◌ {A = Option Node} (Some n) (Some m) = sym (last_got nodes n) ∙ ap (slice_get (nodes ++ n ∷ [])) (sym last) ∙ there in
       let same : n ≡ m = cc in
       subst (λ z. ReadsBelow i z × IsEven (width_of (nodes ++ n ∷ [])) z) same (
@@ -98,7 +98,7 @@ module _ (d : Data) where
   new_made nodes n plan below even = record {
     grown = (n ∷ [], refl);
     plan = plan_push nodes n plan below even;
-    there = omega (arith, one_behind nodes n);
+    there = omega (arith, one_after nodes n);
     wide = width_of-last nodes n;
     into = λ r k. subst (λ z. Has z r) (sym (node_rows-last d nodes n)) (in_set d (node_rows d nodes) n r k);
     from = λ r h. of_set d (node_rows d nodes) n r (subst (λ z. Has z r) (node_rows-last d nodes n) h);
@@ -184,7 +184,7 @@ module _ (d : Data) where
       kept_made (λ r. holds d b r ≡ true) (node.Filter at.node b) nodes nodes at (filter_on b at nodes) good (grown_itself nodes)
       made good.wide (λ r h e. (h, e)) (λ r k. k)
 
-  -- a place, and a node that stands behind it
+  -- a place, and a node that stands after it
   pub semi_kept : (nodes : List Node) (at : Place) (child : List Node × ℕ) → Good nodes at → Grown nodes child.0 → IsPlan child.0 → child.1 < length child.0 → at.width ≤ width_of child.0 child.1 → Kept (λ r. (s : Row) × Has (node_rows d child.0 child.1) s × Extends r s) nodes at (semi_on at child)
   semi_kept nodes at child good grown plan there fits =
       let wide : width_of child.0 at.node ≡ at.width = width_stays nodes child.0 at.node grown good.there ∙ good.wide in

@@ -26,7 +26,7 @@ use Rattle.da_lang.specs.declared.tree.CmpOp.{CmpOp}
 use Rattle.da_lang.proofs.CondInduction.{Where, cond_induction, agg_induction, Cases}
 use Rattle.query_plan.specs.declared.plan.Plan.{Plan}
 use Rattle.query_plan.specs.PlainNodes.{PlainNodes, is_plain, is_plain_node, is_plain_operand, is_plain_part}
-use Rattle.query_plan.specs.Plans.{Place, Norm, Binding, placed, added, at_node, filter_on, semi_on, behind, gen_node, gens_on, all_on, or_on, any_on, test_on, denied_on, all_bound, compared, cond_step, agg_node, agg_step, known, rename, norm, norm_if, operand_bound, agg_bound, signed_bound}
+use Rattle.query_plan.specs.Plans.{Place, Norm, Binding, placed, added, at_node, filter_on, semi_on, place_after, gen_node, gens_on, all_on, or_on, any_on, test_on, denied_on, all_bound, compared, cond_step, agg_node, agg_step, known, rename, norm, norm_if, operand_bound, agg_bound, signed_bound}
 use Rattle.query_plan.specs.Questions.{Met, Asked, Awaited, class_met, norm_class, opening_plan, root, query_node, with_query, with_flag, with_asked, with_all, with_met}
 use Rattle.query_plan.specs.Spelled.{same_node}
 use Rattle.query_plan.proofs.PlainAt.{plain-Chain, plain-Cmp, plain-Term, plain-Truth}
@@ -57,7 +57,7 @@ BindsPlainly plain f = (at : Place) (nodes : List Node) → PlainNodes nodes →
 
 gens_plain : (gens : List RGen) (at : Place) (nodes : List Node) → PlainNodes nodes → PlainNodes (gens_on gens at nodes).0
 gens_plain [] at nodes all = all
-gens_plain (g ∷ gs) at nodes all = let first = added nodes (gen_node at g) in gens_plain gs (behind at g first.1) first.0 (added_plain nodes (gen_node at g) all refl)
+gens_plain (g ∷ gs) at nodes all = let first = added nodes (gen_node at g) in gens_plain gs (place_after at g first.1) first.0 (added_plain nodes (gen_node at g) all refl)
 
 all_plain : {A : Type 0} (f : A → Norm) (xs : List A) → AllByRecursion (λ x. Plainly (f x)) xs → Plainly (all_on (map f xs))
 all_plain f [] each at nodes all = all

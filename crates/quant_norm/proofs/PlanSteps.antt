@@ -18,7 +18,7 @@ use Rattle.da_lang.specs.declared.query.Term.{Term}
 use Rattle.da_lang.specs.declared.query.Term.TheVariants as term
 use Rattle.da_lang.specs.declared.tree.CmpOp.{CmpOp}
 use Rattle.query_plan.specs.Nodes.{parts_added}
-use Rattle.query_plan.specs.Plans.{Place, added, at_node, filter_on, anti_on, behind, vars_behind, gen_node, gens_on, all_on, or_on, any_on, test_on, denied_on, all_bound, compared, known, rename, rename_gen, norm, norm_if, operand_bound, signed_bound}
+use Rattle.query_plan.specs.Plans.{Place, added, at_node, filter_on, anti_on, place_after, vars_after, gen_node, gens_on, all_on, or_on, any_on, test_on, denied_on, all_bound, compared, known, rename, rename_gen, norm, norm_if, operand_bound, signed_bound}
 use Rattle.query_plan.proofs.PlansAt.{norm-Truth, norm-Cmp, norm-And, norm-Or, bound-Term, bound-Chain, bound-signed}
 use Rattle.quant_norm.specs.Either.{either_of, any_left, any_from}
 use Rattle.quant_norm.specs.Making.{one_gen}
@@ -43,10 +43,10 @@ dropped xs i x within is =
 pub one_made : (g made : RGen) (at : Place) (vars : List ℕ) (nodes end : List Node) (more width k : ℕ) → more ≡ parts_added g → width ≡ at.width + more → vars ≡ at.vars ++ range_with_len (suc at.width) more → made ≡ rename_gen (known vars) g → ◌≡◌ {A = End} (added nodes (node.Gen at.node made)) (end, k)
     → ◌≡◌ {A = EndAt} (one_gen g at nodes) (end, record { node = k; width = width; vars = vars })
 one_made g made at vars nodes end more width k e f h i j =
-    let vs : vars_behind at g ≡ vars = ap (λ n. at.vars ++ range_with_len (suc at.width) n) (sym e) ∙ sym h in
+    let vs : vars_after at g ≡ vars = ap (λ n. at.vars ++ range_with_len (suc at.width) n) (sym e) ∙ sym h in
     let ws : at.width + parts_added g ≡ width = ap (λ n. at.width + n) (sym e) ∙ sym f in
     let same : gen_node at g ≡ node.Gen at.node made = ap (λ v. node.Gen at.node (rename_gen (known v) g)) vs ∙ ap (node.Gen at.node) (sym i) in
-    ap {B = EndAt} (λ (z : End). (z.0, behind at g z.1)) (ap (added nodes) same ∙ j)
+    ap {B = EndAt} (λ (z : End). (z.0, place_after at g z.1)) (ap (added nodes) same ∙ j)
     ∙ ap {B = EndAt} (λ (v : List ℕ). (end, record { node = k; width = at.width + parts_added g; vars = v })) vs
     ∙ ap {B = EndAt} (λ (n : ℕ). (end, record { node = k; width = n; vars = vars })) ws
 
@@ -91,7 +91,7 @@ all_further start bs i b at nodes more k e within is f =
 pub all_ended : (start : End) (bs : List Cond) (i : ℕ) (at : Place) (nodes : List Node) → start ≡ all_on (map norm (drop i bs)) at nodes → length bs ≤ i → start ≡ (nodes, at.node)
 all_ended start bs i at nodes e past = e ∙ ap (λ cs. all_on (map norm cs) at nodes) (drop_of_length-le bs past)
 
--- `or`, behind what came so far
+-- `or`, after what came so far
 pub any_further : (start : End) (bs : List Cond) (i : ℕ) (b : Cond) (at : Place) (nodes first more : List Node) (left : Option ℕ) (right k : ℕ) → start ≡ any_from left (map norm (drop i bs)) at nodes → i < length bs → b ≡ get_or bs i b → ◌≡◌ {A = End} (norm b at nodes) (first, right)
     → ◌≡◌ {A = End} (either_of first left right) (more, k) → start ≡ any_from (Some k) (map norm (drop (i + 1) bs)) at more
 any_further start bs i b at nodes first more None right k e within is f g =

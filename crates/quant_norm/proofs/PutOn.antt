@@ -80,7 +80,7 @@ module _ {A : Type 0} (k : ItemKind) where
 pub await_alone : (k : ItemKind) (alts read : List Alt) (timeout : Option (List Item)) (label : Option ℕ) (plan : Plan) (qs : List Query) (end : Made) → k ≡ kind.Await alts timeout label → read ≡ alts → timeout ≡ None → made_with (flat_map alt_met read) (plan, qs) ≡ end → made_with (kind_met k) (plan, qs) ≡ end
 await_alone k alts read timeout label plan qs end form same none one = await_put k alts read timeout [] label plan qs end end form same (ap (λ t. unwrap_or t []) none) one refl
 
--- a block behind an expression
+-- a block after an expression
 pub block_ends : {A : Type 0} (e : RExpr) (body : List Item) (plan : Plan) (qs : List Query) (middle : Made) (made : A → Made) (r : Result A Halt) → with_asked (asks e) qs plan ≡ middle → Puts (made_with (flat_map item_met body) middle) made r → Puts (made_with (block_met e body) (plan, qs)) made r
 block_ends e body plan qs middle made r put = puts_as (made_with (block_met e body) (plan, qs)) (made_with (flat_map item_met body) middle) made r (ap (made_with (flat_map item_met body)) put)
 

@@ -10,49 +10,49 @@ use Rattle.da_lang.specs.declared.query.RGen.{RGen}
 use Rattle.da_lang.specs.Matching.{Row, Extends, Candidate, matched_candidate}
 use Rattle.da_lang.specs.Queries.{candidates, step_rows, extensions}
 use Rattle.da_lang.specs.World.{Data}
-use Rattle.da_lang.proofs.LiveMatchLaws.{behind as behind_row}
+use Rattle.da_lang.proofs.LiveMatchLaws.{after_row_of as after_row}
 use Rattle.da_lang.proofs.RowLaws.{extends_itself, extends_further}
 use Rattle.query_plan.specs.Nodes.{node_rows, parts_added}
-use Rattle.query_plan.specs.Plans.{Place, Norm, added, behind, vars_behind, gen_node, known, rename_gen, gens_on, semi_on, anti_on}
+use Rattle.query_plan.specs.Plans.{Place, Norm, added, place_after, vars_after, gen_node, known, rename_gen, gens_on, semi_on, anti_on}
 use Rattle.query_plan.proofs.WidthLaws.{candidate_of}
 use Rattle.quant_norm.specs.GoodPlaces.{AllIn, Good}
 use Rattle.quant_norm.proofs.PlaceLaws.{Grown, grown_itself, grown_on, Made, added_made, Kept, kept_by, semi_kept, anti_kept, row_wide}
 use Rattle.quant_norm.specs.Filtering.{seen}
-use Rattle.quant_norm.proofs.RenameLaws.{AllIn-append, AllIn-range, wider, seen_more, Tracks, behind_tracks, HasParts, Both, candidate_follows, parts_renamed}
+use Rattle.quant_norm.proofs.RenameLaws.{AllIn-append, AllIn-range, wider, seen_more, Tracks, after_tracks, HasParts, Both, candidate_follows, parts_renamed}
 
 -- two beginnings of one row that are equally long
-pub same_front : (a b xs ys : Row) → a ++ xs ≡ b ++ ys → length a ≡ length b → a ≡ b
-same_front [] [] xs ys e long = refl
-same_front [] (y ∷ b) xs ys e long = absurd (omega (arith, long))
-same_front (x ∷ a) [] xs ys e long = absurd (omega (arith, long))
-same_front (x ∷ a) (y ∷ b) xs ys e long =
+pub same_prefix : (a b xs ys : Row) → a ++ xs ≡ b ++ ys → length a ≡ length b → a ≡ b
+same_prefix [] [] xs ys e long = refl
+same_prefix [] (y ∷ b) xs ys e long = absurd (omega (arith, long))
+same_prefix (x ∷ a) [] xs ys e long = absurd (omega (arith, long))
+same_prefix (x ∷ a) (y ∷ b) xs ys e long =
     let first : x ≡ y = cc in
     let others : a ++ xs ≡ b ++ ys = cc in
-    ap (λ z. z ∷ a) first ∙ ap (λ zs. y ∷ zs) (same_front a b xs ys others (omega (arith, long)))
+    ap (λ z. z ∷ a) first ∙ ap (λ zs. y ∷ zs) (same_prefix a b xs ys others (omega (arith, long)))
 
 -- an extension of a row that is as long is the row
 pub extends_same : (a b : Row) → Extends a b → length a ≡ length b → b ≡ a
-extends_same a b (more, e) long = sym (same_front a b more [] (sym e ∙ sym (append-nil b)) long)
+extends_same a b (more, e) long = sym (same_prefix a b more [] (sym e ∙ sym (append-nil b)) long)
 
 -- two beginnings of one row, by their extensions
 pub one_front : (a b c : Row) → Extends a c → Extends b c → length a ≡ length b → a ≡ b
-one_front a b c (xs, e) (ys, f) long = same_front a b xs ys (sym e ∙ f) long
+one_front a b c (xs, e) (ys, f) long = same_prefix a b xs ys (sym e ∙ f) long
 
 some_same : (a b : Row) → ◌≡◌ {A = Option Row} (Some a) (Some b) → a ≡ b
 some_same a b e = cc
 
--- what stands behind the one row stands behind the other
+-- what stands after the one row stands after the other
 both_left : (n : ℕ) (row vars longer : Row) (left right : Option Row) → Both n row vars left right → left ≡ Some longer → (more : Row) × (longer ≡ row ++ more) × (right ≡ Some (vars ++ more)) × (length more ≡ n)
 both_left n row vars longer left right both e = go both.found both.parts both.one both.two
   where
-    go : (found : Option Row) → HasParts n found → left ≡ behind_row row found → right ≡ behind_row vars found → (more : Row) × (longer ≡ row ++ more) × (right ≡ Some (vars ++ more)) × (length more ≡ n)
+    go : (found : Option Row) → HasParts n found → left ≡ after_row row found → right ≡ after_row vars found → (more : Row) × (longer ≡ row ++ more) × (right ≡ Some (vars ++ more)) × (length more ≡ n)
     go None parts one two = absurd (cc)
     go (Some more) parts one two = (more, some_same longer (row ++ more) (sym e ∙ one), two, parts)
 
 both_right : (n : ℕ) (row vars longer : Row) (left right : Option Row) → Both n row vars left right → right ≡ Some longer → (more : Row) × (longer ≡ vars ++ more) × (left ≡ Some (row ++ more)) × (length more ≡ n)
 both_right n row vars longer left right both e = go both.found both.parts both.one both.two
   where
-    go : (found : Option Row) → HasParts n found → left ≡ behind_row row found → right ≡ behind_row vars found → (more : Row) × (longer ≡ vars ++ more) × (left ≡ Some (row ++ more)) × (length more ≡ n)
+    go : (found : Option Row) → HasParts n found → left ≡ after_row row found → right ≡ after_row vars found → (more : Row) × (longer ≡ vars ++ more) × (left ≡ Some (row ++ more)) × (length more ≡ n)
     go None parts one two = absurd (cc)
     go (Some more) parts one two = (more, some_same longer (vars ++ more) (sym e ∙ two), one, parts)
 
@@ -93,21 +93,21 @@ module _ (d : Data) where
   -- one generator
   module _ (g : RGen) (nodes : List Node) (at : Place) (good : Good nodes at) (end : List Node × ℕ) (made : Made d (gen_node at g) nodes end) where
     abbrev renamed : RGen
-    renamed = rename_gen (known (vars_behind at g)) g
+    renamed = rename_gen (known (vars_after at g)) g
 
     abbrev last : Place
-    last = behind at g end.1
+    last = place_after at g end.1
 
     in_row : (r : Row) → Has (node_rows d nodes at.node) r → AllIn at.vars (length r)
     in_row r h = subst (AllIn at.vars) (sym (row_wide d nodes at good r h)) good.vars_in
 
-    tracks : (r : Row) → Has (node_rows d nodes at.node) r → Tracks d.me d.slots (parts_added g) (known (vars_behind at g)) r (seen at.vars r)
+    tracks : (r : Row) → Has (node_rows d nodes at.node) r → Tracks d.me d.slots (parts_added g) (known (vars_after at g)) r (seen at.vars r)
     tracks r h =
         subst (λ k. Tracks d.me d.slots (parts_added g) (known (at.vars ++ range_with_len (suc k) (parts_added g))) r (seen at.vars r)) (row_wide d nodes at good r h)
-        (behind_tracks d.me d.slots at.vars r (parts_added g) (in_row r h))
+        (after_tracks d.me d.slots at.vars r (parts_added g) (in_row r h))
 
     follows : (c : Candidate) (r : Row) → Has (candidates d g.source) c → Has (node_rows d nodes at.node) r → Both (parts_added g) r (seen at.vars r) (matched_candidate d renamed.message renamed.peer c r) (matched_candidate d g.message g.peer c (seen at.vars r))
-    follows c r element h = candidate_follows d (known (vars_behind at g)) g c r (seen at.vars r) (candidate_of d g.source c element) (tracks r h)
+    follows c r element h = candidate_follows d (known (vars_after at g)) g c r (seen at.vars r) (candidate_of d g.source c element) (tracks r h)
 
     sees : (r more : Row) → Has (node_rows d nodes at.node) r → length more ≡ parts_added g → seen last.vars (r ++ more) ≡ seen at.vars r ++ more
     sees r more h long = seen_more at.vars r more at.width (parts_added g) good.vars_in (row_wide d nodes at good r h) long
@@ -120,11 +120,11 @@ module _ (d : Data) where
         let (more, is, found, long) = both_left (parts_added g) r (seen at.vars r) q _ _ (follows c r element there) e in
         (r, more, c, there, element, is, found, long)
 
-    good_behind : Good end.0 last
-    good_behind = record {
+    good_after : Good end.0 last
+    good_after = record {
       plan = made.plan;
       there = made.there;
-      wide = made.wide ∙ ap (λ k. k + parts_added renamed) good.wide ∙ ap (λ k. at.width + k) (parts_renamed (known (vars_behind at g)) g);
+      wide = made.wide ∙ ap (λ k. k + parts_added renamed) good.wide ∙ ap (λ k. at.width + k) (parts_renamed (known (vars_after at g)) g);
       vars_in = AllIn-append at.vars (range_with_len (suc at.width) (parts_added g)) (at.width + parts_added g)
           (wider at.vars at.width (at.width + parts_added g) (omega arith) good.vars_in)
           (AllIn-range (parts_added g) (suc at.width) (at.width + parts_added g) (omega arith) (omega arith));
@@ -133,7 +133,7 @@ module _ (d : Data) where
     step_ranged : Ranged (step_rows d g) nodes at (end.0, last)
     step_ranged = record {
       grown = made.grown;
-      good = good_behind;
+      good = good_after;
       no_narrower = omega arith;
       into = λ r s h k.
           let (c, element, e) = of_filter_map (λ c. matched_candidate d g.message g.peer c (seen at.vars r)) (candidates d g.source) s k in
@@ -158,8 +158,8 @@ module _ (d : Data) where
   gens_ranged (g ∷ gs) nodes at good =
       let n : Node = gen_node at g in
       let one = step_ranged g nodes at good (added nodes n) (added_made d nodes n good.plan (good.there, tt) tt) in
-      ranged_then g gs nodes at ((added nodes n).0, behind at g (added nodes n).1) (gens_on (g ∷ gs) at nodes) one
-      (gens_ranged gs (added nodes n).0 (behind at g (added nodes n).1) one.good)
+      ranged_then g gs nodes at ((added nodes n).0, place_after at g (added nodes n).1) (gens_on (g ∷ gs) at nodes) one
+      (gens_ranged gs (added nodes n).0 (place_after at g (added nodes n).1) one.good)
 
   -- what the nodes of a condition have to be, wherever they are made
   abbrev pub IsNorm : Norm → (Row → Bool) → Type 0
@@ -177,7 +177,7 @@ module _ (d : Data) where
       ))
       (anti_kept d nodes at child good kept.grown kept.good.plan kept.good.there (omega (arith, kept.good.wide)))
 
-  -- rows behind a range, of which some meet a test
+  -- rows after a range, of which some meet a test
   module _ (more : Row → List Row) (test : Row → Bool) (nodes : List Node) (at : Place) (last : List Node × Place) (end : List Node × ℕ) (good : Good nodes at) (ranged : Ranged more nodes at last) (kept : Kept d (λ q. test (seen last.1.vars q) ≡ true) last.0 last.1 end) where
     -- a row of the end that extends a row of the place is one of its extensions
     pub of_longer : (r q : Row) → Has (node_rows d nodes at.node) r → Has (node_rows d end.0 end.1) q → Extends r q → Has (more (seen at.vars r)) (seen last.1.vars q) × (test (seen last.1.vars q) ≡ true)

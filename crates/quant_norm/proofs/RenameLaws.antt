@@ -19,7 +19,7 @@ use Rattle.da_lang.specs.declared.query.Term.TheVariants as term
 use Rattle.da_lang.specs.Live.{is_history}
 use Rattle.da_lang.specs.Matching.{Row, term_value, is_same, and_then, where_true, match_parts, match_tuple, matched, Candidate, Element, Message, matched_candidate}
 use Rattle.da_lang.specs.World.{Data, nothing, or_nothing, at_number}
-use Rattle.da_lang.proofs.LiveMatchLaws.{behind}
+use Rattle.da_lang.proofs.LiveMatchLaws.{after_row_of}
 use Rattle.da_lang.proofs.MatchingLaws.{term-Const, term-Me, term-Slot, term-Part, term-Tuple, term-Foreign, match-Any, match-Bind, match-Const, match-Me, match-Equal, match-Tuple}
 use Rattle.da_lang.proofs.TermInduction.{term_induction, pattern_induction}
 use Rattle.quant_norm.specs.GoodPlaces.{IsIn, AllIn}
@@ -29,25 +29,25 @@ use Rattle.query_plan.proofs.WidthLaws.{binds-Any, binds-Bind, binds-Const, bind
 use Rattle.query_plan.specs.Plans.{part_of, known, rename, rename_pattern, rename_gen}
 use Rattle.query_plan.proofs.PlansAt.{rename-Const, rename-Me, rename-Slot, rename-Part, rename-Tuple, rename-Foreign, renamed-Any, renamed-Bind, renamed-Const, renamed-Me, renamed-Equal, renamed-Tuple}
 
--- Members of lists one behind the other.
+-- Members of lists one after the other.
 
 pub get_front : {A : Type 0} (xs ys : List A) (i : ℕ) → i < length xs → slice_get (xs ++ ys) i ≡ slice_get xs i
 get_front [] ys i below = absurd (omega (arith, below))
 get_front (x ∷ xs) ys zero below = refl
 get_front (x ∷ xs) ys (suc i) below = get_front xs ys i (omega (arith, below))
 
-pub get_behind : {A : Type 0} (xs ys : List A) (i j : ℕ) → j ≡ length xs + i → slice_get (xs ++ ys) j ≡ slice_get ys i
-get_behind [] ys i j e = ap (slice_get ys) (omega (arith, e))
-get_behind (x ∷ xs) ys i zero e = absurd (omega (arith, e))
-get_behind (x ∷ xs) ys i (suc j) e = get_behind xs ys i j (omega (arith, e))
+pub get_after : {A : Type 0} (xs ys : List A) (i j : ℕ) → j ≡ length xs + i → slice_get (xs ++ ys) j ≡ slice_get ys i
+get_after [] ys i j e = ap (slice_get ys) (omega (arith, e))
+get_after (x ∷ xs) ys i zero e = absurd (omega (arith, e))
+get_after (x ∷ xs) ys i (suc j) e = get_after xs ys i j (omega (arith, e))
 
-pub part_front : (row more : Row) (part : ℕ) → IsIn (length row) part → at_number (row ++ more) part ≡ at_number row part
-part_front row more zero inside = refl
-part_front row more (suc i) inside = get_front row more i (omega (arith, inside.1))
+pub part_prefix : (row more : Row) (part : ℕ) → IsIn (length row) part → at_number (row ++ more) part ≡ at_number row part
+part_prefix row more zero inside = refl
+part_prefix row more (suc i) inside = get_front row more i (omega (arith, inside.1))
 
-part_behind : (row more : Row) (i part : ℕ) → part ≡ length row + suc i → at_number (row ++ more) part ≡ slice_get more i
-part_behind row more i zero e = absurd (omega (arith, e))
-part_behind row more i (suc part) e = get_behind row more i part (omega (arith, e))
+part_after : (row more : Row) (i part : ℕ) → part ≡ length row + suc i → at_number (row ++ more) part ≡ slice_get more i
+part_after row more i zero e = absurd (omega (arith, e))
+part_after row more i (suc part) e = get_after row more i part (omega (arith, e))
 
 all_at : {A : Type 0} (P : A → Type 0) (xs : List A) (i : ℕ) (x : A) → AllByRecursion P xs → slice_get xs i ≡ Some x → P x
 all_at P [] i x all e = absurd (cc)
@@ -71,7 +71,7 @@ AllIn-range (suc many) first width positive less = ((positive, omega (arith, les
 pub seen_front : (vars : List ℕ) (row more : Row) → AllIn vars (length row) → seen vars (row ++ more) ≡ seen vars row
 seen_front [] row more all = refl
 seen_front (p ∷ ps) row more all =
-    ap (λ z. or_nothing z ∷ seen ps (row ++ more)) (part_front row more p all.0)
+    ap (λ z. or_nothing z ∷ seen ps (row ++ more)) (part_prefix row more p all.0)
     ∙ ap (λ zs. or_nothing (at_number row p) ∷ zs) (seen_front ps row more all.1)
 
 seen-append : (vars others : List ℕ) (row : Row) → seen (vars ++ others) row ≡ seen vars row ++ seen others row
@@ -96,13 +96,13 @@ got_before [] rest i none = none_got rest i none
 got_before (x ∷ row) rest zero none = refl
 got_before (x ∷ row) rest (suc i) none = got_before row rest i none
 
--- exactly the parts behind a row
+-- exactly the parts after a row
 pub seen_range : (more row : Row) (first many : ℕ) → first ≡ suc (length row) → length more ≡ many → seen (range_with_len first many) (row ++ more) ≡ more
 seen_range [] row first zero e long = refl
 seen_range [] row first (suc many) e long = absurd (omega (arith, long))
 seen_range (x ∷ more) row first zero e long = absurd (omega (arith, long))
 seen_range (x ∷ more) row first (suc many) e long =
-    let here : at_number (row ++ x ∷ more) first ≡ Some x = part_behind row (x ∷ more) 0 first (omega (arith, e)) in
+    let here : at_number (row ++ x ∷ more) first ≡ Some x = part_after row (x ∷ more) 0 first (omega (arith, e)) in
     let longer : length (row ++ x ∷ []) ≡ length row + 1 = length-append row (x ∷ []) in
     ap (λ z. or_nothing z ∷ seen (range_with_len (first + 1) many) (row ++ x ∷ more)) here
     ∙ ap (λ zs. x ∷ zs) (ap (seen (range_with_len (first + 1) many)) (sym (append_assoc row (x ∷ []) more)) ∙ seen_range more (row ++ x ∷ []) (first + 1) many (omega (arith, longer, e)) (omega (arith, long)))
@@ -139,12 +139,12 @@ module _ (f : ℕ → Term) where
 
 -- Parts that are not there yet.
 
--- behind the parts that are there, nothing is seen
+-- after the parts that are there, nothing is seen
 pub seen_part : (more row : Row) (first many : ℕ) → first ≡ suc (length row) → length more ≤ many → (rest : Row) × (seen (range_with_len first many) (row ++ more) ≡ more ++ rest) × AllByRecursion (λ x. x ≡ nothing) rest
 seen_part [] row first many e less = (seen (range_with_len first many) (row ++ []), refl, none_seen many first (row ++ []) (omega (arith, e, length-append row [])))
 seen_part (x ∷ more) row first zero e less = absurd (omega (arith, less))
 seen_part (x ∷ more) row first (suc many) e less =
-    let here : at_number (row ++ x ∷ more) first ≡ Some x = part_behind row (x ∷ more) 0 first (omega (arith, e)) in
+    let here : at_number (row ++ x ∷ more) first ≡ Some x = part_after row (x ∷ more) 0 first (omega (arith, e)) in
     let longer : length (row ++ x ∷ []) ≡ length row + 1 = length-append row (x ∷ []) in
     let (rest, is, none) = seen_part more (row ++ x ∷ []) (first + 1) many (omega (arith, longer, e)) (omega (arith, less)) in (
       rest,
@@ -194,7 +194,7 @@ module _ (me : ℕ) (slots : List Val) where
   pub known_value : (vars : List ℕ) (row : Row) (t : Term) → term_value me slots row (rename (known vars) t) ≡ term_value me slots (seen vars row) t
   known_value vars row t = renamed_value (known vars) row (seen vars row) (known_sees vars row) t
 
-  -- whatever a match puts behind both rows, if it is at most n parts
+  -- whatever a match puts after both rows, if it is at most n parts
   abbrev pub Tracks : ℕ → (ℕ → Term) → Row → Row → Type 0
   Tracks n f row vars = (more : Row) → length more ≤ n → (k : ℕ) → term_value me slots (row ++ more) (f k) ≡ or_nothing (at_number (vars ++ more) k)
 
@@ -208,8 +208,8 @@ module _ (me : ℕ) (slots : List Val) where
   tracks_now n f row vars tracks k = ap (λ z. term_value me slots z (f k)) (sym (append-nil row)) ∙ tracks [] (omega arith) k ∙ ap (λ z. or_nothing (at_number z k)) (append-nil vars)
 
   -- the variables of a generator's patterns
-  pub behind_tracks : (vars : List ℕ) (row : Row) (n : ℕ) → AllIn vars (length row) → Tracks n (known (vars ++ range_with_len (suc (length row)) n)) row (seen vars row)
-  behind_tracks vars row n all more less k =
+  pub after_tracks : (vars : List ℕ) (row : Row) (n : ℕ) → AllIn vars (length row) → Tracks n (known (vars ++ range_with_len (suc (length row)) n)) row (seen vars row)
+  after_tracks vars row n all more less k =
       let (rest, is, none) = seen_part more row (suc (length row)) n refl less in
       let whole : seen (vars ++ range_with_len (suc (length row)) n) (row ++ more) ≡ (seen vars row ++ more) ++ rest =
       seen-append vars (range_with_len (suc (length row)) n) (row ++ more)
@@ -226,18 +226,18 @@ abbrev pub HasParts : ℕ → Option Row → Type 0
 HasParts n None = Unit {0}
 HasParts n (Some row) = length row ≡ n
 
--- the same n parts, if any, are put behind both rows
+-- the same n parts, if any, are put after both rows
 pub record Both (n : ℕ) (row vars : Row) (left right : Option Row) : Type 0 where
   pub found : Option Row
   pub parts : HasParts n found
-  pub one : left ≡ behind row found
-  pub two : right ≡ behind vars found
+  pub one : left ≡ after_row_of row found
+  pub two : right ≡ after_row_of vars found
 
-behind_twice : (a b : Row) (found : Option Row) → behind a (behind b found) ≡ behind (a ++ b) found
-behind_twice a b None = refl
-behind_twice a b (Some found) = ap Some (sym (append_assoc a b found))
+after_twice : (a b : Row) (found : Option Row) → after_row_of a (after_row_of b found) ≡ after_row_of (a ++ b) found
+after_twice a b None = refl
+after_twice a b (Some found) = ap Some (sym (append_assoc a b found))
 
-parts_behind : (m n : ℕ) (more : Row) (found : Option Row) → length more ≡ m → HasParts n found → HasParts (m + n) (behind more found)
+parts_behind : (m n : ℕ) (more : Row) (found : Option Row) → length more ≡ m → HasParts n found → HasParts (m + n) (after_row_of more found)
 parts_behind m n more None long parts = tt
 parts_behind m n more (Some found) long parts = length-append more found ∙ omega (arith, long, parts)
 
@@ -257,15 +257,15 @@ both_as m n row vars a b c e many left right both = record { found = both.found;
 both_then : (m n : ℕ) (go_on other : Row → Option Row) (row vars : Row) (left right : Option Row) → ((more : Row) → length more ≡ m → Both n (row ++ more) (vars ++ more) (go_on (row ++ more)) (other (vars ++ more))) → Both m row vars left right → Both (m + n) row vars (and_then left go_on) (and_then right other)
 both_then m n go_on other row vars left right next both = go both.found both.parts both.one both.two
   where
-    go : (found : Option Row) → HasParts m found → left ≡ behind row found → right ≡ behind vars found → Both (m + n) row vars (and_then left go_on) (and_then right other)
+    go : (found : Option Row) → HasParts m found → left ≡ after_row_of row found → right ≡ after_row_of vars found → Both (m + n) row vars (and_then left go_on) (and_then right other)
     go None parts one two = record { found = None; parts = tt; one = ap (λ z. and_then z go_on) one; two = ap (λ z. and_then z other) two }
     go (Some more) parts one two =
         let further = next more parts in
         record {
-          found = behind more further.found;
+          found = after_row_of more further.found;
           parts = parts_behind m n more further.found parts further.parts;
-          one = ap (λ z. and_then z go_on) one ∙ further.one ∙ sym (behind_twice row more further.found);
-          two = ap (λ z. and_then z other) two ∙ further.two ∙ sym (behind_twice vars more further.found);
+          one = ap (λ z. and_then z go_on) one ∙ further.one ∙ sym (after_twice row more further.found);
+          two = ap (λ z. and_then z other) two ∙ further.two ∙ sym (after_twice vars more further.found);
         }
 
 module _ (me : ℕ) (slots : List Val) (f : ℕ → Term) where

@@ -37,7 +37,7 @@ use Rattle.da_lang.proofs.CondInduction.{Where, Cases, cond_induction, agg_induc
 use Rattle.da_lang.proofs.typing.QueryTypesAt.{cond_holds_at-Truth, cond_holds_at-Cmp, cond_holds_at-Not, cond_holds_at-And, cond_holds_at-Or, cond_holds_at-Quant, operand_side_at-Term, operand_side_at-Agg, operand_side_at-Chain, agg_side_at-of, signed_side_at-of}
 use Rattle.query_plan.specs.declared.plan.Plan.{Plan}
 use Rattle.query_plan.specs.PlanTerms.{Terms, cond_terms, default_terms, named_in, node_names, term_if}
-use Rattle.query_plan.specs.Plans.{Place, Binding, placed, added, at_node, filter_on, semi_on, vars_behind, behind, gen_node, gens_on, all_on, or_on, any_on, test_on, denied_on, all_bound, compared, cond_step, agg_node, agg_step, known as part_for, rename, rename_other, norm, norm_if, operand_bound, agg_bound, signed_bound}
+use Rattle.query_plan.specs.Plans.{Place, Binding, placed, added, at_node, filter_on, semi_on, vars_after, place_after, gen_node, gens_on, all_on, or_on, any_on, test_on, denied_on, all_bound, compared, cond_step, agg_node, agg_step, known as part_for, rename, rename_other, norm, norm_if, operand_bound, agg_bound, signed_bound}
 use Rattle.query_plan.specs.Questions.{Met, Asked, Awaited, class_met, awaited, norm_class, opening_plan, root, query_node, with_query, with_flag, with_asked, with_all, with_met}
 use Rattle.query_plan.specs.Spelled.{same_node}
 use Rattle.query_plan.proofs.PlansAt.{norm-Truth, norm-Cmp, norm-Not, norm-And, norm-Or, norm-Quant, bound-Term, bound-Agg, bound-Chain, bound-agg, bound-signed}
@@ -104,8 +104,8 @@ module _ (rules : Known) (s : ℕ) (held : Ty) (there : slot_type rules s ≡ So
   gens_spared (g ∷ gs) row longer at nodes e all =
       let (middle, one, others) = given_found (gen_row rules g row) (gens_row rules gs) longer e in
       let first = added nodes (gen_node at g) in
-      gens_spared gs middle longer (behind at g first.1) first.0 others
-      (added_spared s nodes (gen_node at g) all (gen_kept (vars_behind at g) s g ∙ gen_free rules s held there set g row middle one))
+      gens_spared gs middle longer (place_after at g first.1) first.0 others
+      (added_spared s nodes (gen_node at g) all (gen_kept (vars_after at g) s g ∙ gen_free rules s held there set g row middle one))
 
   abbrev pub OfCond : Cond → Type 0
   OfCond b = (row : List Ty) (at : Place) (nodes : List Node) → cond_holds rules b row ≡ true → Spared s nodes → Spared s (norm b at nodes).0

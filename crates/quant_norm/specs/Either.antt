@@ -14,7 +14,7 @@ abbrev pub any_left : List Node → ℕ → Option ℕ → List Node × ℕ
 any_left nodes parent None = added nodes (node.Anti parent parent)
 any_left nodes parent (Some left) = (nodes, left)
 
--- the conditions that are still to come, behind what came so far
+-- the conditions that are still to come, after what came so far
 abbrev pub any_from : Option ℕ → List Norm → Norm
 any_from None fs at nodes = any_on fs at nodes
 any_from (Some left) fs at nodes = or_on fs at (nodes, left)

@@ -15,7 +15,7 @@ abbrev pub seen : List ℕ → Row → Row
 seen vars row = map (λ part. or_nothing (at_number row part)) vars
 
 -- The node that a condition gets at a place has the rows of the place of which the condition holds. It is one of the nodes
--- that are there, or stands behind them.
+-- that are there, or stands after them.
 pub record Filters (nodes : List Node) (at : Place) (b : Cond) (d : Data) : Type 0 where
   pub more : List Node
   pub behind : (norm b at nodes).0 ≡ nodes ++ more

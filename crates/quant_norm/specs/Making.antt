@@ -23,7 +23,7 @@ use Rattle.da_lang.specs.declared.query.RGen.{RGen}
 use Rattle.da_lang.specs.declared.query.SignedOperand.{SignedOperand}
 use Rattle.da_lang.specs.declared.query.Term.TheVariants as term
 use Rattle.query_plan.specs.declared.plan.Plan.{Plan}
-use Rattle.query_plan.specs.Plans.{Place, Norm, added, at_node, behind, behind_agg, denied_on, gen_node, gens_on, known, norm_if, rename, rename_other, test_on}
+use Rattle.query_plan.specs.Plans.{Place, Norm, added, at_node, place_after, after_agg, denied_on, gen_node, gens_on, known, norm_if, rename, rename_other, test_on}
 use Rattle.query_plan.specs.Questions.{Met, Asked, Awaited, asks, cond_asks, asks_step, part_asks_step, cond_asks_step, operand_asks_step, agg_asks_step, signed_asks_step, kind_met_step, alt_met_step, item_met_step, branch_met_step, item_met, with_asked, with_flag}
 use Rattle.quant_norm.specs.declared.limit.Halt.{Halt}
 use Rattle.quant_norm.specs.declared.limit.Halt.TheVariants.{Full, Memory}
@@ -33,9 +33,9 @@ use Rattle.quant_norm.specs.declared.place.Place.{Place as PlaceOf}
 abbrev pub place_of : PlaceOf → Place
 place_of at = record { node = at.node; width = at.width; vars = at.vars }
 
--- behind one generator
+-- after one generator
 abbrev pub one_gen : RGen → Place → List Node → List Node × Place
-one_gen g at nodes = let first = added nodes (gen_node at g) in (first.0, behind at g first.1)
+one_gen g at nodes = let first = added nodes (gen_node at g) in (first.0, place_after at g first.1)
 
 -- how many numbered queries stand in a further part of a chain, in an operand and in a further operand
 abbrev pub part_asks : ChainPart → ℕ
@@ -60,7 +60,7 @@ alt_met = fold-Alt (List Met) (List Met) (List Met) (List Met) kind_met_step alt
 abbrev pub handler_met : Handler → List Met
 handler_met h = flat_map item_met h.body
 
--- what is met in an expression and in the block behind it, and in the condition of an alternative
+-- what is met in an expression and in the block after it, and in the condition of an alternative
 abbrev pub block_met : RExpr → List Item → List Met
 block_met e body = Asked (asks e) ∷ flat_map item_met body
 
@@ -81,7 +81,7 @@ made_with [] made = made
 made_with (Asked n ∷ met) made = made_with met (with_asked n made.1 made.0)
 made_with (Awaited b ∷ met) made = made_with met (with_flag made.0 b, made.1)
 
--- Behind generators: the place at the rows for which a condition holds that may be left out, and the node of the rows
+-- After generators: the place at the rows for which a condition holds that may be left out, and the node of the rows
 -- for which it does not hold.
 abbrev pub rows_on : Option Cond → List RGen → Place → List Node → List Node × Place
 rows_on b gens at nodes = let last = gens_on gens at nodes in let child = test_on (norm_if b) last.1 last.0 in (child.0, at_node last.1 child.1)
@@ -89,12 +89,12 @@ rows_on b gens at nodes = let last = gens_on gens at nodes in let child = test_o
 abbrev pub none_on : Option Cond → List RGen → Norm
 none_on b gens at nodes = let last = gens_on gens at nodes in denied_on (norm_if b) last.1 last.0
 
--- the node of an aggregate over rows, and behind it
+-- the node of an aggregate over rows, and after it
 abbrev pub over_rows : Agg → Place → Place → Node
 over_rows a at rows = node.AggBind at.node rows.node (out-Agg a).op (rename (known rows.vars) (out-Agg a).term) (rename_other (known at.vars) (out-Agg a).other)
 
 abbrev pub agg_over : Agg → Place → Place → List Node → List Node × Place × Operand
-agg_over a at rows nodes = let end = added nodes (over_rows a at rows) in (end.0, behind_agg at end.1, operand.Term (term.Part (suc at.width)))
+agg_over a at rows nodes = let end = added nodes (over_rows a at rows) in (end.0, after_agg at end.1, operand.Term (term.Part (suc at.width)))
 
 -- more nodes than a plan may have
 abbrev pub Over : List Node → Type 0

@@ -161,7 +161,7 @@ fn put_kind(
     }
 }
 
-// Puts what is met in an expression and in the block behind it.
+// Puts what is met in an expression and in the block after it.
 #[cycle(items)]
 fn put_block(
     alloc: Global,

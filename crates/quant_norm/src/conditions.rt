@@ -79,7 +79,7 @@ fn norm_any(alloc: Global, conds: &[Cond], nodes: &mut List<Node>, at: &Place) -
     any_on(nodes, at.node, left)
 }
 
-// The rows that some row behind the generators extends, or those that each such row extends.
+// The rows that some row after the generators extends, or those that each such row extends.
 #[cycle(norm)]
 fn quant_on(
     alloc: Global,
@@ -101,7 +101,7 @@ fn quant_on(
     }
 }
 
-// The place behind the generators, at the rows for which a condition holds that may be left out.
+// The place after the generators, at the rows for which a condition holds that may be left out.
 #[cycle(norm)]
 fn rows_on(
     alloc: Global,
@@ -119,7 +119,7 @@ fn rows_on(
     Ok(rows)
 }
 
-// The rows behind the generators for which it does not hold.
+// The rows after the generators for which it does not hold.
 #[cycle(norm)]
 fn none_on(
     alloc: Global,
@@ -169,7 +169,7 @@ pub fn denied_on(
     }
 }
 
-// Binds the aggregates of an operand: the place is then behind them. Gives the operand with the new parts in their places.
+// Binds the aggregates of an operand: the place is then after them. Gives the operand with the new parts in their places.
 #[cycle(norm)]
 fn bind_operand(
     alloc: Global,
@@ -228,7 +228,7 @@ fn bind_part(
     last_part(alloc, at)
 }
 
-/// Binds an aggregate: the place is then behind it, and it is the last part of its rows.
+/// Binds an aggregate: the place is then after it, and it is the last part of its rows.
 #[cycle(norm)]
 pub fn bind_agg(
     alloc: Global,

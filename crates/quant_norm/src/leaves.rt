@@ -78,7 +78,7 @@ pub fn chained(
     Ok(made)
 }
 
-/// Binds an aggregate over rows: the place is then behind it.
+/// Binds an aggregate over rows: the place is then after it.
 pub fn bind_rows(
     alloc: Global,
     agg: &Agg,

@@ -29,7 +29,7 @@ fn number_of(place: usize) -> Result<u32, Halt>
     Ok(place as u32)
 }
 
-// Puts a node behind the others, and gives its number. (A node that is not kept is dropped by a call: where it is left to
+// Puts a node after the others, and gives its number. (A node that is not kept is dropped by a call: where it is left to
 // the end of a way out, the check goes through the parts of each form of node there.)
 fn push(nodes: &mut List<Node>, node: Node) -> Result<u32, Halt>
     ensures { Makes (nodes.old ++ node ∷ [], length nodes.old)

@@ -102,7 +102,7 @@ fn renamed_patterns(
     Ok(renamed)
 }
 
-/// A generator over the rows of the place behind it.
+/// A generator over the rows of the place after it.
 pub fn renamed_gen(alloc: Global, gen_: &RGen, behind: &Place) -> Result<RGen, NoMemory>
     ensures { IfOk result (λ renamed. renamed ≡ rename_gen (known behind.now.vars) gen_.now) }
 {

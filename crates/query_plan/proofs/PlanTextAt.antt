@@ -25,7 +25,7 @@ use Rattle.da_lang.specs.declared.query.Term.TheVariants as term
 use Rattle.da_lang.specs.declared.query.Term.TheOpen as term_layer
 use Rattle.da_lang.specs.declared.query.Term.TheFolds.{fold-roll-Term}
 use Rattle.da_lang.specs.declared.tree.CmpOp.{CmpOp}
-use Rattle.query_plan.specs.PlanText.{slot_text, part_text, tuple_end, term_step, term_text, Written, all_written, pattern_step, written, pattern_text, parts_behind, pattern_texts, parts_behind_all, sign_text, opening, ending, Side, cond_step, operand_step, agg_step, signed_step, cond_text, operand_text, signed_text}
+use Rattle.query_plan.specs.PlanText.{slot_text, part_text, tuple_end, term_step, term_text, Written, all_written, pattern_step, written, pattern_text, parts_behind, pattern_texts, parts_after_all, sign_text, opening, ending, Side, cond_step, operand_step, agg_step, signed_step, cond_text, operand_text, signed_text}
 
 -- Terms.
 
@@ -134,8 +134,8 @@ pub parts_behind-Equal : (t : Term) (k : ℕ) → parts_behind (pattern.Equal t)
 unfolding parts_behind
 parts_behind-Equal t k = ap (λ w. w.1) (written-Equal k t)
 
-pub parts_behind-Tuple : (parts : List Pattern) (k : ℕ) → parts_behind (pattern.Tuple parts) k ≡ parts_behind_all parts k
-unfolding parts_behind parts_behind_all
+pub parts_behind-Tuple : (parts : List Pattern) (k : ℕ) → parts_behind (pattern.Tuple parts) k ≡ parts_after_all parts k
+unfolding parts_behind parts_after_all
 parts_behind-Tuple parts k = ap (λ w. w.1) (written-Tuple k parts)
 
 pub ruleset pattern_rules = (append_assoc, pattern_text-Any, pattern_text-Bind, pattern_text-Const, pattern_text-Me, pattern_text-Equal, pattern_text-Tuple, parts_behind-Any, parts_behind-Bind, parts_behind-Const, parts_behind-Me, parts_behind-Equal, parts_behind-Tuple)
@@ -146,9 +146,9 @@ pattern_texts-first : (p : Pattern) (ps : List Pattern) (k : ℕ) → pattern_te
 unfolding pattern_texts pattern_text parts_behind
 pattern_texts-first p ps k = refl
 
-parts_behind_all-first : (p : Pattern) (ps : List Pattern) (k : ℕ) → parts_behind_all (p ∷ ps) k ≡ parts_behind_all ps (parts_behind p k)
-unfolding parts_behind_all parts_behind
-parts_behind_all-first p ps k = refl
+parts_after_all-first : (p : Pattern) (ps : List Pattern) (k : ℕ) → parts_after_all (p ∷ ps) k ≡ parts_after_all ps (parts_behind p k)
+unfolding parts_after_all parts_behind
+parts_after_all-first p ps k = refl
 
 all_written-last : (ws : List Written) (w : Written) (k : ℕ) → all_written (ws ++ w ∷ []) k ≡ ((all_written ws k).0 ++ (w (all_written ws k).1).0 ∷ [], (w (all_written ws k).1).1)
 all_written-last [] w k = refl
@@ -165,11 +165,11 @@ written_more ps i k p here inside =
 abbrev pub later : List ℕ → List ℕ
 later text = codes ", " ++ text
 
--- a further pattern is written behind a comma and a space
+-- a further pattern is written after a comma and a space
 pub wrote_pattern : (begun out mid new : List ℕ) (ps : List Pattern) (i k b : ℕ) (p : Pattern) → p ≡ slice_index_or ps i p → i < length ps
-    → out ≡ begun ++ flat_map later (pattern_texts (take i ps) k) → b ≡ parts_behind_all (take i ps) k → mid ≡ out ++ codes ", " → new ≡ mid ++ pattern_text p b
+    → out ≡ begun ++ flat_map later (pattern_texts (take i ps) k) → b ≡ parts_after_all (take i ps) k → mid ≡ out ++ codes ", " → new ≡ mid ++ pattern_text p b
     → new ≡ begun ++ flat_map later (pattern_texts (take (i + 1) ps) k)
-unfolding pattern_texts parts_behind_all pattern_text
+unfolding pattern_texts parts_after_all pattern_text
 wrote_pattern begun out mid new ps i k b p here inside so_far parts comma wrote =
     let all = all_written (map written (take i ps)) k in
     let text : List ℕ = (written p all.1).0 in
@@ -181,8 +181,8 @@ wrote_pattern begun out mid new ps i k b p here inside so_far parts comma wrote 
     ∙ ap (λ u. begun ++ u) (sym more)
 
 -- and the row has its parts too
-pub grown_by_pattern : (ps : List Pattern) (i k b new : ℕ) (p : Pattern) → p ≡ slice_index_or ps i p → i < length ps → b ≡ parts_behind_all (take i ps) k → new ≡ parts_behind p b → new ≡ parts_behind_all (take (i + 1) ps) k
-unfolding parts_behind_all parts_behind
+pub grown_by_pattern : (ps : List Pattern) (i k b new : ℕ) (p : Pattern) → p ≡ slice_index_or ps i p → i < length ps → b ≡ parts_after_all (take i ps) k → new ≡ parts_behind p b → new ≡ parts_after_all (take (i + 1) ps) k
+unfolding parts_after_all parts_behind
 grown_by_pattern ps i k b new p here inside parts grown = grown ∙ ap (λ j. (written p j).1) parts ∙ ap (λ w. w.1) (sym (written_more ps i k p here inside))
 
 -- before the first pattern nothing is written
@@ -190,8 +190,8 @@ pub none_yet : (begun : List ℕ) (k : ℕ) → begun ≡ begun ++ flat_map late
 unfolding pattern_texts
 none_yet begun k = sym (append-nil begun)
 
-pub none_behind : (k : ℕ) → k ≡ parts_behind_all [] k
-unfolding parts_behind_all
+pub none_behind : (k : ℕ) → k ≡ parts_after_all [] k
+unfolding parts_after_all
 none_behind k = refl
 
 -- nor for no pattern
@@ -200,12 +200,12 @@ unfolding pattern_texts
 no_text before [] k none = sym (append-nil before)
 no_text before (p ∷ ps) k none = absurd (omega (arith, none))
 
-pub no_parts : (ps : List Pattern) (k : ℕ) → length ps < 1 → k ≡ parts_behind_all ps k
-unfolding parts_behind_all
+pub no_parts : (ps : List Pattern) (k : ℕ) → length ps < 1 → k ≡ parts_after_all ps k
+unfolding parts_after_all
 no_parts [] k none = refl
 no_parts (p ∷ ps) k none = absurd (omega (arith, none))
 
--- what stands behind the first of some patterns
+-- what stands after the first of some patterns
 abbrev pub others : List Pattern → List Pattern
 others ps = take (length ps - 1) (drop 1 ps)
 
@@ -224,10 +224,10 @@ wrote_patterns before one out (q ∷ ps) i k b p some here past parts first wrot
     ∙ ap (λ texts. before ++ separated texts) (sym (pattern_texts-first q ps k))
 
 pub grown_by_patterns : (ps : List Pattern) (i k b new : ℕ) (p : Pattern) → 1 ≤ length ps → p ≡ get_or ps 0 p → length (others ps) ≤ i
-    → b ≡ parts_behind p k → new ≡ parts_behind_all (take i (others ps)) b → new ≡ parts_behind_all ps k
+    → b ≡ parts_behind p k → new ≡ parts_after_all (take i (others ps)) b → new ≡ parts_after_all ps k
 grown_by_patterns [] i k b new p some here past parts grown = absurd (omega (arith, some))
 grown_by_patterns (q ∷ ps) i k b new p some here past parts grown =
-    grown ∙ ap (λ qs. parts_behind_all qs b) (all_others q ps i past) ∙ ap (parts_behind_all ps) (parts ∙ ap (λ r. parts_behind r k) here) ∙ sym (parts_behind_all-first q ps k)
+    grown ∙ ap (λ qs. parts_after_all qs b) (all_others q ps i past) ∙ ap (parts_after_all ps) (parts ∙ ap (λ r. parts_behind r k) here) ∙ sym (parts_after_all-first q ps k)
 
 -- Conditions.
 

@@ -22,7 +22,7 @@ use Rattle.da_lang.proofs.NamingLaws.{candidates-received, candidates-sent}
 use Rattle.da_lang.proofs.WorldLaws.{slot-put_there, slot-put_other}
 use Rattle.query_plan.specs.Updates.{Update, Receives, Sends, Joins, Leaves, Assigns, after, swapped, moved}
 
--- A history has what moves behind what it had.
+-- A history has what moves after what it had.
 pub history_grows : (u : Update) (d : Data) (s : Source) → is_history s ≡ true → candidates (after u d) s ≡ candidates d s ++ moved u d s
 history_grows (Receives m p time) d source.Received over = candidates-received m p time d
 history_grows (Receives m p time) d source.Sent over = sym (append-nil (candidates d source.Sent))

@@ -41,7 +41,7 @@ default_terms Sum other = []
 default_terms Min other = term_if other
 default_terms Max other = term_if other
 
--- one layer of a pattern: the terms behind `=`
+-- one layer of a pattern: the terms after `=`
 abbrev pub pattern_terms_step : Pattern-F Terms → Terms
 pattern_terms_step (pattern.Equal t) = t ∷ []
 pattern_terms_step (pattern.Tuple parts) = all_terms parts

@@ -61,7 +61,7 @@ term_text = fold-Term (List ℕ) term_step
 
 -- Patterns. A new variable is written as its part.
 
--- what is written behind a row of so many parts, and how many parts the row has then
+-- what is written after a row of so many parts, and how many parts the row has then
 abbrev pub Written : Type 0
 Written = ℕ → List ℕ × ℕ
 
@@ -81,7 +81,7 @@ pattern_step (pattern.Tuple parts) k = let all = all_written parts k in (tuple_t
 abbrev pub written : Pattern → Written
 written = fold-Pattern Written pattern_step
 
--- the text of a pattern behind a row of k parts, and how many parts the row has then
+-- the text of a pattern after a row of k parts, and how many parts the row has then
 unfoldable pub pattern_text : Pattern → ℕ → List ℕ
 pattern_text p k = (written p k).0
 
@@ -92,8 +92,8 @@ parts_behind p k = (written p k).1
 unfoldable pub pattern_texts : List Pattern → ℕ → List (List ℕ)
 pattern_texts ps k = (all_written (map written ps) k).0
 
-unfoldable pub parts_behind_all : List Pattern → ℕ → ℕ
-parts_behind_all ps k = (all_written (map written ps) k).1
+unfoldable pub parts_after_all : List Pattern → ℕ → ℕ
+parts_after_all ps k = (all_written (map written ps) k).1
 
 -- Conditions.
 
@@ -160,7 +160,7 @@ peer_text source.Received peer k = codes " from " ++ pattern_text peer k
 peer_text source.Sent peer k = codes " to " ++ pattern_text peer k
 peer_text (source.Slot s) peer k = []
 
--- a source and its patterns, behind a row of k parts
+-- a source and its patterns, after a row of k parts
 unfoldable pub gen_text : Source → Pattern → Pattern → ℕ → List ℕ
 gen_text from message peer k = source_text from ++ codes " " ++ pattern_text message k ++ peer_text from peer (parts_behind message k)
 

@@ -28,7 +28,7 @@ use Rattle.query_plan.specs.Nodes.{parts_added}
 use Rattle.query_plan.specs.Spelled.{same_node}
 
 -- A node, how many parts its rows have, and for each variable in scope the part in which it stands. An AggBind adds a
--- part that is no variable, so a variable may stand further behind than its number among the variables says.
+-- part that is no variable, so a variable may stand further on than its number among the variables says.
 pub record Place : Type 0 where
   pub node : ℕ
   pub width : ℕ
@@ -104,22 +104,22 @@ semi_on at child = added child.0 (node.Semi at.node child.1)
 abbrev pub anti_on : Place → List Node × ℕ → List Node × ℕ
 anti_on at child = added child.0 (node.Anti at.node child.1)
 
--- the variables behind a generator: its own stand in the parts that it adds
-abbrev pub vars_behind : Place → RGen → List ℕ
-vars_behind at g = at.vars ++ range_with_len (suc at.width) (parts_added g)
+-- the variables after a generator: its own stand in the parts that it adds
+abbrev pub vars_after : Place → RGen → List ℕ
+vars_after at g = at.vars ++ range_with_len (suc at.width) (parts_added g)
 
--- behind a generator, at its node
-abbrev pub behind : Place → RGen → ℕ → Place
-behind at g k = record { node = k; width = at.width + parts_added g; vars = vars_behind at g }
+-- after a generator, at its node
+abbrev pub place_after : Place → RGen → ℕ → Place
+place_after at g k = record { node = k; width = at.width + parts_added g; vars = vars_after at g }
 
 -- the node of a generator
 abbrev pub gen_node : Place → RGen → Node
-gen_node at g = node.Gen at.node (rename_gen (known (vars_behind at g)) g)
+gen_node at g = node.Gen at.node (rename_gen (known (vars_after at g)) g)
 
 -- the chain of the generators
 abbrev pub gens_on : List RGen → Place → List Node → List Node × Place
 gens_on [] at nodes = (nodes, at)
-gens_on (g ∷ gs) at nodes = let first = added nodes (gen_node at g) in gens_on gs (behind at g first.1) first.0
+gens_on (g ∷ gs) at nodes = let first = added nodes (gen_node at g) in gens_on gs (place_after at g first.1) first.0
 
 -- one condition after the other
 abbrev pub all_on : List Norm → Norm
@@ -153,7 +153,7 @@ abbrev pub each_on : List RGen → Option Norm → Norm
 each_on gens f at nodes = let last = gens_on gens at nodes in anti_on at (denied_on f last.1 last.0)
 
 -- The aggregates of an operand are bound from left to right, and the new parts stand in their places. This gives the
--- nodes, the place behind the last one, and what the operand becomes.
+-- nodes, the place after the last one, and what the operand becomes.
 abbrev pub Binding : Type 0 → Type 0
 Binding A = Place → List Node → List Node × Place × A
 
@@ -161,7 +161,7 @@ abbrev pub all_bound : {A : Type 0} → List (Binding A) → Binding (List A)
 all_bound [] at nodes = (nodes, at, [])
 all_bound (f ∷ fs) at nodes = let first = f at nodes in let others = all_bound fs first.1 first.0 in (others.0, others.1, first.2 ∷ others.2)
 
--- A comparison, at the place behind the aggregates of its operands. Where there are none, that is the first place.
+-- A comparison, at the place after the aggregates of its operands. Where there are none, that is the first place.
 abbrev pub compared : Place → Place → Cond → List Node → List Node × ℕ
 compared at last b nodes = if at.node == last.node then filter_on b at nodes else semi_on at (filter_on b last nodes)
 
@@ -188,16 +188,16 @@ operand_step (Operand-F.Chain a more) at nodes =
 abbrev pub agg_node : Agg-F Norm (Binding Operand) (Binding Operand) (Binding SignedOperand) → Place → List ℕ → ℕ → Node
 agg_node a at vars child = node.AggBind at.node child a.op (rename (known vars) a.term) (rename_other (known at.vars) a.other)
 
--- behind an aggregate, at its node
-abbrev pub behind_agg : Place → ℕ → Place
-behind_agg at k = record { node = k; width = suc at.width; vars = at.vars }
+-- after an aggregate, at its node
+abbrev pub after_agg : Place → ℕ → Place
+after_agg at k = record { node = k; width = suc at.width; vars = at.vars }
 
 abbrev pub agg_step : Agg-F Norm (Binding Operand) (Binding Operand) (Binding SignedOperand) → Binding Operand
 agg_step a at nodes =
     let last = gens_on a.gens at nodes in
     let child = test_on a.cond last.1 last.0 in
     let end = added child.0 (agg_node a at last.1.vars child.1) in
-    (end.0, behind_agg at end.1, operand.Term (term.Part (suc at.width)))
+    (end.0, after_agg at end.1, operand.Term (term.Part (suc at.width)))
 
 abbrev pub signed_step : SignedOperand-F Norm (Binding Operand) (Binding Operand) (Binding SignedOperand) → Binding SignedOperand
 signed_step s at nodes = let only = s.operand at nodes in (only.0, only.1, roll-SignedOperand (record { minus = s.minus; operand = only.2 }))

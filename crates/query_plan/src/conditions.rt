@@ -1,5 +1,5 @@
 //! The texts of the conditions of filters.
-ghost use Rattle.query_plan.specs.PlanText.{cond_text, ending as ending_lem, link_text, opening as opening_lem, operand_text, sign_text, signed_text};
+ghost use Rattle.query_plan.specs.PlanText.{cond_text, ending as ending_def, link_text, opening as opening_def, operand_text, sign_text, signed_text};
 ghost use Rattle.std.specs.List.{flat_map};
 ghost use Rattle.std.specs.Prelude.{◌≡◌, ◌++◌, OnOk};
 
@@ -25,15 +25,15 @@ fn sign(op: CmpOp) -> &'static [u8]
 // What stands before a chain, within another one or not.
 #[tactic(auto, unfolding(crate::specs::PlanText::opening))]
 fn opening(within: bool) -> &'static [u8]
-    ensures { result.now ≡ opening_lem within }
+    ensures { result.now ≡ opening_def within }
 {
     if within { b"(" } else { b"" }
 }
 
-// What stands behind it.
+// What stands after it.
 #[tactic(auto, unfolding(crate::specs::PlanText::ending))]
 fn ending(within: bool) -> &'static [u8]
-    ensures { result.now ≡ ending_lem within }
+    ensures { result.now ≡ ending_def within }
 {
     if within { b")" } else { b"" }
 }
@@ -83,7 +83,7 @@ fn put_operand(operand: &Operand, within: bool, out: &mut Buf) -> Result<(), NoM
     }
 }
 
-// Appends the further operands of a chain, each behind its sign.
+// Appends the further operands of a chain, each after its sign.
 #[cycle(operands)]
 #[tactic(auto, unfolding(crate::specs::PlanText::signed_text))]
 fn put_more(more: &[SignedOperand], out: &mut Buf) -> Result<(), NoMemory>

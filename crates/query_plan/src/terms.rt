@@ -1,6 +1,6 @@
 //! The texts of terms and patterns.
 ghost use Rattle.da_values.specs.Text.{separated};
-ghost use Rattle.query_plan.specs.PlanText.{parts_behind, parts_behind_all, pattern_text, pattern_texts, slot_text, part_text, term_text, tuple_end as tuple_end_lem};
+ghost use Rattle.query_plan.specs.PlanText.{parts_behind, parts_after_all, pattern_text, pattern_texts, slot_text, part_text, term_text, tuple_end as tuple_end_def};
 ghost use Rattle.std.specs.Prelude.{◌≡◌, ◌++◌, map, IfOk, OnOk};
 
 use crate::width::plus;
@@ -23,10 +23,10 @@ pub fn put_slot(slot: u16, out: &mut Buf) -> Result<(), NoMemory>
     write_number(slot, out)
 }
 
-// What closes a tuple of so many parts; one part alone has a comma behind it.
+// What closes a tuple of so many parts; one part alone has a comma after it.
 #[tactic(auto, unfolding(crate::specs::PlanText::tuple_end))]
 fn tuple_end(parts: usize) -> &'static [u8]
-    ensures { result.now ≡ tuple_end_lem parts }
+    ensures { result.now ≡ tuple_end_def parts }
 {
     if parts == 1 { b",)" } else { b")" }
 }
@@ -69,7 +69,7 @@ fn put_terms(terms: &[Term], out: &mut Buf) -> Result<(), NoMemory>
     }
 }
 
-/// Appends a pattern behind a row of so many parts. Gives how many parts the row has then.
+/// Appends a pattern after a row of so many parts. Gives how many parts the row has then.
 #[cycle(patterns)]
 #[tactic(auto, using(crate::proofs::PlanTextAt::pattern_rules))]
 pub fn put_pattern(pattern: &Pattern, parts: u16, out: &mut Buf) -> Result<u16, NoMemory>
@@ -108,11 +108,11 @@ pub fn put_pattern(pattern: &Pattern, parts: u16, out: &mut Buf) -> Result<u16, 
     }
 }
 
-// Appends patterns with commas between, behind a row of so many parts. Gives how many parts the row has then.
+// Appends patterns with commas between, after a row of so many parts. Gives how many parts the row has then.
 #[cycle(patterns)]
 fn put_patterns(patterns: &[Pattern], parts: u16, out: &mut Buf) -> Result<u16, NoMemory>
     ensures text { OnOk result (out.new ≡ out.old ++ separated (pattern_texts patterns.now parts)) }
-    ensures behind { IfOk result (λ behind. behind ≡ parts_behind_all patterns.now parts) }
+    ensures behind { IfOk result (λ behind. behind ≡ parts_after_all patterns.now parts) }
 {
     match patterns {
         [] => Ok(parts),

@@ -1,5 +1,5 @@
 //! The texts of nodes, of numbered queries and of live patterns.
-ghost use Rattle.query_plan.specs.PlanText.{agg_word as agg_word_lem, gen_text, live_text, node_text, node_texts, other_text, peer_text, query_text, query_texts, source_text, two_nodes};
+ghost use Rattle.query_plan.specs.PlanText.{agg_word as agg_word_def, gen_text, live_text, node_text, node_texts, other_text, peer_text, query_text, query_texts, source_text, two_nodes};
 ghost use Rattle.std.specs.Prelude.{◌≡◌, ◌++◌, IfOk, OnOk, decimal, get_or};
 
 use crate::conditions::put_condition;
@@ -105,7 +105,7 @@ fn put_two_nodes(word: &[u8], first: u32, second: u32, out: &mut Buf) -> Result<
     put_number(b" ", second, out)
 }
 
-// Appends a source and its patterns, behind a row of so many parts.
+// Appends a source and its patterns, after a row of so many parts.
 #[tactic(auto, unfolding(crate::specs::PlanText::gen_text))]
 fn put_generator(
     source: Source,
@@ -157,7 +157,7 @@ fn put_peer(source: Source, peer: &Pattern, parts: u16, out: &mut Buf) -> Result
 // What an aggregate makes of a set, with the spaces round it.
 #[tactic(auto, unfolding(crate::specs::PlanText::agg_word))]
 fn agg_word(op: AggOp) -> &'static [u8]
-    ensures { result.now ≡ agg_word_lem op }
+    ensures { result.now ≡ agg_word_def op }
 {
     match op {
         AggOp::Count => b" count ",

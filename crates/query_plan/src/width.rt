@@ -98,7 +98,7 @@ pub fn width_at(widths: &[u16], node: u32) -> u16
 }
 
 // The width of the rows of a node, where the rows of the nodes before it have these widths.
-fn width_behind(node: &Node, widths: &[u16]) -> Result<u16, NoMemory>
+fn width_after(node: &Node, widths: &[u16]) -> Result<u16, NoMemory>
     ensures { IfOk result (λ width. width ≡ width_step (λ i. get_or widths.now i 0) node.now) }
 {
     match node {
@@ -125,7 +125,7 @@ pub fn widths_of(alloc: Global, nodes: &[Node]) -> Result<List<u16>, NoMemory>
 {
     let mut widths = List::new(alloc);
     for node in nodes {
-        let width = width_behind(node, widths.as_slice())?;
+        let width = width_after(node, widths.as_slice())?;
         widths.push(width)?;
     }
     Ok(widths)

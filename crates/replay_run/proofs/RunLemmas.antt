@@ -9,8 +9,8 @@ use Rattle.da_lang.specs.declared.event.Action.{Action}
 use Rattle.da_lang.specs.declared.event.Action.TheVariants.{Stop}
 use Rattle.da_lang.specs.declared.event.Event.{Event}
 use Rattle.da_lang.specs.declared.program.Program.{Program}
-use Rattle.da_outside.specs.Outside.{Appends, AppendsFront}
-use Rattle.da_outside.proofs.OutsideLemmas.{appends_none, appends_then, front_before, front_behind}
+use Rattle.da_outside.specs.Outside.{Appends, AppendsPrefix}
+use Rattle.da_outside.proofs.OutsideLemmas.{appends_none, appends_then, prefix_before, prefix_after}
 use Rattle.da_system.specs.declared.system.System.{System}
 use Rattle.da_system.specs.SourceRun.{EndsByStop, SrcRun, and_then, at_event, src_run_from}
 use Rattle.da_system.specs.State.{HasStepped, Stands, Whichever}
@@ -56,11 +56,11 @@ module _ (program : Program) (s : SystemState) (events : List Event) (place : �
   due : run_text program s events ≡ action_text came.told ++ action_text left.actions
   due = ap (λ (run : SrcRun). action_text run.actions) came.run_is ∙ text-append came.told left.actions
 
-  -- of the text of what is left a front was written
-  front_left : (new : Option (List ℕ)) (run : SrcRun) → left ≡ run → AppendsFront mid new (action_text run.actions) → AppendsFront before new (run_text program s events)
+  -- of the text of what is left a prefix was written
+  front_left : (new : Option (List ℕ)) (run : SrcRun) → left ≡ run → AppendsPrefix mid new (action_text run.actions) → AppendsPrefix before new (run_text program s events)
   front_left new run is front =
-      subst (AppendsFront before new) (sym (due ∙ ap (λ (r : SrcRun). action_text came.told ++ action_text r.actions) is))
-      (front_behind before mid new (action_text came.told) (action_text run.actions) came.written front)
+      subst (AppendsPrefix before new) (sym (due ∙ ap (λ (r : SrcRun). action_text came.told ++ action_text r.actions) is))
+      (prefix_after before mid new (action_text came.told) (action_text run.actions) came.written front)
 
   -- no event is left
   pub ran_all : length events ≤ place → HasRun program s events Done system before mid
@@ -101,23 +101,23 @@ module _ (program : Program) (s : SystemState) (events : List Event) (place : �
     came_on true next_system new tried is = done_on next_system new tried
     came_on false next_system new tried is = absurd (false≢true is)
 
-    -- an error of the event: of its text a front was written
-    pub fails_here : (new : Option (List ℕ)) → AppendsFront mid new (step_text p came.now next) → AppendsFront before new (run_text program s events)
+    -- an error of the event: of its text a prefix was written
+    pub fails_here : (new : Option (List ℕ)) → AppendsPrefix mid new (step_text p came.now next) → AppendsPrefix before new (run_text program s events)
     fails_here new front = by_step (sys_step p came.now next) refl
       where
-        by_step : (step : Option AfterEvent) → sys_step p came.now next ≡ step → AppendsFront before new (run_text program s events)
+        by_step : (step : Option AfterEvent) → sys_step p came.now next ≡ step → AppendsPrefix before new (run_text program s events)
         by_step None is =
-            let some : AppendsFront mid new [] = subst (λ step. AppendsFront mid new (text_of step)) is front in
-            front_left new _ (left_is None is) (front_before mid new [] _ some)
+            let some : AppendsPrefix mid new [] = subst (λ step. AppendsPrefix mid new (text_of step)) is front in
+            front_left new _ (left_is None is) (prefix_before mid new [] _ some)
         by_step (Some after) is =
-            let some : AppendsFront mid new (action_text after.actions) = subst (λ step. AppendsFront mid new (text_of step)) is front in
-            front_left new _ (left_is (Some after) is) (subst (AppendsFront mid new) (sym (text-append after.actions _)) (front_before mid new (action_text after.actions) _ some))
+            let some : AppendsPrefix mid new (action_text after.actions) = subst (λ step. AppendsPrefix mid new (text_of step)) is front in
+            front_left new _ (left_is (Some after) is) (subst (AppendsPrefix mid new) (sym (text-append after.actions _)) (prefix_before mid new (action_text after.actions) _ some))
 
-    -- it is not allowed, and of the line that says so a front was written
+    -- it is not allowed, and of the line that says so a prefix was written
     pub stop_fails : (allowed : Bool) (next_system : System) (still new : Option (List ℕ)) → IsTried p came.now next allowed next_system mid still → allowed ≡ false
-        → AppendsFront still new (action_text (Stop (place + 1) ∷ [])) → AppendsFront before new (run_text program s events)
+        → AppendsPrefix still new (action_text (Stop (place + 1) ∷ [])) → AppendsPrefix before new (run_text program s events)
     stop_fails true next_system still new tried is front = absurd (false≢true (sym is))
-    stop_fails false next_system still new tried is front = front_left new _ (left_is None tried.is) (subst (λ x. AppendsFront x new (action_text (Stop (place + 1) ∷ []))) tried.unwritten front)
+    stop_fails false next_system still new tried is front = front_left new _ (left_is None tried.is) (subst (λ x. AppendsPrefix x new (action_text (Stop (place + 1) ∷ []))) tried.unwritten front)
 
     -- the whole line was written, and the replay ended so
     pub stops_here : (allowed : Bool) (next_system : System) (still new : Option (List ℕ)) → IsTried p came.now next allowed next_system mid still → allowed ≡ false
@@ -154,8 +154,8 @@ module _ (program : Program) (e : Event) (system other : System) (told actions :
       let step = stepped s stands in
       record { then' = step.after; is = step.is; stands = step.stands; written = subst (λ xs. Appends before after (action_text xs)) (same ∙ step.added) written }
 
-  pub some_done : AppendsFront before after (action_text actions) → Whichever system (λ s. AppendsFront before after (step_text program s e))
+  pub some_done : AppendsPrefix before after (action_text actions) → Whichever system (λ s. AppendsPrefix before after (step_text program s e))
   some_done front = λ s stands.
       let step = stepped s stands in
       let text : step_text program s e ≡ action_text step.after.actions = ap text_of step.is in
-      subst (AppendsFront before after) (sym text) (subst (λ xs. AppendsFront before after (action_text xs)) (same ∙ step.added) front)
+      subst (AppendsPrefix before after) (sym text) (subst (λ xs. AppendsPrefix before after (action_text xs)) (same ∙ step.added) front)

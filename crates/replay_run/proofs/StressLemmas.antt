@@ -17,8 +17,8 @@ use Rattle.replay_run.specs.Replay.{run_on}
 use Rattle.replay_run.specs.Stress.{AreCounts, HasCome, IsNext, WasPicked, lines_of, picked_on}
 
 -- these events before those of a run
-abbrev behind_events : List Event → StressRun → StressRun
-behind_events events run = record run { events = events ++ run.events }
+abbrev after_events : List Event → StressRun → StressRun
+after_events events run = record run { events = events ++ run.events }
 
 abbrev ends_with : ℕ → StressRun
 ends_with last = record { events = []; last = last }
@@ -33,7 +33,7 @@ pub record CameBy (program : Program) (s : SystemState) (x n place : ℕ) (syste
   pub told : List Action
   pub now : SystemState
   pub many : length events ≡ place
-  pub picks : stress_from program n x s ≡ behind_events events (stress_from program (n - place) last now)
+  pub picks : stress_from program n x s ≡ after_events events (stress_from program (n - place) last now)
   pub does : run_on program s events ≡ ran_to told now
   pub stands : Stands system now
   pub are : AreCounts told counts
@@ -58,7 +58,7 @@ module _ (program : Program) (s : SystemState) (x n place : ℕ) (system : Syste
     told = came.told ++ picked.after.actions;
     now = picked.after.state;
     many = length-append came.events (picked.event ∷ []) ∙ ap (λ k. k + 1) came.many;
-    picks = came.picks ∙ ap (behind_events came.events) one
+    picks = came.picks ∙ ap (after_events came.events) one
         ∙ ap (λ (events : List Event). let run : StressRun = record rest { events = events } in run) (sym (append_assoc came.events (picked.event ∷ []) rest.events));
     does = run_more program came.events 1 s picked.event picked.after (ap (λ (run : SrcRun). run.stop) came.does) (ap (λ (run : SrcRun). sys_step program run.state picked.event) came.does ∙ picked.is)
         ∙ ap (λ (run : SrcRun). ran_to (run.actions ++ picked.after.actions) picked.after.state) came.does;
@@ -88,7 +88,7 @@ module _ (program : Program) (s : SystemState) (x n place : ℕ) (system : Syste
   }
     where
       whole : stress_from program n x s ≡ record { events = came.events; last = last }
-      whole = came.picks ∙ ap (behind_events came.events) none ∙ ap (λ (events : List Event). let run : StressRun = record { events = events; last = last } in run) (append-nil came.events)
+      whole = came.picks ∙ ap (after_events came.events) none ∙ ap (λ (events : List Event). let run : StressRun = record { events = events; last = last } in run) (append-nil came.events)
 
       does : run_on program s (picked_on program s x n) ≡ ran_to came.told came.now
       does = ap (λ (run : StressRun). run_on program s run.events) whole ∙ came.does

@@ -19,8 +19,8 @@ abbrev pub run_text : Program → SystemState → List Event → List ℕ
 run_text program s events = action_text (run_on program s events).actions
 
 -- the system stands for the state that the run of these events leaves
-abbrev pub StandsBehind : Program → SystemState → List Event → System → Type 0
-StandsBehind program s events system = Stands system (run_on program s events).state
+abbrev pub StandsAfter : Program → SystemState → List Event → System → Type 0
+StandsAfter program s events system = Stands system (run_on program s events).state
 
 -- the end of a run that stops at the event of this number, or at none
 abbrev pub outcome_of : Option ℕ → Outcome
@@ -38,7 +38,7 @@ HasEnded Memory = ⊥
 -- text
 pub record HasRun (program : Program) (s : SystemState) (events : List Event) (outcome : Outcome) (system : System) (before after : Option (List ℕ)) : Type 0 where
   pub outcome_is : outcome ≡ outcome_of (run_on program s events).stop
-  pub stands : StandsBehind program s events system
+  pub stands : StandsAfter program s events system
   pub written : Appends before after (run_text program s events)
 
 -- the text of what an event does: none where it is not allowed

@@ -11,7 +11,7 @@ use Rattle.da_system.specs.StressRun.{is_end, is_fault, is_got, is_out, is_sent,
 use Rattle.da_system.specs.SystemStep.{AfterEvent, SystemState, sys_step}
 use Rattle.replay_run.specs.declared.counts.Counts.{Counts}
 use Rattle.replay_run.specs.declared.generated.Summary.{Summary}
-use Rattle.replay_run.specs.Replay.{StandsBehind, run_on}
+use Rattle.replay_run.specs.Replay.{StandsAfter, run_on}
 
 -- the events that are picked from this state: at most n of them, where the last number was x
 abbrev pub picked_on : Program → SystemState → ℕ → ℕ → List Event
@@ -19,7 +19,7 @@ picked_on program s x n = (stress_from program n x s).events
 
 -- they were carried out from this state: the system stands for the state that they leave, and a sink gained the eight lines
 pub record HasPicked (program : Program) (s : SystemState) (x n : ℕ) (system : System) (before after : Option (List ℕ)) : Type 0 where
-  pub stands : StandsBehind program s (picked_on program s x n) system
+  pub stands : StandsAfter program s (picked_on program s x n) system
   pub written : Appends before after (stress_text_from program s x n)
 
 -- WHAT IS COUNTED
@@ -64,7 +64,7 @@ CountsMore old actions new = (told : List Action) → AreCounts told old → Are
 
 -- ONE EVENT
 
--- the number that comes behind x picked an event, which was carried out and its actions counted
+-- the number that comes after x picked an event, which was carried out and its actions counted
 pub record WasPicked (program : Program) (s : SystemState) (x number : ℕ) (old new : Counts) (system : System) : Type 0 where
   pub event : Event
   pub after : AfterEvent
@@ -90,7 +90,7 @@ pub record HasCome (program : Program) (s : SystemState) (x n : ℕ) (summary : 
   pub events : summary.events ≡ length (picked_on program s x n)
   pub counts : AreCounts (run_on program s (picked_on program s x n)).actions summary.counts
   pub last : summary.last ≡ (stress_from program n x s).last
-  pub stands : StandsBehind program s (picked_on program s x n) system
+  pub stands : StandsAfter program s (picked_on program s x n) system
 
 -- the eight lines of a summary
 abbrev pub lines_of : Summary → List ℕ

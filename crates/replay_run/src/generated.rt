@@ -1,8 +1,8 @@
 //! The run of a generated schedule, whose events are picked by numbers.
-ghost use Rattle.da_outside.specs.Outside.{Appends, AppendsFront, HasCause};
+ghost use Rattle.da_outside.specs.Outside.{Appends, AppendsPrefix, HasCause};
 ghost use Rattle.da_system.specs.State.{IsReady, Whichever, is_spent, program_of};
 ghost use Rattle.da_system.specs.StressRun.{number_line, stress_text_from};
-ghost use Rattle.replay_run.specs.Replay.{HasEnded, StandsBehind, run_on};
+ghost use Rattle.replay_run.specs.Replay.{HasEnded, StandsAfter, run_on};
 ghost use Rattle.replay_run.specs.Stress.{HasCome, HasPicked, HasRoom, IsNext, UsesRoom, lines_of, picked_on};
 ghost use Rattle.std.specs.Prelude.{◌≡◌, ◌++◌, ◌<◌, ◌≤◌, ◌^◌, None, false, true, IfOk, IsErrOf, OnErr, OnOk, length};
 
@@ -15,7 +15,7 @@ use da_values::{Buf, List, NoMemory, write_number};
 use std::alloc::Global;
 
 /// Carries out at most `n` events, each of which a number picks among those that may be picked, until there are none. The
-/// first number comes behind `start`. Then it writes how many events there were, how many actions of each kind, and the last
+/// first number comes after `start`. Then it writes how many events there were, how many actions of each kind, and the last
 /// number. The system may have made steps before.
 pub fn stress<K: Sink>(
     alloc: Global,
@@ -35,15 +35,15 @@ pub fn stress<K: Sink>(
 
     // However it ended, even where a write failed: the system is spent, or it stands where the events that were picked lead, and
     // no further.
-    ensures left { is_spent system.new ≡ false → Whichever system.old (λ s. StandsBehind (program_of system.old) s (picked_on (program_of system.old) s start n) system.new) }
+    ensures left { is_spent system.new ≡ false → Whichever system.old (λ s. StandsAfter (program_of system.old) s (picked_on (program_of system.old) s start n) system.new) }
 
     // Each event that is picked is allowed, and there are at most n of them. So the run is never `Forbidden`.
     ensures allowed { Whichever system.old (λ s. (run_on (program_of system.old) s (picked_on (program_of system.old) s start n)).stop ≡ None) }
     ensures few { Whichever system.old (λ s. length (picked_on (program_of system.old) s start n) ≤ n) }
     ensures done { HasEnded result → result ≡ Outcome.Done }
 
-    // However it ended, no more was written than the front of the eight lines.
-    ensures front { Whichever system.old (λ s. AppendsFront (K.taken sink.old) (K.taken sink.new) (stress_text_from (program_of system.old) s start n)) }
+    // However it ended, no more was written than a prefix of the eight lines.
+    ensures prefix { Whichever system.old (λ s. AppendsPrefix (K.taken sink.old) (K.taken sink.new) (stress_text_from (program_of system.old) s start n)) }
 
     // `WriteFault` has its cause.
     ensures write { HasCause (K.faults sink.old) (K.faults sink.new) (result ≡ Outcome.WriteFault) }
@@ -69,7 +69,7 @@ struct Summary {
 // Writes the eight lines of a summary.
 fn write_summary<K: Sink>(alloc: Global, summary: &Summary, sink: &mut K) -> Result<(), Trouble>
     ensures written { OnOk result (Appends (K.taken sink.old) (K.taken sink.new) (lines_of summary.now)) }
-    ensures front { OnErr result (AppendsFront (K.taken sink.old) (K.taken sink.new) (lines_of summary.now)) }
+    ensures prefix { OnErr result (AppendsPrefix (K.taken sink.old) (K.taken sink.new) (lines_of summary.now)) }
     ensures cause { HasCause (K.faults sink.old) (K.faults sink.new) (IsErrOf result Trouble.Failed) }
 {
     let mut text = List::new(alloc);
@@ -77,7 +77,7 @@ fn write_summary<K: Sink>(alloc: Global, summary: &Summary, sink: &mut K) -> Res
     write_all(sink, text.as_slice())
 }
 
-// Carries out at most `n` events that numbers pick behind `start`.
+// Carries out at most `n` events that numbers pick after `start`.
 fn run_picked(alloc: Global, system: &mut System, start: u64, n: u64) -> Result<Summary, NoMemory>
     requires { IsReady system.old }
     ensures ran { IfOk result (λ summary. Whichever system.old (λ s. HasCome (program_of system.old) s start n summary system.new)) }
@@ -105,7 +105,7 @@ fn run_picked(alloc: Global, system: &mut System, start: u64, n: u64) -> Result<
     })
 }
 
-// Carries out the event that the number behind `last` picks, and counts its actions. It answers that number, or `None` where
+// Carries out the event that the number after `last` picks, and counts its actions. It answers that number, or `None` where
 // there is no event to pick.
 fn run_next(
     alloc: Global,

@@ -1,6 +1,6 @@
 //! The run of a schedule, event by event.
 ghost use Rattle.da_lang.specs.declared.event.Action.TheVariants as action;
-ghost use Rattle.da_outside.specs.Outside.{Appends, AppendsFront, HasCause};
+ghost use Rattle.da_outside.specs.Outside.{Appends, AppendsPrefix, HasCause};
 ghost use Rattle.da_system.specs.SourceRun.{EndsByStop};
 ghost use Rattle.da_system.specs.State.{IsReady, Whichever, program_of};
 ghost use Rattle.replay_run.specs.Replay.{HasEnded, HasRun, IsTried, run_on, run_text, step_text};
@@ -15,7 +15,7 @@ use da_values::List;
 use sched_text::write_action;
 use std::alloc::Global;
 
-/// Steps the system through the events, and writes the lines of each behind its step, until they are used up or one is not
+/// Steps the system through the events, and writes the lines of each after its step, until they are used up or one is not
 /// allowed. The system may have made steps before. Where the replay ends in `WriteFault` or `Memory`, it is not told how far
 /// the system has come.
 pub fn replay<K: Sink>(
@@ -35,8 +35,8 @@ pub fn replay<K: Sink>(
     // It is `Forbidden` exactly where the run ends by a stop, at the event of its number.
     ensures stops { HasEnded result → Whichever system.old (λ s. (i : ℕ) → (result ≡ Outcome.Forbidden i) ↔ EndsByStop (run_on (program_of system.old) s events.now).actions i) }
 
-    // However it ended, no more was written than the front of that text.
-    ensures front { Whichever system.old (λ s. AppendsFront (K.taken sink.old) (K.taken sink.new) (run_text (program_of system.old) s events.now)) }
+    // However it ended, no more was written than a prefix of that text.
+    ensures prefix { Whichever system.old (λ s. AppendsPrefix (K.taken sink.old) (K.taken sink.new) (run_text (program_of system.old) s events.now)) }
 
     // `WriteFault` has its cause.
     ensures write { HasCause (K.faults sink.old) (K.faults sink.new) (result ≡ Outcome.WriteFault) }
@@ -63,7 +63,7 @@ fn try_event<K: Sink>(
     ensures tried { IfOk result (λ allowed. Whichever system.old (λ s. IsTried (program_of system.old) s event.now allowed system.new (K.taken sink.old) (K.taken sink.new))) }
     ensures ready { IsReady system.new }
     ensures program { program_of system.new ≡ program_of system.old }
-    ensures front { OnErr result (Whichever system.old (λ s. AppendsFront (K.taken sink.old) (K.taken sink.new) (step_text (program_of system.old) s event.now))) }
+    ensures prefix { OnErr result (Whichever system.old (λ s. AppendsPrefix (K.taken sink.old) (K.taken sink.new) (step_text (program_of system.old) s event.now))) }
     ensures cause { HasCause (K.faults sink.old) (K.faults sink.new) (IsErrOf result Trouble.Failed) }
 {
     let mut actions = List::new(alloc);
@@ -79,7 +79,7 @@ fn try_event<K: Sink>(
 // Writes the lines of some actions.
 fn write_actions<K: Sink>(alloc: Global, actions: &[Action], sink: &mut K) -> Result<(), Trouble>
     ensures written { OnOk result (Appends (K.taken sink.old) (K.taken sink.new) (action_text actions.now)) }
-    ensures front { OnErr result (AppendsFront (K.taken sink.old) (K.taken sink.new) (action_text actions.now)) }
+    ensures prefix { OnErr result (AppendsPrefix (K.taken sink.old) (K.taken sink.new) (action_text actions.now)) }
     ensures cause { HasCause (K.faults sink.old) (K.faults sink.new) (IsErrOf result Trouble.Failed) }
 {
     let mut text = List::new(alloc);
@@ -92,7 +92,7 @@ fn write_actions<K: Sink>(alloc: Global, actions: &[Action], sink: &mut K) -> Re
 // Writes the line that the run stops at this event, with which the replay ends.
 fn stop_at<K: Sink>(alloc: Global, i: u64, sink: &mut K) -> Outcome
     ensures stopped { HasEnded result → (result ≡ Outcome.Forbidden i) × Appends (K.taken sink.old) (K.taken sink.new) (action_text (action.Stop i ∷ [])) }
-    ensures front { AppendsFront (K.taken sink.old) (K.taken sink.new) (action_text (action.Stop i ∷ [])) }
+    ensures prefix { AppendsPrefix (K.taken sink.old) (K.taken sink.new) (action_text (action.Stop i ∷ [])) }
     ensures write { HasCause (K.faults sink.old) (K.faults sink.new) (result ≡ Outcome.WriteFault) }
 {
     match write_actions(alloc, &[Action::Stop { i }], sink) {

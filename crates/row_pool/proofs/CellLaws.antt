@@ -9,7 +9,7 @@ use Rattle.row_pool.specs.declared.cell.Cell.{Cell}
 use Rattle.row_pool.proofs.CountLaws.{count_self, count_other, count_more, count_most}
 use Rattle.row_pool.specs.Cells.{Cells, cell_at, value_in, holders_in, parts_in, value_at, holders_at, count, inside, outside, live_in, children, Becomes, Agrees, IsBalanced, AllHeld, IsPool}
 
--- the cells behind the first
+-- the cells after the first
 tail : Cells → Cells
 tail [] = []
 tail (c ∷ cs) = cs

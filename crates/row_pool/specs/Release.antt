@@ -28,7 +28,7 @@ abbrev pub Releases : (Val → Option ℕ) → Cells → Option ℕ → List ℕ
 Releases find s first ids find' t first' ids' =
     (owed : ℕ → ℕ) → IsReleasing find s (λ k. owed k + count k ids) first → IsReleasing find' t (λ k. owed k + count k ids') first' × Spares owed s t
 
--- an id lost one holder; where it was the last, its cell went in front of those that are to leave
+-- an id lost one holder; where it was the last, its cell was put before those that are to leave
 pub record LosesHolder (s : Cells) (first : Option ℕ) (key : ℕ) (t : Cells) (first' : Option ℕ) : Type 0 where
   pub last : (c : Cell) → cell_at s key ≡ Some c → c.holders ≡ 1 → Becomes s t key (Some (record c { holders = 0; next = first })) × (first' ≡ Some key)
   pub more : (c : Cell) → cell_at s key ≡ Some c → 1 < c.holders → Becomes s t key (Some (record c { holders = c.holders - 1 })) × (first' ≡ first)

@@ -1,7 +1,7 @@
-//! Values that are kept once each, under ids, as long as someone holds them.
+//! Values under ids: equal values have one id, as long as someone holds it.
 //!
-//! A pool counts the holders of each of its values. A tuple or a set in the pool holds its parts there, so a value that
-//! stands in many others is kept once for all of them. A value that loses its last holder leaves at once.
+//! A pool counts the holders of each of its values. A tuple or a set in the pool holds the ids of its parts, and stands there
+//! with them once in its cell and once more in the index. A value that loses its last holder leaves at once.
 #![tactic(auto)]
 
 mod cell;

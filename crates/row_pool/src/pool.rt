@@ -156,7 +156,7 @@ impl Pool {
         Ok(keys)
     }
 
-    // The key of one more value, behind those so far.
+    // The key of one more value, after those so far.
     #[cycle(intern)]
     fn intern_next(&mut self, v: &Value, keys: &mut List<usize>) -> Result<(), NoMemory>
         ensures ok { OnOk result (IsGivenNext self.old keys.old self.new keys.new (val_of v.now)) }

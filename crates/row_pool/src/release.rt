@@ -12,7 +12,7 @@ use da_values::Value;
 use indexmap::IndexMap;
 use slab::Slab;
 
-/// One holder fewer. A cell that lost its last one goes in front of those that are to leave, of which the first is
+/// One holder fewer. A cell that lost its last one is put before those that are to leave, of which the first is
 /// given and answered.
 pub(crate) fn lose_holder(cells: &mut Slab<Cell>, key: usize, first: Option<usize>) -> Option<usize>
     ensures loses { LosesHolder cells.old.slots first key cells.new.slots result }

@@ -1,5 +1,5 @@
 //! Whether conditions hold of a row. They have no `some`, no `each` and no aggregate, as those of plan nodes.
-ghost use Rattle.da_lang.specs.Queries.{compares as compares_lem, holds as holds_lem, operand_value as operand_lem, signed_value as signed_lem, total};
+ghost use Rattle.da_lang.specs.Queries.{compares as compares_def, holds as holds_def, operand_value as operand_def, signed_value as signed_def, total};
 ghost use Rattle.da_values.specs.Value.{val_of};
 ghost use Rattle.da_values.specs.Views.{truth_of};
 ghost use Rattle.query_plan.specs.PlainNodes.{ArePlain, ArePlainSigned, is_plain, is_plain_operand};
@@ -18,7 +18,7 @@ use std::cmp::Ordering;
 #[tactic(auto, using(crate::proofs::PlainForms::plain_rules))]
 pub fn holds(condition: &Cond, locals: &Locals<'_>, row: &Row) -> Result<bool, NoMemory>
     requires { is_plain condition.now ≡ true }
-    ensures { IfOk result (λ b. b ≡ holds_lem (data_of locals.now) condition.now row.now) }
+    ensures { IfOk result (λ b. b ≡ holds_def (data_of locals.now) condition.now row.now) }
 {
     match condition {
         Cond::Truth(term) => Ok(is_true(&term_value(term, locals, row)?)),
@@ -38,7 +38,7 @@ pub fn holds(condition: &Cond, locals: &Locals<'_>, row: &Row) -> Result<bool, N
 #[cycle(conditions)]
 fn all_hold(conditions: &[Cond], locals: &Locals<'_>, row: &Row) -> Result<bool, NoMemory>
     requires { ArePlain conditions.now }
-    ensures { IfOk result (λ b. b ≡ list_all (λ c. holds_lem (data_of locals.now) c row.now) conditions.now) }
+    ensures { IfOk result (λ b. b ≡ list_all (λ c. holds_def (data_of locals.now) c row.now) conditions.now) }
 {
     for condition in conditions {
         if !holds(condition, locals, row)? {
@@ -52,7 +52,7 @@ fn all_hold(conditions: &[Cond], locals: &Locals<'_>, row: &Row) -> Result<bool,
 #[cycle(conditions)]
 fn some_holds(conditions: &[Cond], locals: &Locals<'_>, row: &Row) -> Result<bool, NoMemory>
     requires { ArePlain conditions.now }
-    ensures { IfOk result (λ b. b ≡ list_any (λ c. holds_lem (data_of locals.now) c row.now) conditions.now) }
+    ensures { IfOk result (λ b. b ≡ list_any (λ c. holds_def (data_of locals.now) c row.now) conditions.now) }
 {
     for condition in conditions {
         if holds(condition, locals, row)? {
@@ -67,7 +67,7 @@ fn some_holds(conditions: &[Cond], locals: &Locals<'_>, row: &Row) -> Result<boo
 #[tactic(auto, using(crate::proofs::PlainForms::plain_rules))]
 fn operand_value(operand: &Operand, locals: &Locals<'_>, row: &Row) -> Result<Value, NoMemory>
     requires { is_plain_operand operand.now ≡ true }
-    ensures { IfOk result (λ v. val_of v ≡ operand_lem (data_of locals.now) operand.now row.now) }
+    ensures { IfOk result (λ v. val_of v ≡ operand_def (data_of locals.now) operand.now row.now) }
 {
     match operand {
         Operand::Term(term) => term_value(term, locals, row),
@@ -89,7 +89,7 @@ fn sum_with(
     first: i128,
 ) -> Result<i128, NoMemory>
     requires { ArePlainSigned more.now }
-    ensures { IfOk result (λ sum. sum ≡ first +ℤ total (map (λ s. signed_lem (data_of locals.now) s row.now) more.now)) }
+    ensures { IfOk result (λ sum. sum ≡ first +ℤ total (map (λ s. signed_def (data_of locals.now) s row.now) more.now)) }
 {
     let mut sum = first;
     for signed in more {
@@ -112,7 +112,7 @@ fn is_true(v: &Value) -> bool
 
 // Whether a comparison is true of two values in this order.
 fn compares(op: CmpOp, order: Ordering) -> bool
-    ensures { result ≡ compares_lem op order }
+    ensures { result ≡ compares_def op order }
 {
     match op {
         CmpOp::Eq => order.is_eq(),

@@ -1,9 +1,9 @@
 //! The values of terms in a row.
-ghost use Rattle.da_lang.specs.Matching.{term_value as term_lem};
-ghost use Rattle.da_lang.specs.Queries.{other_value as other_lem};
+ghost use Rattle.da_lang.specs.Matching.{term_value as term_def};
+ghost use Rattle.da_lang.specs.Queries.{other_value as other_def};
 ghost use Rattle.da_lang.specs.World.{or_nothing};
 ghost use Rattle.da_values.specs.Value.{val_of};
-ghost use Rattle.da_values.specs.Views.{int_of as int_lem};
+ghost use Rattle.da_values.specs.Views.{int_of as int_def};
 ghost use Rattle.row_terms.specs.Locals.{data_of};
 ghost use Rattle.std.specs.Option.{option_copied, option_map};
 ghost use Rattle.std.specs.Prelude.{◌≡◌, ◌+ℤ◌, IfOk, map, neg_ℤ, if◌then◌else◌};
@@ -17,7 +17,7 @@ use std::alloc::Global;
 #[cycle(terms)]
 #[tactic(auto, using(crate::proofs::TermForms::term_rules))]
 pub fn term_value(term: &Term, locals: &Locals<'_>, row: &Row) -> Result<Value, NoMemory>
-    ensures { IfOk result (λ v. val_of v ≡ term_lem locals.now.me locals.now.slots.now row.now term.now) }
+    ensures { IfOk result (λ v. val_of v ≡ term_def locals.now.me locals.now.slots.now row.now term.now) }
 {
     match term {
         Term::Const(v) => copy_value(locals.alloc, v),
@@ -32,7 +32,7 @@ pub fn term_value(term: &Term, locals: &Locals<'_>, row: &Row) -> Result<Value, 
 // The values of terms.
 #[cycle(terms)]
 fn term_values(terms: &[Term], locals: &Locals<'_>, row: &Row) -> Result<Row, NoMemory>
-    ensures { IfOk result (λ values. values ≡ map (term_lem locals.now.me locals.now.slots.now row.now) terms.now) }
+    ensures { IfOk result (λ values. values ≡ map (term_def locals.now.me locals.now.slots.now row.now) terms.now) }
 {
     let mut values = Row::new(locals.alloc);
     for term in terms {
@@ -53,7 +53,7 @@ fn copy_found(alloc: Global, found: Option<&Value>) -> Result<Value, NoMemory>
 
 /// The value of a term that may be left out: then it is process 0.
 pub fn other_value(other: &Option<Term>, locals: &Locals<'_>, row: &Row) -> Result<Value, NoMemory>
-    ensures { IfOk result (λ v. val_of v ≡ other_lem (data_of locals.now) row.now other.now) }
+    ensures { IfOk result (λ v. val_of v ≡ other_def (data_of locals.now) row.now other.now) }
 {
     match other {
         Some(term) => term_value(term, locals, row),
@@ -64,7 +64,7 @@ pub fn other_value(other: &Option<Term>, locals: &Locals<'_>, row: &Row) -> Resu
 /// The number of an integer, or 0 for what is none.
 #[tactic(auto, using(crate::proofs::TermForms::viewing))]
 pub fn int_of(v: &Value) -> i128
-    ensures { result ≡ int_lem (val_of v.now) }
+    ensures { result ≡ int_def (val_of v.now) }
 {
     match v {
         Value::Int(number) => *number,

@@ -1,18 +1,18 @@
 //! Cases, and how files hold them.
 //!
-//! Lines that begin with `===` cut a file into parts. Behind `=== program` stands a program. Behind `=== replay SCHEDULE`
-//! stands what the replay of the last program writes, where `; ` stands between the lines of the schedule. Behind
+//! Lines that begin with `===` cut a file into parts. After `=== program` stands a program. After `=== replay SCHEDULE`
+//! stands what the replay of the last program writes, where `; ` stands between the lines of the schedule. After
 //! `=== rows SCHEDULE` each line `PART ==> TEXT` is a case: the last program has the part in the place of each `@`, and
-//! `; ` stands between the lines of the text. Behind `=== rows` alone the part is the schedule. Behind `=== node WORDS`
-//! stands what a node of the last program writes and gives, and behind `=== stress WORDS` what a generated schedule comes
-//! to. Behind `=== join` stand traces, each with a line `--` behind it, and behind a line `==>` what their join gives. Behind
+//! `; ` stands between the lines of the text. After `=== rows` alone the part is the schedule. After `=== node WORDS`
+//! stands what a node of the last program writes and gives, and after `=== stress WORDS` what a generated schedule comes
+//! to. After `=== join` stand traces, each with a line `--` after it, and after a line `==>` what their join gives. After
 //! `=== joins PART` each line `TRACES ==> TEXT` is a case, over the last program with the part in the place of each `@`: `|`
 //! stands between the traces, and `; ` between the lines of each and of the text. Other parts are remarks.
 use std::alloc::{AllocError, Global};
 
 /// What is done with a program.
 #[derive(Clone, Copy, Debug)]
-pub enum Task {
+pub enum CaseKind {
     /// A schedule is replayed.
     Replay,
     /// A process of it is run as a node.
@@ -27,7 +27,7 @@ pub enum Task {
 #[derive(Debug, Drop)]
 pub struct Case {
     pub program: String,
-    pub task: Task,
+    pub task: CaseKind,
     pub words: String,
     pub expected: String,
 }
@@ -43,11 +43,11 @@ pub fn cases_of(alloc: Global, file: &str) -> Result<Vec<Case>, AllocError> {
             "program" => program = text,
             "replay" => cases.push(case_of(alloc, program, "", words, text)?)?,
             "rows" => push_rows(alloc, program, words, text, &mut cases)?,
-            "node" => cases.push(task_case(alloc, program, Task::Node, words, text)?)?,
-            "stress" => cases.push(task_case(alloc, program, Task::Stress, words, text)?)?,
+            "node" => cases.push(task_case(alloc, program, CaseKind::Node, words, text)?)?,
+            "stress" => cases.push(task_case(alloc, program, CaseKind::Stress, words, text)?)?,
             "join" => {
                 let (traces, wanted) = text.split_once("==>\n").unwrap_or((text, ""));
-                cases.push(task_case(alloc, program, Task::Join, traces, wanted)?)?;
+                cases.push(task_case(alloc, program, CaseKind::Join, traces, wanted)?)?;
             }
             "joins" => push_joins(alloc, program, words, text, &mut cases)?,
             _ => {}
@@ -89,7 +89,7 @@ fn push_joins(
 ) -> Result<(), AllocError> {
     for row in rows.lines() {
         if let Some((traces, expected)) = row.split_once(" ==>") {
-            let mut case = task_case(alloc, "", Task::Join, "", "")?;
+            let mut case = task_case(alloc, "", CaseKind::Join, "", "")?;
             push_program(program, part, &mut case.program)?;
             push_traces(traces, &mut case.words)?;
             if let Some(lines) = expected.strip_prefix(' ') {
@@ -111,7 +111,7 @@ fn case_of(
 ) -> Result<Case, AllocError> {
     let mut case = Case {
         program: String::new(alloc),
-        task: Task::Replay,
+        task: CaseKind::Replay,
         words: String::new(alloc),
         expected: String::new(alloc),
     };
@@ -136,7 +136,7 @@ fn push_program(program: &str, part: &str, text: &mut String) -> Result<(), Allo
 fn task_case(
     alloc: Global,
     program: &str,
-    task: Task,
+    task: CaseKind,
     words: &str,
     expected: &str,
 ) -> Result<Case, AllocError> {
@@ -152,7 +152,7 @@ fn task_case(
     Ok(case)
 }
 
-// Adds traces that have `|` between them, each with a line `--` behind it.
+// Adds traces that have `|` between them, each with a line `--` after it.
 fn push_traces(traces: &str, text: &mut String) -> Result<(), AllocError> {
     for trace in traces.split('|') {
         if !trace.trim().is_empty() {

@@ -14,7 +14,7 @@ use std::alloc::{AllocError, Global};
 use std::str;
 use trace_join::{Block, JoinFault, join};
 
-/// What a join of traces gives, with the status on a line behind it where that is not 0. Each trace has a line `--` behind it.
+/// What a join of traces gives, with the status on a line after it where that is not 0. Each trace has a line `--` after it.
 /// Without the LF of its last line each trace gives the same.
 pub fn join_reply(alloc: Global, program: &[u8], traces: &str) -> anyhow::Result<String> {
     let compiled = compiled_of(alloc, program)?;
@@ -56,7 +56,7 @@ fn reply_of(alloc: Global, compiled: &Compiled, texts: &[String]) -> anyhow::Res
     }
     let read = traces_of(alloc, texts)?;
     match read {
-        Ok(traces) => joined(alloc, compiled, traces.as_slice()),
+        Ok(traces) => join_all(alloc, compiled, traces.as_slice()),
         Err(Block { process, line }) => {
             Ok(format!(in alloc; "badtrace {process} {line}\nstatus 14\n")?)
         }
@@ -80,7 +80,7 @@ fn traces_of(alloc: Global, texts: &[String]) -> Result<Result<List<List<Action>
     Ok(Ok(traces))
 }
 
-// The number of the process behind this one.
+// The number of the process after this one.
 fn next_number(process: u16) -> Result<u16, NoMemory>
     ensures { IfOk result (λ next. next ≡ process + 1) }
 {
@@ -88,7 +88,7 @@ fn next_number(process: u16) -> Result<u16, NoMemory>
 }
 
 // What traces of the processes give.
-fn joined(alloc: Global, compiled: &Compiled, traces: &[List<Action>]) -> anyhow::Result<String>
+fn join_all(alloc: Global, compiled: &Compiled, traces: &[List<Action>]) -> anyhow::Result<String>
     requires compiled { IsCompiled compiled.now }
     requires traces { AreTraces (program_of compiled.now) traces.now }
 {

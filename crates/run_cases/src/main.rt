@@ -10,7 +10,7 @@ mod replays;
 mod stresses;
 
 use anyhow::Context;
-use cases::{Case, Task, cases_of};
+use cases::{Case, CaseKind, cases_of};
 use joins::join_reply;
 use nodes::node_reply;
 use replays::replay_reply;
@@ -96,9 +96,9 @@ fn agrees<R: Print + AllocGlobal>(
 fn reply(alloc: Global, case: &Case) -> anyhow::Result<String> {
     let (program, words) = (case.program.as_str(), case.words.as_str());
     match case.task {
-        Task::Replay => replay_reply(alloc, program.as_bytes(), words.as_bytes()),
-        Task::Node => node_reply(alloc, program.as_bytes(), words),
-        Task::Stress => stress_reply(alloc, program.as_bytes(), words),
-        Task::Join => join_reply(alloc, program.as_bytes(), words),
+        CaseKind::Replay => replay_reply(alloc, program.as_bytes(), words.as_bytes()),
+        CaseKind::Node => node_reply(alloc, program.as_bytes(), words),
+        CaseKind::Stress => stress_reply(alloc, program.as_bytes(), words),
+        CaseKind::Join => join_reply(alloc, program.as_bytes(), words),
     }
 }

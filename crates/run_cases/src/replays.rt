@@ -14,7 +14,7 @@ use sched_text::{SchedFault, read_schedule};
 use std::alloc::Global;
 use std::str;
 
-/// What the replay of a schedule writes, with the status on a line behind it where that is not 0.
+/// What the replay of a schedule writes, with the status on a line after it where that is not 0.
 pub fn replay_reply(alloc: Global, program: &[u8], schedule: &[u8]) -> anyhow::Result<String> {
     let typed = typed_of(alloc, program)?;
     let compiled = match compile(alloc, typed) {

@@ -96,7 +96,7 @@ impl<'t> Join<'t> {
         }
     }
 
-    /// The line at which a process is blocked, or one behind the last line of its trace.
+    /// The line at which a process is blocked, or one after the last line of its trace.
     pub fn end_of(&self, process: u16) -> u64 {
         for block in self.blocks {
             if block.process == process {

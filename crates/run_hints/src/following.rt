@@ -1,4 +1,4 @@
-//! What the events are that are allowed behind a schedule.
+//! What the events are that are allowed after a schedule.
 ghost use Rattle.da_core.specs.Compiled.{IsCompiled};
 
 use crate::marked::mark_program;
@@ -14,7 +14,7 @@ use text_hints::{Phrase, between};
 /// The bytes of a message that are shown at most.
 const SHOWN: usize = 160;
 
-/// What each of some events is that are allowed behind others: one phrase for each of them, without an end of line. There are
+/// What each of some events is that are allowed after others: one phrase for each of them, without an end of line. There are
 /// fewer where memory is refused, and none where the program does not run so far again.
 pub fn explain_events(
     alloc: Global,
@@ -41,10 +41,10 @@ fn tell_events(
     events: &[Event],
 ) -> Option<List<Phrase>> {
     let compiled = compiled_of(alloc, program)?;
-    tell_behind(alloc, &compiled, before, events)
+    tell_after(alloc, &compiled, before, events)
 }
 
-fn tell_behind(
+fn tell_after(
     alloc: Global,
     compiled: &Compiled,
     before: &[Event],
@@ -110,7 +110,7 @@ fn put_process(run: &Behind<'_>, p: u32, out: &mut Phrase) {
     }
 }
 
-// A message that is under way.
+// A message in flight.
 fn put_message(run: &Behind<'_>, p: u32, q: u32, i: u32, out: &mut Phrase) {
     let text = run.state.text(p, q, i);
     out.put(between(text, 0, SHOWN));

@@ -1,4 +1,4 @@
-//! What a person is told of a run: of an event that is not allowed where its process stands, what is under way, and which
+//! What a person is told of a run: of an event that is not allowed where its process stands, what is in flight, and which
 //! events are allowed there, for which the program is run up to there once more; why a line is none of a schedule; what a fault
 //! was; why a process is blocked in a join of traces, and why a line is none of a trace. No contract speaks of the words.
 #![tactic(auto)]

@@ -2,7 +2,7 @@
 use std::alloc::Global;
 use text_hints::{Nearest, Phrase};
 
-/// The events, each with the numbers behind its word.
+/// The events, each with the numbers after its word.
 const EVENTS: [(&[u8], &[u8]); 7] = [
     (b"move", b"move P, or move P K"),
     (b"timeout", b"timeout P"),
@@ -94,7 +94,7 @@ fn tell_word(alloc: Global, word: &[u8], out: &mut Phrase) {
     }
 }
 
-// Whether so many numbers may stand behind a word.
+// Whether so many numbers may stand after a word.
 fn takes(word: &[u8], count: usize) -> bool {
     match word {
         b"move" => count == 1 || count == 2,
@@ -103,7 +103,7 @@ fn takes(word: &[u8], count: usize) -> bool {
     }
 }
 
-// A word behind the first that is no number of an event.
+// A word after the first that is no number of an event.
 fn tell_number(line: &[u8], out: &mut Phrase) -> bool {
     for word in line.split(|byte| *byte == b' ').skip(1) {
         if !is_number(word) {

@@ -2,7 +2,7 @@
 //!
 //! Before each label and each `await` stands one more statement, which prints the line of what follows it. So the last line
 //! that a process has printed in this way is the one where it waits. A statement that prints changes nothing else, but that an
-//! `await` behind it does not stand directly behind a label. So none stands there, and the one before the label prints the line
+//! `await` after it does not stand directly after a label. So none stands there, and the one before the label prints the line
 //! of the `await` too.
 use da_lang::Action;
 use da_lex::{Token, TokenKind, lex};
@@ -62,7 +62,7 @@ fn mark_all(text: &[u8], tokens: &[Token], made: &mut Making) -> Option<()> {
     for (place, token) in tokens.iter().enumerate() {
         if fresh && waits(text, token) && token.line != passed {
             let (_, rest) = tokens.split_at(place.saturating_add(1).min(tokens.len()));
-            passed = await_behind(text, token, rest);
+            passed = await_after(text, token, rest);
             add_mark(text, token, passed, made)?;
         }
         fresh = matches!(
@@ -73,8 +73,8 @@ fn mark_all(text: &[u8], tokens: &[Token], made: &mut Making) -> Option<()> {
     Some(())
 }
 
-// The line of the `await` that stands directly behind a label, or 0 where there is none.
-fn await_behind(text: &[u8], label: &Token, rest: &[Token]) -> u32 {
+// The line of the `await` that stands directly after a label, or 0 where there is none.
+fn await_after(text: &[u8], label: &Token, rest: &[Token]) -> u32 {
     if mark_at(text, label) != Mark::Dashes {
         return 0;
     }
@@ -104,7 +104,7 @@ fn add_mark(text: &[u8], token: &Token, behind: u32, made: &mut Making) -> Optio
     Some(())
 }
 
-// The statement that prints a line, and that of an `await` directly behind it, or 0.
+// The statement that prints a line, and that of an `await` directly after it, or 0.
 fn add_statement(line: u32, behind: u32, out: &mut Buf) -> Option<()> {
     out.append(b"output(('").ok()?;
     out.append(WORD).ok()?;
@@ -160,7 +160,7 @@ fn begin_of_line(text: &[u8], place: usize) -> usize {
     place.saturating_sub(length)
 }
 
-/// The line where a process comes to wait, and that of the `await` directly behind it where it is a label, or 0.
+/// The line where a process comes to wait, and that of the `await` directly after it where it is a label, or 0.
 #[derive(Clone, Copy, Debug)]
 pub struct Told {
     pub line: u32,

@@ -1,4 +1,4 @@
-//! What a run has come to: where its processes stand, and what is under way.
+//! What a run has come to: where its processes stand, and what is in flight.
 use crate::marked::{Told, told_in};
 use da_lang::{Action, Event, FaultKind};
 use da_values::{Buf, List, write_value};
@@ -18,7 +18,7 @@ pub enum Standing {
     Faulted(FaultKind, u32),
 }
 
-/// A process, and the line where it waits, which it has told. Where that is a label with an `await` directly behind it, it has
+/// A process, and the line where it waits, which it has told. Where that is a label with an `await` directly after it, it has
 /// told the line of this one too, and that is 0 otherwise.
 #[derive(Clone, Copy, Debug)]
 pub struct Process {
@@ -27,15 +27,15 @@ pub struct Process {
     behind: u32,
 }
 
-/// A message that is under way: its text, and the time of its sending.
+/// A message in flight: its text, and the time of its sending.
 #[derive(Debug, Drop)]
-struct Letter {
+struct InFlight {
     text: Buf,
     time: u64,
 }
 
-/// The messages under way in a channel, the eldest first.
-type Queue = VecDeque<Letter>;
+/// The messages in flight in a channel, the eldest first.
+type Queue = VecDeque<InFlight>;
 
 /// What a run has come to.
 #[derive(Debug, Drop)]
@@ -112,23 +112,23 @@ impl State {
     }
 
     // Message `i` of a channel, counted from 1.
-    fn letter(&self, p: u32, q: u32, i: u32) -> Option<&Letter> {
+    fn message(&self, p: u32, q: u32, i: u32) -> Option<&InFlight> {
         let place = (i as usize).checked_sub(1)?;
         self.queue(p, q)?.get(place)
     }
 
     /// The text of message `i` of a channel, counted from 1.
     pub fn text(&self, p: u32, q: u32, i: u32) -> &[u8] {
-        match self.letter(p, q, i) {
-            Some(letter) => letter.text.as_slice(),
+        match self.message(p, q, i) {
+            Some(message) => message.text.as_slice(),
             None => &[],
         }
     }
 
     /// When message `i` of a channel was sent, or 0 where there is none.
     pub fn time(&self, p: u32, q: u32, i: u32) -> u64 {
-        match self.letter(p, q, i) {
-            Some(letter) => letter.time,
+        match self.message(p, q, i) {
+            Some(message) => message.time,
             None => 0,
         }
     }
@@ -156,7 +156,7 @@ impl State {
         };
         if let Some(place) = self.place_of(p, q) {
             if let Some(queue) = self.channels.get_mut(place) {
-                let _letter = queue.remove(at);
+                let _message = queue.remove(at);
             }
         }
     }
@@ -165,14 +165,14 @@ impl State {
         let mut text = List::new(self.alloc);
         let _ = text.append(self.text(p, q, i));
         let time = self.time(p, q, i);
-        self.add(p, q, Letter { text, time });
+        self.add(p, q, InFlight { text, time });
     }
 
     // A message goes to the end of a channel.
-    fn add(&mut self, p: u32, q: u32, letter: Letter) {
+    fn add(&mut self, p: u32, q: u32, message: InFlight) {
         if let Some(place) = self.place_of(p, q) {
             if let Some(queue) = self.channels.get_mut(place) {
-                let _ = queue.push_back(letter);
+                let _ = queue.push_back(message);
             }
         }
     }
@@ -185,8 +185,8 @@ impl State {
             Action::Sent { p, q, t, v } => {
                 let mut text = List::new(self.alloc);
                 let _ = write_value(v, &mut text);
-                let letter = Letter { text, time: *t };
-                self.add(u32::from(*p), u32::from(*q), letter);
+                let message = InFlight { text, time: *t };
+                self.add(u32::from(*p), u32::from(*q), message);
             }
             Action::Out { p, .. } => {
                 if let Some(told) = told_in(action) {
@@ -197,7 +197,7 @@ impl State {
         }
     }
 
-    // A process goes on from where it stood. Behind a label it comes to the `await` that is told with it, if there is one.
+    // A process goes on from where it stood. After a label it comes to the `await` that is told with it, if there is one.
     fn go_on(&mut self, p: u16) {
         if let Some(Process { line, behind, .. }) = self.process(u32::from(p)) {
             let next = Process {

@@ -338,7 +338,7 @@ fn put_false(many: usize, out: &mut Phrase) {
     }
 }
 
-// What a channel holds, and how much is under way besides.
+// What a channel holds, and how much is in flight besides.
 fn tell_channel(view: View<'_, '_>, p: u32, q: u32, out: &mut Phrase) {
     let state = &view.run.state;
     let count = state.held(p, q);

@@ -4,7 +4,7 @@ use std::alloc::Global;
 use std::str;
 use text_hints::{Nearest, Phrase};
 
-/// The lines of a trace, each with what stands behind its word.
+/// The lines of a trace, each with what stands after its word.
 const LINES: [(&[u8], &[u8]); 6] = [
     (b"took", b"took P K"),
     (b"sent", b"sent P Q T V"),
@@ -17,7 +17,7 @@ const LINES: [(&[u8], &[u8]); 6] = [
 /// The lines that a replay writes, and no node.
 const REPLAYED: [&[u8]; 5] = [b"lost", b"again", b"answer", b"kept", b"stop"];
 
-/// The line of this number of a trace, counted from 1, without its LF; behind the last LF there is none where nothing follows.
+/// The line of this number of a trace, counted from 1, without its LF; after the last LF there is none where nothing follows.
 pub fn trace_line(text: &[u8], number: u64) -> Option<&[u8]> {
     let place = usize::try_from(number.checked_sub(1)?).ok()?;
     let lines = text.strip_suffix(b"\n").unwrap_or(text);

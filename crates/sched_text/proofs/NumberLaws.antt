@@ -1,4 +1,4 @@
--- Numbers behind single spaces: they are cut in one way.
+-- Numbers after single spaces: they are cut in one way.
 use Rattle.std.proofs.Common.{◌≡◌, ◌≢◌, sym, ◌∙◌, ap, ℕ, ◌≤◌, List, [], ◌∷◌, ◌++◌, arith}
 use Rattle.std.specs.Prelude.{decimal}
 use Rattle.std.specs.Str.Parse.{AllDigits, digits_value}
@@ -30,7 +30,7 @@ one_front m n r s p q u v same =
     let (digits, rest) = one_cut (decimal m) (decimal n) r s (number_word m p) (number_word n q) u v tails in
     (one_number m n p q digits, rest)
 
--- no number up to this one stands at the front, behind a space
+-- no number up to this one stands at the front, after a space
 abbrev pub LacksNumber : ℕ → List ℕ → Type 0
 LacksNumber most bytes = (n : ℕ) (rest : List ℕ) → n ≤ most → Stops rest → bytes ≡ number_then n rest → ⊥
 
@@ -41,6 +41,6 @@ no_number most bytes after digits rest small begins cut word stops lacks = λ n 
     let (digits_is, rest_is) = one_cut digits (decimal n) rest others word (number_word n (omega (arith, few, small))) stops stop tails in
     lacks n few digits_is
 
--- what stands behind the number at the front
+-- what stands after the number at the front
 pub rest_of : (m n : ℕ) (bytes r s : List ℕ) → Fits 128 m → Fits 128 n → Stops r → Stops s → bytes ≡ number_then m r → bytes ≡ number_then n s → (m ≡ n) × (r ≡ s)
 rest_of m n bytes r s p q u v one other = one_front m n r s p q u v (sym one ∙ other)

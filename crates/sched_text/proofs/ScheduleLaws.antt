@@ -7,7 +7,7 @@ use Rattle.da_lang.specs.declared.event.Event.{Event}
 use Rattle.sched_text.specs.declared.schedule.SchedFault.{SchedFault}
 use Rattle.sched_text.specs.declared.schedule.SchedFault.TheVariants.{BadLine, Memory}
 use Rattle.sched_text.specs.Reading.{IsRead}
-use Rattle.sched_text.specs.ScheduleText.{HasGoodFront, IsBadSchedule, IsLine, SpellsLines, SpellsSchedule, event, none, skipped}
+use Rattle.sched_text.specs.ScheduleText.{HasGoodPrefix, IsBadSchedule, IsLine, SpellsLines, SpellsSchedule, event, none, skipped}
 use Rattle.sched_text.proofs.EventLaws.{one_event, not_skipped}
 
 pub one_list_of : (all : List (List ℕ)) (events others : List Event) → SpellsLines all events → SpellsLines all others → events ≡ others
@@ -74,5 +74,5 @@ only_bad text (Err (BadLine other)) number read bad = inl (ap BadLine (one_bad_l
 only_bad text (Err Memory) number read bad = inr refl
 
 -- where memory was wanted
-pub memory_wanted : (text : List ℕ) (result : Result (List Event) SchedFault) → IsRead text result → result ≡ Err Memory → HasGoodFront text
+pub memory_wanted : (text : List ℕ) (result : Result (List Event) SchedFault) → IsRead text result → result ≡ Err Memory → HasGoodPrefix text
 memory_wanted text result read wanted = subst (IsRead text) wanted read

@@ -1,4 +1,4 @@
--- Words behind single spaces: they are cut in one way.
+-- Words after single spaces: they are cut in one way.
 use Rattle.std.proofs.Common.{◌≡◌, ◌≢◌, refl, sym, ◌∙◌, ap, ℕ, suc, ◌+◌, ◌≤◌, ◌<◌, List, [], ◌∷◌, ◌++◌, length, arith}
 use Rattle.std.specs.List.{All}
 use Rattle.std.specs.Prelude.{codes, decimal}
@@ -56,7 +56,7 @@ pub stops_spaced : (ns : List ℕ) → Stops (spaced ns)
 stops_spaced [] = tt
 stops_spaced (n ∷ ns) = refl
 
--- numbers behind spaces are these alone
+-- numbers after spaces are these alone
 pub one_list : (ms ns : List ℕ) → All IsNamed ms → All IsNamed ns → spaced ms ≡ spaced ns → ms ≡ ns
 one_list [] [] p q same = refl
 one_list [] (n ∷ ns) p q same = absurd (cc)
@@ -66,7 +66,7 @@ one_list (m ∷ ms) (n ∷ ns) p q same =
     let more = one_list ms ns (λ k d inside. p (suc k) d (omega (arith, inside))) (λ k d inside. q (suc k) d (omega (arith, inside))) rest in
     cc
 
--- no number that a schedule can name stands at the front, behind a space
+-- no number that a schedule can name stands at the front, after a space
 abbrev pub NoNumber : List ℕ → Type 0
 NoNumber bytes = (n : ℕ) (rest : List ℕ) → IsNamed n → Stops rest → bytes ≡ codes " " ++ decimal n ++ rest → ⊥
 

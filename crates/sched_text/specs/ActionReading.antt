@@ -67,7 +67,7 @@ first_of None other = other
 abbrev pub kind_named : List ℕ → Option Kind
 kind_named word = first_of (moved_named word) (told_named word)
 
--- a number behind a space, and what follows it
+-- a number after a space, and what follows it
 abbrev pub number_then : ℕ → List ℕ → List ℕ
 number_then n rest = 32 ∷ (decimal n ++ rest)
 
@@ -79,25 +79,25 @@ route_then p q t rest = number_then p (number_then q (number_then t rest))
 abbrev pub AreNumbers : Route → Type 0
 AreNumbers route = Fits 16 route.first × Fits 16 route.second × Fits 64 route.time
 
-abbrev pub value_behind : Val → List ℕ
-value_behind x = 32 ∷ value_text x
+abbrev pub value_after : Val → List ℕ
+value_after x = 32 ∷ value_text x
 
-abbrev pub fault_behind : FaultKind → ℕ → List ℕ
-fault_behind kind line = 32 ∷ (fault_word kind ++ number_then line [])
+abbrev pub fault_after : FaultKind → ℕ → List ℕ
+fault_after kind line = 32 ∷ (fault_word kind ++ number_then line [])
 
 -- what follows the word of an action in its line
-abbrev pub behind : Action → List ℕ
-behind (action.Took p k) = number_then p (number_then k [])
-behind (action.Sent p q t v) = route_then p q t (value_behind (val_of v))
-behind (action.Got q p t v) = route_then q p t (value_behind (val_of v))
-behind (action.Lost p q t) = route_then p q t []
-behind (action.Again p q t) = route_then p q t []
-behind (action.Out p v) = number_then p (value_behind (val_of v))
-behind (action.End p) = number_then p []
-behind (action.Fault p kind line) = number_then p (fault_behind kind line)
-behind (action.Answer p n rows) = number_then p (number_then n (value_behind (val.Set rows)))
-behind (action.Kept p n) = number_then p (number_then n [])
-behind (action.Stop i) = number_then i []
+abbrev pub after_kind : Action → List ℕ
+after_kind (action.Took p k) = number_then p (number_then k [])
+after_kind (action.Sent p q t v) = route_then p q t (value_after (val_of v))
+after_kind (action.Got q p t v) = route_then q p t (value_after (val_of v))
+after_kind (action.Lost p q t) = route_then p q t []
+after_kind (action.Again p q t) = route_then p q t []
+after_kind (action.Out p v) = number_then p (value_after (val_of v))
+after_kind (action.End p) = number_then p []
+after_kind (action.Fault p kind line) = number_then p (fault_after kind line)
+after_kind (action.Answer p n rows) = number_then p (number_then n (value_after (val.Set rows)))
+after_kind (action.Kept p n) = number_then p (number_then n [])
+after_kind (action.Stop i) = number_then i []
 
 -- no other value has this text
 abbrev pub IsOneText : Val → Type 0
@@ -110,19 +110,19 @@ HasOneText (action.Out p v) = IsOneText (val_of v)
 HasOneText (action.Answer p n rows) = IsOneText (val.Set rows)
 HasOneText _ = Unit {0}
 
--- an action of this kind, whose line goes on so behind its word
-pub record IsBehind (kind : Kind) (rest : List ℕ) (a : Action) : Type 0 where
+-- an action of this kind, whose line goes on so after its word
+pub record IsAfter (kind : Kind) (rest : List ℕ) (a : Action) : Type 0 where
   pub kind_same : kind_is a ≡ kind
   pub action : IsAction a
   pub one_text : HasOneText a
-  pub is : rest ≡ behind a
+  pub is : rest ≡ after_kind a
 
 -- no action of this kind goes on so
 abbrev pub LacksRoute : List ℕ → Type 0
 LacksRoute rest = (p q t : ℕ) → Fits 16 p → Fits 16 q → Fits 64 t → rest ≡ route_then p q t [] → ⊥
 
 abbrev pub LacksMessage : List ℕ → Type 0
-LacksMessage rest = (p q t : ℕ) (x : Val) → Fits 16 p → Fits 16 q → Fits 64 t → IsShown x → rest ≡ route_then p q t (value_behind x) → ⊥
+LacksMessage rest = (p q t : ℕ) (x : Val) → Fits 16 p → Fits 16 q → Fits 64 t → IsShown x → rest ≡ route_then p q t (value_after x) → ⊥
 
 abbrev pub LacksPair : ℕ → List ℕ → Type 0
 LacksPair bits rest = (p n : ℕ) → Fits 16 p → Fits bits n → rest ≡ number_then p (number_then n []) → ⊥
@@ -133,10 +133,10 @@ Lacks Sent rest = LacksMessage rest
 Lacks Got rest = LacksMessage rest
 Lacks Lost rest = LacksRoute rest
 Lacks Again rest = LacksRoute rest
-Lacks Out rest = (p : ℕ) (x : Val) → Fits 16 p → IsShown x → rest ≡ number_then p (value_behind x) → ⊥
+Lacks Out rest = (p : ℕ) (x : Val) → Fits 16 p → IsShown x → rest ≡ number_then p (value_after x) → ⊥
 Lacks End rest = (p : ℕ) → Fits 16 p → rest ≡ number_then p [] → ⊥
-Lacks Fault rest = (p line : ℕ) (kind : FaultKind) → Fits 16 p → Fits 32 line → rest ≡ number_then p (fault_behind kind line) → ⊥
-Lacks Answer rest = (p n : ℕ) (rows : List Val) → Fits 16 p → Fits 32 n → IsShown (val.Set rows) → rest ≡ number_then p (number_then n (value_behind (val.Set rows))) → ⊥
+Lacks Fault rest = (p line : ℕ) (kind : FaultKind) → Fits 16 p → Fits 32 line → rest ≡ number_then p (fault_after kind line) → ⊥
+Lacks Answer rest = (p n : ℕ) (rows : List Val) → Fits 16 p → Fits 32 n → IsShown (val.Set rows) → rest ≡ number_then p (number_then n (value_after (val.Set rows))) → ⊥
 Lacks Kept rest = LacksPair 128 rest
 Lacks Stop rest = (i : ℕ) → Fits 64 i → rest ≡ number_then i [] → ⊥
 

@@ -9,7 +9,7 @@ use Rattle.sched_text.specs.declared.words.Numbers.TheVariants.{One, Two, Three}
 use Rattle.sched_text.specs.declared.schedule.SchedFault.{SchedFault}
 use Rattle.sched_text.specs.declared.schedule.SchedFault.TheVariants.{BadLine, Memory}
 use Rattle.sched_text.specs.EventText.{IsNamed}
-use Rattle.sched_text.specs.ScheduleText.{HasGoodFront, IsBadSchedule, IsLine, IsLineOf, IsSkipped, SpellsSchedule}
+use Rattle.sched_text.specs.ScheduleText.{HasGoodPrefix, IsBadSchedule, IsLine, IsLineOf, IsSkipped, SpellsSchedule}
 
 -- nothing follows, or a space does
 abbrev pub Stops : List ℕ → Type 0
@@ -57,8 +57,8 @@ abbrev pub IsFaultAt : List ℕ → ℕ → SchedFault → Type 0
 IsFaultAt line number (BadLine n) = (n ≡ number) × (IsLine line → ⊥)
 IsFaultAt line number Memory = (e : Event) × IsLineOf e line
 
--- what a reader answers; it may want memory for an event behind good lines
+-- what a reader answers; it may want memory for an event after good lines
 abbrev pub IsRead : List ℕ → Result (List Event) SchedFault → Type 0
 IsRead text (Ok events) = SpellsSchedule text events
 IsRead text (Err (BadLine number)) = IsBadSchedule text number
-IsRead text (Err Memory) = HasGoodFront text
+IsRead text (Err Memory) = HasGoodPrefix text

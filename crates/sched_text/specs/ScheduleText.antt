@@ -49,7 +49,7 @@ abbrev pub IsBadSchedule : List ℕ → ℕ → Type 0
 IsBadSchedule text number = ((schedule_limit < length text) × (number ≡ 0)) ⊎ ((length text ≤ schedule_limit) × IsFirstBad (lines text) number)
 
 -- The lines of a text up to an event are lines of a schedule. Where it is read, this event may want memory.
-pub record HasGoodFront (text : List ℕ) : Type 0 where
+pub record HasGoodPrefix (text : List ℕ) : Type 0 where
   pub size : length text ≤ schedule_limit
   pub before : List (List ℕ)
   pub line : List ℕ

@@ -4,7 +4,7 @@ use Rattle.da_lang.specs.declared.event.Action.{Action}
 use Rattle.sched_text.specs.declared.trace.TraceFault.{TraceFault}
 use Rattle.sched_text.specs.declared.trace.TraceFault.TheVariants.{BadLine, Memory}
 use Rattle.sched_text.specs.ActionLine.{IsLineOf}
-use Rattle.sched_text.specs.TraceText.{HasGoodFront, IsBadTrace, IsTraceLine, SpellsTrace, teller}
+use Rattle.sched_text.specs.TraceText.{HasGoodPrefix, IsBadTrace, IsTraceLine, SpellsTrace, teller}
 
 -- no other action has this line
 abbrev pub IsOnlyOf : List ℕ → Action → Type 0
@@ -25,8 +25,8 @@ abbrev pub IsFaultAt : ℕ → List ℕ → ℕ → TraceFault → Type 0
 IsFaultAt p line number (BadLine n) = (n ≡ number) × (IsTraceLine p line → ⊥)
 IsFaultAt p line number Memory = ⊤
 
--- what a reader answers; it may want memory for a line behind good ones
+-- what a reader answers; it may want memory for a line after good ones
 abbrev pub IsRead : ℕ → List ℕ → Result (List Action) TraceFault → Type 0
 IsRead p text (Ok actions) = SpellsTrace p text actions
 IsRead p text (Err (BadLine number)) = IsBadTrace p text number
-IsRead p text (Err Memory) = HasGoodFront p text
+IsRead p text (Err Memory) = HasGoodPrefix p text

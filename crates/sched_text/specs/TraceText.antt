@@ -63,7 +63,7 @@ abbrev pub IsBadTrace : ℕ → List ℕ → ℕ → Type 0
 IsBadTrace p text number = ((trace_limit < length text) × (number ≡ 0)) ⊎ ((length text ≤ trace_limit) × IsFirstBad p (trace_lines text) number)
 
 -- The lines of a text up to one are lines of process p. Where it is read, this one may want memory.
-pub record HasGoodFront (p : ℕ) (text : List ℕ) : Type 0 where
+pub record HasGoodPrefix (p : ℕ) (text : List ℕ) : Type 0 where
   pub size : length text ≤ trace_limit
   pub before : List (List ℕ)
   pub line : List ℕ

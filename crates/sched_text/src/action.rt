@@ -1,7 +1,7 @@
 //! The lines of actions.
 ghost use Rattle.da_values.specs.Text.{separated, value_text};
 ghost use Rattle.da_values.specs.Value.{val_of, vals};
-ghost use Rattle.sched_text.specs.ActionText.{action_line, fault_word as fault_word_lem};
+ghost use Rattle.sched_text.specs.ActionText.{action_line, fault_word as fault_word_def};
 ghost use Rattle.std.specs.List.{flat_map};
 ghost use Rattle.std.specs.Prelude.{◌≡◌, ◌++◌, codes, length, map, take, OnErr, OnOk};
 
@@ -72,7 +72,7 @@ fn put_fault(p: u16, kind: FaultKind, line: u32, out: &mut Buf) -> Result<(), No
 
 // The word for a kind of fault.
 fn fault_word(kind: FaultKind) -> &'static [u8]
-    ensures { result.now ≡ fault_word_lem kind }
+    ensures { result.now ≡ fault_word_def kind }
 {
     match kind {
         FaultKind::Overflow => b"overflow",

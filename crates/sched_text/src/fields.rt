@@ -4,7 +4,7 @@ ghost use Rattle.da_values.specs.Value.{val_of};
 ghost use Rattle.sched_text.specs.Reading.{Stops};
 ghost use Rattle.std.specs.List.{All};
 ghost use Rattle.std.specs.Prelude.{◌≡◌, ◌≢◌, ◌≤◌, ℕ, List, [], ◌∷◌, ◌++◌, decimal, IfNone, IfOk, IfSome, MatchResult};
-ghost use Rattle.sched_text.specs.ActionReading.{AreNumbers, IsOneText, number_then, route_then, value_behind};
+ghost use Rattle.sched_text.specs.ActionReading.{AreNumbers, IsOneText, number_then, route_then, value_after};
 ghost use Rattle.sched_text.specs.ActionLine.{Fits, IsShown};
 
 use crate::number::{after_space, split_word};
@@ -21,7 +21,7 @@ pub(crate) struct Route {
     pub time: u64,
 }
 
-/// The number at the front, behind a space and at most `most`, and what follows it.
+/// The number at the front, after a space and at most `most`, and what follows it.
 pub(crate) fn split_number(bytes: &[u8], most: u128) -> Option<(u128, &[u8])>
     ensures some { IfSome result (λ found. (found.0 ≤ most) × Stops found.1.now × (bytes.now ≡ number_then found.0 found.1.now)) }
     ensures none { IfNone result ((n : ℕ) (rest : List ℕ) → n ≤ most → Stops rest → bytes.now ≡ number_then n rest → ⊥) }
@@ -53,7 +53,7 @@ fn number_of(digits: &[u8], most: u128) -> Option<u128>
     }
 }
 
-/// The number that these bytes are, behind a space and at most `most`.
+/// The number that these bytes are, after a space and at most `most`.
 pub(crate) fn last_number(bytes: &[u8], most: u128) -> Option<u128>
     ensures some { IfSome result (λ n. (n ≤ most) × (bytes.now ≡ number_then n [])) }
     ensures none { IfNone result ((n : ℕ) → n ≤ most → bytes.now ≡ number_then n [] → ⊥) }
@@ -62,7 +62,7 @@ pub(crate) fn last_number(bytes: &[u8], most: u128) -> Option<u128>
     if rest.is_empty() { Some(number) } else { None }
 }
 
-/// The process at the front, behind a space, and what follows it.
+/// The process at the front, after a space, and what follows it.
 pub(crate) fn split_process(bytes: &[u8]) -> Option<(u16, &[u8])>
     ensures some { IfSome result (λ found. Fits 16 found.0 × Stops found.1.now × (bytes.now ≡ number_then found.0 found.1.now)) }
     ensures none { IfNone result ((n : ℕ) (rest : List ℕ) → Fits 16 n → Stops rest → bytes.now ≡ number_then n rest → ⊥) }
@@ -87,10 +87,10 @@ pub(crate) fn split_route(bytes: &[u8]) -> Option<(Route, &[u8])>
     Some((route, rest))
 }
 
-/// The value whose text these bytes are, behind a space.
+/// The value whose text these bytes are, after a space.
 pub(crate) fn last_value(alloc: Global, bytes: &[u8]) -> Result<Value, ValueFault>
-    ensures ok { IfOk result (λ v. IsShown (val_of v) × IsOneText (val_of v) × (bytes.now ≡ value_behind (val_of v))) }
-    ensures only { (x : Val) → IsShown x → bytes.now ≡ value_behind x → MatchResult result (λ v. val_of v ≡ x) (λ fault. fault ≡ ValueFault.Memory) }
+    ensures ok { IfOk result (λ v. IsShown (val_of v) × IsOneText (val_of v) × (bytes.now ≡ value_after (val_of v))) }
+    ensures only { (x : Val) → IsShown x → bytes.now ≡ value_after x → MatchResult result (λ v. val_of v ≡ x) (λ fault. fault ≡ ValueFault.Memory) }
 {
     match after_space(bytes) {
         Some(text) => read_value(alloc, text),

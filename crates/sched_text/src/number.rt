@@ -25,7 +25,7 @@ pub(crate) fn split_word(bytes: &[u8]) -> (&[u8], &[u8])
     bytes.split_at(end)
 }
 
-/// The number at the front, behind a space, and what follows it.
+/// The number at the front, after a space, and what follows it.
 pub(crate) fn split_number(bytes: &[u8]) -> Option<(u32, &[u8])>
     ensures some { IfSome result (λ found. IsNamed found.0 × Stops found.1.now × (bytes.now ≡ codes " " ++ decimal found.0 ++ found.1.now)) }
     ensures none { IfNone result ((n : ℕ) (rest : List ℕ) → IsNamed n → Stops rest → bytes.now ≡ codes " " ++ decimal n ++ rest → ⊥) }

@@ -5,7 +5,7 @@ ghost use Rattle.std.specs.Prelude.{◌≡◌, ◌++◌, codes, length, take, On
 use da_values::{Buf, NoMemory, write_number};
 use itoa::Integer;
 
-/// Takes back what was appended behind this length, where memory was refused.
+/// Takes back what was appended after this length, where memory was refused.
 pub(crate) fn settle(
     written: Result<(), NoMemory>,
     length: usize,
@@ -21,7 +21,7 @@ pub(crate) fn settle(
     written
 }
 
-/// Appends a word, and numbers behind it, or a part of this where memory is refused.
+/// Appends a word, and numbers after it, or a part of this where memory is refused.
 pub(crate) fn put_words<N: Integer>(
     word: &[u8],
     numbers: &[N],
@@ -37,7 +37,7 @@ pub(crate) fn put_words<N: Integer>(
     Ok(())
 }
 
-// Appends a number behind a space.
+// Appends a number after a space.
 fn put_number<N: Integer>(number: N, out: &mut Buf) -> Result<(), NoMemory>
     ensures ok { OnOk result (out.new ≡ out.old ++ codes " " ++ N.text number) }
     ensures err { OnErr result (take (length out.old) out.new ≡ out.old) }

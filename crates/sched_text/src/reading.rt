@@ -3,7 +3,7 @@ ghost use Rattle.sched_text.specs.Reading.{Stops};
 ghost use Rattle.da_lang.specs.declared.event.Action.{Action};
 ghost use Rattle.da_values.specs.Value.{val_of};
 ghost use Rattle.std.specs.Prelude.{◌≡◌, ℕ, List, [], IfNone, IfOk, IfSome, IsErrOf, MatchResult};
-ghost use Rattle.sched_text.specs.ActionReading.{IsBehind, IsOneText, Lacks, LacksMessage, LacksRoute, number_then, route_then, value_behind};
+ghost use Rattle.sched_text.specs.ActionReading.{IsAfter, IsOneText, Lacks, LacksMessage, LacksRoute, number_then, route_then, value_after};
 ghost use Rattle.sched_text.specs.ActionLine.{Fits, IsActionLine, IsLineOf, IsShown};
 
 use crate::fields::{Route, last_number, last_value, split_number, split_process, split_route};
@@ -25,14 +25,14 @@ pub fn read_action(alloc: Global, line: &[u8]) -> Result<Action, ValueFault>
 {
     let (word, rest) = split_word(line);
     match kind_of(word) {
-        Some(kind) => read_behind(alloc, kind, rest),
+        Some(kind) => read_after(alloc, kind, rest),
         None => Err(ValueFault::Unread),
     }
 }
 
-// The action of this kind whose line goes on so behind its word.
-fn read_behind(alloc: Global, kind: Kind, rest: &[u8]) -> Result<Action, ValueFault>
-    ensures ok { IfOk result (IsBehind kind rest.now) }
+// The action of this kind whose line goes on so after its word.
+fn read_after(alloc: Global, kind: Kind, rest: &[u8]) -> Result<Action, ValueFault>
+    ensures ok { IfOk result (IsAfter kind rest.now) }
     ensures unread { IsErrOf result ValueFault.Unread → Lacks kind rest.now }
 {
     match kind {
@@ -51,7 +51,7 @@ fn read_behind(alloc: Global, kind: Kind, rest: &[u8]) -> Result<Action, ValueFa
 }
 
 fn read_took(rest: &[u8]) -> Option<Action>
-    ensures some { IfSome result (IsBehind Kind.Took rest.now) }
+    ensures some { IfSome result (IsAfter Kind.Took rest.now) }
     ensures none { IfNone result (Lacks Kind.Took rest.now) }
 {
     let (p, rest) = split_process(rest)?;
@@ -60,7 +60,7 @@ fn read_took(rest: &[u8]) -> Option<Action>
 }
 
 fn read_sent(alloc: Global, rest: &[u8]) -> Result<Action, ValueFault>
-    ensures ok { IfOk result (IsBehind Kind.Sent rest.now) }
+    ensures ok { IfOk result (IsAfter Kind.Sent rest.now) }
     ensures unread { IsErrOf result ValueFault.Unread → Lacks Kind.Sent rest.now }
 {
     let (route, v) = read_message(alloc, rest)?;
@@ -75,7 +75,7 @@ fn read_sent(alloc: Global, rest: &[u8]) -> Result<Action, ValueFault>
 }
 
 fn read_got(alloc: Global, rest: &[u8]) -> Result<Action, ValueFault>
-    ensures ok { IfOk result (IsBehind Kind.Got rest.now) }
+    ensures ok { IfOk result (IsAfter Kind.Got rest.now) }
     ensures unread { IsErrOf result ValueFault.Unread → Lacks Kind.Got rest.now }
 {
     let (route, v) = read_message(alloc, rest)?;
@@ -91,7 +91,7 @@ fn read_got(alloc: Global, rest: &[u8]) -> Result<Action, ValueFault>
 
 // The numbers of a message, and its value.
 fn read_message(alloc: Global, rest: &[u8]) -> Result<(Route, Value), ValueFault>
-    ensures ok { IfOk result (λ found. IsShown (val_of found.1) × IsOneText (val_of found.1) × (rest.now ≡ route_then found.0.first found.0.second found.0.time (value_behind (val_of found.1)))) }
+    ensures ok { IfOk result (λ found. IsShown (val_of found.1) × IsOneText (val_of found.1) × (rest.now ≡ route_then found.0.first found.0.second found.0.time (value_after (val_of found.1)))) }
     ensures unread { IsErrOf result ValueFault.Unread → LacksMessage rest.now }
 {
     match split_route(rest) {
@@ -101,7 +101,7 @@ fn read_message(alloc: Global, rest: &[u8]) -> Result<(Route, Value), ValueFault
 }
 
 fn read_lost(rest: &[u8]) -> Option<Action>
-    ensures some { IfSome result (IsBehind Kind.Lost rest.now) }
+    ensures some { IfSome result (IsAfter Kind.Lost rest.now) }
     ensures none { IfNone result (Lacks Kind.Lost rest.now) }
 {
     let route = last_route(rest)?;
@@ -115,7 +115,7 @@ fn read_lost(rest: &[u8]) -> Option<Action>
 }
 
 fn read_again(rest: &[u8]) -> Option<Action>
-    ensures some { IfSome result (IsBehind Kind.Again rest.now) }
+    ensures some { IfSome result (IsAfter Kind.Again rest.now) }
     ensures none { IfNone result (Lacks Kind.Again rest.now) }
 {
     let route = last_route(rest)?;
@@ -128,7 +128,7 @@ fn read_again(rest: &[u8]) -> Option<Action>
     })
 }
 
-// The numbers of a message, with nothing behind them.
+// The numbers of a message, with nothing after them.
 fn last_route(rest: &[u8]) -> Option<Route>
     ensures some { IfSome result (λ route. rest.now ≡ route_then route.first route.second route.time []) }
     ensures none { IfNone result (LacksRoute rest.now) }
@@ -138,7 +138,7 @@ fn last_route(rest: &[u8]) -> Option<Route>
 }
 
 fn read_out(alloc: Global, rest: &[u8]) -> Result<Action, ValueFault>
-    ensures ok { IfOk result (IsBehind Kind.Out rest.now) }
+    ensures ok { IfOk result (IsAfter Kind.Out rest.now) }
     ensures unread { IsErrOf result ValueFault.Unread → Lacks Kind.Out rest.now }
 {
     match split_process(rest) {
@@ -151,7 +151,7 @@ fn read_out(alloc: Global, rest: &[u8]) -> Result<Action, ValueFault>
 }
 
 fn read_end(rest: &[u8]) -> Option<Action>
-    ensures some { IfSome result (IsBehind Kind.End rest.now) }
+    ensures some { IfSome result (IsAfter Kind.End rest.now) }
     ensures none { IfNone result (Lacks Kind.End rest.now) }
 {
     let (p, rest) = split_process(rest)?;
@@ -163,7 +163,7 @@ fn read_end(rest: &[u8]) -> Option<Action>
 }
 
 fn read_fault(rest: &[u8]) -> Option<Action>
-    ensures some { IfSome result (IsBehind Kind.Fault rest.now) }
+    ensures some { IfSome result (IsAfter Kind.Fault rest.now) }
     ensures none { IfNone result (Lacks Kind.Fault rest.now) }
 {
     let (p, rest) = split_process(rest)?;
@@ -175,7 +175,7 @@ fn read_fault(rest: &[u8]) -> Option<Action>
 }
 
 fn read_answer(alloc: Global, rest: &[u8]) -> Result<Action, ValueFault>
-    ensures ok { IfOk result (IsBehind Kind.Answer rest.now) }
+    ensures ok { IfOk result (IsAfter Kind.Answer rest.now) }
     ensures unread { IsErrOf result ValueFault.Unread → Lacks Kind.Answer rest.now }
 {
     match split_query(rest) {
@@ -198,7 +198,7 @@ fn split_query(bytes: &[u8]) -> Option<(u16, u32, &[u8])>
 }
 
 fn read_kept(rest: &[u8]) -> Option<Action>
-    ensures some { IfSome result (IsBehind Kind.Kept rest.now) }
+    ensures some { IfSome result (IsAfter Kind.Kept rest.now) }
     ensures none { IfNone result (Lacks Kind.Kept rest.now) }
 {
     let (p, rest) = split_process(rest)?;
@@ -207,7 +207,7 @@ fn read_kept(rest: &[u8]) -> Option<Action>
 }
 
 fn read_stop(rest: &[u8]) -> Option<Action>
-    ensures some { IfSome result (IsBehind Kind.Stop rest.now) }
+    ensures some { IfSome result (IsAfter Kind.Stop rest.now) }
     ensures none { IfNone result (Lacks Kind.Stop rest.now) }
 {
     let i = last_number(rest, u128::from(u64::MAX))?;

@@ -1,7 +1,7 @@
 //! Schedules.
 ghost use Rattle.da_lang.specs.declared.event.Event.{Event};
 ghost use Rattle.sched_text.specs.Reading.{Adds, IsFaultAt, IsRead};
-ghost use Rattle.sched_text.specs.ScheduleText.{HasGoodFront, IsBadSchedule, IsSkipped, SpellsSchedule, schedule_limit};
+ghost use Rattle.sched_text.specs.ScheduleText.{HasGoodPrefix, IsBadSchedule, IsSkipped, SpellsSchedule, schedule_limit};
 ghost use Rattle.std.specs.Prelude.{◌≡◌, ◌⊎◌, ◌≤◌, ℕ, List, length, IfErr, IsErrOf, MatchBool, MatchResult, OnOk};
 
 use crate::line::split_line;
@@ -39,9 +39,9 @@ impl From<NoMemory> for SchedFault {
 
 /// The events that a schedule spells, in its order.
 ///
-/// A line ends with LF or with CR and LF; behind the last one the LF may be missing. An empty line and one that begins
+/// A line ends with LF or with CR and LF; after the last one the LF may be missing. An empty line and one that begins
 /// with `#` are passed over, but counted. Every other line is an event: its word and its numbers, which are 1 to
-/// 999,999,999 in decimal without a 0 in front, with one space between. Memory is wanted only for an event, and only where
+/// 999,999,999 in decimal without a leading 0, with one space between. Memory is wanted only for an event, and only where
 /// all lines before it are good.
 pub fn read_schedule(alloc: Global, text: &[u8]) -> Result<List<Event>, SchedFault>
     ensures read { IsRead text.now result }
@@ -49,7 +49,7 @@ pub fn read_schedule(alloc: Global, text: &[u8]) -> Result<List<Event>, SchedFau
         → MatchResult result (λ found. found ≡ events) (λ fault. fault ≡ SchedFault.Memory) }
     ensures only_bad { (number : ℕ) → IsBadSchedule text.now number
         → MatchResult result (λ found. ⊥) (λ fault. (fault ≡ SchedFault.BadLine number) ⊎ (fault ≡ SchedFault.Memory)) }
-    ensures memory { IsErrOf result SchedFault.Memory → HasGoodFront text.now }
+    ensures memory { IsErrOf result SchedFault.Memory → HasGoodPrefix text.now }
 {
     if text.len() > SCHEDULE_LIMIT {
         return Err(SchedFault::BadLine(0));

@@ -1,7 +1,7 @@
 //! Traces of one process.
 ghost use Rattle.da_lang.specs.declared.event.Action.{Action};
 ghost use Rattle.sched_text.specs.TraceReading.{Adds, IsFaultAt, IsOwnLineOf, IsRead};
-ghost use Rattle.sched_text.specs.TraceText.{AllOf, HasGoodFront, IsBadTrace, IsTraceLine, SpellsTrace, teller, trace_limit};
+ghost use Rattle.sched_text.specs.TraceText.{AllOf, HasGoodPrefix, IsBadTrace, IsTraceLine, SpellsTrace, teller, trace_limit};
 ghost use Rattle.std.specs.Prelude.{◌≡◌, ◌⊎◌, ◌≤◌, ℕ, List, length, IfErr, IfOk, IsErrOf, MatchResult, OnOk};
 
 use crate::line::split_bare_line;
@@ -40,15 +40,15 @@ impl From<NoMemory> for TraceFault {
 /// The actions that a trace of process `p` spells, in its order.
 ///
 /// A trace is what the node of a process tells. Every line is that of an action `took`, `sent`, `got`, `out`, `end` or
-/// `fault` whose first number is `p`, as `write_action` writes it: a value is nested at most 64 deep. It ends with LF; behind
-/// the last one the LF may be missing. Memory is wanted only for a line behind good ones.
+/// `fault` whose first number is `p`, as `write_action` writes it: a value is nested at most 64 deep. It ends with LF; after
+/// the last one the LF may be missing. Memory is wanted only for a line after good ones.
 pub fn read_trace(alloc: Global, text: &[u8], p: u16) -> Result<List<Action>, TraceFault>
     ensures read { IsRead p text.now result }
     ensures only_actions { (actions : List Action) → SpellsTrace p text.now actions
         → MatchResult result (λ found. found ≡ actions) (λ fault. fault ≡ TraceFault.Memory) }
     ensures only_bad { (number : ℕ) → IsBadTrace p text.now number
         → MatchResult result (λ found. ⊥) (λ fault. (fault ≡ TraceFault.BadLine number) ⊎ (fault ≡ TraceFault.Memory)) }
-    ensures memory { IsErrOf result TraceFault.Memory → HasGoodFront p text.now }
+    ensures memory { IsErrOf result TraceFault.Memory → HasGoodPrefix p text.now }
     ensures own { IfOk result (λ actions. AllOf p actions) }
     ensures few { IfOk result (λ actions. length actions ≤ trace_limit) }
 {

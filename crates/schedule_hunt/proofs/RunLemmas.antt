@@ -19,14 +19,14 @@ use Rattle.schedule_hunt.specs.declared.runs.Run.{Run}
 use Rattle.schedule_hunt.specs.declared.runs.Trial.{Trial}
 use Rattle.schedule_hunt.specs.declared.what.What.{What}
 use Rattle.schedule_hunt.specs.Hunt.{IsShownBy, generated}
-use Rattle.schedule_hunt.specs.Runs.{HasRun, IsCarriedOut, IsPicked, IsRunOf, IsTrial, StandsBehind, WasPicked}
+use Rattle.schedule_hunt.specs.Runs.{HasRun, IsExecuted, IsPicked, IsRunOf, IsTrial, StandsAfter, WasPicked}
 use Rattle.schedule_hunt.specs.declared.what.What.TheVariants.{Stuck}
 use Rattle.schedule_hunt.specs.Shown.{HasEnded, IsStuck, Shows}
 use Rattle.schedule_hunt.specs.ShownSteps.{HasUnended}
 
 -- GIVEN EVENTS
 
--- The events before this place were carried out: the run has told their actions, and has come to the state behind them.
+-- The events before this place were carried out: the run has told their actions, and has come to the state after them.
 pub record Came (program : Program) (events : List Event) (place : ℕ) (run : Run) : Type 0 where
   pub now : SystemState
   pub run_is : src_run program events ≡ and_then run.actions (src_run_from program (place + 1) now (drop place events))
@@ -71,7 +71,7 @@ module _ (program : Program) (events : List Event) (place : ℕ) (old : Run) (ca
         (ap (src_run_from program (place + 1) came.now) (drop-cons events place other inside ∙ ap (λ e. e ∷ drop (suc place) events) (sym next_is) ∙ ap (λ n. next ∷ drop n events) (sym (add-one place)))
         ∙ ap (λ step. at_event (place + 1) came.now step (λ state. src_run_from program (place + 1 + 1) state rest)) (ap (λ p. sys_step p came.now next) (sym came.same) ∙ is))
 
-    pub came_on : (new : Run) (allowed : Bool) → allowed ≡ true → IsCarriedOut (sys_step (program_of old.system) came.now next) old allowed new → program_of new.system ≡ program_of old.system
+    pub came_on : (new : Run) (allowed : Bool) → allowed ≡ true → IsExecuted (sys_step (program_of old.system) came.now next) old allowed new → program_of new.system ≡ program_of old.system
         → Came program events (place + 1) new
     came_on new true is done still = record {
       now = done.after.state;
@@ -82,7 +82,7 @@ module _ (program : Program) (events : List Event) (place : ℕ) (old : Run) (ca
     }
     came_on new false is done still = absurd (false≢true is)
 
-    pub stops_here : (new : Run) (allowed : Bool) → allowed ≡ false → IsCarriedOut (sys_step (program_of old.system) came.now next) old allowed new → (src_run program events).stop ≡ None → ⊥
+    pub stops_here : (new : Run) (allowed : Bool) → allowed ≡ false → IsExecuted (sys_step (program_of old.system) came.now next) old allowed new → (src_run program events).stop ≡ None → ⊥
     stops_here new true is done goes = absurd (false≢true (sym is))
     stops_here new false is done goes =
         let clash : ◌≡◌ {A = Option ℕ} (Some (place + 1)) None = sym (ap (λ (run : SrcRun). run.stop) (left_is None done)) ∙ goes in absurd (cc)
@@ -90,8 +90,8 @@ module _ (program : Program) (events : List Event) (place : ℕ) (old : Run) (ca
 -- GENERATED EVENTS
 
 -- these events before those of a run
-abbrev behind_events : List Event → StressRun → StressRun
-behind_events events run = record run { events = events ++ run.events }
+abbrev after_events : List Event → StressRun → StressRun
+after_events events run = record run { events = events ++ run.events }
 
 abbrev ran_to : List Action → SystemState → SrcRun
 ran_to told s = record { actions = told; stop = None; state = s }
@@ -99,7 +99,7 @@ ran_to told s = record { actions = told; stop = None; state = s }
 -- So many events were picked and carried out; the last number is this one.
 pub record CameBy (program : Program) (x most place : ℕ) (trial : Trial) (last : ℕ) : Type 0 where
   pub now : SystemState
-  pub picks : stress_from program most x (start program) ≡ behind_events trial.events (stress_from program (most - place) last now)
+  pub picks : stress_from program most x (start program) ≡ after_events trial.events (stress_from program (most - place) last now)
   pub does : src_run program trial.events ≡ ran_to trial.run.actions now
   pub stands : Stands trial.run.system now
   pub same : program_of trial.run.system ≡ program
@@ -109,7 +109,7 @@ pub by_first : (program : Program) (x most : ℕ) (trial : Trial) → program_of
 by_first program x most trial same stands none empty = record {
   now = start program;
   picks = ap (λ k. stress_from program k x (start program)) (let all : most ≡ most - 0 = omega arith in all)
-      ∙ ap (λ events. behind_events events (stress_from program (most - 0) x (start program))) (sym empty);
+      ∙ ap (λ events. after_events events (stress_from program (most - 0) x (start program))) (sym empty);
   does = ap (src_run program) empty ∙ ap (λ told. ran_to told (start program)) (sym none);
   stands = stands;
   same = same;
@@ -119,9 +119,9 @@ module _ (program : Program) (x most place : ℕ) (old : Trial) (last : ℕ) (ca
   by_one : (new : Trial) (number : ℕ) → place < most → WasPicked program came.now last number old new → program_of new.run.system ≡ program → CameBy program x most (place + 1) new number
   by_one new number inside picked same = record {
     now = after.state;
-    picks = came.picks ∙ ap (behind_events old.events) one
+    picks = came.picks ∙ ap (after_events old.events) one
         ∙ ap (λ (events : List Event). let run : StressRun = record rest { events = events } in run) (sym (append_assoc old.events (picked.event ∷ []) rest.events))
-        ∙ ap (λ events. behind_events events rest) (sym picked.events);
+        ∙ ap (λ events. after_events events rest) (sym picked.events);
     does = ap (src_run program) picked.events
         ∙ run_more program old.events 1 (start program) picked.event after (ap (λ (run : SrcRun). run.stop) came.does) (ap (λ (run : SrcRun). sys_step program run.state picked.event) came.does ∙ picked.stepped.is)
         ∙ ap (λ (run : SrcRun). ran_to (run.actions ++ after.actions) after.state) came.does
@@ -149,7 +149,7 @@ module _ (program : Program) (x most place : ℕ) (old : Trial) (last : ℕ) (ca
 
   is_trial : stress_from program (most - place) last came.now ≡ record { events = []; last = last } → IsTrial program most x old
   is_trial none = record {
-    events = append_nil_of ∙ sym (ap (λ (run : StressRun). run.events) (came.picks ∙ ap (behind_events old.events) none));
+    events = append_nil_of ∙ sym (ap (λ (run : StressRun). run.events) (came.picks ∙ ap (after_events old.events) none));
     run = record {
       goes = ap (λ (run : SrcRun). run.stop) came.does;
       behind = record {
@@ -174,7 +174,7 @@ module _ (program : Program) (x most place : ℕ) (old : Trial) (last : ℕ) (ca
 -- ONE EVENT THAT IS PICKED
 
 pub picked_here : (program : Program) (s : SystemState) (last number count place : ℕ) (event : Event) (old new : Trial) (allowed : Bool) → number ≡ next_number last → count ≡ length (choices program s) → place ≡ place_in count number
-    → slice_get (choices program s) place ≡ Some event → allowed ≡ true → IsCarriedOut (sys_step program s event) old.run allowed new.run → new.events ≡ old.events ++ event ∷ []
+    → slice_get (choices program s) place ≡ Some event → allowed ≡ true → IsExecuted (sys_step program s event) old.run allowed new.run → new.events ≡ old.events ++ event ∷ []
     → WasPicked program s last number old new
 picked_here program s last number count place event old new true number_is count_is place_is there is done added = record {
   event = event;
@@ -194,7 +194,7 @@ picking_state system count ready none some = of (is_spent system) refl
     of false is = ready is
 
 -- an event that is allowed is not refused
-pub not_refused : (step : Option AfterEvent) (old new : Run) (allowed : Bool) → IsSome step → allowed ≡ false → IsCarriedOut step old allowed new → ⊥
+pub not_refused : (step : Option AfterEvent) (old new : Run) (allowed : Bool) → IsSome step → allowed ≡ false → IsExecuted step old allowed new → ⊥
 not_refused step old new true some is done = false≢true (sym is)
 not_refused step old new false some is done = false≢true (sym (ap is_some done) ∙ some)
 
@@ -202,7 +202,7 @@ not_refused step old new false some is done = false≢true (sym (ap is_some done
 
 pub shown_stuck : (program : Program) (what : What) (run : Run) (count : ℕ) (actions : List Action) (r : Bool) → what ≡ Stuck → count ≡ length program.procs → actions ≡ run.actions → program_of run.system ≡ program
     → ((s : SystemState) → Stands run.system s → IsTrue r ↔ (choices (program_of run.system) s ≡ []) × HasUnended count actions)
-    → (source : SrcRun) → StandsBehind program source run → IsTrue r ↔ Shows program what source
+    → (source : SrcRun) → StandsAfter program source run → IsTrue r ↔ Shows program what source
 shown_stuck program what run count actions r is counted told_is same told source behind = subst (λ w. IsTrue r ↔ Shows program w source) (sym is) (to, from)
   where
     both : IsTrue r ↔ (choices (program_of run.system) source.state ≡ []) × HasUnended count actions
@@ -229,7 +229,7 @@ shown_stuck program what run count actions r is counted told_is same told source
     )
 
 pub shown_by_run : (program : Program) (what : What) (events : List Event) (run : Run) (r : Bool) → HasRun program events run
-    → ((source : SrcRun) → StandsBehind program source run → IsTrue r ↔ Shows program what source) → IsTrue r ↔ IsShownBy program what events
+    → ((source : SrcRun) → StandsAfter program source run → IsTrue r ↔ Shows program what source) → IsTrue r ↔ IsShownBy program what events
 shown_by_run program what events run r ran told =
     let both = told (src_run program events) ran.behind in
     (λ is. record { allowed = ran.goes; shows = both.0 is }, λ shown. both.1 shown.shows)

@@ -4,7 +4,7 @@ use Rattle.std.specs.Prelude.{◌⊎◌, Option, Some, None}
 use Rattle.std.proofs.lemmas.Bool.{cases_lt}
 use Rattle.da_lang.specs.declared.event.Event.{Event}
 use Rattle.da_lang.specs.declared.program.Program.{Program}
-use Rattle.da_outside.specs.Outside.{Appends, AppendsFront}
+use Rattle.da_outside.specs.Outside.{Appends, AppendsPrefix}
 use Rattle.schedule_hunt.specs.declared.what.What.{What}
 use Rattle.schedule_hunt.specs.Hunt.{HasBegun, IsLeast, IsPart, IsReply, IsShort, IsShownBy, IsTextOf, ShowsNone, generated, found_text}
 use Rattle.schedule_hunt.specs.Seeking.{IsReplyOf, IsSought}
@@ -47,9 +47,9 @@ module _ (program : Program) (what : What) (most start count : ℕ) where
   is_reply true text found = inl found
   is_reply false text none = inr none
 
-  pub begun : (found : Bool) (text bytes : List ℕ) (before after : Option (List ℕ)) → bytes ≡ text → IsReplyOf program what most start count found text → AppendsFront before after bytes
+  pub begun : (found : Bool) (text bytes : List ℕ) (before after : Option (List ℕ)) → bytes ≡ text → IsReplyOf program what most start count found text → AppendsPrefix before after bytes
       → HasBegun program what most start count before after
-  begun found text bytes before after same reply front = inr (text, is_reply found text reply, subst (AppendsFront before after) same front)
+  begun found text bytes before after same reply front = inr (text, is_reply found text reply, subst (AppendsPrefix before after) same front)
 
   pub unbegun : (taken : Option (List ℕ)) → HasBegun program what most start count taken taken
   unbegun taken = inl refl

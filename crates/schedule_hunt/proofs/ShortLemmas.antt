@@ -24,13 +24,13 @@ part_then _ _ _ (IsPart.kept _ part _ first) (IsPart.kept e middle whole next) =
 part_then a _ _ (IsPart.left _ _ _ first) (IsPart.kept e middle whole next) = IsPart.left e a whole (part_then a middle whole first next)
 part_then _ _ _ IsPart.none IsPart.none = IsPart.none
 
-part_behind : (events : List Event) (size : ℕ) → IsPart (drop size events) events
-part_behind events zero = part_self events
-part_behind [] (suc size) = IsPart.none
-part_behind (e ∷ es) (suc size) = IsPart.left e _ es (part_behind es size)
+part_after : (events : List Event) (size : ℕ) → IsPart (drop size events) events
+part_after events zero = part_self events
+part_after [] (suc size) = IsPart.none
+part_after (e ∷ es) (suc size) = IsPart.left e _ es (part_after es size)
 
 pub part_without : (events : List Event) (place size : ℕ) → IsPart (without_some events place size) events
-part_without events zero size = part_behind events size
+part_without events zero size = part_after events size
 part_without [] (suc place) zero = IsPart.none
 part_without [] (suc place) (suc size) = IsPart.none
 part_without (e ∷ es) (suc place) size = IsPart.kept e _ es (part_without es place size)
@@ -52,7 +52,7 @@ one_fewer events place inside =
     let rest = length-drop place events in
     omega (arith, all, front, back, rest, inside)
 
--- what is left is no shorter than its front
+-- what is left is no shorter than its prefix
 front_left : (events : List Event) (place size : ℕ) → place ≤ length events → place ≤ length (without_some events place size)
 front_left events place size inside =
     let all = length-append (take place events) (drop size (drop place events)) in

@@ -3,7 +3,7 @@ use Rattle.std.specs.Prelude.{◌≡◌, ℕ, ◌+◌, ◌<◌, ◌≤◌, ◌==
 use Rattle.std.specs.List.{filter, flat_map, remove}
 use Rattle.da_lang.specs.declared.event.Event.{Event}
 use Rattle.da_lang.specs.declared.program.Program.{Program}
-use Rattle.da_outside.specs.Outside.{Appends, AppendsFront}
+use Rattle.da_outside.specs.Outside.{Appends, AppendsPrefix}
 use Rattle.da_system.specs.SourceRun.{src_run}
 use Rattle.da_system.specs.StressRun.{stress_run}
 use Rattle.sched_text.specs.EventText.{event_line}
@@ -77,7 +77,7 @@ none_line count = codes "none " ++ decimal count ++ codes "\n"
 abbrev pub IsReply : Program → What → ℕ → ℕ → ℕ → List ℕ → Type 0
 IsReply program what most start count text = IsFound program what most start count text ⊎ (ShowsNone program what most start count × (text ≡ none_line count))
 
--- nothing was written, or the front of a text that answers
+-- nothing was written, or a prefix of a text that answers
 abbrev pub HasBegun : Program → What → ℕ → ℕ → ℕ → Option (List ℕ) → Option (List ℕ) → Type 0
 HasBegun program what most start count before after =
-    (after ≡ before) ⊎ ((text : List ℕ) × IsReply program what most start count text × AppendsFront before after text)
+    (after ≡ before) ⊎ ((text : List ℕ) × IsReply program what most start count text × AppendsPrefix before after text)

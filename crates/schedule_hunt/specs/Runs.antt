@@ -12,7 +12,7 @@ use Rattle.schedule_hunt.specs.declared.runs.Trial.{Trial}
 use Rattle.schedule_hunt.specs.Hunt.{generated}
 
 -- the run in code has come to the end of this one
-pub record StandsBehind (program : Program) (source : SrcRun) (run : Run) : Type 0 where
+pub record StandsAfter (program : Program) (source : SrcRun) (run : Run) : Type 0 where
   pub program_is : program_of run.system ≡ program
   pub actions : run.actions ≡ source.actions
   pub stands : Stands run.system source.state
@@ -20,7 +20,7 @@ pub record StandsBehind (program : Program) (source : SrcRun) (run : Run) : Type
 -- the events ran with no stop, and the run in code has come to their end
 pub record HasRun (program : Program) (events : List Event) (run : Run) : Type 0 where
   pub goes : (src_run program events).stop ≡ None
-  pub behind : StandsBehind program (src_run program events) run
+  pub behind : StandsAfter program (src_run program events) run
 
 -- the run of the events, or none where they stop
 abbrev pub IsRunOf : Program → List Event → Option Run → Type 0
@@ -35,11 +35,11 @@ pub record IsTrial (program : Program) (most number : ℕ) (trial : Trial) : Typ
 -- ONE EVENT
 
 -- it was carried out, or is not allowed
-abbrev pub IsCarriedOut : Option AfterEvent → Run → Bool → Run → Type 0
-IsCarriedOut step old true new = HasStepped step new.system old.actions new.actions
-IsCarriedOut step old false new = step ≡ None
+abbrev pub IsExecuted : Option AfterEvent → Run → Bool → Run → Type 0
+IsExecuted step old true new = HasStepped step new.system old.actions new.actions
+IsExecuted step old false new = step ≡ None
 
--- the number behind x picked an event, which was carried out
+-- the number after x picked an event, which was carried out
 pub record WasPicked (program : Program) (s : SystemState) (x number : ℕ) (old new : Trial) : Type 0 where
   pub event : Event
   pub number_is : number ≡ next_number x

@@ -1,4 +1,4 @@
--- What a run shows, by its actions and the state behind it.
+-- What a run shows, by its actions and the state after it.
 use Rattle.std.specs.Prelude.{◌≡◌, ℕ, ◌<◌, ◌⊎◌, true, List, [], ◌∷◌, count_by}
 use Rattle.std.specs.List.{list_any}
 use Rattle.da_values.specs.declared.val.Val.{Val, out-Val}
@@ -71,7 +71,7 @@ pub record OutputsDiffer (actions : List Action) : Type 0 where
 abbrev pub HasEnded : ℕ → List Action → Type 0
 HasEnded p actions = AnyOf (λ a. a ≡ End p) actions
 
--- no event may be picked behind the run, and a process has not ended
+-- no event may be picked after the run, and a process has not ended
 pub record IsStuck (program : Program) (run : SrcRun) : Type 0 where
   pub none : choices program run.state ≡ []
   pub process : ℕ

@@ -31,10 +31,10 @@ pub enum HuntOutcome {
 /// Is told how far a hunt is.
 pub trait Progress {
     /// So many schedules were tried.
-    fn tried(&mut self, count: u64);
+    fn tell_tries(&mut self, count: u64);
 }
 
-/// Tries the schedules of at most `most` events that are generated from `count` numbers, `start` and those behind it, until
+/// Tries the schedules of at most `most` events that are generated from `count` numbers, `start` and those after it, until
 /// one shows `what`. Of this one it leaves out events until none can be left out alone, and writes the lines of those that
 /// are left, and a remark that says by which actions they show it. Where no schedule shows it, it writes how many were
 /// tried. `progress` is told after each try that shows nothing.
@@ -60,8 +60,8 @@ pub fn hunt<K: Sink, P: Progress>(
     ensures none { result ≡ HuntOutcome.None → ShowsNone (program_of compiled.now) what.now most start count
         × Appends (K.taken sink.old) (K.taken sink.new) (none_line count) }
 
-    // However it ended, no more was written than the front of such a text.
-    ensures front { HasBegun (program_of compiled.now) what.now most start count (K.taken sink.old) (K.taken sink.new) }
+    // However it ended, no more was written than a prefix of such a text.
+    ensures prefix { HasBegun (program_of compiled.now) what.now most start count (K.taken sink.old) (K.taken sink.new) }
 
     // `WriteFault` has its cause.
     ensures write { HasCause (K.faults sink.old) (K.faults sink.new) (result ≡ HuntOutcome.WriteFault) }
@@ -136,7 +136,7 @@ fn seek<P: Progress>(
         if let Some(events) = found {
             return Ok(Some(events));
         }
-        progress.tried(place + 1);
+        progress.tell_tries(place + 1);
     }
     Ok(None)
 }

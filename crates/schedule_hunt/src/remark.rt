@@ -1,7 +1,7 @@
 //! What a remark says: what is shown by which actions. No contract speaks of the words.
 ghost use Rattle.da_core.specs.Compiled.{IsCompiled};
 
-use crate::runs::{begin, carry_out};
+use crate::runs::{begin, execute};
 use crate::shown::{has_ended, sayer};
 use crate::what::What;
 use da_core::Compiled;
@@ -10,7 +10,7 @@ use da_values::{Buf, List, NoMemory, Value, write_number};
 use sched_text::write_action;
 use std::alloc::Global;
 
-/// The actions of a run, and how many there were behind each event.
+/// The actions of a run, and how many there were after each event.
 #[derive(Drop)]
 struct Told {
     actions: List<Action>,
@@ -24,7 +24,7 @@ struct Pair {
     second: usize,
 }
 
-/// What the remark behind these events says, which show this.
+/// What the remark after these events says, which show this.
 pub(crate) fn words_of(
     alloc: Global,
     compiled: &Compiled,
@@ -45,14 +45,14 @@ pub(crate) fn words_of(
     Ok(out)
 }
 
-// Runs the events, and keeps how many actions there were behind each.
+// Runs the events, and keeps how many actions there were after each.
 fn tell(alloc: Global, compiled: &Compiled, events: &[Event]) -> Result<Told, NoMemory>
     requires { IsCompiled compiled.now }
 {
     let mut behind = List::new(alloc);
     let mut run = begin(alloc, compiled)?;
     for event in events {
-        let _allowed = carry_out(&mut run, event)?;
+        let _allowed = execute(&mut run, event)?;
         behind.push(run.actions.len())?;
     }
     Ok(Told {
@@ -84,7 +84,7 @@ fn put_stuck(count: usize, told: &Told, out: &mut Buf) -> Result<(), NoMemory> {
     Ok(())
 }
 
-// Appends the number of a process behind a space.
+// Appends the number of a process after a space.
 fn put_process(process: usize, out: &mut Buf) -> Result<(), NoMemory> {
     out.append(b" ")?;
     write_number(process, out)
@@ -116,7 +116,7 @@ fn meeting(enter: &Value, leave: &Value, actions: &[Action]) -> Option<Pair> {
     None
 }
 
-// The place behind this one where another process enters before process `q` leaves.
+// The place after this one where another process enters before process `q` leaves.
 fn next_entry(
     enter: &Value,
     leave: &Value,

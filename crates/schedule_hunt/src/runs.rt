@@ -3,9 +3,9 @@ ghost use Rattle.da_core.specs.Compiled.{IsCompiled, program_of as compiled_prog
 ghost use Rattle.da_system.specs.Choices.{choices};
 ghost use Rattle.da_system.specs.SourceRun.{SrcRun};
 ghost use Rattle.da_system.specs.State.{IsReady, Stands, Whichever, program_of};
-ghost use Rattle.da_system.specs.SystemStep.{start as start_lem, sys_step};
+ghost use Rattle.da_system.specs.SystemStep.{start as start_def, sys_step};
 ghost use Rattle.schedule_hunt.specs.Hunt.{IsShownBy, generated};
-ghost use Rattle.schedule_hunt.specs.Runs.{IsCarriedOut, IsPicked, IsRunOf, IsTrial, StandsBehind};
+ghost use Rattle.schedule_hunt.specs.Runs.{IsExecuted, IsPicked, IsRunOf, IsTrial, StandsAfter};
 ghost use Rattle.schedule_hunt.specs.Shown.{Shows};
 ghost use Rattle.schedule_hunt.specs.ShownSteps.{HasUnended};
 ghost use Rattle.std.specs.Prelude.{◌≡◌, ◌↔◌, [], IfOk, IsTrue, MatchOption};
@@ -19,7 +19,7 @@ use da_values::{List, NoMemory};
 use replay_run::{next_number, place_in};
 use std::alloc::Global;
 
-/// The system behind a run that was not stopped, and all actions of the run.
+/// The system after a run that was not stopped, and all actions of the run.
 #[derive(Drop)]
 pub(crate) struct Run<'c> {
     pub(crate) system: System<'c>,
@@ -33,7 +33,7 @@ pub(crate) struct Trial<'c> {
     pub(crate) events: List<Event>,
 }
 
-/// Whether the events are all allowed, one behind the other, and their run shows this.
+/// Whether the events are all allowed, one after the other, and their run shows this.
 pub(crate) fn is_shown(
     alloc: Global,
     compiled: &Compiled,
@@ -84,7 +84,7 @@ fn run_events<'c>(
 {
     let mut run = begin(alloc, compiled)?;
     for event in events {
-        if !carry_out(&mut run, event)? {
+        if !execute(&mut run, event)? {
             return Ok(None);
         }
     }
@@ -95,7 +95,7 @@ fn run_events<'c>(
 pub(crate) fn begin<'c>(alloc: Global, compiled: &'c Compiled) -> Result<Run<'c>, NoMemory>
     requires { IsCompiled compiled.now }
     ensures program { IfOk result (λ run. program_of run.system ≡ compiled_program compiled.now) }
-    ensures stands { IfOk result (λ run. Stands run.system (start_lem (compiled_program compiled.now))) }
+    ensures stands { IfOk result (λ run. Stands run.system (start_def (compiled_program compiled.now))) }
     ensures none { IfOk result (λ run. run.actions ≡ []) }
 {
     Ok(Run {
@@ -105,10 +105,10 @@ pub(crate) fn begin<'c>(alloc: Global, compiled: &'c Compiled) -> Result<Run<'c>
 }
 
 /// Carries out an event, and says whether it is allowed.
-pub(crate) fn carry_out(run: &mut Run<'_>, event: &Event) -> Result<bool, NoMemory>
+pub(crate) fn execute(run: &mut Run<'_>, event: &Event) -> Result<bool, NoMemory>
     requires { IsReady run.old.system }
     ensures carried { IfOk result (λ allowed. Whichever run.old.system (λ s.
-        IsCarriedOut (sys_step (program_of run.old.system) s event.now) run.old allowed run.new)) }
+        IsExecuted (sys_step (program_of run.old.system) s event.now) run.old allowed run.new)) }
     ensures ready { IsReady run.new.system }
     ensures program { program_of run.new.system ≡ program_of run.old.system }
 {
@@ -144,7 +144,7 @@ fn generate<'c>(
     Ok(trial)
 }
 
-// Carries out the event that the number behind `last` picks. It answers that number, or `None` where there is no event to
+// Carries out the event that the number after `last` picks. It answers that number, or `None` where there is no event to
 // pick.
 fn pick_next(trial: &mut Trial<'_>, last: u64) -> Result<Option<u64>, NoMemory>
     requires { IsReady trial.old.run.system }
@@ -158,7 +158,7 @@ fn pick_next(trial: &mut Trial<'_>, last: u64) -> Result<Option<u64>, NoMemory>
     }
     let number = next_number(last);
     let event = trial.run.system.choice(place_in(choices, number));
-    if !carry_out(&mut trial.run, &event)? {
+    if !execute(&mut trial.run, &event)? {
         unreachable!()
     }
     trial.events.push(event)?;
@@ -168,7 +168,7 @@ fn pick_next(trial: &mut Trial<'_>, last: u64) -> Result<Option<u64>, NoMemory>
 // Whether a run shows this.
 fn shows(compiled: &Compiled, what: &What, run: &Run<'_>) -> bool
     requires { program_of run.now.system ≡ compiled_program compiled.now }
-    ensures { (source : SrcRun) → StandsBehind (compiled_program compiled.now) source run.now
+    ensures { (source : SrcRun) → StandsAfter (compiled_program compiled.now) source run.now
         → IsTrue result ↔ Shows (compiled_program compiled.now) what.now source }
 {
     let actions = run.actions.as_slice();

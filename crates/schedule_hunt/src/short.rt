@@ -135,7 +135,7 @@ fn without(
     Ok(fewer)
 }
 
-// The events behind so many; none where there are fewer.
+// The events after so many; none where there are fewer.
 fn behind(events: &[Event], size: usize) -> &[Event]
     ensures { result.now ≡ drop size events.now }
 {

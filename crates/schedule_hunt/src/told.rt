@@ -1,7 +1,7 @@
 //! The texts that answer.
 ghost use Rattle.da_core.specs.Compiled.{IsCompiled};
 ghost use Rattle.sched_text.specs.EventText.{event_line};
-ghost use Rattle.schedule_hunt.specs.Hunt.{found_text as found_lem, none_line, remark_line};
+ghost use Rattle.schedule_hunt.specs.Hunt.{found_text as found_def, none_line, remark_line};
 ghost use Rattle.std.specs.List.{filter, flat_map};
 ghost use Rattle.std.specs.Prelude.{ℕ, ◌≡◌, ◌++◌, ◌==◌, List as Seq, IfOk, OnOk, not};
 
@@ -21,7 +21,7 @@ pub(crate) fn found_text(
     what: &What,
 ) -> Result<Buf, NoMemory>
     requires { IsCompiled compiled.now }
-    ensures { IfOk result (λ text. (words : Seq ℕ) × (text ≡ found_lem events.now words)) }
+    ensures { IfOk result (λ text. (words : Seq ℕ) × (text ≡ found_def events.now words)) }
 {
     let words = words_of(alloc, compiled, events, what)?;
     let mut text = List::new(alloc);

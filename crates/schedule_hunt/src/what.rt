@@ -6,7 +6,7 @@ use da_values::Value;
 pub enum What {
     /// A fault ends a process.
     Fault,
-    /// Behind the run no event may be picked, and some process has not used up its statements. A process that a fault
+    /// After the run no event may be picked, and some process has not used up its statements. A process that a fault
     /// has ended has not.
     Stuck,
     /// A process puts out `enter` while another one has put out `enter` and not `leave` since. An output counts as one of

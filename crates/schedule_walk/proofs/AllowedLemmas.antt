@@ -50,7 +50,7 @@ module _ (test : Event → Bool) (pieces : ℕ → List Event) where
   pub adds_all : (place count : ℕ) (old new : List Event) → place ≡ count → AddsUpTo place old new → new ≡ old ++ filter test (flat_map pieces (numbers_to count))
   adds_all place count old new same added = subst (λ k. AddsUpTo k old new) same added
 
--- ALL KINDS, one behind the other
+-- ALL KINDS, one after the other
 
 pub adds_four : (test : Event → Bool) (ms ds ls rs a b c d : List Event) → a ≡ [] ++ filter test ms → b ≡ a ++ filter test ds → c ≡ b ++ filter test ls → d ≡ c ++ filter test rs → d ≡ filter test (ms ++ ds ++ ls ++ rs)
 adds_four test ms ds ls rs a b c d first second third fourth =
@@ -123,23 +123,23 @@ abbrev BeginsWithNone : List Event → Type 0
 BeginsWithNone [] = Unit {0}
 BeginsWithNone (e ∷ es) = is_move e ≡ false
 
-same_front : (xs ys ms rest : List Event) → xs ++ ys ≡ ms ++ rest → AllMoves xs → NoMoves ys → AllMoves ms → BeginsWithNone rest → ms ≡ xs
-same_front [] ys [] rest same moves none all begins = refl
-same_front [] [] (m ∷ ms) rest same moves none all begins = absurd (let clash : [] ≡ m ∷ ms ++ rest = same in cc)
-same_front [] (b ∷ ys) (m ∷ ms) rest same moves none all begins =
+same_prefix : (xs ys ms rest : List Event) → xs ++ ys ≡ ms ++ rest → AllMoves xs → NoMoves ys → AllMoves ms → BeginsWithNone rest → ms ≡ xs
+same_prefix [] ys [] rest same moves none all begins = refl
+same_prefix [] [] (m ∷ ms) rest same moves none all begins = absurd (let clash : [] ≡ m ∷ ms ++ rest = same in cc)
+same_prefix [] (b ∷ ys) (m ∷ ms) rest same moves none all begins =
     let first : b ≡ m = cc in
     absurd (false≢true (sym none.0 ∙ ap is_move first ∙ all.0))
-same_front (a ∷ xs) ys [] [] same moves none all begins = absurd (let clash : a ∷ xs ++ ys ≡ [] = same in cc)
-same_front (a ∷ xs) ys [] (r ∷ rest) same moves none all begins =
+same_prefix (a ∷ xs) ys [] [] same moves none all begins = absurd (let clash : a ∷ xs ++ ys ≡ [] = same in cc)
+same_prefix (a ∷ xs) ys [] (r ∷ rest) same moves none all begins =
     let first : a ≡ r = cc in
     absurd (false≢true (sym begins ∙ sym (ap is_move first) ∙ moves.0))
-same_front (a ∷ xs) ys (m ∷ ms) rest same moves none all begins =
+same_prefix (a ∷ xs) ys (m ∷ ms) rest same moves none all begins =
     let first : m ≡ a = cc in
     let others : xs ++ ys ≡ ms ++ rest = cc in
-    ap (λ x. x ∷ ms) first ∙ ap (λ es. a ∷ es) (same_front xs ys ms rest others moves.1 none all.1 begins)
+    ap (λ x. x ∷ ms) first ∙ ap (λ es. a ∷ es) (same_prefix xs ys ms rest others moves.1 none all.1 begins)
 
--- so many moves from the front were added
-pub record Fronts (whole : List Event) (place : ℕ) (old new : List Event) : Type 0 where
+-- so many moves from the start were added
+pub record Prefixes (whole : List Event) (place : ℕ) (old new : List Event) : Type 0 where
   pub front : List Event
   pub rest : List Event
   pub cut : whole ≡ front ++ rest
@@ -147,7 +147,7 @@ pub record Fronts (whole : List Event) (place : ℕ) (old new : List Event) : Ty
   pub all : AllMoves front
   pub added : new ≡ old ++ front
 
-pub fronts_first : (whole old : List Event) → Fronts whole 0 old old
+pub fronts_first : (whole old : List Event) → Prefixes whole 0 old old
 fronts_first whole old = record { front = []; rest = whole; cut = refl; many = refl; all = tt; added = sym (append-nil old) }
 
 next_of : (front rest : List Event) (e : Event) → slice_get (front ++ rest) (length front) ≡ Some e → (more : List Event) × (rest ≡ e ∷ more)
@@ -155,11 +155,11 @@ next_of [] [] e there = absurd (false≢true (ap is_some there))
 next_of [] (x ∷ xs) e there = let same : x ≡ e = cc in (xs, ap (λ y. y ∷ xs) same)
 next_of (m ∷ ms) rest e there = next_of ms rest e there
 
-module _ (whole : List Event) (place : ℕ) (old mid : List Event) (fronts : Fronts whole place old mid) where
+module _ (whole : List Event) (place : ℕ) (old mid : List Event) (fronts : Prefixes whole place old mid) where
   behind : (e : Event) → slice_get whole place ≡ Some e → (more : List Event) × (fronts.rest ≡ e ∷ more)
   behind e there = next_of fronts.front fronts.rest e (subst (λ n. slice_get (fronts.front ++ fronts.rest) n ≡ Some e) (sym fronts.many) (subst (λ es. slice_get es place ≡ Some e) fronts.cut there))
 
-  pub fronts_on : (e : Event) (new : List Event) → slice_get whole place ≡ Some e → is_move e ≡ true → new ≡ mid ++ e ∷ [] → Fronts whole (place + 1) old new
+  pub fronts_on : (e : Event) (new : List Event) → slice_get whole place ≡ Some e → is_move e ≡ true → new ≡ mid ++ e ∷ [] → Prefixes whole (place + 1) old new
   fronts_on e new there is more =
       let (others, rest_is) = behind e there in
       record {
@@ -175,11 +175,11 @@ module _ (whole : List Event) (place : ℕ) (old mid : List Event) (fronts : Fro
   pub fronts_end : (e : Event) (xs ys : List Event) → slice_get whole place ≡ Some e → is_move e ≡ false → whole ≡ xs ++ ys → AllMoves xs → NoMoves ys → mid ≡ old ++ xs
   fronts_end e xs ys there never cut moves none =
       let (others, rest_is) = behind e there in
-      fronts.added ∙ ap (λ es. old ++ es) (same_front xs ys fronts.front fronts.rest (sym cut ∙ fronts.cut) moves none fronts.all (subst BeginsWithNone (sym rest_is) never))
+      fronts.added ∙ ap (λ es. old ++ es) (same_prefix xs ys fronts.front fronts.rest (sym cut ∙ fronts.cut) moves none fronts.all (subst BeginsWithNone (sym rest_is) never))
 
   -- there is no other
   pub fronts_over : (xs ys : List Event) → length whole ≤ place → whole ≡ xs ++ ys → AllMoves xs → NoMoves ys → mid ≡ old ++ xs
-  fronts_over xs ys past cut moves none = fronts.added ∙ ap (λ es. old ++ es) (same_front xs ys fronts.front fronts.rest (sym cut ∙ fronts.cut) moves none fronts.all (over fronts.rest refl))
+  fronts_over xs ys past cut moves none = fronts.added ∙ ap (λ es. old ++ es) (same_prefix xs ys fronts.front fronts.rest (sym cut ∙ fronts.cut) moves none fronts.all (over fronts.rest refl))
     where
       over : (rest : List Event) → fronts.rest ≡ rest → BeginsWithNone fronts.rest
       over [] is = subst BeginsWithNone (sym is) tt
@@ -192,7 +192,7 @@ module _ (program : Program) (s : SystemState) where
   choices_cut : choices program s ≡ filter (is_allowed program s) (moves s) ++ filter (is_allowed program s) (flat_map (deliveries_from s) (processes s))
   choices_cut = filter-append (is_allowed program s) (moves s) (flat_map (deliveries_from s) (processes s))
 
-  module _ (place : ℕ) (old mid : List Event) (fronts : Fronts (choices program s) place old mid) where
+  module _ (place : ℕ) (old mid : List Event) (fronts : Prefixes (choices program s) place old mid) where
     pub moves_end : (e : Event) → slice_get (choices program s) place ≡ Some e → is_move e ≡ false → mid ≡ old ++ filter (is_allowed program s) (moves s)
     moves_end e there never =
         fronts_end (choices program s) place old mid fronts e _ _ there never choices_cut

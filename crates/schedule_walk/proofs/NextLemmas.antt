@@ -7,7 +7,7 @@ use Rattle.std.proofs.lemmas.List.{take_more}
 use Rattle.da_lang.specs.declared.event.Action.TheVariants.{Stop}
 use Rattle.da_lang.specs.declared.event.Event.{Event}
 use Rattle.da_lang.specs.declared.program.Program.{Program}
-use Rattle.da_outside.specs.Outside.{Appends, AppendsFront}
+use Rattle.da_outside.specs.Outside.{Appends, AppendsPrefix}
 use Rattle.da_system.specs.declared.system.System.{System}
 use Rattle.da_system.specs.SourceRun.{src_run}
 use Rattle.da_system.specs.SystemStep.{SystemState, start}
@@ -98,5 +98,5 @@ module _ (program : Program) (events : List Event) (opened : System) (stands : S
 -- what was said is the answer
 pub answered_as : (Reply : Outcome → List ℕ → Type 0) (how : Outcome) (bytes : List ℕ) (result : Outcome) (before after : Option (List ℕ)) → Reply how bytes → HasSaid how bytes result before after → HasAnswered Reply result before after
 answered_as Reply how bytes result before after reply (whole ended written same gained) = whole ended bytes (subst (λ o. Reply o bytes) (sym same.0) reply) (subst (Appends before after) same.1 gained)
-answered_as Reply how bytes result before after reply (begun cut said written same front) = begun cut how bytes reply (subst (AppendsFront before after) same.1 front)
+answered_as Reply how bytes result before after reply (begun cut said written same front) = begun cut how bytes reply (subst (AppendsPrefix before after) same.1 front)
 answered_as Reply how bytes result before after reply (nothing cut none) = nothing cut none

@@ -4,7 +4,7 @@ use Rattle.std.specs.Prelude.{Option, Some, None}
 use Rattle.da_lang.specs.declared.event.Action.{Action}
 use Rattle.da_lang.specs.declared.event.Event.{Event}
 use Rattle.da_lang.specs.declared.program.Program.{Program}
-use Rattle.da_outside.specs.Outside.{Appends, AppendsFront}
+use Rattle.da_outside.specs.Outside.{Appends, AppendsPrefix}
 use Rattle.da_system.specs.declared.system.System.{System}
 use Rattle.da_system.specs.Choices.{choices}
 use Rattle.da_system.specs.SourceRun.{SrcRun}
@@ -19,8 +19,8 @@ use Rattle.schedule_walk.specs.declared.generated.Pick.{Pick}
 use Rattle.schedule_walk.specs.Walk.{ArePicked, IsNext, WasPicked, schedule_text, walk_text}
 
 -- these events before those of a run
-abbrev behind_events : List Event → StressRun → StressRun
-behind_events events run = record run { events = events ++ run.events }
+abbrev after_events : List Event → StressRun → StressRun
+after_events events run = record run { events = events ++ run.events }
 
 abbrev ran_to : List Action → SystemState → SrcRun
 ran_to told s = record { actions = told; stop = None; state = s }
@@ -30,7 +30,7 @@ ran_to told s = record { actions = told; stop = None; state = s }
 pub record CameBy (program : Program) (s : SystemState) (x n place : ℕ) (system : System) (last : ℕ) (events : List Event) : Type 0 where
   pub told : List Action
   pub now : SystemState
-  pub picks : stress_from program n x s ≡ behind_events events (stress_from program (n - place) last now)
+  pub picks : stress_from program n x s ≡ after_events events (stress_from program (n - place) last now)
   pub does : run_on program s events ≡ ran_to told now
   pub stands : Stands system now
 
@@ -49,7 +49,7 @@ module _ (program : Program) (s : SystemState) (x n place : ℕ) (system : Syste
   picked_from found next inside was = record {
     told = came.told ++ was.after.actions;
     now = was.after.state;
-    picks = came.picks ∙ ap (behind_events events) one
+    picks = came.picks ∙ ap (after_events events) one
         ∙ ap (λ (events : List Event). let run : StressRun = record rest { events = events } in run) (sym (append_assoc events (found.event ∷ []) rest.events));
     does = run_more program events 1 s found.event was.after (ap (λ (run : SrcRun). run.stop) came.does) (ap (λ (run : SrcRun). sys_step program run.state found.event) came.does ∙ was.is)
         ∙ ap (λ (run : SrcRun). ran_to (run.actions ++ was.after.actions) was.after.state) came.does;
@@ -76,7 +76,7 @@ module _ (program : Program) (s : SystemState) (x n place : ℕ) (system : Syste
   }
     where
       whole : stress_from program n x s ≡ record { events = events; last = last }
-      whole = came.picks ∙ ap (behind_events events) none ∙ ap (λ (es : List Event). let run : StressRun = record { events = es; last = last } in run) (append-nil events)
+      whole = came.picks ∙ ap (after_events events) none ∙ ap (λ (es : List Event). let run : StressRun = record { events = es; last = last } in run) (append-nil events)
 
       does : run_on program s (picked_on program s x n) ≡ ran_to came.told came.now
       does = ap (λ (run : StressRun). run_on program s run.events) whole ∙ came.does
@@ -97,8 +97,8 @@ module _ (program : Program) (s : SystemState) (x n : ℕ) (events : List Event)
   pub walked : text ≡ schedule_text events → Appends before after text → Appends before after (walk_text program s x n)
   walked text_is written = subst (Appends before after) (text_is ∙ ap schedule_text are.events_are) written
 
-  pub walked_front : text ≡ schedule_text events → AppendsFront before after text → AppendsFront before after (walk_text program s x n)
-  walked_front text_is front = subst (AppendsFront before after) (text_is ∙ ap schedule_text are.events_are) front
+  pub walked_front : text ≡ schedule_text events → AppendsPrefix before after text → AppendsPrefix before after (walk_text program s x n)
+  walked_front text_is front = subst (AppendsPrefix before after) (text_is ∙ ap schedule_text are.events_are) front
 
   pub walk_spells : text ≡ schedule_text events → SpellsSchedule text events → SpellsSchedule (walk_text program s x n) (picked_on program s x n)
   walk_spells text_is spells = subst (SpellsSchedule (walk_text program s x n)) are.events_are (subst (λ t. SpellsSchedule t events) (text_is ∙ ap schedule_text are.events_are) spells)

@@ -1,5 +1,5 @@
 -- All events that are allowed in a state but for `show` and `stat`, in their order: the moves and timeouts, and then what may be
--- done with the messages that are under way.
+-- done with the messages in flight.
 use Rattle.std.specs.Prelude.{ℕ, Bool, true, false, List, ◌++◌, length, map}
 use Rattle.std.specs.List.{filter, flat_map}
 use Rattle.da_core.specs.Told.{numbers_to}
@@ -18,7 +18,7 @@ deed_event Deliver p q i = event.Deliver p q i
 deed_event Lose p q i = event.Lose p q i
 deed_event Repeat p q i = event.Repeat p q i
 
--- the same for each message that is under way from p to q, then from p to each process, and then from each process
+-- the same for each message in flight from p to q, then from p to each process, and then from each process
 abbrev pub deeds_to : Deed → SystemState → ℕ → ℕ → List Event
 deeds_to deed s p q = map (deed_event deed p q) (numbers_to (length (channel s.channels p q)))
 

@@ -1,16 +1,16 @@
--- What is answered to the question which events are allowed behind a schedule.
+-- What is answered to the question which events are allowed after a schedule.
 use Rattle.std.specs.Prelude.{◌≡◌, ◌<◌, ◌≤◌, ℕ, ◌⊎◌, if◌then◌else◌, nat_lt, List, [], ◌∷◌, ◌++◌, codes, map, Option, None, Some}
 use Rattle.std.specs.List.{AllByRecursion, flat_map}
 use Rattle.da_lang.specs.declared.event.Action.TheVariants.{Stop}
 use Rattle.da_lang.specs.declared.event.Event.{Event}
 use Rattle.da_lang.specs.declared.program.Program.{Program}
-use Rattle.da_outside.specs.Outside.{Appends, AppendsFront}
+use Rattle.da_outside.specs.Outside.{Appends, AppendsPrefix}
 use Rattle.da_system.specs.declared.system.System.{System}
 use Rattle.da_system.specs.SourceRun.{src_run}
 use Rattle.da_system.specs.SystemStep.{SystemState}
 use Rattle.replay_run.specs.declared.outcome.Outcome.{Outcome}
 use Rattle.replay_run.specs.declared.outcome.Outcome.TheVariants.{Done, Forbidden}
-use Rattle.replay_run.specs.Replay.{HasEnded, StandsBehind, outcome_of, run_on}
+use Rattle.replay_run.specs.Replay.{HasEnded, StandsAfter, outcome_of, run_on}
 use Rattle.sched_text.specs.ActionText.{action_line}
 use Rattle.sched_text.specs.EventText.{event_line}
 use Rattle.schedule_walk.specs.Allowed.{allowed}
@@ -29,7 +29,7 @@ row_lines row = event_line row.event ++ codes "# " ++ row.remark ++ codes "\n"
 abbrev pub IsPlain : List ℕ → Type 0
 IsPlain = AllByRecursion (λ b. 32 ≤ b)
 
--- the text has a line for each of these events, in their order, and behind each of them one line with a remark
+-- the text has a line for each of these events, in their order, and after each of them one line with a remark
 pub record AreRemarked (events : List Event) (text : List ℕ) : Type 0 where
   pub rows : List Row
   pub events_are : map (λ (row : Row). row.event) rows ≡ events
@@ -43,23 +43,23 @@ shown_byte b = if nat_lt b 32 then 63 else b
 -- THE ANSWER
 
 -- the run of the events from the opening stops at one of them, and the line says so; or it does not, and the text has the
--- events that are allowed behind it
+-- events that are allowed after it
 pub data NextReply (program : Program) (events : List Event) : Outcome → List ℕ → Type 0 where
   stopped : (i : ℕ) → (src_run program events).stop ≡ Some i → NextReply program events (Forbidden i) (action_line (Stop i))
   listed : (text : List ℕ) → (src_run program events).stop ≡ None → AreRemarked (allowed program (src_run program events).state) text → NextReply program events Done text
 
 -- How a call ended and what a sink gained: the bytes of a reply; or, where a write failed or memory was refused, nothing, or a
--- front of the bytes of a reply.
+-- prefix of the bytes of a reply.
 pub data HasAnswered (Reply : Outcome → List ℕ → Type 0) (how : Outcome) (before after : Option (List ℕ)) : Type 0 where
   whole : HasEnded how → (bytes : List ℕ) → Reply how bytes → Appends before after bytes → HasAnswered Reply how before after
-  begun : (HasEnded how → ⊥) → (said : Outcome) (bytes : List ℕ) → Reply said bytes → AppendsFront before after bytes → HasAnswered Reply how before after
+  begun : (HasEnded how → ⊥) → (said : Outcome) (bytes : List ℕ) → Reply said bytes → AppendsPrefix before after bytes → HasAnswered Reply how before after
   nothing : (HasEnded how → ⊥) → Appends before after [] → HasAnswered Reply how before after
 
 -- the events were carried out from this state, up to the first that is not allowed
 pub record HasCome (program : Program) (s : SystemState) (events : List Event) (how : Outcome) (system : System) : Type 0 where
   pub outcome_is : how ≡ outcome_of (run_on program s events).stop
-  pub stands : StandsBehind program s events system
+  pub stands : StandsAfter program s events system
 
--- these bytes were to be written to end so: they were, or a write failed or memory was refused behind a front of them
+-- these bytes were to be written to end so: they were, or a write failed or memory was refused after a prefix of them
 abbrev pub HasSaid : Outcome → List ℕ → Outcome → Option (List ℕ) → Option (List ℕ) → Type 0
 HasSaid how bytes result before after = HasAnswered (λ said written. (said ≡ how) × (written ≡ bytes)) result before after

@@ -9,7 +9,7 @@ use Rattle.da_system.specs.Choices.{choices}
 use Rattle.da_system.specs.State.{Stands}
 use Rattle.da_system.specs.StressRun.{next_number, pick}
 use Rattle.da_system.specs.SystemStep.{AfterEvent, SystemState, sys_step}
-use Rattle.replay_run.specs.Replay.{StandsBehind}
+use Rattle.replay_run.specs.Replay.{StandsAfter}
 use Rattle.replay_run.specs.Stress.{picked_on}
 use Rattle.sched_text.specs.EventText.{event_line}
 use Rattle.schedule_walk.specs.declared.generated.Pick.{Pick}
@@ -25,16 +25,16 @@ walk_text program s x n = schedule_text (picked_on program s x n)
 -- these are the events that are picked from this state, and the system stands where they lead
 pub record ArePicked (program : Program) (s : SystemState) (x n : ℕ) (events : List Event) (system : System) : Type 0 where
   pub events_are : events ≡ picked_on program s x n
-  pub stands : StandsBehind program s (picked_on program s x n) system
+  pub stands : StandsAfter program s (picked_on program s x n) system
 
 -- they were picked and carried out, and a sink gained their lines
 pub record HasWalked (program : Program) (s : SystemState) (x n : ℕ) (system : System) (before after : Option (List ℕ)) : Type 0 where
-  pub stands : StandsBehind program s (picked_on program s x n) system
+  pub stands : StandsAfter program s (picked_on program s x n) system
   pub written : Appends before after (walk_text program s x n)
 
 -- ONE EVENT
 
--- the number that comes behind x picked this event, and it was carried out
+-- the number that comes after x picked this event, and it was carried out
 pub record WasPicked (program : Program) (s : SystemState) (x : ℕ) (found : Pick) (system : System) : Type 0 where
   pub number_is : found.number ≡ next_number x
   pub picks : pick (choices program s) (next_number x) ≡ Some found.event

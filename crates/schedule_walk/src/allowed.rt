@@ -1,7 +1,7 @@
 //! The events that are allowed in the state of a system.
 ghost use Rattle.da_system.specs.Choices.{is_allowed};
 ghost use Rattle.da_system.specs.State.{IsReady, Whichever, program_of};
-ghost use Rattle.schedule_walk.specs.Allowed.{allowed, deed_event, deeds, deeds_from, deeds_to, is_move as is_move_lem, moves};
+ghost use Rattle.schedule_walk.specs.Allowed.{allowed, deed_event, deeds, deeds_from, deeds_to, is_move as is_move_def, moves};
 ghost use Rattle.std.specs.List.{filter};
 ghost use Rattle.std.specs.Prelude.{◌≡◌, ◌++◌, ◌∷◌, [], IfOk, OnOk, length};
 
@@ -13,7 +13,7 @@ use std::alloc::Global;
 /// The messages of a channel that are looked at, at most.
 const MESSAGES: usize = 999_999_999;
 
-/// What may be done with a message that is under way.
+/// What may be done with a message in flight.
 #[derive(Clone, Copy, Debug)]
 enum Deed {
     Deliver,
@@ -35,7 +35,7 @@ impl Deed {
 }
 
 /// All events that are allowed in the state of a system of so many processes but for `show` and `stat`: the moves by the
-/// numbers of their processes and alternatives, with the timeout of a process behind them, and then the deliveries, the losses
+/// numbers of their processes and alternatives, with the timeout of a process after them, and then the deliveries, the losses
 /// and the repetitions, each by the numbers of their senders, recipients and messages.
 pub fn allowed_events(
     alloc: Global,
@@ -71,7 +71,7 @@ fn add_moves(system: &System, out: &mut List<Event>) -> Result<(), NoMemory>
 
 // Whether an event is a move or a timeout.
 fn is_move(event: &Event) -> bool
-    ensures { result ≡ is_move_lem event.now }
+    ensures { result ≡ is_move_def event.now }
 {
     matches!(
         event,
@@ -122,7 +122,7 @@ fn add_deeds_to(
 ) -> Result<(), NoMemory>
     ensures { OnOk result (Whichever system.now (λ s. out.new ≡ out.old ++ filter (is_allowed (program_of system.now) s) (deeds_to deed s p q))) }
 {
-    let count = system.under_way(p, q);
+    let count = system.in_flight(p, q);
     if count > MESSAGES {
         return Err(NoMemory);
     }

@@ -1,4 +1,4 @@
-//! The events that are allowed behind a schedule.
+//! The events that are allowed after a schedule.
 ghost use Rattle.da_core.specs.Compiled.{IsCompiled, program_of as compiled_program};
 ghost use Rattle.da_lang.specs.declared.event.Action.TheVariants as action;
 ghost use Rattle.da_outside.specs.Outside.{HasCause};
@@ -22,7 +22,7 @@ use run_hints::explain_events;
 use sched_text::write_action;
 use std::alloc::Global;
 
-/// Runs the events from the opening of a program, and writes the events that are allowed behind them, each on a line, followed
+/// Runs the events from the opening of a program, and writes the events that are allowed after them, each on a line, followed
 /// by a remark that says in words what it is. Where one of the events is not allowed, only the line is written that says which.
 /// `text` is the text of the program, for the remarks.
 pub fn next<K: Sink>(
@@ -89,7 +89,7 @@ fn run(alloc: Global, system: &mut System, events: &[Event]) -> Outcome
     ensures program { program_of system.new ≡ program_of system.old }
 {
     for (place, event) in events.iter().enumerate() {
-        match carry_out(alloc, system, event) {
+        match execute(alloc, system, event) {
             Ok(true) => {}
             Ok(false) => return Outcome::Forbidden(place as u64 + 1),
             Err(_) => return Outcome::Memory,
@@ -99,7 +99,7 @@ fn run(alloc: Global, system: &mut System, events: &[Event]) -> Outcome
 }
 
 // Carries out an event that is allowed, and says whether it is. Where it is not, nothing has changed. Nothing is written.
-fn carry_out(alloc: Global, system: &mut System, event: &Event) -> Result<bool, NoMemory>
+fn execute(alloc: Global, system: &mut System, event: &Event) -> Result<bool, NoMemory>
     requires { IsReady system.old }
     ensures tried { IfOk result (λ allowed. Whichever system.old (λ s. IsTried (program_of system.old) s event.now allowed system.new None None)) }
     ensures ready { IsReady system.new }

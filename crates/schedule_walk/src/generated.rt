@@ -1,5 +1,5 @@
 //! The schedule that numbers generate.
-ghost use Rattle.da_outside.specs.Outside.{AppendsFront, HasCause};
+ghost use Rattle.da_outside.specs.Outside.{AppendsPrefix, HasCause};
 ghost use Rattle.da_system.specs.State.{IsReady, Whichever, is_spent, program_of};
 ghost use Rattle.replay_run.specs.Replay.{HasEnded, run_on};
 ghost use Rattle.replay_run.specs.Stress.{picked_on};
@@ -16,7 +16,7 @@ use replay_run::{Outcome, next_number, place_in};
 use std::alloc::Global;
 
 /// Carries out at most `n` events, each of which a number picks among those that may be picked, until there are none, and
-/// writes their lines. The first number comes behind `start`. The system may have made steps before. Lines that are no
+/// writes their lines. The first number comes after `start`. The system may have made steps before. Lines that are no
 /// schedule, for they have more than 16,777,216 bytes or a number of more than nine digits, end as if memory had run out.
 pub fn walk<K: Sink>(
     alloc: Global,
@@ -40,13 +40,13 @@ pub fn walk<K: Sink>(
     ensures spells { HasEnded result → Whichever system.old (λ s. SpellsSchedule (walk_text (program_of system.old) s start n) (picked_on (program_of system.old) s start n)) }
     ensures done { HasEnded result → result ≡ Outcome.Done }
 
-    // However it ended, no more was written than the front of the lines.
-    ensures front { Whichever system.old (λ s. AppendsFront (K.taken sink.old) (K.taken sink.new) (walk_text (program_of system.old) s start n)) }
+    // However it ended, no more was written than a prefix of the lines.
+    ensures prefix { Whichever system.old (λ s. AppendsPrefix (K.taken sink.old) (K.taken sink.new) (walk_text (program_of system.old) s start n)) }
 
     // `WriteFault` has its cause.
     ensures write { HasCause (K.faults sink.old) (K.faults sink.new) (result ≡ Outcome.WriteFault) }
 {
-    let Ok(events) = picked(alloc, system, start, n) else {
+    let Ok(events) = pick_events(alloc, system, start, n) else {
         return Outcome::Memory;
     };
     let Ok(text) = schedule_of(alloc, events.as_slice()) else {
@@ -60,7 +60,7 @@ pub fn walk<K: Sink>(
 }
 
 /// Carries out the same events, and answers them.
-pub fn picked(
+pub fn pick_events(
     alloc: Global,
     system: &mut System,
     start: u64,
@@ -91,7 +91,7 @@ struct Pick {
     number: u64,
 }
 
-// Carries out the event that the number behind `last` picks, and answers both, or `None` where there is no event to pick.
+// Carries out the event that the number after `last` picks, and answers both, or `None` where there is no event to pick.
 fn pick_next(alloc: Global, system: &mut System, last: u64) -> Result<Option<Pick>, NoMemory>
     requires { IsReady system.old }
     ensures next { IfOk result (λ found. Whichever system.old (λ s. IsNext (program_of system.old) s last found system.new)) }

@@ -1,4 +1,4 @@
-//! Schedules that are found: the one that numbers generate, and the events that are allowed behind a schedule.
+//! Schedules that are found: the one that numbers generate, and the events that are allowed after a schedule.
 #![tactic(auto)]
 
 mod allowed;
@@ -9,5 +9,5 @@ mod remarked;
 
 pub use allowed::allowed_events;
 pub use following::next;
-pub use generated::{picked, walk};
+pub use generated::{pick_events, walk};
 pub use naming::schedule_of;

@@ -38,7 +38,7 @@ fn main(rt: HostRuntime) -> ExitCode {
     })
 }
 
-// The words behind the name of the program.
+// The words after the name of the program.
 fn words_of_call(rt: &HostRuntime) -> Result<Vec<String>, NoWords> {
     let args = env::args(rt).map_err(|_| NoWords::Refused)?;
     let mut words = Vec::new(rt.alloc());

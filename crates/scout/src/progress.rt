@@ -33,7 +33,7 @@ impl<'a, R: Eprint> Line<'a, R> {
 }
 
 impl<R: Eprint> Progress for Line<'_, R> {
-    fn tried(&mut self, count: u64) {
+    fn tell_tries(&mut self, count: u64) {
         if self.watched && count % STEP == 0 {
             let _ = eprint!(self.rt; "\rscout: {count} schedules are tried");
             self.begun = true;

@@ -6,7 +6,7 @@ use Rattle.da_commands.specs.Lines.{badline_text}
 use Rattle.da_commands.specs.Verdict.{Accepts}
 use Rattle.da_lang.specs.declared.event.Event.{Event}
 use Rattle.da_lang.specs.declared.program.Program.{Program}
-use Rattle.da_outside.specs.Outside.{Appends, AppendsFront}
+use Rattle.da_outside.specs.Outside.{Appends, AppendsPrefix}
 use Rattle.da_system.specs.declared.system.System.{System}
 use Rattle.da_system.specs.State.{Stands, Whichever}
 use Rattle.da_system.specs.SystemStep.{start}
@@ -37,7 +37,7 @@ pub said_as : (Reply : Status → List ℕ → Type 0) (Due : List ℕ → Type 
     → Reply status bytes → Due bytes → HasSaid status bytes result before after → HasReplied Reply Due result before after
 said_as Reply Due status bytes result before after reply due (whole answer written is gained) =
     whole answer bytes (subst (λ s. Reply s bytes) (sym is.status_is) reply) (subst (Appends before after) is.bytes_are gained)
-said_as Reply Due status bytes result before after reply due (begun cut written (said, is) front) = begun cut bytes due (subst (AppendsFront before after) is.bytes_are front)
+said_as Reply Due status bytes result before after reply due (begun cut written (said, is) front) = begun cut bytes due (subst (AppendsPrefix before after) is.bytes_are front)
 said_as Reply Due status bytes result before after reply due (nothing cut same) = nothing cut same
 said_as Reply Due status bytes result before after reply due (unread is same) = unread is same
 
@@ -67,14 +67,14 @@ none_more (Some told) after gained = gained ∙ ap Some (append-nil told)
 -- A WALK
 module _ (t : List ℕ) (program p : Program) (opened : System) (same : p ≡ program) (stands : Stands opened (start program)) (accepts : Accepts t program) (first most : ℕ) (left : System) (before after : Option (List ℕ)) where
   pub walk_replied : (how : Outcome) → (HasEnded how → Whichever opened (λ s. HasWalked p s first most left before after)) → (HasEnded how → how ≡ run.Done)
-      → Whichever opened (λ s. AppendsFront before after (walk_text p s first most)) → Answers (SearchReply t (Walk first most)) (status_of_run how) before after
+      → Whichever opened (λ s. AppendsPrefix before after (walk_text p s first most)) → Answers (SearchReply t (Walk first most)) (status_of_run how) before after
   walk_replied how ran done front = of how ran done
     where
       reply : SearchReply t (Walk first most) Done (walk_text program (start program) first most)
       reply = walked first most program accepts
 
-      begins : AppendsFront before after (walk_text program (start program) first most)
-      begins = subst (λ q. AppendsFront before after (walk_text q (start program) first most)) same (front (start program) stands)
+      begins : AppendsPrefix before after (walk_text program (start program) first most)
+      begins = subst (λ q. AppendsPrefix before after (walk_text q (start program) first most)) same (front (start program) stands)
 
       of : (how : Outcome) → (HasEnded how → Whichever opened (λ s. HasWalked p s first most left before after)) → (HasEnded how → how ≡ run.Done) → Answers (SearchReply t (Walk first most)) (status_of_run how) before after
       of run.Done ran done =
@@ -84,7 +84,7 @@ module _ (t : List ℕ) (program p : Program) (opened : System) (same : p ≡ pr
       of run.WriteFault ran done = begun tt _ (Done, reply) begins
       of run.Memory ran done = begun tt _ (Done, reply) begins
 
--- THE EVENTS BEHIND A SCHEDULE
+-- THE EVENTS AFTER A SCHEDULE
 pub next_replied : (t s : List ℕ) (program : Program) (events : List Event) (how : Outcome) (before now : Option (List ℕ)) → Accepts t program → SpellsSchedule s events
     → after.HasAnswered (after.NextReply program events) how before now → Answers (NextReply t s) (status_of_run how) before now
 next_replied t s program events how before now accepts spells (after.whole ended bytes reply gained) = whole (ended_answer how ended) bytes (answered program events how bytes accepts spells reply) gained
@@ -123,7 +123,7 @@ module _ (text t : List ℕ) (same : text ≡ t) (how : DrawOutcome) (before aft
       let (page, paged, gained) : (page : List ℕ) × IsPage (lines text) page × Appends before after page = subst (λ o. HasDrawn (lines text) o before after) is has in
       whole tt page (drawn page (subst IsTrace same trace) (subst (λ x. IsPage (lines x) page) same paged)) gained
 
-  begun_page : (status : Status) → IsCut status → (page : List ℕ) × IsPage (lines text) page × AppendsFront before after page → Drew status
+  begun_page : (status : Status) → IsCut status → (page : List ℕ) × IsPage (lines text) page × AppendsPrefix before after page → Drew status
   begun_page status cut (page, paged, front) = begun cut page (inr (subst (λ x. IsPage (lines x) page) same paged)) front
 
   pub draw_unwritten : how ≡ draw.WriteFault → Drew WriteFault

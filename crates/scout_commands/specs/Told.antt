@@ -1,6 +1,6 @@
 -- What a sink gained of a reply, by the status of the call.
 use Rattle.std.specs.Prelude.{◌≡◌, ℕ, List, [], Option}
-use Rattle.da_outside.specs.Outside.{Appends, AppendsFront}
+use Rattle.da_outside.specs.Outside.{Appends, AppendsPrefix}
 use Rattle.scout_commands.specs.declared.status.Status.{Status}
 use Rattle.scout_commands.specs.declared.status.Status.TheVariants.{ReadFault, WriteFault, Memory}
 
@@ -17,11 +17,11 @@ IsCut WriteFault = Unit {0}
 IsCut Memory = Unit {0}
 IsCut _ = ⊥
 
--- It gained the bytes of a reply with this status; or, where the call was cut short, a front of bytes that were due, or nothing;
+-- It gained the bytes of a reply with this status; or, where the call was cut short, a prefix of bytes that were due, or nothing;
 -- or nothing, where a read failed.
 pub data HasReplied (Reply : Status → List ℕ → Type 0) (Due : List ℕ → Type 0) (status : Status) (before after : Option (List ℕ)) : Type 0 where
   whole : IsAnswer status → (bytes : List ℕ) → Reply status bytes → Appends before after bytes → HasReplied Reply Due status before after
-  begun : IsCut status → (bytes : List ℕ) → Due bytes → AppendsFront before after bytes → HasReplied Reply Due status before after
+  begun : IsCut status → (bytes : List ℕ) → Due bytes → AppendsPrefix before after bytes → HasReplied Reply Due status before after
   nothing : IsCut status → after ≡ before → HasReplied Reply Due status before after
   unread : status ≡ ReadFault → after ≡ before → HasReplied Reply Due status before after
 

@@ -30,7 +30,7 @@ IsSearch words (Hunt start count most what) program =
     (others : List (List ℕ)) × (words ≡ codes "hunt" ∷ program ∷ decimal start ∷ decimal count ∷ decimal most ∷ others)
     × IsGenerated start most × ((1 ≤ count) × (count ≤ 1000000)) × IsWhat others what
 
--- they ask which events are allowed behind a schedule, and to draw a trace
+-- they ask which events are allowed after a schedule, and to draw a trace
 abbrev pub IsNext : List (List ℕ) → List ℕ → List ℕ → Type 0
 IsNext words program schedule = words ≡ codes "next" ∷ program ∷ schedule ∷ []
 

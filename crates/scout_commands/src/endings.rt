@@ -1,7 +1,7 @@
 //! The lines that end a call, and the statuses of calls whose parts ended so.
 ghost use Rattle.da_commands.specs.Lines.{badline_text, refused_text};
 ghost use Rattle.da_outside.specs.Outside.{HasCause};
-ghost use Rattle.scout_commands.specs.Endings.{status_of_hunt as status_of_hunt_lem, status_of_run as status_of_run_lem};
+ghost use Rattle.scout_commands.specs.Endings.{status_of_hunt as status_of_hunt_def, status_of_run as status_of_run_def};
 ghost use Rattle.scout_commands.specs.Told.{HasSaid, IsAnswer};
 ghost use Rattle.std.specs.Prelude.{◌≡◌};
 
@@ -14,7 +14,7 @@ use std::alloc::Global;
 
 /// The status of a call whose run ended so.
 pub fn status_of_run(outcome: Outcome) -> Status
-    ensures { result ≡ status_of_run_lem outcome }
+    ensures { result ≡ status_of_run_def outcome }
 {
     match outcome {
         Outcome::Done => Status::Done,
@@ -26,7 +26,7 @@ pub fn status_of_run(outcome: Outcome) -> Status
 
 /// The status of a call whose hunt ended so.
 pub fn status_of_hunt(outcome: HuntOutcome) -> Status
-    ensures { result ≡ status_of_hunt_lem outcome }
+    ensures { result ≡ status_of_hunt_def outcome }
 {
     match outcome {
         HuntOutcome::Found => Status::Found,

@@ -19,7 +19,7 @@ use sched_text::{SCHEDULE_LIMIT, SchedFault, read_schedule};
 use schedule_walk::next;
 use std::alloc::Global;
 
-/// Reads the program, and refuses it or says which events are allowed behind the schedule.
+/// Reads the program, and refuses it or says which events are allowed after the schedule.
 pub fn follow<F: Files, K: Sink>(
     alloc: Global,
     program: &str,
@@ -78,7 +78,7 @@ fn answer_program<F: Files, K: Sink>(
     }
 }
 
-// Refuses the schedule, or says which events are allowed behind it.
+// Refuses the schedule, or says which events are allowed after it.
 fn answer_schedule<K: Sink>(
     alloc: Global,
     compiled: &Compiled,
@@ -99,7 +99,7 @@ fn answer_schedule<K: Sink>(
     }
 }
 
-// Says which events are allowed behind these.
+// Says which events are allowed after these.
 fn answer_events<K: Sink>(
     alloc: Global,
     compiled: &Compiled,

@@ -26,7 +26,7 @@ pub fn scout<F: Files, K: Sink, P: Progress>(
 ) -> Status
     // By what the words ask for: the bytes that the sink took are the reply to the texts, and the status is that of the reply.
     // Where a text is not told, it is the reply to some text in its place. Where a write failed or memory was refused, the sink
-    // gained a front of the bytes of a reply, or nothing.
+    // gained a prefix of the bytes of a reply, or nothing.
     ensures replies { HasAnswered (map string_bytes words.now) (F.told files.old) result (K.taken out.old) (K.taken out.new) }
 
     // Words that ask for nothing known are the only ones that are answered so.

@@ -31,7 +31,7 @@ pub enum Search {
 pub enum Command<'a> {
     /// To look for something over the program of this name.
     Search { search: Search, program: &'a str },
-    /// To say which events are allowed behind a schedule.
+    /// To say which events are allowed after a schedule.
     Next(Names<'a>),
     /// To draw the trace of this name.
     Draw { trace: &'a str },

@@ -121,7 +121,7 @@ fn tell_open(alloc: Global, spot: Spot<'_>, marks: &[Mark], hint: &mut Hint) {
     hint.note(b" is open here");
 }
 
-// A bracket that is open behind a text, and where it stands.
+// A bracket that is open after a text, and where it stands.
 fn put_bracket(before: &[u8], place: usize, out: &mut Phrase) {
     out.put(b"the ");
     out.quote(between(before, place, place.saturating_add(1)));

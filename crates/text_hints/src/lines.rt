@@ -46,7 +46,7 @@ pub fn between(text: &[u8], first: usize, end: usize) -> &[u8] {
     bytes
 }
 
-/// The bytes behind a place.
+/// The bytes after a place.
 pub fn behind(text: &[u8], place: usize) -> &[u8] {
     let (_, bytes) = text.split_at(place.min(text.len()));
     bytes

@@ -73,7 +73,7 @@ pub fn name_length(rest: &[u8]) -> usize {
     rest.iter().take_while(|byte| is_in_name(**byte)).count()
 }
 
-// A text literal, behind its first quote.
+// A text literal, after its first quote.
 fn text_front(inside: &[u8]) -> Front {
     let length = inside
         .iter()

@@ -1,7 +1,7 @@
 //! What the reader of the grammar is asked: where it stops, and what it would go on with.
 //!
 //! The reader tells the line of the token at which it stops. So it is asked about the same tokens with other numbers of lines:
-//! each has its place among the tokens, counted from 1. Behind them stands one more, so that the end of the text has a number
+//! each has its place among the tokens, counted from 1. After them stands one more, so that the end of the text has a number
 //! of its own.
 use crate::lines::between;
 use crate::spellings::{SPELLINGS, kind_of};
@@ -10,10 +10,10 @@ use da_parse::{ParseFault, parse};
 use da_values::{Buf, List, Mark, mark_of};
 use std::alloc::Global;
 
-/// Where the reader stops: at the token of this place, counted from 0, or behind all tokens. With `deep` it stops since the
+/// Where the reader stops: at the token of this place, counted from 0, or after all tokens. With `deep` it stops since the
 /// token would open one thing too many.
 #[derive(Clone, Copy, Debug)]
-pub struct Stop {
+pub struct StopPlace {
     pub place: usize,
     pub deep: bool,
 }
@@ -44,7 +44,7 @@ fn short(number: usize) -> u32 {
     u32::try_from(number).unwrap_or(u32::MAX)
 }
 
-// The text of a program, and behind it the spellings of all tokens.
+// The text of a program, and after it the spellings of all tokens.
 fn with_spellings(alloc: Global, text: &[u8]) -> Option<Buf> {
     let mut whole = List::new(alloc);
     whole.append(text).ok()?;
@@ -56,7 +56,7 @@ fn with_spellings(alloc: Global, text: &[u8]) -> Option<Buf> {
     Some(whole)
 }
 
-// A token of this kind, whose spelling stands behind the text. Its number is for its place.
+// A token of this kind, whose spelling stands after the text. Its number is for its place.
 fn token_of(mark: Mark, behind: usize, number: usize) -> Token {
     let mut first = behind.saturating_add(1);
     let mut spelling = b"".as_slice();
@@ -91,7 +91,7 @@ fn add_numbered(tokens: &[Token], list: &mut List<Token>) -> Option<()> {
 }
 
 /// Where the reader stops in the tokens of a text, or `None` where it reads them all or memory is refused.
-pub fn stop_in(alloc: Global, text: &[u8], tokens: &[Token]) -> Option<Stop> {
+pub fn stop_in(alloc: Global, text: &[u8], tokens: &[Token]) -> Option<StopPlace> {
     let whole = with_spellings(alloc, text)?;
     let mut list = List::new(alloc);
     add_numbered(tokens, &mut list)?;
@@ -103,14 +103,14 @@ pub fn stop_in(alloc: Global, text: &[u8], tokens: &[Token]) -> Option<Stop> {
     };
     match ask(alloc, &asked) {
         Answer::Nothing => None,
-        Answer::At(number, deep) => Some(Stop {
+        Answer::At(number, deep) => Some(StopPlace {
             place: (number as usize).saturating_sub(1),
             deep,
         }),
     }
 }
 
-/// The kinds of tokens with which the reader goes on behind these, which it reads without a stop.
+/// The kinds of tokens with which the reader goes on after these, which it reads without a stop.
 pub fn next_marks(alloc: Global, text: &[u8], front: &[Token]) -> Option<List<Mark>> {
     let whole = with_spellings(alloc, text)?;
     let mut list = List::new(alloc);
@@ -128,7 +128,7 @@ pub fn next_marks(alloc: Global, text: &[u8], front: &[Token]) -> Option<List<Ma
     Some(found)
 }
 
-// Whether the reader goes on with a token of this kind behind the tokens, which stay as they are.
+// Whether the reader goes on with a token of this kind after the tokens, which stay as they are.
 fn goes_on(alloc: Global, asked: &mut Tokens<'_>, mark: Mark, behind: usize) -> Option<bool> {
     let count = asked.list.len();
     let number = count.saturating_add(1);

@@ -4,7 +4,7 @@ use crate::reading::{mark_at, slice_at};
 use da_lex::Token;
 use da_values::Mark;
 
-/// A place among the tokens of a text: the token of this number, counted from 0, or the end behind all of them.
+/// A place among the tokens of a text: the token of this number, counted from 0, or the end after all of them.
 #[derive(Clone, Copy, Debug)]
 pub struct Spot<'t> {
     pub text: &'t [u8],
@@ -99,7 +99,7 @@ impl<'t> Spot<'t> {
         None
     }
 
-    /// Whether the innermost bracket that is open at the spot stands behind a token of this mark.
+    /// Whether the innermost bracket that is open at the spot stands after a token of this mark.
     pub fn is_inside(&self, mark: Mark) -> bool {
         match self.opener() {
             Some(place) => match place.checked_sub(1) {
@@ -118,13 +118,13 @@ impl<'t> Spot<'t> {
         }
     }
 
-    /// Whether no token with bytes stands at the spot or behind it.
+    /// Whether no token with bytes stands at the spot or after it.
     pub fn is_end(&self) -> bool {
         let (_, rest) = self.tokens.split_at(self.place.min(self.tokens.len()));
         rest.iter().all(|token| token.length == 0)
     }
 
-    /// The place in the text behind the last token before the spot that has bytes.
+    /// The place in the text after the last token before the spot that has bytes.
     pub fn end_before(&self) -> usize {
         let (front, _) = self.tokens.split_at(self.place.min(self.tokens.len()));
         match front.iter().rev().find(|token| token.length != 0) {

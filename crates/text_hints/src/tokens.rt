@@ -91,7 +91,7 @@ fn put_levels(levels: &[usize], out: &mut Phrase) {
     }
 }
 
-// The levels of the blocks that are open behind a text, but for 0.
+// The levels of the blocks that are open after a text, but for 0.
 fn levels_before(alloc: Global, text: &[u8]) -> List<usize> {
     let mut levels = List::new(alloc);
     if text.len() > 1_048_576 {

@@ -16,15 +16,15 @@ use Rattle.da_lang.specs.declared.ty.ChannelKind.{ChannelKind}
 use Rattle.da_lang.specs.Accepted.{IsAccepted}
 use Rattle.da_lang.specs.Steps.{Deliver, Go, Step, Stepped, Take, TimeOut, proc_step}
 use Rattle.da_lang.specs.World.{World, at_number}
-use Rattle.da_system.specs.Channels.{Channels, Letter, after_actions, channel, may_arrive, put_numbered, with_channel, without_letter, without_numbered}
+use Rattle.da_system.specs.Channels.{Channels, MessageInFlight, after_actions, channel, may_arrive, put_numbered, with_channel, without_message, without_numbered}
 use Rattle.da_system.specs.SoundState.{IsSoundState}
 use Rattle.da_system.specs.SourceRun.{SrcRun, at_event, src_run_from}
 use Rattle.da_system.specs.SystemStep.{AfterEvent, SystemState, sys_step}
 use Rattle.trace_join.specs.Cuts.{Follows, Leads, Transition, awaits, sent_to, step_asked, taken_by, taken_from}
 use Rattle.trace_join.specs.Joins.{IsPlain}
 use Rattle.trace_join.specs.Remains.{Ahead, AllowStep, CanArrive, IsStuck, IsThere, Remains}
-use Rattle.trace_join.specs.Traces.{letter_from, letters_from, letters_to, part}
-use Rattle.trace_join.proofs.ChannelLaws.{AreOwn, HasChannel, channel-other, channel-sent, channel-there, channel-unsent, channel_between, has-with, letter_has, put_other, put_there, put_was, sender_there}
+use Rattle.trace_join.specs.Traces.{message_from, messages_from, messages_to, part}
+use Rattle.trace_join.proofs.ChannelLaws.{AreOwn, HasChannel, channel-other, channel-sent, channel-there, channel-unsent, channel_between, has-with, message_has, put_other, put_there, put_was, sender_there}
 use Rattle.trace_join.proofs.EventLaws.{Happens, IsFetch, acts, after_step, doubles, happens, loses, part-other, part-own, stays_there}
 use Rattle.trace_join.proofs.LeadLaws.{BeginsWithStep, first_transition, leads_within}
 use Rattle.trace_join.proofs.RemainsLaws.{arrives_ahead, behind_doubles, behind_loses, behind_sends, behind_takes, remains_as}
@@ -33,37 +33,37 @@ use Rattle.trace_join.proofs.StepLaws.{step_told}
 use Rattle.trace_join.proofs.Sublists.{none_there}
 use Rattle.trace_join.proofs.Updates.{updated, updated-other, updated-there}
 
-got_letter : (q p t : ℕ) (v : Value) (m : Val) (from time : ℕ) (rest : List Action) → val_of v ≡ m → p ≡ from → t ≡ time
-    → Has (letters_from from (Got q p t v ∷ rest)) (record { message = m; time = time })
-got_letter q p t v m from time rest messages senders times =
-    Has-append_left (letter_from from (Got q p t v)) (letters_from from rest) (record { message = m; time = time })
-    (subst (λ (b : Bool). Has {A = Letter} (cond b (record { message = val_of v; time = t } ∷ []) []) (record { message = m; time = time }))
+got_message : (q p t : ℕ) (v : Value) (m : Val) (from time : ℕ) (rest : List Action) → val_of v ≡ m → p ≡ from → t ≡ time
+    → Has (messages_from from (Got q p t v ∷ rest)) (record { message = m; time = time })
+got_message q p t v m from time rest messages senders times =
+    Has-append_left (message_from from (Got q p t v)) (messages_from from rest) (record { message = m; time = time })
+    (subst (λ (b : Bool). Has {A = MessageInFlight} (cond b (record { message = val_of v; time = t } ∷ []) []) (record { message = m; time = time }))
     (sym (eq-eqb p from senders))
     (inl (ap (λ (x : Val). record { message = x; time = time }) (sym messages) ∙ ap (λ n. record { message = val_of v; time = n }) (sym times))))
 
--- a trace that asks for a delivery tells of the letter
-asks_letter : (w : World) (trace : List Action) (m : Val) (from time : ℕ) → step_asked w trace ≡ Some (Deliver m from time)
-    → Has (letters_from from trace) (record { message = m; time = time })
-asks_letter w [] m from time is = none_there is
-asks_letter w (Took p zero ∷ rest) m from time is = absurd (let same : Go ≡ Deliver m from time = cc in cc)
-asks_letter w (Took p (suc k) ∷ rest) m from time is = of (awaits w.phase w.todo k) is
+-- a trace that asks for a delivery tells of the message
+asks_message : (w : World) (trace : List Action) (m : Val) (from time : ℕ) → step_asked w trace ≡ Some (Deliver m from time)
+    → Has (messages_from from trace) (record { message = m; time = time })
+asks_message w [] m from time is = none_there is
+asks_message w (Took p zero ∷ rest) m from time is = absurd (let same : Go ≡ Deliver m from time = cc in cc)
+asks_message w (Took p (suc k) ∷ rest) m from time is = of (awaits w.phase w.todo k) is
   where
     of : (b : Bool) → Some (cond b TimeOut (Take (suc k))) ≡ Some (Deliver m from time)
-        → Has (letters_from from (Took p (suc k) ∷ rest)) (record { message = m; time = time })
+        → Has (messages_from from (Took p (suc k) ∷ rest)) (record { message = m; time = time })
     of true same = absurd (let steps : TimeOut ≡ Deliver m from time = cc in cc)
     of false same = absurd (let steps : Take (suc k) ≡ Deliver m from time = cc in cc)
-asks_letter w (Got q p t v ∷ rest) m from time is =
+asks_message w (Got q p t v ∷ rest) m from time is =
     let steps : Deliver (val_of v) p t ≡ Deliver m from time = cc in
-    got_letter q p t v m from time rest (cc) (cc) (cc)
-asks_letter w (_ ∷ rest) m from time is = none_there is
+    got_message q p t v m from time rest (cc) (cc) (cc)
+asks_message w (_ ∷ rest) m from time is = none_there is
 
--- A LETTER IS LOST OR DOUBLED: one channel is another
+-- A MESSAGE IS LOST OR DOUBLED: one channel is another
 
-module _ (s : SystemState) (p q : ℕ) (letters : List Letter) (has : HasChannel s.channels p q)
-    (kept : (sent taken after wanted : List Letter) → Remains s.kind (channel s.channels p q) sent taken after wanted
-    → Remains s.kind letters sent taken after wanted) where
-  remains_with : (a b : ℕ) (sent taken after wanted : List Letter) → Remains s.kind (channel s.channels a b) sent taken after wanted
-      → Remains s.kind (channel (with_channel s.channels p q letters) a b) sent taken after wanted
+module _ (s : SystemState) (p q : ℕ) (messages : List MessageInFlight) (has : HasChannel s.channels p q)
+    (kept : (sent taken after wanted : List MessageInFlight) → Remains s.kind (channel s.channels p q) sent taken after wanted
+    → Remains s.kind messages sent taken after wanted) where
+  remains_with : (a b : ℕ) (sent taken after wanted : List MessageInFlight) → Remains s.kind (channel s.channels a b) sent taken after wanted
+      → Remains s.kind (channel (with_channel s.channels p q messages) a b) sent taken after wanted
   remains_with a b sent taken after wanted remains = elim (cases_eq a p) [
     | inr stranger ↦ unchanged (λ both. stranger both.0)
     | inl sender ↦ elim (cases_eq b q) [
@@ -72,27 +72,27 @@ module _ (s : SystemState) (p q : ℕ) (letters : List Letter) (has : HasChannel
     ]
   ]
     where
-      unchanged : ((a ≡ p) × (b ≡ q) → ⊥) → Remains s.kind (channel (with_channel s.channels p q letters) a b) sent taken after wanted
-      unchanged other = remains_as s.kind after wanted (sym (channel-other s.channels p q letters a b other)) refl refl remains
+      unchanged : ((a ≡ p) × (b ≡ q) → ⊥) → Remains s.kind (channel (with_channel s.channels p q messages) a b) sent taken after wanted
+      unchanged other = remains_as s.kind after wanted (sym (channel-other s.channels p q messages a b other)) refl refl remains
 
       here : (channels : Channels) → a ≡ p → b ≡ q → channel channels a b ≡ channel channels p q
       here channels sender recipient = ap (λ n. channel channels n b) sender ∙ ap (channel channels p) recipient
 
-      changed : a ≡ p → b ≡ q → Remains s.kind (channel (with_channel s.channels p q letters) a b) sent taken after wanted
+      changed : a ≡ p → b ≡ q → Remains s.kind (channel (with_channel s.channels p q messages) a b) sent taken after wanted
       changed sender recipient =
-          remains_as s.kind after wanted (sym (here (with_channel s.channels p q letters) sender recipient
-          ∙ channel-there s.channels p q letters has)) refl refl
+          remains_as s.kind after wanted (sym (here (with_channel s.channels p q messages) sender recipient
+          ∙ channel-there s.channels p q messages has)) refl refl
           (kept sent taken after wanted (remains_as s.kind after wanted (here s.channels sender recipient) refl refl remains))
 
   -- such an event leaves the run behind
   behind_with : (program : Program) (g : SystemState) (traces lefts : ℕ → List Action) (transitions : ℕ → List Transition)
-      → Ahead program s g traces lefts transitions → Ahead program (record s { channels = with_channel s.channels p q letters }) g traces lefts transitions
+      → Ahead program s g traces lefts transitions → Ahead program (record s { channels = with_channel s.channels p q messages }) g traces lefts transitions
   behind_with program g traces lefts transitions ahead = record {
     kind = ahead.kind;
     worlds = ahead.worlds;
-    letters = λ a b there_a there_b.
-        remains_with a b (sent_to b (transitions a)) (taken_from a (transitions b)) (channel g.channels a b) (letters_from a (lefts b))
-        (ahead.letters a b there_a there_b);
+    messages = λ a b there_a there_b.
+        remains_with a b (sent_to b (transitions a)) (taken_from a (transitions b)) (channel g.channels a b) (messages_from a (lefts b))
+        (ahead.messages a b there_a there_b);
   }
 
 -- A PROCESS MAKES A STEP
@@ -107,11 +107,11 @@ module _ (program : Program) (s g : SystemState) (traces lefts : ℕ → List Ac
   allows TimeOut fetch asks none = tt
   allows (Deliver m from time) (i, may, there, is) asks none =
       subst (λ (kind : ChannelKind). CanArrive kind (channel g.channels from p) (record { message = m; time = time })) ahead.kind
-      (arrives_ahead s.kind (channel s.channels from p) (sent_to p (transitions from)) (channel g.channels from p) (letters_from from (lefts p)) i
+      (arrives_ahead s.kind (channel s.channels from p) (sent_to p (transitions from)) (channel g.channels from p) (messages_from from (lefts p)) i
       (record { message = m; time = time }) may there
-      (asks_letter w (lefts p) m from time asks)
-      (remains_as s.kind (channel g.channels from p) (letters_from from (lefts p)) refl refl (ap (taken_from from) none)
-      (ahead.letters from p (sender_there program s sound from p i (record { message = m; time = time }) there) (w, at))))
+      (asks_message w (lefts p) m from time asks)
+      (remains_as s.kind (channel g.channels from p) (messages_from from (lefts p)) refl refl (ap (taken_from from) none)
+      (ahead.messages from p (sender_there program s sound from p i (record { message = m; time = time }) there) (w, at))))
 
   module _ (step : Step) (others : List Transition) (begins : transitions p ≡ record { step = step; actions = r.actions } ∷ others) where
     abbrev next : ℕ → List Transition
@@ -123,27 +123,27 @@ module _ (program : Program) (s g : SystemState) (traces lefts : ℕ → List Ac
     taken_here : (a : ℕ) → taken_from a (transitions p) ≡ taken_by a step ++ taken_from a (next p)
     taken_here a = ap (taken_from a) begins ∙ ap (λ (ts : List Transition). taken_by a step ++ taken_from a ts) (sym (updated-there p others transitions))
 
-    -- what remains behind the fetch
+    -- what remains after the fetch
     abbrev Fetched : ℕ → ℕ → Type 0
-    Fetched a b = Remains s.kind (channel channels a b) (sent_to b (transitions a)) (taken_from a (next b)) (channel g.channels a b) (letters_from a (lefts b))
+    Fetched a b = Remains s.kind (channel channels a b) (sent_to b (transitions a)) (taken_from a (next b)) (channel g.channels a b) (messages_from a (lefts b))
 
     -- where nothing was taken from
     unfetched : (a b : ℕ) → channel channels a b ≡ channel s.channels a b → (b ≡ p → taken_by a step ≡ []) → IsThere s a → IsThere s b → Fetched a b
     unfetched a b same none there_a there_b =
-        remains_as s.kind (channel g.channels a b) (letters_from a (lefts b)) (sym same) refl (elim (cases_eq b p) [
+        remains_as s.kind (channel g.channels a b) (messages_from a (lefts b)) (sym same) refl (elim (cases_eq b p) [
           | inr other ↦ taken_elsewhere a b other
-          | inl here ↦ ap (λ n. taken_from a (transitions n)) here ∙ taken_here a ∙ ap (λ (l : List Letter). l ++ taken_from a (next p)) (none here)
+          | inl here ↦ ap (λ n. taken_from a (transitions n)) here ∙ taken_here a ∙ ap (λ (l : List MessageInFlight). l ++ taken_from a (next p)) (none here)
               ∙ ap (λ n. taken_from a (next n)) (sym here)
-        ]) (ahead.letters a b there_a there_b)
+        ]) (ahead.messages a b there_a there_b)
 
-  module _ (l : Letter) (from : ℕ) (others : List Transition)
+  module _ (l : MessageInFlight) (from : ℕ) (others : List Transition)
       (begins : transitions p ≡ record { step = Deliver l.message from l.time; actions = r.actions } ∷ others)
       (i : ℕ) (may : may_arrive s.kind i ≡ true) (there : at_number (channel s.channels from p) i ≡ Some l)
-      (is : channels ≡ without_letter s.channels from p i) where
+      (is : channels ≡ without_message s.channels from p i) where
     abbrev delivery : Step
     delivery = Deliver l.message from l.time
 
-    abbrev rest : List Letter
+    abbrev rest : List MessageInFlight
     rest = without_numbered (channel s.channels from p) i
 
     elsewhere : (a b : ℕ) → ((a ≡ from) × (b ≡ p) → ⊥) → channel channels a b ≡ channel s.channels a b
@@ -151,14 +151,14 @@ module _ (program : Program) (s g : SystemState) (traces lefts : ℕ → List Ac
 
     fetched_here : IsThere s from → Fetched delivery others begins from p
     fetched_here there_from =
-        remains_as s.kind (channel g.channels from p) (letters_from from (lefts p))
-        (sym (ap (λ (c : Channels). channel c from p) is ∙ channel-there s.channels from p rest (letter_has s.channels from p i l there))) refl refl
+        remains_as s.kind (channel g.channels from p) (messages_from from (lefts p))
+        (sym (ap (λ (c : Channels). channel c from p) is ∙ channel-there s.channels from p rest (message_has s.channels from p i l there))) refl refl
         (behind_takes s.kind (channel s.channels from p) (sent_to p (transitions from)) (taken_from from (next delivery others begins p))
-        (channel g.channels from p) (letters_from from (lefts p)) i l may there
-        (remains_as s.kind (channel g.channels from p) (letters_from from (lefts p)) refl refl
+        (channel g.channels from p) (messages_from from (lefts p)) i l may there
+        (remains_as s.kind (channel g.channels from p) (messages_from from (lefts p)) refl refl
         (taken_here delivery others begins from ∙ ap (λ (b : Bool). cond b (l ∷ []) [] ++ taken_from from (next delivery others begins p))
         (eq-eqb from from refl))
-        (ahead.letters from p there_from (w, at))))
+        (ahead.messages from p there_from (w, at))))
 
     fetched_one : (a b : ℕ) → IsThere s a → IsThere s b → Fetched delivery others begins a b
     fetched_one a b there_a there_b = elim (cases_eq b p) [
@@ -198,24 +198,24 @@ module _ (program : Program) (s g : SystemState) (traces lefts : ℕ → List Ac
     abbrev then : ℕ → List Transition
     then = updated p others transitions
 
-    -- what remains behind the step
+    -- what remains after the step
     abbrev Remained : ℕ → ℕ → Type 0
     Remained a b = Remains s.kind (channel (after_actions channels r.actions) a b) (sent_to b (then a)) (taken_from a (then b)) (channel g.channels a b)
-        (letters_from a (lefts b))
+        (messages_from a (lefts b))
 
     remained_from : (b : ℕ) → IsThere s p → IsThere s b → Remained p b
     remained_from b there_p there_b =
-        remains_as s.kind (channel g.channels p b) (letters_from p (lefts b))
+        remains_as s.kind (channel g.channels p b) (messages_from p (lefts b))
         (sym (channel-sent channels r.actions p b own (fetch_has step fetch p b (channel_between program s sound p b there_p there_b))))
         (ap (sent_to b) (sym (updated-there p others transitions))) refl
-        (behind_sends s.kind (channel channels p b) (letters_to b r.actions) (sent_to b others) (taken_from p (then b)) (channel g.channels p b)
-        (letters_from p (lefts b))
-        (remains_as s.kind (channel g.channels p b) (letters_from p (lefts b)) refl (ap (sent_to b) begins) refl
+        (behind_sends s.kind (channel channels p b) (messages_to b r.actions) (sent_to b others) (taken_from p (then b)) (channel g.channels p b)
+        (messages_from p (lefts b))
+        (remains_as s.kind (channel g.channels p b) (messages_from p (lefts b)) refl (ap (sent_to b) begins) refl
         (fetched step others fetch begins p b there_p there_b)))
 
     remained : (a b : ℕ) → IsThere s a → IsThere s b → Remained a b
     remained a b there_a there_b = elim (cases_eq a p) [
-      | inr other ↦ remains_as s.kind (channel g.channels a b) (letters_from a (lefts b)) (sym (channel-unsent channels r.actions p a b own other))
+      | inr other ↦ remains_as s.kind (channel g.channels a b) (messages_from a (lefts b)) (sym (channel-unsent channels r.actions p a b own other))
           (ap (sent_to b) (sym (updated-other p others transitions a other))) refl
           (fetched step others fetch begins a b there_a there_b)
       | inl same ↦ subst (λ n. Remained n b) (sym same) (remained_from b (subst (IsThere s) same there_a) there_b)
@@ -230,7 +230,7 @@ module _ (program : Program) (s g : SystemState) (traces lefts : ℕ → List Ac
         | inr other ↦ elsewhere_leads q v other (ahead.worlds q v (sym (put_other s.worlds q p r.world other) ∙ there))
         | inl here ↦ here_leads q v here there
       ];
-      letters = λ a b there_a there_b. remained a b (was_there a there_a) (was_there b there_b);
+      messages = λ a b there_a there_b. remained a b (was_there a there_a) (was_there b there_b);
     }
       where
         elsewhere_leads : (q : ℕ) (v : World) → (q ≡ p → ⊥) → (v' : World) × (at_number g.worlds q ≡ Some v') × Leads program v (traces q) (transitions q) v'
@@ -311,7 +311,7 @@ module _ (program : Program) (s g : SystemState) (others : List Action)
       (λ (x : AfterEvent). Ahead program s g (to_come (x.actions ++ others) ends) lefts transitions) (sym is) ahead in
       subst StaysBehind is (
         transitions,
-        behind_with s p q (without_numbered (channel s.channels p q) i) (letter_has s.channels p q i l there)
+        behind_with s p q (without_numbered (channel s.channels p q) i) (message_has s.channels p q i l there)
             (λ sent taken later wanted. behind_loses s.kind (channel s.channels p q) sent taken later wanted i l may there) program g
             (to_come others ends) lefts transitions before,
       )
@@ -320,14 +320,14 @@ module _ (program : Program) (s g : SystemState) (others : List Action)
       (λ (x : AfterEvent). Ahead program s g (to_come (x.actions ++ others) ends) lefts transitions) (sym is) ahead in
       subst StaysBehind is (
         transitions,
-        behind_with s p q (channel s.channels p q ++ l ∷ []) (letter_has s.channels p q i l there)
+        behind_with s p q (channel s.channels p q ++ l ∷ []) (message_has s.channels p q i l there)
             (λ sent taken later wanted. behind_doubles s.kind (channel s.channels p q) sent taken later wanted i l may there) program g
             (to_come others ends) lefts transitions before,
       )
 
 -- A RUN
 
--- what is left of each trace behind the other run is left behind this one too
+-- what is left of each trace after the other run is left after this one too
 abbrev pub LeavesMore : SystemState → (ends lefts : ℕ → List Action) → Type 0
 LeavesMore s ends lefts = (p : ℕ) → IsThere s p → (front : List Action) × (ends p ≡ front ++ lefts p)
 

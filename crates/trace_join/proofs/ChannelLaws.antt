@@ -1,4 +1,4 @@
--- What a channel holds behind a change of some channel, and behind what a process sends.
+-- What a channel holds after a change of some channel, and after what a process sends.
 use Rattle.std.specs.Prelude.{◌≡◌, ◌==◌, ℕ, zero, suc, ◌<◌, Bool, cond, List, [], ◌∷◌, ◌++◌, length, Option, Some, None, IfSome, slice_get, slice_set, refl}
 use Rattle.std.specs.List.{AllByRecursion}
 use Rattle.std.proofs.Common.{sym, ap, ◌∙◌, subst, inl, inr, arith, append_assoc, append-nil}
@@ -11,13 +11,13 @@ use Rattle.da_lang.specs.declared.event.Action.TheVariants.{Sent}
 use Rattle.da_lang.specs.declared.program.Program.{Program}
 use Rattle.da_lang.specs.Shaped.{IsEntry, IsProcess}
 use Rattle.da_lang.specs.World.{at_number}
-use Rattle.da_system.specs.Channels.{Channels, Letter, after_action, after_actions, channel, or_empty, put_numbered, with_channel, with_letter}
-use Rattle.da_system.specs.SoundState.{IsLetter, IsSoundState}
+use Rattle.da_system.specs.Channels.{Channels, MessageInFlight, after_action, after_actions, channel, or_empty, put_numbered, with_channel, with_message}
+use Rattle.da_system.specs.SoundState.{IsMessageOf, IsSoundState}
 use Rattle.da_system.specs.SystemStep.{SystemState}
 use Rattle.da_system.proofs.WorldLemmas.{all_numbered, numbered_none}
 use Rattle.trace_join.specs.Remains.{IsThere}
 use Rattle.sched_text.specs.TraceText.{teller}
-use Rattle.trace_join.specs.Traces.{letter_to, letters_to}
+use Rattle.trace_join.specs.Traces.{message_to, messages_to}
 use Rattle.trace_join.proofs.Sublists.{none_there}
 
 -- MEMBERS BY THEIR NUMBERS
@@ -53,7 +53,7 @@ module _ {A : Type 0} where
   put_other xs zero (suc k) x other = refl
   put_other xs (suc j) (suc k) x other = get_set_other xs j k x (λ same. other (ap suc same))
 
-  -- who is there behind a change was there before, and is there still
+  -- who is there after a change was there before, and is there still
   pub put_was : (xs : List A) (j n : ℕ) (x y : A) → at_number (put_numbered xs n x) j ≡ Some y → (z : A) × (at_number xs j ≡ Some z)
   put_was xs j n x y there = of (at_number xs j) refl
     where
@@ -94,80 +94,80 @@ all_at P xs n x all there = subst (λ (o : Option _). IfSome o P) there (all_num
 -- A CHANNEL THAT IS THERE
 
 pub record HasChannel (channels : Channels) (p q : ℕ) : Type 0 where
-  pub row : List (List Letter)
-  pub letters : List Letter
+  pub row : List (List MessageInFlight)
+  pub messages : List MessageInFlight
   pub at_sender : at_number channels p ≡ Some row
-  pub at_recipient : at_number row q ≡ Some letters
+  pub at_recipient : at_number row q ≡ Some messages
 
-module _ (channels : Channels) (p q : ℕ) (letters : List Letter) where
-  abbrev row_of : Option (List (List Letter)) → ℕ → List Letter
+module _ (channels : Channels) (p q : ℕ) (messages : List MessageInFlight) where
+  abbrev row_of : Option (List (List MessageInFlight)) → ℕ → List MessageInFlight
   row_of row b = or_empty (at_number (or_empty row) b)
 
-  pub channel-there : HasChannel channels p q → channel (with_channel channels p q letters) p q ≡ letters
+  pub channel-there : HasChannel channels p q → channel (with_channel channels p q messages) p q ≡ messages
   channel-there has =
-      ap (λ (o : Option (List (List Letter))). row_of o q) (put_there channels p
-      (put_numbered (or_empty (at_number channels p)) q letters) has.row has.at_sender)
-      ∙ ap (λ (o : Option (List (List Letter))). or_empty (at_number (put_numbered (or_empty o) q letters) q)) has.at_sender
-      ∙ ap or_empty (put_there has.row q letters has.letters has.at_recipient)
+      ap (λ (o : Option (List (List MessageInFlight))). row_of o q) (put_there channels p
+      (put_numbered (or_empty (at_number channels p)) q messages) has.row has.at_sender)
+      ∙ ap (λ (o : Option (List (List MessageInFlight))). or_empty (at_number (put_numbered (or_empty o) q messages) q)) has.at_sender
+      ∙ ap or_empty (put_there has.row q messages has.messages has.at_recipient)
 
-  same_sender : (b : ℕ) → (b ≡ q → ⊥) → (row : Option (List (List Letter))) → at_number channels p ≡ row
-      → channel (with_channel channels p q letters) p b ≡ channel channels p b
+  same_sender : (b : ℕ) → (b ≡ q → ⊥) → (row : Option (List (List MessageInFlight))) → at_number channels p ≡ row
+      → channel (with_channel channels p q messages) p b ≡ channel channels p b
   same_sender b other None is =
-      ap (λ (o : Option (List (List Letter))). row_of o b) (put_none channels p (put_numbered (or_empty (at_number channels p)) q letters) is)
-      ∙ ap (λ (o : Option (List (List Letter))). row_of o b) (sym is)
+      ap (λ (o : Option (List (List MessageInFlight))). row_of o b) (put_none channels p (put_numbered (or_empty (at_number channels p)) q messages) is)
+      ∙ ap (λ (o : Option (List (List MessageInFlight))). row_of o b) (sym is)
   same_sender b other (Some row) is =
-      ap (λ (o : Option (List (List Letter))). row_of o b) (put_there channels p (put_numbered (or_empty (at_number channels p)) q letters) row is)
-      ∙ ap (λ (o : Option (List (List Letter))). or_empty (at_number (put_numbered (or_empty o) q letters) b)) is
-      ∙ ap or_empty (put_other row b q letters other)
-      ∙ ap (λ (o : Option (List (List Letter))). row_of o b) (sym is)
+      ap (λ (o : Option (List (List MessageInFlight))). row_of o b) (put_there channels p (put_numbered (or_empty (at_number channels p)) q messages) row is)
+      ∙ ap (λ (o : Option (List (List MessageInFlight))). or_empty (at_number (put_numbered (or_empty o) q messages) b)) is
+      ∙ ap or_empty (put_other row b q messages other)
+      ∙ ap (λ (o : Option (List (List MessageInFlight))). row_of o b) (sym is)
 
-  pub channel-other_sender : (a b : ℕ) → (a ≡ p → ⊥) → channel (with_channel channels p q letters) a b ≡ channel channels a b
-  channel-other_sender a b other = ap (λ (o : Option (List (List Letter))). row_of o b)
-      (put_other channels a p (put_numbered (or_empty (at_number channels p)) q letters) other)
+  pub channel-other_sender : (a b : ℕ) → (a ≡ p → ⊥) → channel (with_channel channels p q messages) a b ≡ channel channels a b
+  channel-other_sender a b other = ap (λ (o : Option (List (List MessageInFlight))). row_of o b)
+      (put_other channels a p (put_numbered (or_empty (at_number channels p)) q messages) other)
 
   -- each other channel is as before
-  pub channel-other : (a b : ℕ) → ((a ≡ p) × (b ≡ q) → ⊥) → channel (with_channel channels p q letters) a b ≡ channel channels a b
+  pub channel-other : (a b : ℕ) → ((a ≡ p) × (b ≡ q) → ⊥) → channel (with_channel channels p q messages) a b ≡ channel channels a b
   channel-other a b other = elim (cases_eq a p) [
     | inr stranger ↦ channel-other_sender a b stranger
-    | inl sender ↦ ap (λ n. channel (with_channel channels p q letters) n b) sender
+    | inl sender ↦ ap (λ n. channel (with_channel channels p q messages) n b) sender
         ∙ same_sender b (λ recipient. other (sender, recipient)) (at_number channels p) refl ∙ ap (λ n. channel channels n b) (sym sender)
   ]
 
   -- the same channels are there
-  pub has-with : (a b : ℕ) → HasChannel channels a b → HasChannel (with_channel channels p q letters) a b
+  pub has-with : (a b : ℕ) → HasChannel channels a b → HasChannel (with_channel channels p q messages) a b
   has-with a b has = elim (cases_eq a p) [
-    | inr other ↦ record { row = has.row; letters = has.letters; at_sender = put_other channels a p _ other ∙ has.at_sender; at_recipient = has.at_recipient }
-    | inl same ↦ of_row same (put_stays has.row b q letters has.letters has.at_recipient)
+    | inr other ↦ record { row = has.row; messages = has.messages; at_sender = put_other channels a p _ other ∙ has.at_sender; at_recipient = has.at_recipient }
+    | inl same ↦ of_row same (put_stays has.row b q messages has.messages has.at_recipient)
   ]
     where
-      of_row : a ≡ p → (found : List Letter) × (at_number (put_numbered has.row q letters) b ≡ Some found) → HasChannel (with_channel channels p q letters) a b
+      of_row : a ≡ p → (found : List MessageInFlight) × (at_number (put_numbered has.row q messages) b ≡ Some found) → HasChannel (with_channel channels p q messages) a b
       of_row same (found, there) =
           let sender : at_number channels p ≡ Some has.row = ap (at_number channels) (sym same) ∙ has.at_sender in
           record {
-            row = put_numbered has.row q letters;
-            letters = found;
-            at_sender = ap (at_number (with_channel channels p q letters)) same ∙ put_there channels p _ has.row sender
-                ∙ ap (λ (o : Option (List (List Letter))). Some (put_numbered (or_empty o) q letters)) sender;
+            row = put_numbered has.row q messages;
+            messages = found;
+            at_sender = ap (at_number (with_channel channels p q messages)) same ∙ put_there channels p _ has.row sender
+                ∙ ap (λ (o : Option (List (List MessageInFlight))). Some (put_numbered (or_empty o) q messages)) sender;
             at_recipient = there;
           }
 
--- a letter is in a channel that is there
-pub letter_has : (channels : Channels) (p q i : ℕ) (l : Letter) → at_number (channel channels p q) i ≡ Some l → HasChannel channels p q
-letter_has channels p q i l there = of_rows (at_number channels p) refl there
+-- a message is in a channel that is there
+pub message_has : (channels : Channels) (p q i : ℕ) (l : MessageInFlight) → at_number (channel channels p q) i ≡ Some l → HasChannel channels p q
+message_has channels p q i l there = of_rows (at_number channels p) refl there
   where
-    of_row : (row : List (List Letter)) → at_number channels p ≡ Some row → (letters : Option (List Letter)) → at_number row q ≡ letters
-        → at_number (or_empty letters) i ≡ Some l → HasChannel channels p q
-    of_row row sender None recipient there = none_there (sym (numbered_none {A = Letter} i) ∙ there)
-    of_row row sender (Some letters) recipient there = record { row = row; letters = letters; at_sender = sender; at_recipient = recipient }
+    of_row : (row : List (List MessageInFlight)) → at_number channels p ≡ Some row → (messages : Option (List MessageInFlight)) → at_number row q ≡ messages
+        → at_number (or_empty messages) i ≡ Some l → HasChannel channels p q
+    of_row row sender None recipient there = none_there (sym (numbered_none {A = MessageInFlight} i) ∙ there)
+    of_row row sender (Some messages) recipient there = record { row = row; messages = messages; at_sender = sender; at_recipient = recipient }
 
-    of_rows : (row : Option (List (List Letter))) → at_number channels p ≡ row → at_number (or_empty (at_number (or_empty row) q)) i ≡ Some l
+    of_rows : (row : Option (List (List MessageInFlight))) → at_number channels p ≡ row → at_number (or_empty (at_number (or_empty row) q)) i ≡ Some l
         → HasChannel channels p q
-    of_rows None sender there = none_there (sym (ap (λ (o : Option (List Letter)). at_number (or_empty o) i) (numbered_none {A = List Letter} q)
-        ∙ numbered_none {A = Letter} i) ∙ there)
+    of_rows None sender there = none_there (sym (ap (λ (o : Option (List MessageInFlight)). at_number (or_empty o) i) (numbered_none {A = List MessageInFlight} q)
+        ∙ numbered_none {A = MessageInFlight} i) ∙ there)
     of_rows (Some row) sender there = of_row row sender (at_number row q) refl there
 
 module _ (program : Program) (s : SystemState) (sound : IsSoundState program s) where
-  abbrev IsRow : List (List Letter) → Type 0
+  abbrev IsRow : List (List MessageInFlight) → Type 0
   IsRow row = length row ≡ length program.procs
 
   -- there is a channel for each two processes
@@ -175,13 +175,13 @@ module _ (program : Program) (s : SystemState) (sound : IsSoundState program s) 
   channel_between p q (w, at_p) (v, at_q) =
       let (row, sender) = numbered_beside s.worlds s.channels p w at_p (sound.each ∙ sym sound.square.senders) in
       let width : length row ≡ length program.procs = all_at IsRow s.channels p row sound.square.recipients sender in
-      let (letters, recipient) = numbered_beside s.worlds row q v at_q (sound.each ∙ sym width) in
-      record { row = row; letters = letters; at_sender = sender; at_recipient = recipient }
+      let (messages, recipient) = numbered_beside s.worlds row q v at_q (sound.each ∙ sym width) in
+      record { row = row; messages = messages; at_sender = sender; at_recipient = recipient }
 
   -- and for no others
-  pub sender_there : (p q i : ℕ) (l : Letter) → at_number (channel s.channels p q) i ≡ Some l → IsThere s p
+  pub sender_there : (p q i : ℕ) (l : MessageInFlight) → at_number (channel s.channels p q) i ≡ Some l → IsThere s p
   sender_there p q i l there =
-      let has : HasChannel s.channels p q = letter_has s.channels p q i l there in
+      let has : HasChannel s.channels p q = message_has s.channels p q i l there in
       numbered_beside s.channels s.worlds p has.row has.at_sender (sound.square.senders ∙ sym sound.each)
 
   process_there : (p : ℕ) → IsThere s p → IsProcess program p
@@ -192,17 +192,17 @@ module _ (program : Program) (s : SystemState) (sound : IsSoundState program s) 
         (arith, inside, sound.each)),
   )
 
-  -- each letter from a process that is there is one that may arrive
-  pub letter_lawful : (p q : ℕ) (l : Letter) → IsThere s p → IsThere s q → Has (channel s.channels p q) l
+  -- each message from a process that is there is one that may arrive
+  pub message_lawful : (p q : ℕ) (l : MessageInFlight) → IsThere s p → IsThere s q → Has (channel s.channels p q) l
       → IsEntry program (record { message = l.message; peer = p; time = l.time })
-  letter_lawful p q l there_p there_q has =
+  message_lawful p q l there_p there_q has =
       let at : HasChannel s.channels p q = channel_between p q there_p there_q in
-      let row : AllByRecursion (AllByRecursion (IsLetter program)) at.row = all_at
-      (AllByRecursion (AllByRecursion (IsLetter program))) s.channels p at.row sound.letters at.at_sender in
-      let letters : AllByRecursion (IsLetter program) at.letters = all_at (AllByRecursion (IsLetter program)) at.row q at.letters row at.at_recipient in
-      let same : channel s.channels p q ≡ at.letters = ap (λ (o : Option (List (List Letter))). or_empty (at_number (or_empty o) q)) at.at_sender
+      let row : AllByRecursion (AllByRecursion (IsMessageOf program)) at.row = all_at
+      (AllByRecursion (AllByRecursion (IsMessageOf program))) s.channels p at.row sound.messages at.at_sender in
+      let messages : AllByRecursion (IsMessageOf program) at.messages = all_at (AllByRecursion (IsMessageOf program)) at.row q at.messages row at.at_recipient in
+      let same : channel s.channels p q ≡ at.messages = ap (λ (o : Option (List (List MessageInFlight))). or_empty (at_number (or_empty o) q)) at.at_sender
       ∙ ap or_empty at.at_recipient in
-      let is : IsLetter program l = all_has (IsLetter program) at.letters l letters (subst (λ (ls : List Letter). Has ls l) same has) in
+      let is : IsMessageOf program l = all_has (IsMessageOf program) at.messages l messages (subst (λ (ls : List MessageInFlight). Has ls l) same has) in
       record { proper = is.proper; typed = is.typed; peer = process_there p there_p }
 
 -- WHAT A PROCESS SENDS
@@ -219,30 +219,30 @@ pub has-actions : (channels : Channels) (actions : List Action) (p q : ℕ) → 
 has-actions channels [] p q has = has
 has-actions channels (a ∷ others) p q has = has-actions (after_action channels a) others p q (has-action channels a p q has)
 
--- a letter to `to`, as the channel to q sees it
-letter_sent : (channels : Channels) (p q to : ℕ) (l : Letter) → HasChannel channels p q
-    → channel (with_letter channels p to l) p q ≡ channel channels p q ++ cond (to == q) (l ∷ []) []
-letter_sent channels p q to l has = elim (cases_eq to q) [
-  | inl same ↦ ap (λ n. channel (with_letter channels p n l) p q) same ∙ channel-there channels p q (channel channels p q ++ l ∷ []) has
+-- a message to `to`, as the channel to q sees it
+message_sent : (channels : Channels) (p q to : ℕ) (l : MessageInFlight) → HasChannel channels p q
+    → channel (with_message channels p to l) p q ≡ channel channels p q ++ cond (to == q) (l ∷ []) []
+message_sent channels p q to l has = elim (cases_eq to q) [
+  | inl same ↦ ap (λ n. channel (with_message channels p n l) p q) same ∙ channel-there channels p q (channel channels p q ++ l ∷ []) has
       ∙ ap (λ (b : Bool). channel channels p q ++ cond b (l ∷ []) []) (sym (eq-eqb to q same))
   | inr other ↦ channel-other channels p to (channel channels p to ++ l ∷ []) p q (λ both. other (sym both.1)) ∙ sym (append-nil (channel channels p q))
       ∙ ap (λ (b : Bool). channel channels p q ++ cond b (l ∷ []) []) (sym (ne_eqb to q other))
 ]
 
 action_sent : (channels : Channels) (a : Action) (p q : ℕ) → teller a ≡ Some p → HasChannel channels p q
-    → channel (after_action channels a) p q ≡ channel channels p q ++ letter_to q a
+    → channel (after_action channels a) p q ≡ channel channels p q ++ message_to q a
 action_sent channels (Sent from to time m) p q own has =
-    ap (λ n. channel (with_letter channels n to (record { message = val_of m; time = time })) p q) (let same : from ≡ p = cc in same)
-    ∙ letter_sent channels p q to (record { message = val_of m; time = time }) has
+    ap (λ n. channel (with_message channels n to (record { message = val_of m; time = time })) p q) (let same : from ≡ p = cc in same)
+    ∙ message_sent channels p q to (record { message = val_of m; time = time }) has
 action_sent channels _ p q own has = sym (append-nil (channel channels p q))
 
 pub channel-sent : (channels : Channels) (actions : List Action) (p q : ℕ) → AreOwn p actions → HasChannel channels p q
-    → channel (after_actions channels actions) p q ≡ channel channels p q ++ letters_to q actions
+    → channel (after_actions channels actions) p q ≡ channel channels p q ++ messages_to q actions
 channel-sent channels [] p q own has = sym (append-nil (channel channels p q))
 channel-sent channels (a ∷ others) p q own has =
     channel-sent (after_action channels a) others p q own.1 (has-action channels a p q has)
-    ∙ ap (λ (l : List Letter). l ++ letters_to q others) (action_sent channels a p q own.0 has)
-    ∙ append_assoc (channel channels p q) (letter_to q a) (letters_to q others)
+    ∙ ap (λ (l : List MessageInFlight). l ++ messages_to q others) (action_sent channels a p q own.0 has)
+    ∙ append_assoc (channel channels p q) (message_to q a) (messages_to q others)
 
 other_sent : (channels : Channels) (a : Action) (p r q : ℕ) → teller a ≡ Some p → (r ≡ p → ⊥) → channel (after_action channels a) r q ≡ channel channels r q
 other_sent channels (Sent from to time m) p r q own other = channel-other_sender channels from to _ r q

@@ -11,7 +11,7 @@ use Rattle.trace_join.specs.declared.piece.Piece.{Piece}
 use Rattle.trace_join.specs.Cuts.{Follows, IsCut, Leads, Transition, goes, piece_of, stays}
 use Rattle.trace_join.specs.Cutting.{GoesOn, Stops}
 
--- one more transition behind the others
+-- one more transition after the others
 leads_then : {program : Program} {w w' : World} {trace left rest : List Action} {transitions : List Transition} {step : Step} {r : Stepped}
     → Leads program w trace transitions w' left → Follows program w' left step r rest
     → Leads program w trace (transitions ++ record { step = step; actions = r.actions } ∷ []) r.world rest
@@ -23,7 +23,7 @@ map_then : (transitions : List Transition) (t : Transition) → map piece_of (tr
 map_then [] t = refl
 map_then (x ∷ transitions) t = ap (λ (l : List Piece). piece_of x ∷ l) (map_then transitions t)
 
--- so far a trace was cut into these pieces, this is left of it, and the process in code stands behind them
+-- so far a trace was cut into these pieces, this is left of it, and the process in code stands after them
 pub record CutSoFar (program : Program) (start : World) (trace : List Action) (pieces : List Piece) (left : List Action) (core : Core) : Type 0 where
   pub same : program_of core ≡ program
   pub transitions : List Transition

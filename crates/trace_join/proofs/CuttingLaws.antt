@@ -77,8 +77,8 @@ module _ (core : Core) (stands : Place) (k : ℕ) (at : Whichever core (λ w. Is
   pub asks_for_none : (found : Place) → stands ≡ found → ((n : ℕ) → waits_for found n ≡ false) → Whichever core (λ w. false ≡ is_timeout (move_asked w k))
   asks_for_none found is never = asks_as false (sym (ap (λ (x : Place). tells_timeout x k) is ∙ not_there found never k))
 
-  pub asks_behind_last : (count : ℕ) → stands ≡ place.Await count → 0 < k → Whichever core (λ w. (count == k - 1) ≡ is_timeout (move_asked w k))
-  asks_behind_last count is some = asks_as (count == k - 1) (there count k some ∙ sym (ap (λ (x : Place). tells_timeout x k) is))
+  pub asks_after_last : (count : ℕ) → stands ≡ place.Await count → 0 < k → Whichever core (λ w. (count == k - 1) ≡ is_timeout (move_asked w k))
+  asks_after_last count is some = asks_as (count == k - 1) (there count k some ∙ sym (ap (λ (x : Place). tells_timeout x k) is))
 
 -- A CALL OF THE CORE
 

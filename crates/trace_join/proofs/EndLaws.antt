@@ -12,7 +12,7 @@ use Rattle.da_lang.specs.declared.ty.ChannelKind.{ChannelKind}
 use Rattle.da_lang.specs.Accepted.{IsAccepted}
 use Rattle.da_lang.specs.World.{World, at_number}
 use Rattle.da_core.specs.Compiled.{program_of}
-use Rattle.da_system.specs.Channels.{Letter, channel}
+use Rattle.da_system.specs.Channels.{MessageInFlight, channel}
 use Rattle.da_system.specs.SoundState.{IsSoundState}
 use Rattle.da_core.specs.declared.compiled.Compiled.{Compiled}
 use Rattle.trace_join.specs.declared.fault.Block.{Block}
@@ -55,15 +55,15 @@ module _ (s : Search) (ready : Ready s) where
   sound : IsSoundState (program_of s.compiled.now) ready.state
   sound = came_sound (program_of s.compiled.now) ready.compiled.accepted ready.came
 
-  -- a letter that is not in the queues cannot arrive
+  -- a message that is not in the queues cannot arrive
   lacks : (p : ℕ) → IsThere ready.state p → (trace : List Action) → CannotGet program.kind s.queues p trace → Lacks ready.state p trace
   lacks p there [] cannot = cannot
   lacks p there (Got q from time m ∷ behind) cannot = λ can.
-      let letter : Letter = record { message = val_of m; time = time } in
-      let (i, at) = number_of (channel ready.state.channels from p) letter (can_has ready.state.kind (channel ready.state.channels from p) letter can) in
-      let from_there : IsThere ready.state from = sender_there program ready.state sound from p i letter at in
+      let message : MessageInFlight = record { message = val_of m; time = time } in
+      let (i, at) = number_of (channel ready.state.channels from p) message (can_has ready.state.kind (channel ready.state.channels from p) message can) in
+      let from_there : IsThere ready.state from = sender_there program ready.state sound from p i message at in
       cannot (subst (λ (kind : ChannelKind). CanArrive kind (channel s.queues from p) (record { message = val_of m; time = time })) sound.kind
-      (subst (λ (letters : List Letter). CanArrive ready.state.kind letters (record { message = val_of m; time = time }))
+      (subst (λ (messages : List MessageInFlight). CanArrive ready.state.kind messages (record { message = val_of m; time = time }))
       (ready.holds from p from_there there) can))
   lacks p there (_ ∷ behind) cannot = cannot
 

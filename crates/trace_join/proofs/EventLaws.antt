@@ -1,4 +1,4 @@
--- What happens at a plain event: a process makes a step, or a letter is lost or doubled.
+-- What happens at a plain event: a process makes a step, or a message is lost or doubled.
 use Rattle.std.specs.Prelude.{◌≡◌, ℕ, Bool, true, false, cond, List, [], ◌∷◌, ◌++◌, Option, Some, None, is_some, refl}
 use Rattle.std.proofs.Common.{sym, ap, ◌∙◌, subst}
 use Rattle.std.proofs.lemmas.Bool.{eq-eqb, false≢true, ne_eqb}
@@ -9,9 +9,9 @@ use Rattle.da_lang.specs.declared.event.Event.TheVariants as event
 use Rattle.da_lang.specs.declared.program.Program.{Program}
 use Rattle.da_lang.specs.Steps.{Deliver, Go, Step, Stepped, Take, TimeOut, proc_step}
 use Rattle.da_lang.specs.World.{World, at_number}
-use Rattle.da_system.specs.Channels.{Channels, Letter, after_actions, channel, may_arrive, may_lose, may_repeat, put_numbered, with_letter, without_letter}
+use Rattle.da_system.specs.Channels.{Channels, MessageInFlight, after_actions, channel, may_arrive, may_lose, may_repeat, put_numbered, with_message, without_message}
 use Rattle.sched_text.specs.TraceText.{teller}
-use Rattle.da_system.specs.SystemStep.{AfterEvent, SystemState, arrive, copy_letter, drop_letter, process_step, step_of, stepped, sys_step}
+use Rattle.da_system.specs.SystemStep.{AfterEvent, SystemState, arrive, copy_message, drop_message, process_step, step_of, stepped, sys_step}
 use Rattle.trace_join.specs.Joins.{IsPlain}
 use Rattle.trace_join.specs.Remains.{IsThere}
 use Rattle.trace_join.specs.Traces.{is_teller, part}
@@ -42,11 +42,11 @@ part-append p (x ∷ xs) ys = of (is_teller p (teller x)) (part-append p xs ys)
 
 -- EVENTS
 
--- the channels behind the fetch of a step: for a delivery a letter leaves its channel
+-- the channels after the fetch of a step: for a delivery a message leaves its channel
 abbrev pub IsFetch : SystemState → ℕ → Step → Channels → Type 0
 IsFetch s p (Deliver m from time) channels =
     (i : ℕ) × (may_arrive s.kind i ≡ true) × (at_number (channel s.channels from p) i ≡ Some (record { message = m; time = time })) ×
-    (channels ≡ without_letter s.channels from p i)
+    (channels ≡ without_message s.channels from p i)
 IsFetch s p _ channels = channels ≡ s.channels
 
 -- the state when process p has made the step, where the fetch left these channels
@@ -57,10 +57,10 @@ pub data Happens (program : Program) (s : SystemState) (after : AfterEvent) : Ty
   acts : (p : ℕ) (w : World) (step : Step) (r : Stepped) (channels : Channels) → at_number s.worlds p ≡ Some w → proc_step program w step ≡ Some r
       → IsFetch s p step channels
       → record { state = after_step s p channels r; actions = r.actions } ≡ after → Happens program s after
-  loses : (p q i : ℕ) (l : Letter) → may_lose s.kind ≡ true → at_number (channel s.channels p q) i ≡ Some l
-      → record { state = record s { channels = without_letter s.channels p q i }; actions = Lost p q l.time ∷ [] } ≡ after → Happens program s after
-  doubles : (p q i : ℕ) (l : Letter) → may_repeat s.kind ≡ true → at_number (channel s.channels p q) i ≡ Some l
-      → record { state = record s { channels = with_letter s.channels p q l }; actions = Again p q l.time ∷ [] } ≡ after → Happens program s after
+  loses : (p q i : ℕ) (l : MessageInFlight) → may_lose s.kind ≡ true → at_number (channel s.channels p q) i ≡ Some l
+      → record { state = record s { channels = without_message s.channels p q i }; actions = Lost p q l.time ∷ [] } ≡ after → Happens program s after
+  doubles : (p q i : ℕ) (l : MessageInFlight) → may_repeat s.kind ≡ true → at_number (channel s.channels p q) i ≡ Some l
+      → record { state = record s { channels = with_message s.channels p q l }; actions = Again p q l.time ∷ [] } ≡ after → Happens program s after
 
 module _ (program : Program) (s : SystemState) (after : AfterEvent) where
   forbidden : {A : Type 0} → ◌≡◌ {A = Option AfterEvent} None (Some after) → A
@@ -76,19 +76,19 @@ module _ (program : Program) (s : SystemState) (after : AfterEvent) where
   of_process channels p step None fetch at is = forbidden is
   of_process channels p step (Some w) fetch at is = of_step channels p w step (proc_step program w step) at fetch refl is
 
-  of_arrival : (p q i : ℕ) (found : Option Letter) → may_arrive s.kind i ≡ true → at_number (channel s.channels p q) i ≡ found
+  of_arrival : (p q i : ℕ) (found : Option MessageInFlight) → may_arrive s.kind i ≡ true → at_number (channel s.channels p q) i ≡ found
       → arrive program s p q i found ≡ Some after → Happens program s after
   of_arrival p q i None may there is = forbidden is
-  of_arrival p q i (Some l) may there is = of_process (without_letter s.channels p q i) q (Deliver l.message p l.time) (at_number s.worlds q)
+  of_arrival p q i (Some l) may there is = of_process (without_message s.channels p q i) q (Deliver l.message p l.time) (at_number s.worlds q)
       (i, may, there, refl) refl is
 
-  of_loss : (p q i : ℕ) (found : Option Letter) → may_lose s.kind ≡ true → at_number (channel s.channels p q) i ≡ found
-      → drop_letter s p q i found ≡ Some after → Happens program s after
+  of_loss : (p q i : ℕ) (found : Option MessageInFlight) → may_lose s.kind ≡ true → at_number (channel s.channels p q) i ≡ found
+      → drop_message s p q i found ≡ Some after → Happens program s after
   of_loss p q i None may there is = forbidden is
   of_loss p q i (Some l) may there is = loses p q i l may there cc
 
-  of_copy : (p q i : ℕ) (found : Option Letter) → may_repeat s.kind ≡ true → at_number (channel s.channels p q) i ≡ found
-      → copy_letter s p q found ≡ Some after → Happens program s after
+  of_copy : (p q i : ℕ) (found : Option MessageInFlight) → may_repeat s.kind ≡ true → at_number (channel s.channels p q) i ≡ found
+      → copy_message s p q found ≡ Some after → Happens program s after
   of_copy p q i None may there is = forbidden is
   of_copy p q i (Some l) may there is = doubles p q i l may there cc
 
@@ -123,15 +123,15 @@ module _ (program : Program) (s : SystemState) (p : ℕ) (w : World) (r : Steppe
   pub moves_by : (step : Step) → proc_step program w step ≡ Some r → Becomes s.channels (process_step program s p step)
   moves_by step makes = rw (at, makes) refl
 
-  pub delivers_by : (from i : ℕ) (l : Letter) → may_arrive s.kind i ≡ true → at_number (channel s.channels from p) i ≡ Some l
+  pub delivers_by : (from i : ℕ) (l : MessageInFlight) → may_arrive s.kind i ≡ true → at_number (channel s.channels from p) i ≡ Some l
       → proc_step program w (Deliver l.message from l.time) ≡ Some r
-      → Becomes (without_letter s.channels from p i) (sys_step program s (event.Deliver from p i))
+      → Becomes (without_message s.channels from p i) (sys_step program s (event.Deliver from p i))
   delivers_by from i l may there makes = rw (may, there, at, makes) refl
 
-pub loses_by : (program : Program) (s : SystemState) (p q i : ℕ) (l : Letter) → may_lose s.kind ≡ true → at_number (channel s.channels p q) i ≡ Some l
-    → sys_step program s (event.Lose p q i) ≡ Some (record { state = record s { channels = without_letter s.channels p q i }; actions = Lost p q l.time ∷ [] })
+pub loses_by : (program : Program) (s : SystemState) (p q i : ℕ) (l : MessageInFlight) → may_lose s.kind ≡ true → at_number (channel s.channels p q) i ≡ Some l
+    → sys_step program s (event.Lose p q i) ≡ Some (record { state = record s { channels = without_message s.channels p q i }; actions = Lost p q l.time ∷ [] })
 loses_by program s p q i l may there = rw (may, there) refl
 
-pub doubles_by : (program : Program) (s : SystemState) (p q i : ℕ) (l : Letter) → may_repeat s.kind ≡ true → at_number (channel s.channels p q) i ≡ Some l
-    → sys_step program s (event.Repeat p q i) ≡ Some (record { state = record s { channels = with_letter s.channels p q l }; actions = Again p q l.time ∷ [] })
+pub doubles_by : (program : Program) (s : SystemState) (p q i : ℕ) (l : MessageInFlight) → may_repeat s.kind ≡ true → at_number (channel s.channels p q) i ≡ Some l
+    → sys_step program s (event.Repeat p q i) ≡ Some (record { state = record s { channels = with_message s.channels p q l }; actions = Again p q l.time ∷ [] })
 doubles_by program s p q i l may there = rw (may, there) refl

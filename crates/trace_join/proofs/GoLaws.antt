@@ -7,10 +7,10 @@ use Rattle.da_lang.specs.declared.event.Action.{Action}
 use Rattle.da_lang.specs.declared.event.Action.TheVariants.{Got}
 use Rattle.da_lang.specs.declared.event.Event.{Event}
 use Rattle.da_lang.specs.declared.ty.ChannelKind.{ChannelKind}
-use Rattle.da_system.specs.Channels.{Channels, Letter, channel}
+use Rattle.da_system.specs.Channels.{Channels, MessageInFlight, channel}
 use Rattle.trace_join.specs.declared.fetch.Wanted.{Wanted}
 use Rattle.trace_join.specs.declared.track.Next.{Next}
-use Rattle.trace_join.specs.Fetching.{Fetched, Fetches, letter_in}
+use Rattle.trace_join.specs.Fetching.{Fetched, Fetches, message_in}
 use Rattle.trace_join.specs.Remains.{CanArrive}
 use Rattle.trace_join.specs.Searching.{Goes, Made}
 use Rattle.trace_join.specs.Sending.{IsOneOf, SameElsewhere}
@@ -20,8 +20,8 @@ module _ (kind : ChannelKind) (me : ℕ) (n : Next) (q from t : ℕ) (m : Value)
     (w_to : w.to ≡ me) (w_got : w.got ≡ n.asked) (w_again : w.again ≡ n.again)
     (queues queues' : Channels) (events events' : List Event) (same : length queues' ≡ length queues)
     (elsewhere : SameElsewhere w.from w.to queues queues') where
-  letter_is : letter_in w.got.now ≡ letter_in (Got q from t m)
-  letter_is = ap (λ g. letter_in g.now) w_got ∙ ap letter_in is
+  message_is : message_in w.got.now ≡ message_in (Got q from t m)
+  message_is = ap (λ g. message_in g.now) w_got ∙ ap message_in is
 
   elsewhere_so : SameElsewhere from me queues queues'
   elsewhere_so = subst (λ a. SameElsewhere a me queues queues') w_from (subst (λ b. SameElsewhere w.from b queues queues') w_to elsewhere)
@@ -34,18 +34,18 @@ module _ (kind : ChannelKind) (me : ℕ) (n : Next) (q from t : ℕ) (m : Value)
     same,
     subst (λ (a : Action). Made kind me a n.times_out n.again queues queues' added) (sym is) (
       subst (IsOneOf (length queues)) w_from (there refl),
-      subst (λ (b : Bool). Fetched kind from me (letter_in (Got q from t m)) b (channel queues from me) (channel queues' from me) added) w_again
-          (subst (λ (l : Letter). Fetched kind from me l w.again (channel queues from me) (channel queues' from me) added) letter_is
-          (subst (λ a. Fetched kind a me (letter_in w.got.now) w.again (channel queues a me) (channel queues' a me) added) w_from
-          (subst (λ b. Fetched kind w.from b (letter_in w.got.now) w.again (channel queues w.from b) (channel queues' w.from b) added) w_to fetched))),
+      subst (λ (b : Bool). Fetched kind from me (message_in (Got q from t m)) b (channel queues from me) (channel queues' from me) added) w_again
+          (subst (λ (l : MessageInFlight). Fetched kind from me l w.again (channel queues from me) (channel queues' from me) added) message_is
+          (subst (λ a. Fetched kind a me (message_in w.got.now) w.again (channel queues a me) (channel queues' a me) added) w_from
+          (subst (λ b. Fetched kind w.from b (message_in w.got.now) w.again (channel queues w.from b) (channel queues' w.from b) added) w_to fetched))),
       elsewhere_so,
     ),
   )
   goes_so false (cannot, still, are) there = (
     subst (λ (a : Action). CannotGet kind queues me (a ∷ [])) (sym is) (λ can. cannot
-        (subst (λ (ls : List Letter). CanArrive kind ls (letter_in w.got.now))
+        (subst (λ (ls : List MessageInFlight). CanArrive kind ls (message_in w.got.now))
         (ap (λ b. channel queues from b) (sym w_to) ∙ ap (λ a. channel queues a w.to) (sym w_from))
-        (subst (CanArrive kind (channel queues from me)) (sym letter_is) can))),
+        (subst (CanArrive kind (channel queues from me)) (sym message_is) can))),
     same,
     all_same,
     are,

@@ -62,7 +62,7 @@ not_longer (t ∷ traces) (l ∷ lefts) zero trace left shorter at_trace at_left
     subst (λ (x : List Action). length x ≤ length trace) lefts_same (subst (λ (x : List Action). length l ≤ length x) traces_same shorter.0)
 not_longer (t ∷ traces) (l ∷ lefts) (suc k) trace left shorter at_trace at_left = not_longer traces lefts k trace left shorter.1 at_trace at_left
 
--- of a list with a member in front that has something left there is a block
+-- of a list whose first member is one that has something left there is a block
 first_block : (first : ℕ) (trace left : List Action) (traces lefts : List (List Action))
     → blocks_left first (trace ∷ traces) (left ∷ lefts) ≡ block_of first (length trace) (length left) ++ blocks_left (first + 1) traces lefts
 first_block first trace left traces lefts = of (nat_lt 0 (length left))
@@ -72,7 +72,7 @@ first_block first trace left traces lefts = of (nat_lt 0 (length left))
     of true = refl
     of false = refl
 
--- the blocks from one place on are the one there and those behind it
+-- the blocks from one place on are the one there and those after it
 pub blocks_on : (traces lefts : List (List Action)) (first k : ℕ) (trace left : List Action) → slice_get traces k ≡ Some trace → slice_get lefts k ≡ Some left
     → blocks_left first (drop k traces) (drop k lefts) ≡ block_of first (length trace) (length left) ++ blocks_left (first + 1) (drop (suc k) traces)
     (drop (suc k) lefts)
@@ -86,16 +86,16 @@ blocks_on (t ∷ traces) (l ∷ lefts) first zero trace left at_trace at_left =
     ∙ ap (λ (x : List Action). block_of first (length trace) (length x) ++ blocks_left (first + 1) traces lefts) lefts_same
 blocks_on (t ∷ traces) (l ∷ lefts) first (suc k) trace left at_trace at_left = blocks_on traces lefts first k trace left at_trace at_left
 
-pub blocks_behind : (traces lefts : List (List Action)) (first k : ℕ) → length traces ≤ k → blocks_left first (drop k traces) (drop k lefts) ≡ []
-blocks_behind [] lefts first zero past = refl
-blocks_behind [] lefts first (suc k) past = refl
-blocks_behind (t ∷ traces) lefts first zero past = absurd (omega (arith, past))
-blocks_behind (t ∷ traces) [] first (suc k) past = no_blocks (drop k traces)
+pub blocks_after : (traces lefts : List (List Action)) (first k : ℕ) → length traces ≤ k → blocks_left first (drop k traces) (drop k lefts) ≡ []
+blocks_after [] lefts first zero past = refl
+blocks_after [] lefts first (suc k) past = refl
+blocks_after (t ∷ traces) lefts first zero past = absurd (omega (arith, past))
+blocks_after (t ∷ traces) [] first (suc k) past = no_blocks (drop k traces)
   where
     no_blocks : (ts : List (List Action)) → blocks_left first ts [] ≡ []
     no_blocks [] = refl
     no_blocks (t' ∷ ts) = refl
-blocks_behind (t ∷ traces) (l ∷ lefts) first (suc k) past = blocks_behind traces lefts first k (omega (arith, past))
+blocks_after (t ∷ traces) (l ∷ lefts) first (suc k) past = blocks_after traces lefts first k (omega (arith, past))
 
 -- WHERE SOMETHING IS LEFT
 

@@ -17,7 +17,7 @@ use Rattle.da_lang.specs.declared.ty.ChannelKind.TheVariants.{FifoReliable, Unor
 use Rattle.da_lang.specs.Steps.{Deliver, Step}
 use Rattle.da_lang.specs.World.{World, at_number}
 use Rattle.da_core.specs.Compiled.{program_of}
-use Rattle.da_system.specs.Channels.{Channels, Letter, channel}
+use Rattle.da_system.specs.Channels.{Channels, MessageInFlight, channel}
 use Rattle.da_system.specs.SoundState.{IsSoundState}
 use Rattle.da_system.specs.SystemStep.{SystemState}
 use Rattle.trace_join.specs.declared.piece.Piece.{Piece}
@@ -31,7 +31,7 @@ use Rattle.trace_join.specs.Remains.{IsThere}
 use Rattle.trace_join.specs.Repeats.{IsGotAgain, TellRepeats}
 use Rattle.trace_join.specs.Searching.{IsAsked, IsOnTrack, Made, Ready}
 use Rattle.trace_join.specs.Sending.{IsOneOf, SameElsewhere}
-use Rattle.trace_join.specs.Traces.{letter_from, letters_from}
+use Rattle.trace_join.specs.Traces.{message_from, messages_from}
 use Rattle.trace_join.specs.Tracks.{FitsNext, IsNext}
 use Rattle.trace_join.specs.Waiting.{CannotGet, Waits}
 use Rattle.trace_join.proofs.ChannelLaws.{HasChannel, numbered_beside}
@@ -59,41 +59,41 @@ number_there {A} xs (suc k) one = of xs k (omega (arith, one.1))
 
 -- A DELIVERY
 
--- the way in which the code has fetched a letter, for each kind of channel
-fetched_so : (program : Program) (g : SystemState) (from p : ℕ) (l : Letter) (left : List Action) → HasChannel g.channels from p → (kind : ChannelKind)
+-- the way in which the code has fetched a message, for each kind of channel
+fetched_so : (program : Program) (g : SystemState) (from p : ℕ) (l : MessageInFlight) (left : List Action) → HasChannel g.channels from p → (kind : ChannelKind)
     → g.kind ≡ kind
-    → (again : Bool) (new : List Letter) (events : List Event) → Fetched kind from p l again (channel g.channels from p) new events
-    → (again ≡ false → Has (letters_from from left) l → ⊥)
+    → (again : Bool) (new : List MessageInFlight) (events : List Event) → Fetched kind from p l again (channel g.channels from p) new events
+    → (again ≡ false → Has (messages_from from left) l → ⊥)
     → Fetching program g from p l left new events
 fetched_so program g from p l left has FifoReliable kind again new events (is, are) once =
     subst (λ (es : List Event). Fetching program g from p l left new es) (sym are) (fetch_first program g from p l left has new kind is)
 fetched_so program g from p l left has UnorderedReliable kind again new events (i, there, is, are) once =
     subst (λ (es : List Event). Fetching program g from p l left new es) (sym are)
-    (subst (λ (ls : List Letter). Fetching program g from p l left ls (event.Deliver from p i ∷ [])) (sym is)
+    (subst (λ (ls : List MessageInFlight). Fetching program g from p l left ls (event.Deliver from p i ∷ [])) (sym is)
     (fetch_any program g from p l left has i kind there))
 fetched_so program g from p l left has FifoUnreliable kind again new events (front, is, none, are) once =
     subst (λ (es : List Event). Fetching program g from p l left new es) (sym are) (fetch_losing program g from p l left has front new kind is none)
 fetched_so program g from p l left has UnorderedUnreliable kind true new events (i, there, both) once =
     subst (λ (es : List Event). Fetching program g from p l left new es) (sym both.1)
-    (subst (λ (ls : List Letter). Fetching program g from p l left ls (event.Repeat from p i ∷ event.Deliver from p i ∷ [])) (sym both.0)
+    (subst (λ (ls : List MessageInFlight). Fetching program g from p l left ls (event.Repeat from p i ∷ event.Deliver from p i ∷ [])) (sym both.0)
     (fetch_doubled program g from p l left has i kind there))
 fetched_so program g from p l left has UnorderedUnreliable kind false new events (i, there, both) once =
     subst (λ (es : List Event). Fetching program g from p l left new es) (sym both.1)
-    (subst (λ (ls : List Letter). Fetching program g from p l left ls (event.Deliver from p i ∷ [])) (sym both.0)
+    (subst (λ (ls : List MessageInFlight). Fetching program g from p l left ls (event.Deliver from p i ∷ [])) (sym both.0)
     (fetch_last program g from p l left has i kind there (once refl)))
 
--- what is not got again behind some actions is not got behind more of them
+-- what is not got again after some actions is not got after more of them
 got_later : (a : Action) (front left : List Action) (q from t : ℕ) (m : Value) → a ≡ Got q from t m
-    → Has (letters_from from left) (record { message = val_of m; time = t }) → IsGotAgain a (front ++ left)
+    → Has (messages_from from left) (record { message = val_of m; time = t }) → IsGotAgain a (front ++ left)
 got_later a front left q from t m is has = subst (λ (x : Action). IsGotAgain x (front ++ left)) (sym is) (of front)
   where
-    of : (xs : List Action) → Has (letters_from from (xs ++ left)) (record { message = val_of m; time = t })
+    of : (xs : List Action) → Has (messages_from from (xs ++ left)) (record { message = val_of m; time = t })
     of [] = has
-    of (x ∷ xs) = Has-append_right (letter_from from x) (letters_from from (xs ++ left)) (record { message = val_of m; time = t }) (of xs)
+    of (x ∷ xs) = Has-append_right (message_from from x) (messages_from from (xs ++ left)) (record { message = val_of m; time = t }) (of xs)
 
-pub tell_behind : (front left : List Action) (repeats : List Bool) → TellRepeats (front ++ left) repeats → TellRepeats left repeats
-tell_behind [] left repeats tells = tells
-tell_behind (x ∷ front) left repeats tells = tell_behind front left repeats tells.1
+pub tell_after : (front left : List Action) (repeats : List Bool) → TellRepeats (front ++ left) repeats → TellRepeats left repeats
+tell_after [] left repeats tells = tells
+tell_after (x ∷ front) left repeats tells = tell_after front left repeats tells.1
 
 -- AT A PLACE OF THE SEARCH
 
@@ -165,9 +165,9 @@ module _ (s : Search) (ready : Ready s) (place : ℕ) (t : Track) (at_track : sl
     pub begins : ready.lefts (suc place) ≡ n.asked.now ∷ (others.0 ++ first.left)
     begins = first.follows.tells ∙ ap (λ (actions : List Action). actions ++ first.left) (sym told_is ∙ others.1)
 
-    -- what is known of repeats holds behind it
-    pub tells_behind : TellRepeats first.left t.repeats.now
-    tells_behind = tell_behind first.r.actions first.left t.repeats.now
+    -- what is known of repeats holds after it
+    pub tells_after : TellRepeats first.left t.repeats.now
+    tells_after = tell_after first.r.actions first.left t.repeats.now
         (subst (λ (trace : List Action). TellRepeats trace t.repeats.now) first.follows.tells tells)
 
     asked_so : (a : Action) (rest : List Action) → step_asked w (a ∷ rest) ≡ Some first.step → IsAsked a
@@ -219,20 +219,20 @@ module _ (s : Search) (ready : Ready s) (place : ℕ) (t : Track) (at_track : sl
           beside = λ a b other. ap (λ (c : Channels). channel c a b) same;
         }
         of (Got q from time m) rest starts is (one, fetched, elsewhere) =
-            let letter : Letter = record { message = val_of m; time = time } in
+            let message : MessageInFlight = record { message = val_of m; time = time } in
             let steps : first.step ≡ Deliver (val_of m) from time =
             (let same : Some first.step ≡ Some (Deliver (val_of m) from time) = sym first.follows.asks ∙ ap (step_asked w) starts in cc) in
             let sender : IsThere ready.state from = number_there ready.state.worlds from
             (subst (λ size. IsOneOf size from) (ready.rows ∙ ready.each ∙ sym sound.each) one) in
-            let fetching : Fetching program ready.state from (suc place) letter first.left (channel queues from (suc place)) added =
-            fetched_so program ready.state from (suc place) letter first.left (has_all from (suc place) sender world) program.kind sound.kind n.again
+            let fetching : Fetching program ready.state from (suc place) message first.left (channel queues from (suc place)) added =
+            fetched_so program ready.state from (suc place) message first.left (has_all from (suc place) sender world) program.kind sound.kind n.again
             (channel queues from (suc place)) added
-            (subst (λ (ls : List Letter). Fetched program.kind from (suc place) letter n.again ls (channel queues from (suc place)) added)
+            (subst (λ (ls : List MessageInFlight). Fetched program.kind from (suc place) message n.again ls (channel queues from (suc place)) added)
             (sym (ready.holds from (suc place) sender world)) fetched)
             (λ once has. not_again once (got_later n.asked.now others.0 first.left q from time m (sym is) has)) in
             record {
               channels = fetching.channels;
-              came = came_delivers program ready.compiled.accepted ready.came (suc place) w world.1 letter from first.r first.left
+              came = came_delivers program ready.compiled.accepted ready.came (suc place) w world.1 message from first.r first.left
                   (channel queues from (suc place)) added
                   (subst (λ (step : Step). Follows program w (ready.lefts (suc place)) step first.r first.left) steps first.follows) fetching;
               holds = λ a b there_a there_b. held fetching elsewhere a b there_a there_b;
@@ -260,7 +260,7 @@ module _ (s : Search) (ready : Ready s) (place : ℕ) (t : Track) (at_track : sl
     cannot_whole kind queues p (Got q from time m) rest cannot = cannot
     cannot_whole kind queues p _ rest cannot = absurd cannot
 
-    -- a process that cannot get its letter waits
+    -- a process that cannot get its message waits
     pub waits_so : (kind : ChannelKind) (queues : Channels) (p : ℕ) → CannotGet kind queues p (n.asked.now ∷ []) → Waits kind queues p t
     waits_so kind queues p cannot =
         inr (subst (CannotGet kind queues p) (sym (left_is ∙ begins)) (cannot_whole kind queues p n.asked.now (others.0 ++ first.left) cannot))

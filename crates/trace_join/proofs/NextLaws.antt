@@ -85,8 +85,8 @@ module _ (program : Program) (w : World) (trace : List Action) (a : Action) (fir
       told_is = same ∙ made.2.added ∙ ap (λ (l : List Action). l ++ made.2.after.actions) none
 
       -- where the trace does not begin with that, it stops
-      pub stops_behind : ((rest : List Action) → trace ≡ told ++ rest → ⊥) → Stops program w trace
-      stops_behind apart = inl (λ step r left follows. (
+      pub stops_after : ((rest : List Action) → trace ≡ told ++ rest → ⊥) → Stops program w trace
+      stops_after apart = inl (λ step r left follows. (
           let steps : step ≡ made.0 = same_Some step made.0 (sym (asks_as_first step follows.asks) ∙ made.1) in
           let results : r ≡ made.2.after = same_Some r made.2.after (sym follows.makes ∙ ap (proc_step program w) steps ∙ made.2.makes) in
           apart left (follows.tells ∙ ap (λ (x : Stepped). x.actions ++ left) results ∙ ap (λ (l : List Action). l ++ left) (sym told_is))))

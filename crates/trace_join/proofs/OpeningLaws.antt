@@ -9,7 +9,7 @@ use Rattle.da_lang.specs.declared.program.Program.{Program}
 use Rattle.da_lang.specs.World.{World, at_number, opening}
 use Rattle.da_types.proofs.sound.AcceptedLaws.{is_sound}
 use Rattle.da_core.specs.Compiled.{IsCompiled, program_of}
-use Rattle.da_system.specs.Channels.{Channels, channel, no_letters, or_empty}
+use Rattle.da_system.specs.Channels.{Channels, channel, no_messages, or_empty}
 use Rattle.da_system.specs.SystemStep.{start}
 use Rattle.trace_join.specs.declared.piece.Piece.{Piece}
 use Rattle.trace_join.specs.declared.search.Search.{Search}
@@ -66,7 +66,7 @@ module _ (s : Search) (compiled : IsCompiled s.compiled.now) (traces : AreTraces
     (cut : AllCut (program_of s.compiled.now) s.traces.now cuts) (repeated : AllRepeats s.traces.now repeats)
     (lefts : map (λ (t : Track). t.left.now) s.tracks ≡ s.traces.now) (pieces : map (λ (t : Track). t.pieces.now) s.tracks ≡ cuts)
     (repeating : map (λ (t : Track). t.repeats.now) s.tracks ≡ repeats)
-    (waits : s.waits ≡ replicate (length s.traces.now) false) (queues : s.queues ≡ no_letters (length s.traces.now)) (schedule : s.schedule ≡ []) where
+    (waits : s.waits ≡ replicate (length s.traces.now) false) (queues : s.queues ≡ no_messages (length s.traces.now)) (schedule : s.schedule ≡ []) where
   abbrev size : length s.tracks ≡ length s.traces.now
   size = sym (length-map s.tracks (λ (t : Track). t.left.now)) ∙ ap length lefts
 
@@ -84,7 +84,7 @@ module _ (s : Search) (compiled : IsCompiled s.compiled.now) (traces : AreTraces
         (arith, few, size, traces.count));
     rows = ap length queues ∙ length-replicate (length s.traces.now) (replicate (length s.traces.now) []) ∙ sym size;
     known = ap length waits ∙ length-replicate (length s.traces.now) false ∙ sym size;
-    holds = λ p q there_p there_q. ap (λ (c : Channels). channel c p q) (ap no_letters (sym traces.count) ∙ sym queues);
+    holds = λ p q there_p there_q. ap (λ (c : Channels). channel c p q) (ap no_messages (sym traces.count) ∙ sym queues);
     on_track = opened_all (program_of s.compiled.now) s.traces.now s.tracks cuts repeats traces.count cut repeated lefts pieces repeating;
     waiting = λ p t is there. absurd (false≢true (number_replicate (length s.traces.now) p false true (ap (λ (l : List Bool). at_number l p) (sym waits)
         ∙ is)));

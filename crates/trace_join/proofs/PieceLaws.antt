@@ -17,7 +17,7 @@ drop-append : {A : Type 0} (xs ys : List A) → drop (length xs) (xs ++ ys) ≡ 
 drop-append [] ys = refl
 drop-append (x ∷ xs) ys = drop-append xs ys
 
--- the first piece is the step that the trace asks for, and the others are those of what is left behind it
+-- the first piece is the step that the trace asks for, and the others are those of what is left after it
 pub record FirstPiece (program : Program) (w : World) (trace : List Action) (piece : Piece) (pieces : List Piece) : Type 0 where
   pub step : Step
   pub r : Stepped
@@ -63,6 +63,6 @@ module _ (program : Program) where
   over_leads w w' trace trace' transitions (goes _ _ _ left _ step r more follows leads) same ends = absurd
       (let sizes : 0 ≡ suc (length (map piece_of more)) = ap length same in omega (arith, sizes))
 
-  -- behind the last piece the process cannot go on
+  -- after the last piece the process cannot go on
   pub no_piece : (w : World) (trace : List Action) → IsCut program w trace [] → IsOver program w trace ⊎ AsksInVain program trace
   no_piece w trace cut = over_leads w cut.last trace cut.left cut.transitions cut.leads cut.same cut.ends

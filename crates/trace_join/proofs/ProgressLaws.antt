@@ -1,4 +1,4 @@
--- How far a join has come: what holds at the opening, behind each step along the traces, and where no process can go on.
+-- How far a join has come: what holds at the opening, after each step along the traces, and where no process can go on.
 use Rattle.std.specs.Prelude.{◌≡◌, ◌⊎◌, ℕ, zero, suc, Bool, true, false, cond, List, [], ◌∷◌, ◌++◌, Some, refl}
 use Rattle.std.proofs.Common.{sym, ap, ◌∙◌, subst, inl, inr, append_assoc, append-nil}
 use Rattle.std.proofs.lemmas.Bool.{cases_eq}
@@ -15,15 +15,15 @@ use Rattle.da_lang.specs.Accepted.{IsAccepted}
 use Rattle.da_lang.specs.Shaped.{IsEntry}
 use Rattle.da_lang.specs.Steps.{Deliver, Go, Step, Stepped, Take, TimeOut, proc_step}
 use Rattle.da_lang.specs.World.{World, at_number}
-use Rattle.da_system.specs.Channels.{Channels, Letter, channel, or_empty}
+use Rattle.da_system.specs.Channels.{Channels, MessageInFlight, channel, or_empty}
 use Rattle.da_system.specs.SoundState.{IsSoundState}
 use Rattle.da_system.specs.SystemStep.{SystemState, start}
 use Rattle.trace_join.specs.Cuts.{AsksInVain, Follows, IsOver, awaits, is_timeout, move_asked, step_asked}
 use Rattle.trace_join.specs.Progress.{Came, Exhausts, Reaches, moves, rests, took_event, trace_of}
 use Rattle.trace_join.specs.Remains.{AllowStep, CanArrive, IsStuck, IsThere}
-use Rattle.trace_join.specs.Traces.{letters_from, part}
+use Rattle.trace_join.specs.Traces.{messages_from, part}
 use Rattle.trace_join.proofs.AheadLaws.{IsServed, ahead_goes, ahead_opens}
-use Rattle.trace_join.proofs.ChannelLaws.{AreOwn, HasChannel, channel_between, letter_lawful, sender_there}
+use Rattle.trace_join.proofs.ChannelLaws.{AreOwn, HasChannel, channel_between, message_lawful, sender_there}
 use Rattle.trace_join.proofs.DeliveryLaws.{Fetching, Untold, reaches-actions, reaches-plain, reaches-whole, reaches_by, reaches_on}
 use Rattle.trace_join.proofs.EventLaws.{after_step, moves_by, part-append, part-other, part-own}
 use Rattle.trace_join.proofs.RemainsLaws.{Serves}
@@ -56,11 +56,11 @@ came_opens program traces = record {
 
 -- ONE PROCESS GOES ON
 
-pub can_has : (kind : ChannelKind) (letters : List Letter) (l : Letter) → CanArrive kind letters l → Has letters l
-can_has FifoReliable letters l (rest, is) = subst (λ (ls : List Letter). Has ls l) (sym is) (inl refl)
-can_has UnorderedReliable letters l has = has
-can_has FifoUnreliable letters l has = has
-can_has UnorderedUnreliable letters l has = has
+pub can_has : (kind : ChannelKind) (messages : List MessageInFlight) (l : MessageInFlight) → CanArrive kind messages l → Has messages l
+can_has FifoReliable messages l (rest, is) = subst (λ (ls : List MessageInFlight). Has ls l) (sym is) (inl refl)
+can_has UnorderedReliable messages l has = has
+can_has FifoUnreliable messages l has = has
+can_has UnorderedUnreliable messages l has = has
 
 module _ (program : Program) (accepted : IsAccepted program) {traces : List (List Action)} {events : List Event} {g : SystemState} {lefts : ℕ → List Action}
     (came : Came program traces events g lefts) (p : ℕ) (w : World) (at : at_number g.worlds p ≡ Some w) where
@@ -158,29 +158,29 @@ module _ (program : Program) (accepted : IsAccepted program) {traces : List (Lis
           waiting true follows2 = came_times_out r left follows2
           waiting false follows2 = came_takes (suc n) r left follows2
 
-  -- by a letter that is fetched
-  pub came_delivers : (l : Letter) (from : ℕ) (r : Stepped) (left : List Action) (letters : List Letter) (new : List Event)
+  -- by a message that is fetched
+  pub came_delivers : (l : MessageInFlight) (from : ℕ) (r : Stepped) (left : List Action) (messages : List MessageInFlight) (new : List Event)
       → Follows program w (lefts p) (Deliver l.message from l.time) r left
-      → (fetching : Fetching program g from p l left letters new) → Came program traces (events ++ new) (after_step g p fetching.channels r)
+      → (fetching : Fetching program g from p l left messages new) → Came program traces (events ++ new) (after_step g p fetching.channels r)
       (updated p left lefts)
-  came_delivers l from r left letters new follows fetching =
+  came_delivers l from r left messages new follows fetching =
       came_on (Deliver l.message from l.time) r left fetching.channels new fetching.before follows (
-        subst (λ (ls : List Letter). Serves g.kind (channel g.channels from p) l (letters_from from left) ls)
+        subst (λ (ls : List MessageInFlight). Serves g.kind (channel g.channels from p) l (messages_from from left) ls)
             (sym fetching.now) fetching.serves,
         fetching.elsewhere,
       )
       (λ a b there_a there_b. fetching.keeps a b (has_channels a b there_a there_b)) fetching.untold (fetching.reaches w r at follows.makes)
 
-  -- a letter that can arrive is one that may
-  arrives_lawful : (from : ℕ) (l : Letter) → CanArrive g.kind (channel g.channels from p) l
+  -- a message that can arrive is one that may
+  arrives_lawful : (from : ℕ) (l : MessageInFlight) → CanArrive g.kind (channel g.channels from p) l
       → IsEntry program (record { message = l.message; peer = from; time = l.time })
   arrives_lawful from l can =
       let has : Has (channel g.channels from p) l = can_has g.kind (channel g.channels from p) l can in
       let (i, there) = number_of (channel g.channels from p) l has in
-      letter_lawful program g (came_sound program accepted came) from p l (sender_there program g (came_sound program accepted came) from p i l there)
+      message_lawful program g (came_sound program accepted came) from p l (sender_there program g (came_sound program accepted came) from p i l there)
       (w, at) has
 
-  -- so a process whose trace asks for a letter that none can send cannot go on
+  -- so a process whose trace asks for a message that none can send cannot go on
   pub stuck_in_vain : (step : Step) (r : Stepped) (left : List Action) → AsksInVain program (lefts p) → Follows program w (lefts p) step r left
       → AllowStep g p step → ⊥
   stuck_in_vain step r left vain follows allows = of (lefts p) vain follows.asks
@@ -194,7 +194,7 @@ module _ (program : Program) (accepted : IsAccepted program) {traces : List (Lis
 
 -- WHERE NO PROCESS CAN GO ON
 
--- the trace goes on with a letter that cannot arrive
+-- the trace goes on with a message that cannot arrive
 abbrev pub Lacks : SystemState → ℕ → List Action → Type 0
 Lacks g p (Got q from time m ∷ rest) = CanArrive g.kind (channel g.channels from p) (record { message = val_of m; time = time }) → ⊥
 Lacks g p _ = ⊥
@@ -207,7 +207,7 @@ lacks_stuck g p w (Got q from time m ∷ rest) step lacks asks allows =
 lacks_stuck g p w [] step lacks asks allows = lacks
 lacks_stuck g p w (_ ∷ rest) step lacks asks allows = lacks
 
--- each process is over, asks for a letter that none can send, or for one that cannot arrive
+-- each process is over, asks for a message that none can send, or for one that cannot arrive
 pub came_stuck : (program : Program) → IsAccepted program → {traces : List (List Action)} {events : List Event} {g : SystemState} {lefts : ℕ → List Action}
     → Came program traces events g lefts
     → ((p : ℕ) (w : World) → at_number g.worlds p ≡ Some w → IsOver program w (lefts p) ⊎ (AsksInVain program (lefts p) ⊎ Lacks g p (lefts p)))

@@ -57,7 +57,7 @@ ahead_as program s g traces traces' lefts transitions same ahead = record {
   worlds = λ p w there.
       let (w', there', leads) = ahead.worlds p w there in
       (w', there', subst (λ (t : List Action). Leads program w t (transitions p) w' (lefts p)) (same p (w, there)) leads);
-  letters = ahead.letters;
+  messages = ahead.messages;
 }
 
 module _ (program : Program) (accepted : IsAccepted program) (traces : List (List Action)) (each : length traces ≡ length program.procs) where

@@ -1,4 +1,4 @@
--- The search is ready again behind a step of a process, and where one is known to wait.
+-- The search is ready again after a step of a process, and where one is known to wait.
 use Rattle.std.specs.Prelude.{◌≡◌, ℕ, zero, suc, ◌+◌, ◌<◌, Bool, true, false, cond, List, [], ◌∷◌, ◌++◌, length, slice_get, slice_index_or, slice_set, Some, is_some, refl}
 use Rattle.std.proofs.Common.{Bor, sym, ap, ◌∙◌, subst, inl, inr, arith, append-nil}
 use Rattle.std.proofs.lemmas.Bool.{cases_eq, eq-eqb, false≢true, ne_eqb}
@@ -13,7 +13,7 @@ use Rattle.da_lang.specs.declared.ty.ChannelKind.{ChannelKind}
 use Rattle.da_lang.specs.World.{World, at_number}
 use Rattle.da_core.specs.declared.compiled.Compiled.{Compiled}
 use Rattle.da_core.specs.Compiled.{program_of}
-use Rattle.da_system.specs.Channels.{Channels, Letter, channel, put_numbered}
+use Rattle.da_system.specs.Channels.{Channels, MessageInFlight, channel, put_numbered}
 use Rattle.da_system.specs.SystemStep.{SystemState}
 use Rattle.da_lang.specs.Steps.{Stepped}
 use Rattle.trace_join.specs.declared.search.Search.{Search}
@@ -22,14 +22,14 @@ use Rattle.trace_join.specs.declared.track.Track.{Track}
 use Rattle.trace_join.specs.Cuts.{IsCut}
 use Rattle.trace_join.specs.Remains.{CanArrive, IsThere}
 use Rattle.trace_join.specs.Repeats.{TellRepeats}
-use Rattle.trace_join.specs.Searching.{Goes, HoldLetters, IsOnTrack, Made, Ready, StandStill, pieces_left}
+use Rattle.trace_join.specs.Searching.{Goes, HoldMessages, IsOnTrack, Made, Ready, StandStill, pieces_left}
 use Rattle.trace_join.specs.Sending.{IsOneOf, Sends}
-use Rattle.trace_join.specs.Traces.{letters_to}
+use Rattle.trace_join.specs.Traces.{messages_to}
 use Rattle.trace_join.specs.Tracks.{IsNext}
 use Rattle.trace_join.specs.Waiting.{AreWoken, CannotGet, Waits, wanted_from}
 use Rattle.trace_join.proofs.ChannelLaws.{AreOwn, channel-sent, channel-unsent, put_other, put_there, put_was}
 use Rattle.trace_join.proofs.EventLaws.{after_step}
-use Rattle.trace_join.proofs.MoveLaws.{Moved, behind_is, first, moved, place_within, sound, tells_behind, told_is, waits_so, world}
+use Rattle.trace_join.proofs.MoveLaws.{Moved, behind_is, first, moved, place_within, sound, tells_after, told_is, waits_so, world}
 use Rattle.trace_join.proofs.ProgressLaws.{goes_own}
 use Rattle.trace_join.proofs.SendLaws.{get_within, set_other, set_there}
 use Rattle.trace_join.proofs.Updates.{updated, updated-other, updated-there}
@@ -45,7 +45,7 @@ set_number_other : {A : Type 0} (xs : List A) (place : ℕ) (x : A) (p : ℕ) �
 set_number_other xs place x zero other = refl
 set_number_other xs place x (suc j) other = set_other xs place j x (λ same. other (ap suc same))
 
--- THE SAME LETTERS
+-- THE SAME MESSAGES
 
 same_waits : (kind : ChannelKind) (queues queues' : Channels) (p : ℕ) (t : Track) → ((a b : ℕ) → channel queues' a b ≡ channel queues a b)
     → Waits kind queues p t → Waits kind queues' p t
@@ -54,7 +54,7 @@ same_waits kind queues queues' p t same (inr cannot) = inr (of t.left.now cannot
   where
     of : (trace : List Action) → CannotGet kind queues p trace → CannotGet kind queues' p trace
     of [] cannot' = cannot'
-    of (Got q from time m ∷ behind) cannot' = λ can. cannot' (subst (λ (ls : List Letter). CanArrive kind ls (record { message = val_of m; time = time }))
+    of (Got q from time m ∷ behind) cannot' = λ can. cannot' (subst (λ (ls : List MessageInFlight). CanArrive kind ls (record { message = val_of m; time = time }))
         (same from p) can)
     of (_ ∷ behind) cannot' = cannot'
 
@@ -140,17 +140,17 @@ module _ (s : Search) (ready : Ready s) (place : ℕ) (t : Track) (at_track : sl
     sent_by_it : (b : ℕ) → IsThere ready.state b → channel after.channels (suc place) b ≡ channel queues' (suc place) b
     sent_by_it b there =
         channel-sent m.channels r.actions (suc place) b own (m.has (suc place) b (world s ready place t at_track) there)
-        ∙ ap (λ (ls : List Letter). ls ++ letters_to b r.actions) (m.holds (suc place) b (world s ready place t at_track) there)
-        ∙ ap (λ (actions : List Action). channel queues (suc place) b ++ letters_to b actions) (sym told)
-        ∙ ap (λ (c : Bool). channel queues (suc place) b ++ cond c (letters_to b n.told.now) []) (sym (eq-eqb (suc place) (suc place) refl))
+        ∙ ap (λ (ls : List MessageInFlight). ls ++ messages_to b r.actions) (m.holds (suc place) b (world s ready place t at_track) there)
+        ∙ ap (λ (actions : List Action). channel queues (suc place) b ++ messages_to b actions) (sym told)
+        ∙ ap (λ (c : Bool). channel queues (suc place) b ++ cond c (messages_to b n.told.now) []) (sym (eq-eqb (suc place) (suc place) refl))
         ∙ sym (sends (suc place) b (one_of_all b there))
 
-    holds' : HoldLetters after queues'
+    holds' : HoldMessages after queues'
     holds' a b there_a there_b = elim (cases_eq a (suc place)) [
       | inl same ↦ ap (λ x. channel after.channels x b) same ∙ sent_by_it b (was_there b there_b) ∙ ap (λ x. channel queues' x b) (sym same)
       | inr other ↦ channel-unsent m.channels r.actions (suc place) a b own other ∙ m.holds a b (was_there a there_a) (was_there b there_b)
           ∙ sym (append-nil (channel queues a b))
-          ∙ ap (λ (c : Bool). channel queues a b ++ cond c (letters_to b n.told.now) []) (sym (ne_eqb a (suc place) other))
+          ∙ ap (λ (c : Bool). channel queues a b ++ cond c (messages_to b n.told.now) []) (sym (ne_eqb a (suc place) other))
           ∙ sym (sends a b (one_of_all b (was_there b there_b)))
     ]
 
@@ -161,7 +161,7 @@ module _ (s : Search) (ready : Ready s) (place : ℕ) (t : Track) (at_track : sl
     there_left = updated-there (suc place) left ready.lefts
 
     tells : TellRepeats left n.behind.repeats.now
-    tells = subst (TellRepeats left) (sym next.repeats) (tells_behind s ready place t at_track n next)
+    tells = subst (TellRepeats left) (sym next.repeats) (tells_after s ready place t at_track n next)
 
     on_track' : (p : ℕ) (v : World) → at_number after.worlds p ≡ Some v
         → IsOnTrack (program_of s.compiled.now) v (lefts' p) (slice_set s.tracks place n.behind) p
@@ -207,7 +207,7 @@ module _ (s : Search) (ready : Ready s) (place : ℕ) (t : Track) (at_track : sl
         among = subst (λ size. IsOneOf size p) (sym ready.rows ∙ sym size) (one_within s.tracks p t' there)
 
         of : Waits (program_of s.compiled.now).kind s.queues p t'
-            → ((l : Letter) → Has (letters_to p n.told.now) l → Has (wanted_from (suc place) t'.left.now) l → ⊥)
+            → ((l : MessageInFlight) → Has (messages_to p n.told.now) l → Has (wanted_from (suc place) t'.left.now) l → ⊥)
             → Waits (program_of s.compiled.now).kind queues' p t'
         of (inl over) unsent = inl over
         of (inr cannot) unsent =
@@ -252,7 +252,7 @@ module _ (s s1 s' : Search) (ready : Ready s) (place : ℕ) (t : Track) (at_trac
       (known_to_wait s ready place t at_track s.queues refl (λ a b. refl) (inl over))
 
   module _ (n : Next) (next : IsNext t n) (still : StandStill s s1) where
-    -- its letter cannot arrive
+    -- its message cannot arrive
     pub ready_waits : Goes (program_of s.compiled.now).kind (place + 1) n false s.queues s1.queues s.schedule s1.schedule
         → s'.compiled ≡ s1.compiled → s'.traces ≡ s1.traces → s'.tracks ≡ s1.tracks → s'.waits ≡ slice_set s1.waits place true → s'.queues ≡ s1.queues
         → s'.schedule ≡ s1.schedule → Ready s'

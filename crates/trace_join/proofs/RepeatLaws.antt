@@ -1,4 +1,4 @@
--- Which letters a trace gets more than once, from its last action on.
+-- Which messages a trace gets more than once, from its last action on.
 use Rattle.std.specs.Prelude.{◌≡◌, ◌↔◌, ◌⊎◌, ◌==◌, ℕ, zero, suc, ◌+◌, ◌-◌, ◌*◌, ◌<◌, ◌≤◌, Bool, true, false, cond, List, [], ◌∷◌, ◌++◌, length, take, drop, slice_get, slice_index_or, Option, Some, None, IsTrue, is_some, refl}
 use Rattle.std.specs.BTreeSet.{BTreeSet, contains}
 use Rattle.std.specs.Ordering.{nat_cmp}
@@ -10,53 +10,53 @@ use Rattle.da_values.specs.Sets.{Has}
 use Rattle.da_values.proofs.Members.{Has-append_left, Has-append_right, of_append}
 use Rattle.da_lang.specs.declared.event.Action.{Action}
 use Rattle.da_lang.specs.declared.event.Action.TheVariants.{Got}
-use Rattle.da_system.specs.Channels.{Letter}
-use Rattle.trace_join.specs.Repeats.{HasKey, HasKeys, IsGotAgain, KeepsKeys, TellRepeats, got_key, key_of, letter_at}
-use Rattle.trace_join.specs.Traces.{letter_from, letters_from}
+use Rattle.da_system.specs.Channels.{MessageInFlight}
+use Rattle.trace_join.specs.Repeats.{HasKey, HasKeys, IsGotAgain, KeepsKeys, TellRepeats, got_key, key_of, message_at}
+use Rattle.trace_join.specs.Traces.{message_from, messages_from}
 use Rattle.trace_join.proofs.SendLaws.{get_within}
 
 -- TWO ACTIONS
 
-one_of : (b : Bool) (l l2 : Letter) → Has (cond b (l ∷ []) [] ++ []) l2 → (b ≡ true) × (l ≡ l2)
+one_of : (b : Bool) (l l2 : MessageInFlight) → Has (cond b (l ∷ []) [] ++ []) l2 → (b ≡ true) × (l ≡ l2)
 one_of false l l2 has = absurd has
 one_of true l l2 (inl same) = (refl, sym same)
 one_of true l l2 (inr none) = absurd none
 
 pub gets_one : (a b : Action) (r : Bool) (q p t q2 p2 t2 : ℕ) (m m2 : Value) → a ≡ Got q p t m → b ≡ Got q2 p2 t2 m2 → p ≡ p2
-    → (IsTrue r ↔ (letter_at m t ≡ letter_at m2 t2))
+    → (IsTrue r ↔ (message_at m t ≡ message_at m2 t2))
     → (IsTrue r ↔ IsGotAgain b (a ∷ []))
 gets_one a b r q p t q2 p2 t2 m m2 is_a is_b senders decides =
     subst (λ (x : Action). IsTrue r ↔ IsGotAgain b (x ∷ [])) (sym is_a) (subst (λ (x : Action). IsTrue r ↔ IsGotAgain x (Got q p t m ∷ [])) (sym is_b) (
-      (λ yes'. subst (λ (c : Bool). Has (cond c (letter_at m t ∷ []) [] ++ []) (letter_at m2 t2)) (sym (eq-eqb p p2 senders)) (inl (sym (decides.0 yes')))),
-      λ has. decides.1 (one_of (p == p2) (letter_at m t) (letter_at m2 t2) has).1,
+      (λ yes'. subst (λ (c : Bool). Has (cond c (message_at m t ∷ []) [] ++ []) (message_at m2 t2)) (sym (eq-eqb p p2 senders)) (inl (sym (decides.0 yes')))),
+      λ has. decides.1 (one_of (p == p2) (message_at m t) (message_at m2 t2) has).1,
     ))
 
 pub gets_other : (a b : Action) (q p t q2 p2 t2 : ℕ) (m m2 : Value) → a ≡ Got q p t m → b ≡ Got q2 p2 t2 m2 → (p ≡ p2 → ⊥) → IsGotAgain b (a ∷ []) → ⊥
 gets_other a b q p t q2 p2 t2 m m2 is_a is_b others again =
-    others (eqb-true p p2 (one_of (p == p2) (letter_at m t) (letter_at m2 t2)
+    others (eqb-true p p2 (one_of (p == p2) (message_at m t) (message_at m2 t2)
     (subst (λ (x : Action). IsGotAgain (Got q2 p2 t2 m2) (x ∷ [])) is_a (subst (λ (x : Action). IsGotAgain x (a ∷ [])) is_b again))).0)
 
 -- MANY ACTIONS
 
-letters-append : (p : ℕ) (xs ys : List Action) (l : Letter) → Has (letters_from p (xs ++ ys)) l → Has (letters_from p xs) l ⊎ Has (letters_from p ys) l
-letters-append p [] ys l has = inr has
-letters-append p (x ∷ xs) ys l has = elim (of_append (letter_from p x) (letters_from p (xs ++ ys)) l has) [
-  | inl here ↦ inl (Has-append_left (letter_from p x) (letters_from p xs) l here)
-  | inr later ↦ elim (letters-append p xs ys l later) [
+messages-append : (p : ℕ) (xs ys : List Action) (l : MessageInFlight) → Has (messages_from p (xs ++ ys)) l → Has (messages_from p xs) l ⊎ Has (messages_from p ys) l
+messages-append p [] ys l has = inr has
+messages-append p (x ∷ xs) ys l has = elim (of_append (message_from p x) (messages_from p (xs ++ ys)) l has) [
+  | inl here ↦ inl (Has-append_left (message_from p x) (messages_from p xs) l here)
+  | inr later ↦ elim (messages-append p xs ys l later) [
     | inl front ↦ inl
-        (Has-append_right (letter_from p x) (letters_from p xs) l front)
+        (Has-append_right (message_from p x) (messages_from p xs) l front)
     | inr back ↦ inr back
   ]
 ]
 
-letters_at : (p : ℕ) (xs : List Action) (k : ℕ) (a : Action) (l : Letter) → slice_get xs k ≡ Some a → Has (letters_from p (a ∷ [])) l
-    → Has (letters_from p xs) l
-letters_at p [] k a l there has = absurd (false≢true (ap is_some there))
-letters_at p (x ∷ xs) zero a l there has = let same : x ≡ a = cc in elim (of_append (letter_from p a) [] l has) [
-  | inl here ↦ Has-append_left (letter_from p x) (letters_from p xs) l (subst (λ (y : Action). Has (letter_from p y) l) (sym same) here)
+messages_at : (p : ℕ) (xs : List Action) (k : ℕ) (a : Action) (l : MessageInFlight) → slice_get xs k ≡ Some a → Has (messages_from p (a ∷ [])) l
+    → Has (messages_from p xs) l
+messages_at p [] k a l there has = absurd (false≢true (ap is_some there))
+messages_at p (x ∷ xs) zero a l there has = let same : x ≡ a = cc in elim (of_append (message_from p a) [] l has) [
+  | inl here ↦ Has-append_left (message_from p x) (messages_from p xs) l (subst (λ (y : Action). Has (message_from p y) l) (sym same) here)
   | inr none ↦ absurd none
 ]
-letters_at p (x ∷ xs) (suc k) a l there has = Has-append_right (letter_from p x) (letters_from p xs) l (letters_at p xs k a l there has)
+messages_at p (x ∷ xs) (suc k) a l there has = Has-append_right (message_from p x) (messages_from p xs) l (messages_at p xs k a l there has)
 
 take_one_more : {A : Type 0} (xs : List A) (k : ℕ) (x : A) → slice_get xs k ≡ Some x → take (suc k) xs ≡ take k xs ++ x ∷ []
 take_one_more [] k x there = absurd (false≢true (ap is_some there))
@@ -64,11 +64,11 @@ take_one_more (y ∷ ys) zero x there = let same : y ≡ x = cc in ap (λ z. z �
 take_one_more {A} (y ∷ ys) (suc k) x there = ap (λ (zs : List A). y ∷ zs) (take_one_more ys k x there)
 
 again_append : (got : Action) (xs ys : List Action) → IsGotAgain got (xs ++ ys) → IsGotAgain got xs ⊎ IsGotAgain got ys
-again_append (Got q p t m) xs ys again = letters-append p xs ys (letter_at m t) again
+again_append (Got q p t m) xs ys again = messages-append p xs ys (message_at m t) again
 again_append _ xs ys again = absurd again
 
 again_at : (got : Action) (xs : List Action) (k : ℕ) (a : Action) → slice_get xs k ≡ Some a → IsGotAgain got (a ∷ []) → IsGotAgain got xs
-again_at (Got q p t m) xs k a there again = letters_at p xs k a (letter_at m t) there again
+again_at (Got q p t m) xs k a there again = messages_at p xs k a (message_at m t) there again
 again_at _ xs k a there again = absurd again
 
 module _ (got : Action) (xs : List Action) (k : ℕ) where
@@ -96,22 +96,22 @@ again_all got xs k past none again = none (subst (IsGotAgain got) (sym (all_take
 
 -- KEYS
 
-from_one : (keys : BTreeSet ℕ) (p : ℕ) (a : Action) (l : Letter) → HasKey keys (got_key a) → Has (letter_from p a) l
+from_one : (keys : BTreeSet ℕ) (p : ℕ) (a : Action) (l : MessageInFlight) → HasKey keys (got_key a) → Has (message_from p a) l
     → IsTrue (contains nat_cmp keys (key_of p l.time))
 from_one keys p (Got q from t m) l key has = of (from == p) refl has
   where
-    of : (b : Bool) → (from == p) ≡ b → Has {A = Letter} (cond b (letter_at m t ∷ []) []) l → IsTrue (contains nat_cmp keys (key_of p l.time))
+    of : (b : Bool) → (from == p) ≡ b → Has {A = MessageInFlight} (cond b (message_at m t ∷ []) []) l → IsTrue (contains nat_cmp keys (key_of p l.time))
     of false is has = absurd has
     of true is (inl same) =
         subst (λ n. IsTrue (contains nat_cmp keys (key_of n l.time))) (eqb-true from p is)
-        (subst (λ n. IsTrue (contains nat_cmp keys (key_of from n))) (ap (λ (x : Letter). x.time) (sym same)) key)
+        (subst (λ n. IsTrue (contains nat_cmp keys (key_of from n))) (ap (λ (x : MessageInFlight). x.time) (sym same)) key)
     of true is (inr none) = absurd none
 from_one keys p _ l key has = absurd has
 
-from_all : (keys : BTreeSet ℕ) (p : ℕ) (xs : List Action) (l : Letter) → HasKeys keys xs → Has (letters_from p xs) l
+from_all : (keys : BTreeSet ℕ) (p : ℕ) (xs : List Action) (l : MessageInFlight) → HasKeys keys xs → Has (messages_from p xs) l
     → IsTrue (contains nat_cmp keys (key_of p l.time))
 from_all keys p [] l all has = absurd has
-from_all keys p (x ∷ xs) l all has = elim (of_append (letter_from p x) (letters_from p xs) l has) [
+from_all keys p (x ∷ xs) l all has = elim (of_append (message_from p x) (messages_from p xs) l has) [
   | inl here ↦ from_one keys p x l all.0 here
   | inr later ↦ from_all keys p xs l all.1 later
 ]
@@ -120,7 +120,7 @@ from_all keys p (x ∷ xs) l all has = elim (of_append (letter_from p x) (letter
 pub has_key : (keys : BTreeSet ℕ) (a : Action) (xs : List Action) (q p t : ℕ) (m : Value) → a ≡ Got q p t m → HasKeys keys xs
     → contains nat_cmp keys (t * 65536 + p) ≡ false → IsGotAgain a xs → ⊥
 has_key keys a xs q p t m is all none again =
-    false≢true (sym none ∙ from_all keys p xs (letter_at m t) all (subst (λ (x : Action). IsGotAgain x xs) is again))
+    false≢true (sym none ∙ from_all keys p xs (message_at m t) all (subst (λ (x : Action). IsGotAgain x xs) is again))
 
 pub keys_kept : (old new : BTreeSet ℕ) (xs : List Action) → KeepsKeys old new → HasKeys old xs → HasKeys new xs
 keys_kept old new [] keeps all = tt

@@ -62,7 +62,7 @@ module _ {A : Type 0} where
       let rest : Split (x ∷ xs) ys ys' = sublist_split (x ∷ xs) ys ys' within in
       record { first = rest.first; second = rest.second; same = rest.same; of_first = sublist_longer rest.first y ys rest.of_first; of_second = rest.of_second }
 
-  -- of two ways to cut a list one cuts no further behind than the other
+  -- of two ways to cut a list one cuts no later than the other
   two_cuts : (xs ys xs' ys' : List A) → xs ++ ys ≡ xs' ++ ys'
       → ((middle : List A) × (xs' ≡ xs ++ middle) × (ys ≡ middle ++ ys')) ⊎ ((middle : List A) × (xs ≡ xs' ++ middle) × (ys' ≡ middle ++ ys))
   two_cuts [] ys xs' ys' same = inl (xs', refl, same)
@@ -75,7 +75,7 @@ module _ {A : Type 0} where
         | inr (middle, is, rest) ↦ inr (middle, ap (λ (l : List A). x ∷ l) is ∙ ap (λ (z : A). z ∷ (xs' ++ middle)) first, rest)
       ]
 
-  -- WHAT IS LEFT of a list from which members were taken in order: whatever may come behind them is among it
+  -- WHAT IS LEFT of a list from which members were taken in order: whatever may come after them is among it
 
   abbrev pub Leaves : List A → List A → List A → Type 0
   Leaves all taken left = (more : List A) → IsSublist (taken ++ more) all → IsSublist more left
@@ -90,16 +90,16 @@ module _ {A : Type 0} where
         | inr (middle, is, rest) ↦ sublist_join [] more left new tt (sublist_end middle more new (subst (λ (l : List A). IsSublist l new) rest split.of_second))
       ]
 
-  behind_first : (x : A) (more front back : List A) → (Has front x → ⊥) → IsSublist (x ∷ more) (front ++ x ∷ back) → IsSublist more back
-  behind_first x more [] back none (inl (same, within)) = within
-  behind_first x more [] back none (inr within) = sublist_tail x more back within
-  behind_first x more (y ∷ front) back none (inl (same, within)) = absurd (none (inl same))
-  behind_first x more (y ∷ front) back none (inr within) = behind_first x more front back (λ has. none (inr has)) within
+  after_first : (x : A) (more front back : List A) → (Has front x → ⊥) → IsSublist (x ∷ more) (front ++ x ∷ back) → IsSublist more back
+  after_first x more [] back none (inl (same, within)) = within
+  after_first x more [] back none (inr within) = sublist_tail x more back within
+  after_first x more (y ∷ front) back none (inl (same, within)) = absurd (none (inl same))
+  after_first x more (y ∷ front) back none (inr within) = after_first x more front back (λ has. none (inr has)) within
 
   -- and when the next one is taken, the first that is like it
   pub leaves_behind : (all taken front back : List A) (x : A) → (Has front x → ⊥) → Leaves all taken (front ++ x ∷ back) → Leaves all (taken ++ x ∷ []) back
   leaves_behind all taken front back x none leaves more within =
-      behind_first x more front back none (leaves (x ∷ more) (subst (λ (l : List A). IsSublist l all) (append_assoc taken (x ∷ []) more) within))
+      after_first x more front back none (leaves (x ∷ more) (subst (λ (l : List A). IsSublist l all) (append_assoc taken (x ∷ []) more) within))
 
   pub sublist_of_one : (x : A) (ys : List A) → IsSublist (x ∷ []) ys → Has ys x
   sublist_of_one x [] within = absurd within

@@ -14,9 +14,9 @@ use Rattle.da_lang.specs.Shaped.{IsEntry}
 use Rattle.da_lang.specs.Steps.{Step, Go, Take, TimeOut, Deliver, Stepped, proc_step}
 use Rattle.da_lang.specs.Turns.{kind_of}
 use Rattle.da_lang.specs.World.{Task, Do, Phase, Waiting, World}
-use Rattle.da_system.specs.Channels.{Letter}
+use Rattle.da_system.specs.Channels.{MessageInFlight}
 use Rattle.trace_join.specs.declared.piece.Piece.{Piece}
-use Rattle.trace_join.specs.Traces.{letters_to}
+use Rattle.trace_join.specs.Traces.{messages_to}
 
 -- THE STEP THAT A TRACE ASKS FOR
 
@@ -29,7 +29,7 @@ abbrev pub awaits : Phase → List Task → ℕ → Bool
 awaits Waiting (Do item ∷ todo) count = awaits_in (kind_of item) count
 awaits _ _ count = false
 
--- The step that `took` tells with this number. The number behind that of the last alternative is the timeout's.
+-- The step that `took` tells with this number. The number after that of the last alternative is the timeout's.
 abbrev pub move_asked : World → ℕ → Step
 move_asked w zero = Go
 move_asked w (suc k) = if awaits w.phase w.todo k then TimeOut else Take (suc k)
@@ -40,7 +40,7 @@ step_asked w (Took p k ∷ rest) = Some (move_asked w k)
 step_asked w (Got q from time m ∷ rest) = Some (Deliver (val_of m) from time)
 step_asked w _ = None
 
--- the step that the trace of a process in this world asks for, what it leads to, and what is left of the trace behind it
+-- the step that the trace of a process in this world asks for, what it leads to, and what is left of the trace after it
 pub record Follows (program : Program) (w : World) (trace : List Action) (step : Step) (r : Stepped) (left : List Action) : Type 0 where
   pub asks : step_asked w trace ≡ Some step
   pub makes : proc_step program w step ≡ Some r
@@ -69,16 +69,16 @@ pub data Leads (program : Program) : World → List Action → List Transition �
       → Follows program w trace step r left → Leads program r.world left transitions w' trace'
       → Leads program w trace (record { step = step; actions = r.actions } ∷ transitions) w' trace'
 
--- the letters that transitions send to process q
-abbrev pub sent_to : ℕ → List Transition → List Letter
-sent_to q transitions = flat_map (λ (t : Transition). letters_to q t.actions) transitions
+-- the messages that transitions send to process q
+abbrev pub sent_to : ℕ → List Transition → List MessageInFlight
+sent_to q transitions = flat_map (λ (t : Transition). messages_to q t.actions) transitions
 
--- the letter that a step takes from process p, and those that transitions take from it
-abbrev pub taken_by : ℕ → Step → List Letter
+-- the message that a step takes from process p, and those that transitions take from it
+abbrev pub taken_by : ℕ → Step → List MessageInFlight
 taken_by p (Deliver m from time) = if from == p then record { message = m; time = time } ∷ [] else []
 taken_by p _ = []
 
-abbrev pub taken_from : ℕ → List Transition → List Letter
+abbrev pub taken_from : ℕ → List Transition → List MessageInFlight
 taken_from p transitions = flat_map (λ (t : Transition). taken_by p t.step) transitions
 
 -- THE CUT OF A TRACE
@@ -90,7 +90,7 @@ is_timeout _ = false
 abbrev pub piece_of : Transition → Piece
 piece_of t = record { size = length t.actions; times_out = is_timeout t.step }
 
--- The trace of a process in this world is cut into pieces, one for each step. Behind the last one the process cannot go on,
+-- The trace of a process in this world is cut into pieces, one for each step. After the last one the process cannot go on,
 -- or waits for a message that no process can send.
 pub record IsCut (program : Program) (w : World) (trace : List Action) (pieces : List Piece) : Type 0 where
   pub transitions : List Transition

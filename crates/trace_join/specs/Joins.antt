@@ -44,7 +44,7 @@ pub record IsReach (program : Program) (traces : List (List Action)) (p reach : 
   pub reached : (events : List Event) × PartlyJoined program traces events × (length (told_by program events p) ≡ reach)
   pub greatest : (events : List Event) → PartlyJoined program traces events → length (told_by program events p) ≤ reach
 
--- of processes that are numbered from p on, those that do not reach the end of their traces, each with the first line behind
+-- of processes that are numbered from p on, those that do not reach the end of their traces, each with the first line after
 abbrev pub blocks_from : ℕ → List ℕ → List (List Action) → List (ℕ × ℕ)
 blocks_from p (reach ∷ reaches) (trace ∷ traces) =
     if nat_lt reach (length trace) then (p, reach + 1) ∷ blocks_from (p + 1) reaches traces else blocks_from (p + 1) reaches traces

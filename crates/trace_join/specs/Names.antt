@@ -1,13 +1,9 @@
 -- The events that a line of a schedule can name.
-use Rattle.std.specs.Prelude.{ℕ, ◌≤◌}
 use Rattle.da_lang.specs.declared.event.Event.{Event}
 use Rattle.da_lang.specs.declared.event.Event.TheVariants.{Move, Take, Timeout, Deliver, Lose, Repeat, Show, Stat}
+use Rattle.sched_text.specs.EventText.{IsNamed}
 
--- a number of one to nine digits that is not 0
-abbrev pub IsNamed : ℕ → Type 0
-IsNamed n = (1 ≤ n) × (n ≤ 999999999)
-
--- all numbers of the event are such
+-- a schedule can name all numbers of the event
 abbrev pub IsNameable : Event → Type 0
 IsNameable (Move p) = IsNamed p
 IsNameable (Take p k) = IsNamed p × IsNamed k

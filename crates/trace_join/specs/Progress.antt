@@ -30,7 +30,7 @@ pub data Reaches (program : Program) : SystemState → List Event → SystemStat
       → Reaches program s (e ∷ events) s' (after.actions ++ actions)
 
 -- the events lead to state g, where this is left of each trace, and no run of which each process tells a beginning of its
--- trace lacks a letter that is not wanted behind g
+-- trace lacks a message that is not wanted after g
 pub record Came (program : Program) (traces : List (List Action)) (events : List Event) (g : SystemState) (lefts : ℕ → List Action) : Type 0 where
   pub actions : List Action
   pub transitions : ℕ → List Transition

@@ -1,4 +1,4 @@
--- Letters that a trace gets more than once.
+-- Messages that a trace gets more than once.
 use Rattle.std.specs.Prelude.{◌≡◌, ◌↔◌, ℕ, ◌+◌, ◌*◌, Bool, List, [], ◌∷◌, length, slice_get, Option, Some, None, IsTrue}
 use Rattle.std.specs.BTreeSet.{BTreeSet, contains}
 use Rattle.std.specs.Ordering.{nat_cmp}
@@ -7,24 +7,24 @@ use Rattle.da_values.specs.Sets.{Has}
 use Rattle.da_values.specs.Value.{val_of}
 use Rattle.da_lang.specs.declared.event.Action.{Action}
 use Rattle.da_lang.specs.declared.event.Action.TheVariants.{Got}
-use Rattle.da_system.specs.Channels.{Letter}
-use Rattle.trace_join.specs.Traces.{letters_from}
+use Rattle.da_system.specs.Channels.{MessageInFlight}
+use Rattle.trace_join.specs.Traces.{messages_from}
 
--- the letter of a message and its time
-abbrev pub letter_at : Value → ℕ → Letter
-letter_at m time = record { message = val_of m; time = time }
+-- the message in flight with this value and time
+abbrev pub message_at : Value → ℕ → MessageInFlight
+message_at m time = record { message = val_of m; time = time }
 
--- the action gets a letter that the actions behind it get, too
+-- the action gets a message that the actions after it get, too
 abbrev pub IsGotAgain : Action → (behind : List Action) → Type 0
-IsGotAgain (Got q from time m) behind = Has (letters_from from behind) (letter_at m time)
+IsGotAgain (Got q from time m) behind = Has (messages_from from behind) (message_at m time)
 IsGotAgain _ behind = ⊥
 
--- for each action of a trace, by how many stand behind it, whether that is so
+-- for each action of a trace, by how many stand after it, whether that is so
 abbrev pub TellRepeats : List Action → List Bool → Type 0
 TellRepeats [] repeats = Unit {0}
 TellRepeats (a ∷ behind) repeats = ((b : Bool) → slice_get repeats (length behind) ≡ Some b → (IsTrue b ↔ IsGotAgain a behind)) × TellRepeats behind repeats
 
--- a number for the letters that a process sends at a time, and that of what an action gets
+-- a number for the messages that a process sends at a time, and that of what an action gets
 abbrev pub key_of : (from time : ℕ) → ℕ
 key_of from time = time * 65536 + from
 

@@ -32,9 +32,9 @@ abbrev pub pieces_left : List Track → ℕ
 pieces_left [] = 0
 pieces_left (t ∷ tracks) = length t.pieces.now + pieces_left tracks
 
--- the queues have the letters that are in the channels
-abbrev pub HoldLetters : SystemState → Channels → Type 0
-HoldLetters s queues = (p q : ℕ) → IsThere s p → IsThere s q → channel s.channels p q ≡ channel queues p q
+-- the queues have the messages that are in the channels
+abbrev pub HoldMessages : SystemState → Channels → Type 0
+HoldMessages s queues = (p q : ℕ) → IsThere s p → IsThere s q → channel s.channels p q ≡ channel queues p q
 
 -- process p, in this world, stands where this is left of its trace
 pub record IsOnTrack (program : Program) (w : World) (left : List Action) (tracks : List Track) (p : ℕ) : Type 0 where
@@ -44,7 +44,7 @@ pub record IsOnTrack (program : Program) (w : World) (left : List Action) (track
   pub cut : IsCut program w left track.pieces.now
   pub repeats : TellRepeats left track.repeats.now
 
--- The events so far lead to a state of the program: what is left of each trace is on its track, the letters under way are in
+-- The events so far lead to a state of the program: what is left of each trace is on its track, the messages in flight are in
 -- the queues, and the processes that are known to wait do.
 pub record Ready (s : Search) : Type 0 where
   pub compiled : IsCompiled s.compiled.now
@@ -55,7 +55,7 @@ pub record Ready (s : Search) : Type 0 where
   pub few : length s.tracks < 2 ^ 16
   pub rows : length s.queues ≡ length s.tracks
   pub known : length s.waits ≡ length s.tracks
-  pub holds : HoldLetters state s.queues
+  pub holds : HoldMessages state s.queues
   pub on_track : (p : ℕ) (w : World) → at_number state.worlds p ≡ Some w → IsOnTrack (program_of s.compiled.now) w (lefts p) s.tracks p
   pub waiting : (p : ℕ) (t : Track) → at_number s.waits p ≡ Some true → at_number s.tracks p ≡ Some t
       → Waits (program_of s.compiled.now).kind s.queues p t

@@ -4,7 +4,7 @@ use Rattle.std.specs.List.{filter, flat_map}
 use Rattle.da_values.specs.Value.{val_of}
 use Rattle.da_lang.specs.declared.event.Action.{Action}
 use Rattle.da_lang.specs.declared.event.Action.TheVariants.{Sent, Got}
-use Rattle.da_system.specs.Channels.{Letter}
+use Rattle.da_system.specs.Channels.{MessageInFlight}
 use Rattle.sched_text.specs.TraceText.{teller}
 
 -- whether process p is the one that tells an action, if one does
@@ -16,18 +16,18 @@ is_teller p (Some q) = q == p
 abbrev pub part : ℕ → List Action → List Action
 part p actions = filter (λ (a : Action). is_teller p (teller a)) actions
 
--- the letter that an action sends to process q, and those that actions send to it
-abbrev pub letter_to : ℕ → Action → List Letter
-letter_to q (Sent p to time m) = if to == q then record { message = val_of m; time = time } ∷ [] else []
-letter_to q _ = []
+-- the message that an action sends to process q, and those that actions send to it
+abbrev pub message_to : ℕ → Action → List MessageInFlight
+message_to q (Sent p to time m) = if to == q then record { message = val_of m; time = time } ∷ [] else []
+message_to q _ = []
 
-abbrev pub letters_to : ℕ → List Action → List Letter
-letters_to q actions = flat_map (letter_to q) actions
+abbrev pub messages_to : ℕ → List Action → List MessageInFlight
+messages_to q actions = flat_map (message_to q) actions
 
--- the letter that an action gets from process p, and those that actions get from it
-abbrev pub letter_from : ℕ → Action → List Letter
-letter_from p (Got q from time m) = if from == p then record { message = val_of m; time = time } ∷ [] else []
-letter_from p _ = []
+-- the message that an action gets from process p, and those that actions get from it
+abbrev pub message_from : ℕ → Action → List MessageInFlight
+message_from p (Got q from time m) = if from == p then record { message = val_of m; time = time } ∷ [] else []
+message_from p _ = []
 
-abbrev pub letters_from : ℕ → List Action → List Letter
-letters_from p actions = flat_map (letter_from p) actions
+abbrev pub messages_from : ℕ → List Action → List MessageInFlight
+messages_from p actions = flat_map (message_from p) actions

@@ -8,7 +8,7 @@ use Rattle.trace_join.specs.declared.track.Track.{Track}
 abbrev pub FitsNext : Track → Type 0
 FitsNext t = (piece : Piece) (pieces : List Piece) → t.pieces.now ≡ piece ∷ pieces → (0 < piece.size) × (piece.size ≤ length t.left.now)
 
--- the next step is that of the next piece, and leads behind it
+-- the next step is that of the next piece, and leads after it
 pub record IsNext (t : Track) (n : Next) : Type 0 where
   pub piece : Piece
   pub pieces : t.pieces.now ≡ piece ∷ n.behind.pieces.now

@@ -59,7 +59,7 @@ pub(crate) fn cut_trace(
     Ok(pieces)
 }
 
-// The next step of a process along its trace, and the trace behind it.
+// The next step of a process along its trace, and the trace after it.
 #[derive(Clone, Copy)]
 struct Next<'t> {
     piece: Piece,

@@ -1,15 +1,15 @@
-//! How a letter leaves its channel.
-ghost use Rattle.da_system.specs.Channels.{Letter};
+//! How a message leaves its channel.
+ghost use Rattle.da_system.specs.Channels.{MessageInFlight};
 ghost use Rattle.da_values.specs.Sets.{Has};
 ghost use Rattle.std.specs.Prelude.{◌≡◌, [], ◌∷◌, ◌++◌, ◌+◌, ◌<◌, ◌≤◌, Some, drop, length, remove, replicate, slice_get, IfOk, IfSome, MatchOption, OnOk};
-ghost use Rattle.trace_join.specs.Fetching.{Fetches, IsFirst, IsGot, letter_in};
+ghost use Rattle.trace_join.specs.Fetching.{Fetches, IsFirst, IsGot, message_in};
 
 use crate::queue::Queue;
 use crate::schedule::Schedule;
 use da_lang::{Action, ChannelKind, Event};
 use da_values::NoMemory;
 
-/// A letter that process `to` waits for: the action that gets it from `from`, and whether it gets it again later.
+/// A message that process `to` waits for: the action that gets it from `from`, and whether it gets it again later.
 #[derive(Clone, Copy)]
 pub(crate) struct Wanted<'t> {
     pub from: u32,
@@ -18,8 +18,8 @@ pub(crate) struct Wanted<'t> {
     pub again: bool,
 }
 
-/// Takes the letter that is waited for out of its channel, and adds the events of it, or answers `false` where it cannot
-/// arrive. In `fifo unreliable` the letters in front are lost before. In `unordered unreliable` it is doubled before,
+/// Takes the message that is waited for out of its channel, and adds the events of it, or answers `false` where it cannot
+/// arrive. In `fifo unreliable` the messages before it are lost first. In `unordered unreliable` it is doubled before,
 /// where it is wanted again.
 pub(crate) fn fetch(
     kind: ChannelKind,
@@ -117,12 +117,12 @@ fn fetch_doubling(
     Ok(true)
 }
 
-// The place of the first letter of the queue that the action gets.
+// The place of the first message of the queue that the action gets.
 #[tactic(auto, using(crate::proofs::QueueLaws::first_at, crate::proofs::QueueLaws::none_on, crate::proofs::QueueLaws::none_there))]
 fn place_of(queue: &Queue<'_>, got: &Action) -> Option<usize>
     requires { IsGot got.now }
     ensures within { IfSome result (λ place. place < length queue.now) }
-    ensures first { MatchOption result (Has queue.now (letter_in got.now) → ⊥) (IsFirst queue.now (letter_in got.now)) }
+    ensures first { MatchOption result (Has queue.now (message_in got.now) → ⊥) (IsFirst queue.now (message_in got.now)) }
 {
     for place in 0..queue.len() {
         if queue.is_at(place, got) {
@@ -132,13 +132,13 @@ fn place_of(queue: &Queue<'_>, got: &Action) -> Option<usize>
     None
 }
 
-// The place of a letter that the action gets. Letters mostly stand by their times, so it is looked for by its time first.
+// The place of a message that the action gets. Messages mostly stand by their times, so it is looked for by its time first.
 #[tactic(auto, using(crate::proofs::FetchLaws::first_there))]
 fn any_place(queue: &Queue<'_>, got: &Action) -> Option<usize>
     requires { IsGot got.now }
     ensures within { IfSome result (λ place. place < length queue.now) }
-    ensures there { MatchOption result (Has queue.now (letter_in got.now) → ⊥)
-        (λ place. slice_get queue.now place ≡ Some (letter_in got.now)) }
+    ensures there { MatchOption result (Has queue.now (message_in got.now) → ⊥)
+        (λ place. slice_get queue.now place ≡ Some (message_in got.now)) }
 {
     let guess = place_by_time(queue, got);
     if queue.is_at(guess, got) {
@@ -148,7 +148,7 @@ fn any_place(queue: &Queue<'_>, got: &Action) -> Option<usize>
     Some(place)
 }
 
-// Where the letter stands if all stand by their times.
+// Where the message stands if all stand by their times.
 fn place_by_time(queue: &Queue<'_>, got: &Action) -> usize {
     let mut low = 0;
     let mut high = queue.len();
@@ -163,7 +163,7 @@ fn place_by_time(queue: &Queue<'_>, got: &Action) -> usize {
     low
 }
 
-// The letter at a place is delivered.
+// The message at a place is delivered.
 fn deliver(
     queue: &mut Queue<'_>,
     place: usize,
@@ -183,7 +183,7 @@ fn deliver(
     })
 }
 
-// The letter at a place is doubled.
+// The message at a place is doubled.
 fn double(
     queue: &mut Queue<'_>,
     place: usize,
@@ -191,7 +191,7 @@ fn double(
     events: &mut Schedule,
 ) -> Result<(), NoMemory>
     requires { place < length queue.old }
-    ensures queue { OnOk result ((l : Letter) → slice_get queue.old place ≡ Some l → queue.new ≡ queue.old ++ l ∷ []) }
+    ensures queue { OnOk result ((l : MessageInFlight) → slice_get queue.old place ≡ Some l → queue.new ≡ queue.old ++ l ∷ []) }
     ensures events { OnOk result (events.new ≡ events.old ++ Event.Repeat wanted.now.from wanted.now.to (place + 1) ∷ []) }
 {
     let i = number_at(queue, place);
@@ -203,7 +203,7 @@ fn double(
     })
 }
 
-// So many letters in front are lost.
+// The first so many messages are lost.
 #[tactic(auto, using(crate::proofs::QueueLaws::lost_on))]
 fn lose_front(
     queue: &mut Queue<'_>,
@@ -226,7 +226,7 @@ fn lose_front(
     Ok(())
 }
 
-// The number of the letter at a place.
+// The number of the message at a place.
 fn number_at(queue: &Queue<'_>, place: usize) -> u32
     requires { place < length queue.now }
     ensures value { result ≡ place + 1 }

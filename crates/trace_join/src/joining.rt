@@ -46,7 +46,7 @@ pub fn join(
     Ok(search.into_events())
 }
 
-// Of each trace, which letters it gets more than once. It is asked only where letters can be doubled.
+// Of each trace, which messages it gets more than once. It is asked only where messages can be doubled.
 fn all_repeats(
     alloc: Global,
     kind: ChannelKind,

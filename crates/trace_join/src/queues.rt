@@ -1,7 +1,7 @@
-//! The letters that are under way between all processes.
-ghost use Rattle.da_system.specs.Channels.{channel, no_letters};
+//! The messages in flight between all processes.
+ghost use Rattle.da_system.specs.Channels.{channel, no_messages};
 ghost use Rattle.std.specs.Prelude.{◌≡◌, ◌<◌, ◌^◌, [], ◌∷◌, ℕ, IfOk, IsTrue, OnOk, length, replicate};
-ghost use Rattle.trace_join.specs.Fetching.{Fetches, IsGot, IsSent, letter_in};
+ghost use Rattle.trace_join.specs.Fetching.{Fetches, IsGot, IsSent, message_in};
 ghost use Rattle.trace_join.specs.Sending.{IsOneOf, Pushes, SameElsewhere, Sends, SendsFromOne, channel_to};
 
 use crate::fetch::{Wanted, fetch};
@@ -19,12 +19,12 @@ struct Row<'t> {
 }
 
 impl<'t> Model for Row<'t> {
-    ghost use Rattle.da_system.specs.Channels.{Letter};
+    ghost use Rattle.da_system.specs.Channels.{MessageInFlight};
     ghost use Rattle.da_values.specs.contracts.val.Val as val;
     ghost use Rattle.std.specs.Coded.{coded_list, codes};
     ghost use Rattle.std.specs.Prelude.{List};
 
-    ghost Value = { List (List Letter) };
+    ghost Value = { List (List MessageInFlight) };
 
     ghost coded = { coded_list (coded_list (Prim.hlevel (codes, val.the_row.coded))) };
 
@@ -67,11 +67,11 @@ impl<'t> Row<'t> {
         }
     }
 
-    // The letter that the action sends goes to the end of the channel to process `to`, if that is there.
+    // The message that the action sends goes to the end of the channel to process `to`, if that is there.
     fn push(&mut self, to: usize, sent: &'t Action) -> Result<(), NoMemory>
         requires { IsSent sent.now }
         ensures length { length self.new ≡ length self.old }
-        ensures pushes { OnOk result (Pushes self.old self.new to (letter_in sent.now)) }
+        ensures pushes { OnOk result (Pushes self.old self.new to (message_in sent.now)) }
     {
         if to == 0 || to > self.queues.len() {
             return Ok(());
@@ -79,7 +79,7 @@ impl<'t> Row<'t> {
         self.queues[to - 1].push(sent)
     }
 
-    // Takes the letter that is waited for out of its channel, or answers `false` where it cannot arrive.
+    // Takes the message that is waited for out of its channel, or answers `false` where it cannot arrive.
     fn fetch(
         &mut self,
         kind: ChannelKind,
@@ -102,7 +102,7 @@ impl<'t> Row<'t> {
     }
 }
 
-/// The channels from each process, in the order of their numbers. Contracts see the letters of all.
+/// The channels from each process, in the order of their numbers. Contracts see the messages of all.
 #[derive(Debug, Drop)]
 pub(crate) struct Queues<'t> {
     rows: Vec<Row<'t>>,
@@ -125,9 +125,9 @@ impl<'t> Model for Queues<'t> {
 }
 
 impl<'t> Queues<'t> {
-    /// No letters between so many processes.
+    /// No messages between so many processes.
     pub(crate) fn new(alloc: Global, count: usize) -> Result<Queues<'t>, NoMemory>
-        ensures { IfOk result (λ queues. queues ≡ no_letters count) }
+        ensures { IfOk result (λ queues. queues ≡ no_messages count) }
     {
         let mut rows = Vec::new(alloc);
         for _place in 0..count {
@@ -147,7 +147,7 @@ impl<'t> Queues<'t> {
         self.rows[me as usize - 1].send(told)
     }
 
-    /// Takes the letter that is waited for out of its channel, and adds the events of it, or answers `false` where it
+    /// Takes the message that is waited for out of its channel, and adds the events of it, or answers `false` where it
     /// cannot arrive.
     pub(crate) fn fetch(
         &mut self,

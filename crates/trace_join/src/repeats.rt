@@ -1,13 +1,13 @@
-//! Which letters a trace gets more than once.
+//! Which messages a trace gets more than once.
 ghost use Rattle.std.specs.Prelude.{◌≡◌, ◌↔◌, ◌*◌, ◌+◌, [], ◌∷◌, IfOk, IsTrue, OnOk};
-ghost use Rattle.trace_join.specs.Repeats.{HasKey, HasKeys, IsGotAgain, KeepsKeys, TellRepeats, got_key, letter_at};
+ghost use Rattle.trace_join.specs.Repeats.{HasKey, HasKeys, IsGotAgain, KeepsKeys, TellRepeats, got_key, message_at};
 
 use da_lang::{Action, same_value};
 use da_values::{List, NoMemory, Value};
 use std::alloc::Global;
 use std::collections::BTreeSet;
 
-/// For each action of a trace, counted from the last one, whether it gets a letter that is got again later.
+/// For each action of a trace, counted from the last one, whether it gets a message that is got again later.
 #[tactic(auto, using(crate::proofs::RepeatLaws::known_last, crate::proofs::RepeatLaws::known_before, crate::proofs::RepeatLaws::known_all))]
 pub(crate) fn repeats(alloc: Global, trace: &[Action]) -> Result<List<bool>, NoMemory>
     ensures { IfOk result (TellRepeats trace.now) }
@@ -24,7 +24,7 @@ pub(crate) fn repeats(alloc: Global, trace: &[Action]) -> Result<List<bool>, NoM
     Ok(repeats)
 }
 
-// Whether what the action gets is got again behind it, where the set has the keys of what is got there.
+// Whether what the action gets is got again after it, where the set has the keys of what is got there.
 #[tactic(auto, using(crate::proofs::RepeatLaws::has_key))]
 fn is_got_again(later: &BTreeSet<u128>, action: &Action, behind: &[Action]) -> bool
     requires { HasKeys later.now behind.now }
@@ -49,7 +49,7 @@ fn gets(actions: &[Action], got: &Action) -> bool
     false
 }
 
-// Whether two actions get the same letter.
+// Whether two actions get the same message.
 #[tactic(auto, using(crate::proofs::RepeatLaws::gets_one, crate::proofs::RepeatLaws::gets_other))]
 fn gets_same(a: &Action, b: &Action) -> bool
     ensures { IsTrue result ↔ IsGotAgain b.now (a.now ∷ []) }
@@ -61,7 +61,7 @@ fn gets_same(a: &Action, b: &Action) -> bool
                 t: t2,
                 v: v2,
                 ..
-            } => p == p2 && same_letter(*t, v, *t2, v2),
+            } => p == p2 && same_message(*t, v, *t2, v2),
             _ => false,
         },
         _ => false,
@@ -69,9 +69,9 @@ fn gets_same(a: &Action, b: &Action) -> bool
 }
 
 // Whether two messages and their times are the same.
-#[tactic(auto, using(crate::proofs::QueueLaws::letter_time))]
-fn same_letter(t: u64, v: &Value, t2: u64, v2: &Value) -> bool
-    ensures { IsTrue result ↔ (letter_at v.now t ≡ letter_at v2.now t2) }
+#[tactic(auto, using(crate::proofs::QueueLaws::message_time))]
+fn same_message(t: u64, v: &Value, t2: u64, v2: &Value) -> bool
+    ensures { IsTrue result ↔ (message_at v.now t ≡ message_at v2.now t2) }
 {
     t == t2 && same_value(v, v2)
 }
@@ -90,7 +90,7 @@ fn note_key(keys: &mut BTreeSet<u128>, action: &Action) -> Result<(), NoMemory>
     }
 }
 
-// A number for the letters that a process sends at a time.
+// A number for the messages that a process sends at a time.
 fn key_of(from: u16, time: u64) -> u128
     ensures { result ≡ time * 65536 + from }
 {

@@ -6,7 +6,7 @@ use da_lang::{Action, same_value};
 use da_values::{SetVal, cmp_rows};
 use std::cmp::Ordering;
 
-/// What stands behind these actions in a trace, or `None` where the trace does not begin with them.
+/// What stands after these actions in a trace, or `None` where the trace does not begin with them.
 pub(crate) fn behind<'t>(trace: &'t [Action], told: &[Action]) -> Option<&'t [Action]>
     ensures { MatchOption result
         ((rest : Seq ActionOf) → trace.now ≡ told.now ++ rest → ⊥)

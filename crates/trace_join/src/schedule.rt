@@ -1,6 +1,7 @@
 //! The schedule that is found.
+ghost use Rattle.sched_text.specs.EventText.{IsNamed};
 ghost use Rattle.std.specs.Prelude.{◌≡◌, [], ◌∷◌, ◌++◌, All, IsTrue, OnOk};
-ghost use Rattle.trace_join.specs.Names.{IsNameable, IsNamed};
+ghost use Rattle.trace_join.specs.Names.{IsNameable};
 
 use da_lang::Event;
 use da_values::{List, NoMemory};

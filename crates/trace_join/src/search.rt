@@ -19,13 +19,13 @@ use da_lang::{Action, Event};
 use da_values::{List, NoMemory};
 use std::alloc::Global;
 
-/// How far the processes of a program have come along their traces, and the letters that are under way between them.
+/// How far the processes of a program have come along their traces, and the messages in flight between them.
 #[derive(Drop)]
 pub(crate) struct Search<'t> {
     compiled: &'t Compiled,
     traces: &'t [List<Action>],
     tracks: List<Track<'t>>,
-    /// Whether a process is known to have no step left, or to wait for a letter that cannot arrive.
+    /// Whether a process is known to have no step left, or to wait for a message that cannot arrive.
     waits: List<bool>,
     queues: Queues<'t>,
     schedule: Schedule,
@@ -131,7 +131,7 @@ impl<'t> Search<'t> {
         Ok(true)
     }
 
-    // The events of the next step of process `me` are added, or the answer is `false` where it waits for a letter.
+    // The events of the next step of process `me` are added, or the answer is `false` where it waits for a message.
     fn make(&mut self, me: u32, next: &Next<'_>) -> Result<bool, NoMemory>
         requires me { IsOneOf (length self.old.queues) me }
         requires asked { IsAsked next.now.asked.now }

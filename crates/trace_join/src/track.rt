@@ -10,7 +10,7 @@ use da_lang::Action;
 pub(crate) struct Track<'t> {
     pub left: &'t [Action],
     pub pieces: &'t [Piece],
-    /// For each action of the trace, counted from the last one, whether it gets a letter that is got again later.
+    /// For each action of the trace, counted from the last one, whether it gets a message that is got again later.
     pub repeats: &'t [bool],
 }
 
@@ -20,7 +20,7 @@ pub(crate) struct Next<'t> {
     pub asked: &'t Action,
     pub told: &'t [Action],
     pub times_out: bool,
-    /// Whether it gets a letter that is got again later.
+    /// Whether it gets a message that is got again later.
     pub again: bool,
     pub behind: Track<'t>,
 }

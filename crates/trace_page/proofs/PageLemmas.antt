@@ -1,10 +1,10 @@
--- Pieces and lines, one behind the other.
+-- Pieces and lines, one after the other.
 use Rattle.std.proofs.Common.{◌≡◌, refl, sym, ◌∙◌, ap, ℕ, ◌+◌, ◌<◌, List, [], ◌∷◌, ◌++◌, length, take, arith, append_assoc, append-nil}
 use Rattle.std.proofs.lemmas.Grind.{flat_map-append}
 use Rattle.std.proofs.lemmas.List.{length-map, length-take-le, map-append, take_more}
 use Rattle.std.specs.List.{enumerate_from, flat_map}
 use Rattle.std.specs.Prelude.{Option, Some, None, Result, Ok, Err, OnOk, codes, slice_index_or}
-use Rattle.da_outside.specs.Outside.{AppendsFront}
+use Rattle.da_outside.specs.Outside.{AppendsPrefix}
 use Rattle.da_values.specs.declared.list.NoMemory.{NoMemory}
 use Rattle.trace_page.specs.declared.step.Step.{Step}
 use Rattle.trace_page.specs.PageText.{Draws, IsPage, item_text, piece_text, pieces_text}
@@ -46,7 +46,7 @@ items_more steps place d out old new inside was is =
 pub any_page : (all : List (List ℕ)) → (page : List ℕ) × IsPage all page
 any_page all = (flat_map item_text (enumerate_from 1 all) ++ codes "</ol>\n</body>\n</html>\n", record { diagram = []; is = refl })
 
--- nothing was written: no more than the front of any text
-pub none_written : (told : Option (List ℕ)) (text : List ℕ) → AppendsFront told told text
+-- nothing was written: no more than a prefix of any text
+pub none_written : (told : Option (List ℕ)) (text : List ℕ) → AppendsPrefix told told text
 none_written None text = (0, refl)
 none_written (Some bytes) text = (0, ap Some (sym (append-nil bytes)))

@@ -1,7 +1,7 @@
 -- How a drawing ends, and what it writes.
 use Rattle.std.specs.Prelude.{◌≡◌, ℕ, List, Option, Result, Ok, Err, ⊤}
 use Rattle.std.specs.Str.Lines.{lines}
-use Rattle.da_outside.specs.Outside.{Appends, AppendsFront}
+use Rattle.da_outside.specs.Outside.{Appends, AppendsPrefix}
 use Rattle.trace_page.specs.declared.outcome.DrawOutcome.{DrawOutcome}
 use Rattle.trace_page.specs.declared.outcome.DrawOutcome.TheVariants.{Done, BadLine, WriteFault, Memory}
 use Rattle.trace_page.specs.declared.trace.TraceFault.{TraceFault}
@@ -16,12 +16,12 @@ SaysOf text (BadLine number) = IsBadTrace text number
 SaysOf text WriteFault = IsTrace text
 SaysOf text Memory = ⊤
 
--- what a sink has gained at each end: a page of these lines, nothing, or the front of such a page
+-- what a sink has gained at each end: a page of these lines, nothing, or a prefix of such a page
 abbrev pub HasDrawn : List (List ℕ) → DrawOutcome → Option (List ℕ) → Option (List ℕ) → Type 0
 HasDrawn all Done before after = (page : List ℕ) × IsPage all page × Appends before after page
 HasDrawn all (BadLine number) before after = after ≡ before
-HasDrawn all WriteFault before after = (page : List ℕ) × IsPage all page × AppendsFront before after page
-HasDrawn all Memory before after = (page : List ℕ) × IsPage all page × AppendsFront before after page
+HasDrawn all WriteFault before after = (page : List ℕ) × IsPage all page × AppendsPrefix before after page
+HasDrawn all Memory before after = (page : List ℕ) × IsPage all page × AppendsPrefix before after page
 
 -- the page of a text, or why there is none
 abbrev pub IsPageOf : List ℕ → Result (List ℕ) TraceFault → Type 0

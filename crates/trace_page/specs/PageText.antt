@@ -26,11 +26,11 @@ piece_text (Text t) = escaped t.now
 abbrev pub pieces_text : List Piece → List ℕ
 pieces_text = flat_map piece_text
 
--- a line of the trace with its number, as it stands behind the diagram
+-- a line of the trace with its number, as it stands after the diagram
 abbrev pub item_text : ℕ × List ℕ → List ℕ
 item_text item = codes "<li id='n" ++ decimal item.0 ++ codes "'>" ++ escaped item.1 ++ codes "</li>\n"
 
--- the page of these lines: the pieces of a diagram, and behind them each line whole, in order, with its number from 1 on
+-- the page of these lines: the pieces of a diagram, and after them each line whole, in order, with its number from 1 on
 pub record IsPage (all : List (List ℕ)) (page : List ℕ) : Type 0 where
   pub diagram : List Piece
   pub is : page ≡ pieces_text diagram ++ flat_map item_text (enumerate_from 1 all) ++ codes "</ol>\n</body>\n</html>\n"

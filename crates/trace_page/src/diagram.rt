@@ -94,7 +94,7 @@ fn draw_names(layout: &Layout, sheet: &mut Sheet<'_>) {
     sheet.mark(Markup::SvgClose);
 }
 
-// The lines of the processes. Behind its end a line goes on faintly.
+// The lines of the processes. After its end a line goes on faintly.
 fn draw_lines(layout: &Layout, sheet: &mut Sheet<'_>) {
     let height = layout.height();
     sheet.mark(Markup::Diagram);

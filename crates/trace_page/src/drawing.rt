@@ -11,17 +11,17 @@ use crate::trace::TraceFault;
 use da_outside::{Sink, Trouble, write_all};
 use std::alloc::Global;
 
-/// Draws the trace that a text is, and writes the page: a space-time diagram, and behind it the lines of the trace.
+/// Draws the trace that a text is, and writes the page: a space-time diagram, and after it the lines of the trace.
 ///
 /// A trace has the lines of actions, as `sched_text::write_action` writes them; each ends with LF or with CR and LF, and
-/// behind the last one the LF may be missing. They may be those of several nodes, one behind the other. The text of no
+/// after the last one the LF may be missing. They may be those of several nodes, one after the other. The text of no
 /// action is refused before anything is written.
 pub fn draw<K: Sink>(alloc: Global, text: &[u8], sink: &mut K) -> DrawOutcome
     // `Done` and `WriteFault` come only for a trace, and `BadLine` with its first bad line.
     ensures says { SaysOf text.now result }
     ensures only_bad { (n : ℕ) → IsBadTrace text.now n → (result ≡ DrawOutcome.BadLine n) ⊎ (result ≡ DrawOutcome.Memory) }
 
-    // The sink gained a page of the lines; at a bad trace nothing, and after a trouble the front of such a page.
+    // The sink gained a page of the lines; at a bad trace nothing, and after a trouble a prefix of such a page.
     ensures drawn { HasDrawn (lines text.now) result (K.taken sink.old) (K.taken sink.new) }
 
     // `WriteFault` has its cause.

@@ -15,7 +15,7 @@ pub(crate) fn split_line(text: &[u8]) -> (&[u8], &[u8])
     }
 }
 
-// The bytes before the first LF and those behind it, or nothing exactly where there is no LF.
+// The bytes before the first LF and those after it, or nothing exactly where there is no LF.
 fn split_end(text: &[u8]) -> Option<(&[u8], &[u8])>
     ensures none { MatchOption result (All (λ byte. byte ≢ 10) text.now) (λ found. All (λ byte. byte ≢ 10) found.0.now) }
     ensures some { IfSome result (λ found. text.now ≡ found.0.now ++ 10 ∷ found.1.now) }

@@ -1,6 +1,6 @@
 //! The pieces of a page, and their bytes.
 ghost use Rattle.std.specs.Prelude.{◌≡◌, ◌++◌, OnOk};
-ghost use Rattle.trace_page.specs.PageText.{entity as entity_lem, escaped, piece_text, pieces_text};
+ghost use Rattle.trace_page.specs.PageText.{entity as entity_def, escaped, piece_text, pieces_text};
 
 use crate::markup::{Markup, bytes_of};
 use da_values::{Buf, NoMemory, write_number};
@@ -44,7 +44,7 @@ pub(crate) fn put_escaped(text: &[u8], out: &mut Buf) -> Result<(), NoMemory>
 }
 
 fn put_byte(byte: u8, out: &mut Buf) -> Result<(), NoMemory>
-    ensures { OnOk result (out.new ≡ out.old ++ entity_lem byte) }
+    ensures { OnOk result (out.new ≡ out.old ++ entity_def byte) }
 {
     match byte {
         b'&' => out.append(b"&amp;"),

@@ -1,4 +1,4 @@
-//! In which row each step stands: behind those of its process before it, and behind the step that sent its message.
+//! In which row each step stands: after those of its process before it, and after the step that sent its message.
 use crate::matching::Matching;
 use crate::step::Step;
 use da_values::{List, NoMemory};
@@ -24,7 +24,7 @@ struct Placing<'s, 't> {
 }
 
 /// The rows of the steps of a trace, counted from 0, by the places of steps. `processes` are those that have a column, in
-/// ascending order. A message that is lost or doubled stands in the row where it was sent, and a stop behind all others.
+/// ascending order. A message that is lost or doubled stands in the row where it was sent, and a stop after all others.
 pub(crate) fn rows_of(
     alloc: Global,
     steps: &[Step<'_>],
@@ -195,7 +195,7 @@ impl<'s, 't> Placing<'s, 't> {
         self.matching.sent_at(place).is_some() && self.row_above(place).is_none()
     }
 
-    // Places a step in the first row that is free in its column and behind the step that sent its message.
+    // Places a step in the first row that is free in its column and after the step that sent its message.
     fn place(&mut self, place: usize, step: &Step<'_>) -> Result<(), NoMemory> {
         let column = column_of(self.processes, step.process);
         let free = self.free.get(column).copied().unwrap_or(0);

@@ -67,7 +67,7 @@ fn single<'t>(kind: Kind, process: u16, words: usize, line: &'t [u8]) -> Step<'t
     }
 }
 
-// What stands behind so many spaces.
+// What stands after so many spaces.
 fn behind_spaces(line: &[u8], count: usize) -> &[u8] {
     let mut rest = line;
     for _space in 0..count {

@@ -1,5 +1,5 @@
 -- What is so of each element of a list.
-use Rattle.std.specs.Prelude.{◌≡◌, refl, ℕ, zero, suc, ◌<◌, Bool, true, false, List, [], ◌∷◌, map, length, Option, Some, None, slice_get}
+use Rattle.std.specs.Prelude.{◌≡◌, refl, ℕ, zero, suc, ◌<◌, ◌⊎◌, Bool, true, false, List, [], ◌∷◌, ◌++◌, map, length, replicate, Option, Some, None, slice_get}
 use Rattle.std.specs.List.{list_all, AllByRecursion}
 use Rattle.std.proofs.Common.{inl, inr, ◌∙◌, ap, sym, subst, arith, drop}
 use Rattle.std.proofs.lemmas.Bool.{false≢true, and_parts, and_cases}
@@ -53,3 +53,32 @@ pub all_drop : {A : Type 0} (P : A → Type 0) (xs : List A) (k : ℕ) → AllBy
 all_drop P xs zero all = all
 all_drop P [] (suc k) all = tt
 all_drop P (x ∷ xs) (suc k) all = all_drop P xs k all.1
+
+-- an element more at the end
+pub push_front : {A : Type 0} (xs : List A) (y : A) (i : ℕ) (x : A) → slice_get xs i ≡ Some x → slice_get (xs ++ y ∷ []) i ≡ Some x
+push_front [] y i x e = absurd (cc)
+push_front (z ∷ zs) y zero x e = e
+push_front (z ∷ zs) y (suc i) x e = push_front zs y i x e
+
+pub push_last : {A : Type 0} (xs : List A) (y : A) → slice_get (xs ++ y ∷ []) (length xs) ≡ Some y
+push_last [] y = refl
+push_last (z ∷ zs) y = push_last zs y
+
+pub push_cases : {A : Type 0} (xs : List A) (y : A) (i : ℕ) (x : A) → slice_get (xs ++ y ∷ []) i ≡ Some x → (slice_get xs i ≡ Some x) ⊎ ((i ≡ length xs) × (y ≡ x))
+push_cases [] y zero x e = inr (refl, some_same y e)
+push_cases [] y (suc i) x e = absurd (cc)
+push_cases (z ∷ zs) y zero x e = inl e
+push_cases (z ∷ zs) y (suc i) x e = go (push_cases zs y i x e)
+  where
+    go : ((slice_get zs i ≡ Some x) ⊎ ((i ≡ length zs) × (y ≡ x))) → (slice_get zs i ≡ Some x) ⊎ ((suc i ≡ suc (length zs)) × (y ≡ x))
+    go (inl old) = inl old
+    go (inr (at, is)) = inr (ap suc at, is)
+
+pub replicate_at : {A : Type 0} (n i : ℕ) (x y : A) → slice_get (replicate n x) i ≡ Some y → x ≡ y
+replicate_at zero i x y e = absurd (cc)
+replicate_at (suc n) zero x y e = some_same x e
+replicate_at (suc n) (suc i) x y e = replicate_at n i x y e
+
+pub none_in : {A : Type 0} (xs : List A) (i : ℕ) (x : A) → xs ≡ [] → slice_get xs i ≡ Some x → ⊥
+none_in [] i x none e = cc
+none_in (y ∷ ys) i x none e = cc

@@ -1,7 +1,7 @@
 -- All equations that are forced.
-use Rattle.std.specs.Prelude.{◌≡◌, refl, ℕ, zero, suc, ◌+◌, ◌-◌, ◌<◌, ◌≤◌, ◌⊎◌, Bool, true, false, if◌then◌else◌, List, [], ◌∷◌, ◌++◌, length, replicate, Some, slice_get, slice_set}
+use Rattle.std.specs.Prelude.{◌≡◌, refl, ℕ, suc, ◌+◌, ◌-◌, ◌<◌, ◌≤◌, ◌⊎◌, Bool, true, false, List, [], ◌∷◌, length, replicate, Some, slice_get, slice_set}
 use Rattle.std.proofs.Common.{inl, inr, ◌∙◌, ap, sym, subst, arith}
-use Rattle.std.proofs.lemmas.Bool.{false≢true, cases_eq}
+use Rattle.std.proofs.lemmas.Bool.{cases_eq}
 use Rattle.std.proofs.lemmas.List.{length-set}
 use Rattle.type_table.specs.declared.form.Form.{Form}
 use Rattle.type_table.specs.Fits.{Meaning, Fits, IsTable}
@@ -12,34 +12,7 @@ use Rattle.type_choice.specs.Choice.{AllAre, AreInside, is_added, is_recipient}
 use Rattle.type_choice.specs.Marks.{Forcing, AreDone}
 use Rattle.type_choice.specs.Roots.{HasBoth, Forces, IsEasy, IsTold, IsReady, set_of_proc}
 use Rattle.type_choice.proofs.ListLaws.{all_at, some_same, there}
-
-pub replicate_more : {A : Type 0} (n : ℕ) (x : A) → replicate (n + 1) x ≡ replicate n x ++ x ∷ []
-replicate_more zero x = refl
-replicate_more {A} (suc n) x = let e : suc n + 1 ≡ suc (n + 1) = omega arith in ap (λ c. replicate c x) e ∙ ap (λ xs. x ∷ xs) (replicate_more n x)
-
-length_of : {A : Type 0} (n : ℕ) (x : A) → length (replicate n x) ≡ n
-length_of zero x = refl
-length_of (suc n) x = ap suc (length_of n x)
-
-none_set : (n i : ℕ) → is_marked (replicate n false) i ≡ true → ⊥
-none_set zero i e = false≢true e
-none_set (suc n) zero e = false≢true e
-none_set (suc n) (suc i) e = none_set n i e
-
--- one mark more
-marks_more : (marks : List Bool) (i : ℕ) → slice_get marks i ≡ Some false → marked (slice_set marks i true) ≡ suc (marked marks)
-marks_more [] i e = absurd (cc)
-marks_more (b ∷ bs) zero e = go b (ap mark_in e)
-  where
-    go : (b : Bool) → b ≡ false → 1 + marked bs ≡ suc ((if b then 1 else 0) + marked bs)
-    go true e = absurd (false≢true (sym e))
-    go false e = omega arith
-marks_more (b ∷ bs) (suc i) e = let more : marked (slice_set bs i true) ≡ suc (marked bs) = marks_more bs i e in omega (arith, more)
-
-marks_most : (marks : List Bool) → marked marks ≤ length marks
-marks_most [] = omega arith
-marks_most (true ∷ marks) = omega (arith, marks_most marks)
-marks_most (false ∷ marks) = omega (arith, marks_most marks)
+use Rattle.type_choice.proofs.MarkLaws.{length_of, none_set, marks_more, marks_most}
 
 module _ (old : List Form) (adds receives : List ℕ) where
   pub forcing_begins : (marks : List Bool) → IsTable old → marks ≡ replicate (length receives) false → Forcing old adds receives old marks

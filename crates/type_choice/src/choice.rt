@@ -1,6 +1,6 @@
 //! The choice of types.
 ghost use Rattle.std.specs.Prelude.{◌≤◌, ◌≡◌, IfOk, OnOk, false, length, true};
-ghost use Rattle.type_table.specs.Fits.{IsTable, Meaning};
+ghost use Rattle.type_table.specs.Fits.{Fits, IsTable, Meaning};
 ghost use Rattle.type_table.specs.Values.{types_of};
 ghost use Rattle.type_choice.specs.Choice.{AreInside, Chosen, Meets};
 
@@ -25,6 +25,7 @@ pub fn choose(
     requires receives { AreInside (length forms.old) receives.now }
     ensures table { OnOk result (IsTable forms.new) }
     ensures grows { OnOk result (length forms.old ≤ length forms.new) }
+    ensures fits { IfOk result (λ can. can ≡ true → Fits (types_of forms.new) forms.new) }
     ensures chosen { IfOk result (λ can. can ≡ true → Chosen forms.old adds.now receives.now (types_of forms.new)) }
     ensures none { IfOk result (λ can. can ≡ false → (m : Meaning) → Meets forms.old adds.now receives.now m → ⊥) }
 {

@@ -1,11 +1,12 @@
 //! Numbers that are sent to and can only be sets of processes.
-ghost use Rattle.std.specs.Prelude.{◌<◌, ◌≡◌, IfOk, None, OnOk, Some, false, length, replicate, slice_get, true, ℕ};
+ghost use Rattle.std.specs.Prelude.{◌<◌, ◌≡◌, IfOk, None, OnOk, Some, false, length, slice_get, true, ℕ};
 ghost use Rattle.type_table.specs.Fits.{Fits, IsTable, Meaning};
 ghost use Rattle.type_choice.specs.Choice.{AllAre, AreInside, is_added, is_recipient};
 ghost use Rattle.type_choice.specs.Marks.{AreDone};
 ghost use Rattle.type_choice.specs.Roots.{Forced, Forces, HasBoth, IsApart, IsEasy, IsReady, root_of};
 
 use crate::ends::{form_at, root};
+use crate::values::unmarked;
 use da_values::{List, NoMemory};
 use std::alloc::Global;
 use type_table::{Form, unify};
@@ -38,17 +39,6 @@ pub fn force_all(
         }
     }
     Ok(true)
-}
-
-// So many marks that are not set.
-fn unmarked(alloc: Global, count: usize) -> Result<List<bool>, NoMemory>
-    ensures { IfOk result (λ marks. marks ≡ replicate count false) }
-{
-    let mut marks = List::new(alloc);
-    for _i in 0..count {
-        marks.push(false)?;
-    }
-    Ok(marks)
 }
 
 // The first place without a mark whose number can only be a set of processes, and the equation that makes it one.

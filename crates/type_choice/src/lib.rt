@@ -5,7 +5,13 @@ mod choice;
 mod ends;
 mod filled;
 mod forcing;
+mod kinds;
 mod lean;
+mod looks;
+mod order;
+mod sizes;
+mod values;
 
 pub use choice::choose;
-pub use lean::lean_types;
+pub use lean::{lean_types, spelled_types};
+pub use looks::{Looks, look};

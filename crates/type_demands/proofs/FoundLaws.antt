@@ -101,7 +101,7 @@ module _ (m : Meaning) (headed : ℕ → Bool) where
   pub test_found : (x : Sym) (test : Ty → Bool) (demand : Demand) → met m headed demand ≡ holds_of (stands m x.scheme) test → holds_of (found m headed x) test ≡ Met (x.demands ++ demand ∷ [])
   test_found x test demand is = tests_found x test (demand ∷ []) (sym is ∙ sym (and_true (met m headed demand)))
 
-  -- what comes behind the type that is found
+  -- what comes after the type that is found
   pub next_found : {B : Type 0} (x : Sym) (f : Ty → Option B) (ds : List Demand) (r : Option B) → given (stands m x.scheme) f ≡ guard (Met ds) r → given (found m headed x) f ≡ guard (Met (x.demands ++ ds)) r
   next_found x f ds r is =
       given_guard (Met x.demands) (stands m x.scheme) f

@@ -32,7 +32,7 @@ use Rattle.type_demands.specs.Conds.{SideSym, SidedSym, CondSym, side_sym, opera
 use Rattle.type_demands.specs.Meets.{Means, Stand, RowAgrees, found_side, CondAgrees, OperandAgrees, AggAgrees}
 use Rattle.type_demands.proofs.FoundLaws.{guard, guard_twice, given_given, given_itself, met_both, test_found, set_found}
 use Rattle.type_demands.proofs.QueriesAt.{cond-Truth, cond-Cmp, cond-Not, cond-And, cond-Or, cond-Quant, operand-Term, operand-Agg, operand-Chain, agg-of, signed-of}
-use Rattle.type_demands.proofs.RowLaws.{when_agrees, none_there, then_agrees, behind_row, there_where}
+use Rattle.type_demands.proofs.RowLaws.{when_agrees, none_there, then_agrees, after_row, there_where}
 use Rattle.type_demands.proofs.SideLaws.{side_found, comparable_met, operand_met, chain_found, behind_found, agg_is_found}
 use Rattle.type_demands.proofs.TermsAgree.{term_agrees, gens_agree}
 
@@ -103,7 +103,7 @@ module _ (m : Meaning) (headed : ℕ → Bool) (known : Known) (context : Contex
       let f : Ty → Option Side = λ ty. given (flat (t.Set ty)) (λ set. agg_type op ty (other_type known other types)) in
       let over = agg_found op (term_sym context x rows.row) (other_sym context other row) in
       given_given o (term_type known x) f
-      ∙ behind_row m headed o rows (λ later. given (term_type known x later) f) (Found over) (rows_agree gens cond agrees row types so)
+      ∙ after_row m headed o rows (λ later. given (term_type known x later) f) (Found over) (rows_agree gens cond agrees row types so)
       (λ later there. agg_is_found m headed op (term_sym context x rows.row) (other_sym context other row) (term_type known x later) (other_type known other types) (term_agrees m headed known context means x rows.row later there) (other_found other row types so))
       ∙ sym (behind_found m headed rows.demands over)
 
@@ -156,14 +156,14 @@ module _ (m : Meaning) (headed : ℕ → Bool) (known : Known) (context : Contex
       let o = rows_where known gens (written_cond known cond) [] in
       let set = set_sym (term_sym context x rows.row) in
       given_given o (term_type known x) (λ ty. flat (t.Set ty))
-      ∙ behind_row m headed o rows (λ later. given (term_type known x later) (λ ty. flat (t.Set ty))) (found m headed set) (written_rows gens cond)
+      ∙ after_row m headed o rows (λ later. given (term_type known x later) (λ ty. flat (t.Set ty))) (found m headed set) (written_rows gens cond)
       (λ later there. ap (λ z. given z (λ ty. flat (t.Set ty))) (term_agrees m headed known context means x rows.row later there) ∙ set_found m headed (term_sym context x rows.row))
       ∙ guard_twice (Met rows.demands) (Met set.demands) (stands m set.scheme)
       ∙ ap (λ b. guard b (stands m set.scheme)) (sym (met_both m headed rows.demands set.demands))
 
   pub query_found : (q : Query) → query_type known q ≡ found m headed (query_sym context q)
   query_found (qu.Quant each gens cond) =
-      behind_row m headed (rows_where known gens (written_cond known cond) []) (where_sym context gens cond []) (λ row. Some t.Bool) (stands m s.Bool) (written_rows gens cond) (λ later there. sym (stands_bool m))
+      after_row m headed (rows_where known gens (written_cond known cond) []) (where_sym context gens cond []) (λ row. Some t.Bool) (stands m s.Bool) (written_rows gens cond) (λ later there. sym (stands_bool m))
   query_found (qu.Comp x gens cond) = comp_found x gens cond
   query_found (qu.Agg a) =
       let side = agg_sym context a [] in

@@ -78,9 +78,9 @@ module _ (m : Meaning) (headed : ℕ → Bool) where
           after_met (given o f) first next e (subst (λ z. RowAgrees m headed (given z f) (next first.row)) (sym is) (rest types so))
       go false e = after_missing (given o f) first next e (ap (λ z. given z f) (one.missing e))
 
-  -- what comes behind a row
-  pub behind_row : {B : Type 0} (o : Option (List Ty)) (x : RowSym) (f : List Ty → Option B) (r : Option B) → RowAgrees m headed o x → ((types : List Ty) → Stands x.row types → f types ≡ r) → given o f ≡ guard (Met x.demands) r
-  behind_row o x f r agrees each = go (Met x.demands) refl
+  -- what comes after a row
+  pub after_row : {B : Type 0} (o : Option (List Ty)) (x : RowSym) (f : List Ty → Option B) (r : Option B) → RowAgrees m headed o x → ((types : List Ty) → Stands x.row types → f types ≡ r) → given o f ≡ guard (Met x.demands) r
+  after_row o x f r agrees each = go (Met x.demands) refl
     where
       go : (b : Bool) → all_met m headed x.demands ≡ b → given o f ≡ guard b r
       go true e = let (types, is, so) = agrees.there e in ap (λ z. given z f) is ∙ each types so

@@ -91,7 +91,7 @@ module _ (m : Meaning) (headed : ℕ → Bool) where
   pub chain_found : (b : Bool) (ds : List Demand) → b ≡ Met ds → (if b then type.plain t.Int else None) ≡ Found (side_sym (record { demands = ds; scheme = s.Int }))
   chain_found b ds is = ap (λ c. if c then type.plain t.Int else None) is ∙ sym (int_found ds)
 
-  -- what comes behind demands
+  -- what comes after demands
   pub behind_found : (ds : List Demand) (x : SideSym) → Found (behind ds x) ≡ guard (Met ds) (Found x)
   behind_found ds x =
       given_guard (Met (ds ++ x.itself.demands)) (stands m x.itself.scheme) (side_of x.sum)

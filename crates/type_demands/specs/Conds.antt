@@ -75,7 +75,7 @@ agg_over agg.Sum x other = record { itself = record { demands = d.Int x ∷ []; 
 agg_over agg.Min x other = extreme_sym x other
 agg_over agg.Max x other = extreme_sym x other
 
--- what comes behind demands
+-- what comes after demands
 abbrev pub behind : List Demand → SideSym → SideSym
 behind demands x = record { itself = record { demands = demands ++ x.itself.demands; scheme = x.itself.scheme }; sum = x.sum }
 

@@ -18,7 +18,7 @@ use Rattle.type_table.specs.Schemes.{part_in, part_of}
 use Rattle.type_table.specs.Values.{built}
 use Rattle.type_table.proofs.AgreeLaws.{put, put_there, put_elsewhere, agree_put, agree_then, agree_map, agree_form, agree_fits, agree_same, all_larger, larger_pairs, all_push, fits_front, fits_last, fits_push, table_push, fits_opens, table_opens}
 use Rattle.type_table.proofs.FormLaws.{open_has, none_has}
-use Rattle.type_table.proofs.TableLaws.{some_form, get_inside, set_there, set_elsewhere, set_cases, set_table, same_both, same_front, same_back, within_both}
+use Rattle.type_table.proofs.TableLaws.{some_form, get_inside, set_there, set_elsewhere, set_cases, set_table, same_both, same_prefix, same_back, within_both}
 
 some_is : {A : Type 0} (d : A) {x y : A} → Some x ≡ Some y → x ≡ y
 some_is {A} d {x} {y} e = ap (λ (o : Option A). or_else o) e
@@ -243,7 +243,7 @@ told_equal old olds whole form table pairs inside within =
       grows = omega (arith, size);
       gives = λ m fits same.
           let equal = (same_back m olds ((whole, length old) ∷ []) same).0 in
-          (fits_front old (form ∷ []) m fits, same_front m olds ((whole, length old) ∷ []) same, subst (HasForm m form) (sym equal) (fits_last old form m fits));
+          (fits_front old (form ∷ []) m fits, same_prefix m olds ((whole, length old) ∷ []) same, subst (HasForm m form) (sym equal) (fits_last old form m fits));
       takes = λ m fits same has.
           let n = put m (length old) (m whole) in
           let agree = agree_put (length old) m (length old) (m whole) (omega arith) in

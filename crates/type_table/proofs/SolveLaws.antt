@@ -12,7 +12,7 @@ use Rattle.type_table.specs.Links.{Found, Linked, InOrder, Equated}
 use Rattle.type_table.specs.Solves.{Alike, Clashes}
 use Rattle.type_table.specs.Weight.{weight}
 use Rattle.type_table.proofs.FormLaws.{both_keep, both_give, none_has, kept_weighs, moved_within, ways, Ways, kept_first, kept_second}
-use Rattle.type_table.proofs.TableLaws.{some_form, same_both, same_front, same_back, within_both, within_front, within_back, paired_within}
+use Rattle.type_table.proofs.TableLaws.{some_form, same_both, same_prefix, same_back, within_both, within_front, within_back, paired_within}
 
 -- two numbers in any order
 order_same : (m : Meaning) (first second low high : ℕ) → InOrder first second low high → m first ≡ m second → m low ≡ m high
@@ -152,7 +152,7 @@ module _ (old mid now : List Form) (first second one other low high : ℕ) (a : 
           gives = λ m fits same.
               let found = linked_gives m fits (same_back m todo (paired x y) same) in
               let before = both_old m found.0 found.1 in
-              (before.0, (before.1, same_front m todo (paired x y) same));
+              (before.0, (before.1, same_prefix m todo (paired x y) same));
         };
       })
 
@@ -192,7 +192,7 @@ module _ (start now : List Form) (first second one other : ℕ) (todo rest : Lis
           keeps = λ m fits same.
               let found = so_far.alike.keeps m fits same in
               let all = subst (AreSame m) taken found.1 in
-              done.alike.keeps m found.0 ((same_back m rest ((one, other) ∷ []) all).0, same_front m rest ((one, other) ∷ []) all);
+              done.alike.keeps m found.0 ((same_back m rest ((one, other) ∷ []) all).0, same_prefix m rest ((one, other) ∷ []) all);
           gives = λ m fits same.
               let found = done.alike.gives m fits same in
               so_far.alike.gives m found.0 (subst (AreSame m) (sym taken) (same_both m rest ((one, other) ∷ []) found.1.1 (found.1.0, tt)));

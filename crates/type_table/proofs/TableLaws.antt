@@ -70,9 +70,9 @@ pub same_both : (m : Meaning) (xs ys : List (ℕ × ℕ)) → AreSame m xs → A
 same_both m [] ys here there = there
 same_both m (x ∷ xs) ys here there = (here.0, same_both m xs ys here.1 there)
 
-pub same_front : (m : Meaning) (xs ys : List (ℕ × ℕ)) → AreSame m (xs ++ ys) → AreSame m xs
-same_front m [] ys same = tt
-same_front m (x ∷ xs) ys same = (same.0, same_front m xs ys same.1)
+pub same_prefix : (m : Meaning) (xs ys : List (ℕ × ℕ)) → AreSame m (xs ++ ys) → AreSame m xs
+same_prefix m [] ys same = tt
+same_prefix m (x ∷ xs) ys same = (same.0, same_prefix m xs ys same.1)
 
 pub same_back : (m : Meaning) (xs ys : List (ℕ × ℕ)) → AreSame m (xs ++ ys) → AreSame m ys
 same_back m [] ys same = same

@@ -15,7 +15,7 @@ use Rattle.da_lang.specs.ClassParts.{Declared, Place, Body, bodies, bodies_where
 use Rattle.da_lang.specs.Deeds.{deeds}
 use Rattle.da_lang.specs.ExprNames.{Role, ClassVariable, Local, taken, refused_in, in_order}
 use Rattle.da_lang.specs.LabelNames.{all_deeds}
-use Rattle.da_lang.specs.NameRules.{lines_where, again, class_scope, patterns_at, locals_of, shadowed_params, doubled, scope_refusals, calls_none, labels_none, named_body, behind_first, named_again, params_again, twice_in, leads_back, method_names, recursive_in, yields_by, yield_in, setup_in, no_run_in, misfits, class_refusals, first_class, class_made, made_scope, setup_misfits, setup_kinds, main_refusals_at, main_refusals, made_at, set_up_at, twice_of, name_refusals}
+use Rattle.da_lang.specs.NameRules.{lines_where, again, class_scope, patterns_at, locals_of, shadowed_params, doubled, scope_refusals, calls_none, labels_none, named_body, after_first, named_again, params_again, twice_in, leads_back, method_names, recursive_in, yields_by, yield_in, setup_in, no_run_in, misfits, class_refusals, first_class, class_made, made_scope, setup_misfits, setup_kinds, main_refusals_at, main_refusals, made_at, set_up_at, twice_of, name_refusals}
 use Rattle.da_lang.specs.Scopes.{Scope, look, entered, at_line, at_lines}
 use Rattle.da_lang.specs.StmtNames.{refused_in_body}
 use Rattle.da_lang.specs.Written.{asks, reads_clock}
@@ -55,8 +55,8 @@ module _ (R : Option Ty → Option Ty → Type 0) where
     declared_equal : map {B = List ℕ × ℕ} (λ v. (v.name, v.line)) (variables c) ≡ map {B = List ℕ × ℕ} (λ v. (v.name, v.line)) (variables d)
     declared_equal = map_equal {C = List ℕ × ℕ} (VariablesAlike R) (λ v. (v.name, v.line)) (λ v. (v.name, v.line)) (λ v w e. ap₂ {C = List ℕ × ℕ} (λ n l. (n, l)) e.name e.line) (variables c) (variables d) (variables_alike R c d all)
 
-    behind_equal : (test : Place → Bool) → behind_first test c ≡ behind_first test d
-    behind_equal test =
+    after_equal : (test : Place → Bool) → after_first test c ≡ after_first test d
+    after_equal test =
         map_equal (BodiesAlike R) (λ b. b.line) (λ b. b.line) (λ x y m. m.line) (drop 1 (bodies_where test c)) (drop 1 (bodies_where test d))
         (beside_drop (BodiesAlike R) 1 (bodies_where test c) (bodies_where test d) (where_alike R c d all test))
 
@@ -64,8 +64,8 @@ module _ (R : Option Ty → Option Ty → Type 0) where
     twice_equal =
         join (join (join (join (join (join (ap again declared_equal)
         (ap again (kept_equal (BodiesAlike R) named_body named_body (λ x y m. ap named_body (bare_equal R x y m)) (bodies c) (bodies d) bodies_beside)))
-        (behind_equal is_setup))
-        (behind_equal is_run))
+        (after_equal is_setup))
+        (after_equal is_run))
         (ap again (labels_equal R c d all)))
         (flat_equal (BodiesAlike R) named_again named_again (λ x y m. ap named_again (bare_equal R x y m)) (bodies c) (bodies d) bodies_beside))
         (flat_equal (BodiesAlike R) params_again params_again params_same (bodies c) (bodies d) bodies_beside)

@@ -13,7 +13,7 @@ use Rattle.da_lang.specs.declared.tree.ClassTree.{ClassTree}
 use Rattle.da_lang.specs.declared.tree.Expr.{Expr}
 use Rattle.da_lang.specs.declared.tree.Stmt.{Stmt}
 use Rattle.da_lang.specs.declared.tree.TimeoutTree.{TimeoutTree}
-use Rattle.da_lang.specs.BodyMeaning.{Becomes, Stating, Guarded, Copy, next, fresh, named_slots, untyped, with_params, param_slots, class_slots, found_number, behind_label, block, block_if, each, states, with_expr, with_exprs, changing, slot_of, bound as bound_block, as_branch, as_alt, ifs, loop, for_each, await_one, timeout_block, awaits, labels, calling, stating, guarding, waiting, body_with, copies}
+use Rattle.da_lang.specs.BodyMeaning.{Becomes, Stating, Guarded, Copy, next, fresh, named_slots, untyped, with_params, param_slots, class_slots, found_number, after_label, block, block_if, each, states, with_expr, with_exprs, changing, slot_of, bound as bound_block, as_branch, as_alt, ifs, loop, for_each, await_one, timeout_block, awaits, labels, calling, stating, guarding, waiting, body_with, copies}
 use Rattle.da_lang.specs.ClassParts.{method_of, params_if, stmts_if}
 use Rattle.da_lang.specs.ExprMeaning.{Meaning, Tables, meant, all_outside}
 use Rattle.da_lang.specs.ExprNames.{found_names}
@@ -37,15 +37,15 @@ StateBrings f = (label : Option ℕ) (scope : Scope Meaning) (a : Tables) → Gr
 abbrev KindBrings : Becomes ItemKind → Type 0
 KindBrings f = Brings kind_steps f
 
-behind_brings : (fs : List Stating) → AllByRecursion StateBrings fs → (label : Option ℕ) → Brings body_steps (behind_label label fs)
-behind_brings [] every label scope a = grown_none a a refl
-behind_brings (f ∷ fs) every label scope a =
+after_brings : (fs : List Stating) → AllByRecursion StateBrings fs → (label : Option ℕ) → Brings body_steps (after_label label fs)
+after_brings [] every label scope a = grown_none a a refl
+after_brings (f ∷ fs) every label scope a =
     let x = f label scope a in
-    let others = behind_label x.label fs x.scope x.tables in
-    grown_both a x.tables others.1 (item_steps x.item) (body_steps others.0) (every.0 label scope a) (behind_brings fs every.1 x.label x.scope x.tables)
+    let others = after_label x.label fs x.scope x.tables in
+    grown_both a x.tables others.1 (item_steps x.item) (body_steps others.0) (every.0 label scope a) (after_brings fs every.1 x.label x.scope x.tables)
 
 block_brings : (fs : List Stating) → AllByRecursion StateBrings fs → Brings body_steps (block fs)
-block_brings fs every = behind_brings fs every None
+block_brings fs every = after_brings fs every None
 
 abbrev IfBrings : Option (List Stating) → Type 0
 IfBrings None = Unit {0}

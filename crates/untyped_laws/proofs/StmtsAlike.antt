@@ -14,7 +14,7 @@ use Rattle.da_lang.specs.declared.tree.Expr.{Expr, out-Expr}
 use Rattle.da_lang.specs.declared.tree.Stmt.{Stmt}
 use Rattle.da_lang.specs.declared.tree.TimeoutTree.{TimeoutTree}
 use Rattle.da_lang.specs.declared.ty.Ty.{Ty}
-use Rattle.da_lang.specs.BodyMeaning.{Becomes, Stating, Behind, Guarded, Copy, next, named_slots, untyped, found_number, finds_in, behind_label, block, block_if, each, item_at, states, with_expr, with_exprs, changing, slot_of, bound, as_branch, as_alt, ifs, loop, for_each, await_one, timeout_block, awaits, labels, calling, stating, guarding, waiting, body_with}
+use Rattle.da_lang.specs.BodyMeaning.{Becomes, Stating, AfterStmt, Guarded, Copy, next, named_slots, untyped, found_number, finds_in, after_label, block, block_if, each, item_at, states, with_expr, with_exprs, changing, slot_of, bound, as_branch, as_alt, ifs, loop, for_each, await_one, timeout_block, awaits, labels, calling, stating, guarding, waiting, body_with}
 use Rattle.da_lang.specs.ExprMeaning.{Meaning, Tables, meant, all_outside}
 use Rattle.da_lang.specs.ExprNames.{found_names}
 use Rattle.da_lang.specs.Scopes.{Scope, look}
@@ -28,29 +28,29 @@ use Rattle.untyped_laws.proofs.ListLaws.{ap₄, all_of, beside_both}
 use Rattle.untyped_laws.proofs.TablesAlike.{TablesAlike, ComesAlike, GoesAlike, made, made_two, moved, next_equal, fresh_equal, named_equal, more_untyped}
 
 module _ (R : Option Ty → Option Ty → Type 0) (r : R None None) where
-  pub record BehindAlike (x y : Behind) : Type 0 where
+  pub record AfterAlike (x y : AfterStmt) : Type 0 where
     pub item : x.item ≡ y.item
     pub label : x.label ≡ y.label
     pub scope : x.scope ≡ y.scope
     pub tables : TablesAlike R x.tables y.tables
 
   abbrev pub StatesAlike : Stating → Stating → Type 0
-  StatesAlike f g = (label : Option ℕ) (scope : Scope Meaning) (a b : Tables) → TablesAlike R a b → BehindAlike (f label scope a) (g label scope b)
+  StatesAlike f g = (label : Option ℕ) (scope : Scope Meaning) (a b : Tables) → TablesAlike R a b → AfterAlike (f label scope a) (g label scope b)
 
-  behind_alike : (fs gs : List Stating) → Beside StatesAlike fs gs → (label : Option ℕ) → GoesAlike R (behind_label label fs) (behind_label label gs)
-  behind_alike [] [] all label scope a b l = record { thing = refl; tables = l }
-  behind_alike [] (g ∷ gs) all label scope a b l = absurd all
-  behind_alike (f ∷ fs) [] all label scope a b l = absurd all
-  behind_alike (f ∷ fs) (g ∷ gs) all label scope a b l =
+  after_alike : (fs gs : List Stating) → Beside StatesAlike fs gs → (label : Option ℕ) → GoesAlike R (after_label label fs) (after_label label gs)
+  after_alike [] [] all label scope a b l = record { thing = refl; tables = l }
+  after_alike [] (g ∷ gs) all label scope a b l = absurd all
+  after_alike (f ∷ fs) [] all label scope a b l = absurd all
+  after_alike (f ∷ fs) (g ∷ gs) all label scope a b l =
       let x = f label scope a in
       let y = g label scope b in
-      let first : BehindAlike x y = all.0 label scope a b l in
-      let others = behind_alike fs gs all.1 x.label x.scope x.tables y.tables first.tables in
-      made_two R (λ z zs. z ∷ zs) x.item y.item (behind_label x.label fs x.scope x.tables) (behind_label y.label gs y.scope y.tables) first.item
-      (moved R (λ z s. behind_label z gs s y.tables) (behind_label x.label fs x.scope x.tables) x.label y.label x.scope y.scope first.label first.scope others)
+      let first : AfterAlike x y = all.0 label scope a b l in
+      let others = after_alike fs gs all.1 x.label x.scope x.tables y.tables first.tables in
+      made_two R (λ z zs. z ∷ zs) x.item y.item (after_label x.label fs x.scope x.tables) (after_label y.label gs y.scope y.tables) first.item
+      (moved R (λ z s. after_label z gs s y.tables) (after_label x.label fs x.scope x.tables) x.label y.label x.scope y.scope first.label first.scope others)
 
   pub block_alike : (fs gs : List Stating) → Beside StatesAlike fs gs → GoesAlike R (block fs) (block gs)
-  block_alike fs gs all = behind_alike fs gs all None
+  block_alike fs gs all = after_alike fs gs all None
 
   bound_alike : (names : List (List ℕ)) (fs gs : List Stating) → Beside StatesAlike fs gs → GoesAlike R (bound names fs) (bound names gs)
   bound_alike names fs gs all scope a b l =

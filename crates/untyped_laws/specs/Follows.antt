@@ -48,7 +48,7 @@ module _ (S : Type 0) (found : S → Option Ty) where
   with_found [] slots = slots
   with_found (p ∷ ps) slots = with_found ps (with_type p.0 (found p.1) slots)
 
-  -- what stands for the slots of a step, by what stands for the slots so far, and behind all steps
+  -- what stands for the slots of a step, by what stands for the slots so far, and after all steps
   module _ (marking : Step → List (Option S) → List (ℕ × S)) where
     abbrev pub marked : List Step → List (Option S) → List (Option S)
     marked [] marks = marks

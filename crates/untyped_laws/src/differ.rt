@@ -5,7 +5,7 @@ ghost use Rattle.untyped_laws.specs.Laws.{BoundOnce, FlowIsSteps, LimitedAlike, 
 ///
 /// - two trees that are equal but for declared types, by any relation of types, become programs that are equal but for the
 ///   types of messages and slots, by the same relation;
-/// - they have the same refusals by names, and so the same one is told;
+/// - they have the same refusals by names, and so the same one is reported;
 /// - they have the same refusals by limits where related types are both within the limit of parts, or both over it;
 /// - where a function takes each declared type to another one, the program is that of the first tree with the function put
 ///   on the types of its messages and slots.

@@ -16,7 +16,7 @@ use Rattle.da_lang.specs.declared.tree.MessageDecl.{MessageDecl}
 use Rattle.da_lang.specs.declared.tree.PatternTree.{PatternTree}
 use Rattle.da_lang.specs.declared.tree.PeerTree.{PeerTree}
 use Rattle.da_lang.specs.declared.ty.Ty.{Ty}
-use Rattle.da_lang.specs.BodyMeaning.{Becomes, Copy, Guarded, Stating, next, fresh, named_slots, untyped, finds_in, found_number, item_at, behind_label, block, block_if, each, states, with_expr, with_exprs, bound, as_branch, as_alt, ifs, loop, for_each, await_one, timeout_block, awaits}
+use Rattle.da_lang.specs.BodyMeaning.{Becomes, Copy, Guarded, Stating, next, fresh, named_slots, untyped, finds_in, found_number, item_at, after_label, block, block_if, each, states, with_expr, with_exprs, bound, as_branch, as_alt, ifs, loop, for_each, await_one, timeout_block, awaits}
 use Rattle.da_lang.specs.ExprMeaning.{Meaning, Tables, meant}
 use Rattle.da_lang.specs.ExprNames.{found_names, found_in}
 use Rattle.da_lang.specs.ExprTypes.{ExprType, typing, truth}
@@ -136,16 +136,16 @@ module _ (messages : List MessageDecl) (queries : List Query) (slots : Slots) wh
       has_one (typing kn queries e) k.rule
 
   -- blocks
-  behind_fills : (label : Option ℕ) (ss : List Stating) → AllByRecursion StateFills ss → PartFills no_breaks (behind_label label ss)
-  behind_fills label [] fills scope tables e d = d
-  behind_fills label (s ∷ ss) fills scope tables e d =
+  after_fills : (label : Option ℕ) (ss : List Stating) → AllByRecursion StateFills ss → PartFills no_breaks (after_label label ss)
+  after_fills label [] fills scope tables e d = d
+  after_fills label (s ∷ ss) fills scope tables e d =
       let first = s label scope tables in
-      let others = behind_label first.label ss first.scope first.tables in
+      let others = after_label first.label ss first.scope first.tables in
       let front = item_breaks messages queries slots first.item in
-      behind_fills first.label ss fills.1 first.scope first.tables (no_right front (no_breaks others.0) e) (fills.0 label scope tables (no_left front (no_breaks others.0) e) d)
+      after_fills first.label ss fills.1 first.scope first.tables (no_right front (no_breaks others.0) e) (fills.0 label scope tables (no_left front (no_breaks others.0) e) d)
 
   pub block_fills : (ss : List Stating) → AllByRecursion StateFills ss → PartFills no_breaks (block ss)
-  block_fills = behind_fills None
+  block_fills = after_fills None
 
   block_if_fills : (other : Option (List Stating)) → Where (AllByRecursion StateFills) other → PartFills no_breaks (block_if other)
   block_if_fills None fills scope tables e d = d
@@ -158,7 +158,7 @@ module _ (messages : List MessageDecl) (queries : List Query) (slots : Slots) wh
       let others = each parts scope first.1 in
       each_fills broken parts fills.1 scope first.1 (no_right (broken first.0) (all (map broken others.0)) e) (fills.0 scope tables (no_left (broken first.0) (all (map broken others.0)) e) d)
 
-  -- blocks behind new slots
+  -- blocks after new slots
   pub bound_fills : (names : List (List ℕ)) (ss : List Stating) → AllByRecursion StateFills ss → (scope : Scope Meaning) (tables : Tables)
       → AllByRecursion Knows (fresh tables (length names)) → no_breaks (bound names ss scope tables).0 ≡ [] → Holds tables → Holds (bound names ss scope tables).1
   bound_fills names ss fills scope tables given_ e d = block_fills ss fills (named_slots names tables scope) (untyped names tables) e (untyped_done messages queries slots names tables given_ d)

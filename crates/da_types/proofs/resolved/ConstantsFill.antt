@@ -20,7 +20,7 @@ use Rattle.da_types.specs.QueryNotes.{AreThere, cond_notes, query_notes}
 use Rattle.da_types.specs.Totality.{IsConstant}
 use Rattle.da_types.proofs.resolved.ConstantsAt.{expr_constants-Const, expr_constants-Procs, expr_constants-Me, expr_constants-Slot, expr_constants-Clock, expr_constants-Ask, part_constants-of, expr_constants-Chain}
 
--- queries stay, and others come behind them
+-- queries stay, and others come after them
 pub record Grows (before after : List Query) : Type 0 where
   pub more : List Query
   pub is : after ≡ before ++ more

@@ -17,7 +17,7 @@ use Rattle.da_lang.specs.declared.tree.ChainTree.{ChainTree}
 use Rattle.da_lang.specs.declared.tree.Expr.{Expr}
 use Rattle.da_lang.specs.declared.tree.Expr.TheVariants as ex
 use Rattle.da_lang.specs.declared.tree.GenTree.{GenTree}
-use Rattle.da_lang.specs.ExprMeaning.{Meaning, Meant, agg_of, aggregated, behind, cond_behind, gens_in, generator, meant, signed_of}
+use Rattle.da_lang.specs.ExprMeaning.{Meaning, Meant, agg_of, aggregated, scope_after_gens, cond_after, gens_in, generator, meant, signed_of}
 use Rattle.da_lang.specs.Scopes.{Scope}
 use Rattle.da_lang.proofs.MeantAt.{meant-Quant, meant-Or, meant-And, meant-Not, meant-Cmp, meant-Member, meant-Chain, meant-Int, meant-Text, meant-Truth, meant-Me, meant-Name, meant-Clock, meant-Range, meant-Tuple, meant-SetOf, meant-Comp, meant-Count, meant-Sum, meant-Min, meant-Max, signed_of-of}
 use Rattle.da_lang.proofs.TreeInduction.{Cases, expr_induction}
@@ -80,15 +80,15 @@ module _ (p : Program) where
   row_meant : (each : Bool) (gens : List GenTree) (cond : Option Expr) → ExprGood (ex.Quant each gens cond)
   row_meant each gens cond fine =
       let x = ex.Quant each gens cond in
-      let query : Scope Meaning → Query = λ scope. qu.Quant each (gens_in (map generator gens) scope) (cond_behind (map generator gens) (option_map meant cond) scope) in
+      let query : Scope Meaning → Query = λ scope. qu.Quant each (gens_in (map generator gens) scope) (cond_after (map generator gens) (option_map meant cond) scope) in
       as_meant x _ (meant-Quant each gens cond) (ask_good p query (λ scope. fine_there _ (notes x) (
-      equal_within _ _ _ (sym (cond_notes-Quant each (gens_in (map generator gens) scope) (cond_behind (map generator gens) (option_map meant cond) scope)))
+      equal_within _ _ _ (sym (cond_notes-Quant each (gens_in (map generator gens) scope) (cond_after (map generator gens) (option_map meant cond) scope)))
       (subst (λ (m : Meant). Within (cond_notes (m.condition scope)) (notes x)) (meant-Quant each gens cond) ((expr_keeps x).of_condition scope))) fine))
 
   set_meant : (y : Expr) (gens : List GenTree) (cond : Option Expr) → ExprGood (ex.Comp y gens cond)
   set_meant y gens cond fine =
       let x = ex.Comp y gens cond in
-      let query : Scope Meaning → Query = λ scope. qu.Comp ((meant y).term (behind (map generator gens) scope)) (gens_in (map generator gens) scope) (cond_behind (map generator gens) (option_map meant cond) scope) in
+      let query : Scope Meaning → Query = λ scope. qu.Comp ((meant y).term (scope_after_gens (map generator gens) scope)) (gens_in (map generator gens) scope) (cond_after (map generator gens) (option_map meant cond) scope) in
       as_meant x _ (meant-Comp y gens cond) (ask_good p query (λ scope. fine_there _ (notes x) (
       subst (λ (m : Meant). Within (argument_notes (m.range scope)) (notes x)) (meant-Comp y gens cond) ((expr_keeps x).of_range scope)) fine))
 

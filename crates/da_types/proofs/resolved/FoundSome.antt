@@ -13,7 +13,7 @@ use Rattle.da_lang.specs.declared.tree.GenTree.{GenTree}
 use Rattle.da_lang.specs.declared.tree.PatternTree.{PatternTree}
 use Rattle.da_lang.specs.declared.tree.PeerTree.{PeerTree}
 use Rattle.da_lang.specs.BodyMeaning.{found_number, finds_in}
-use Rattle.da_lang.specs.ExprMeaning.{Meaning, Meant, Tables, cond_behind, gens_in, generator, meant, quantified}
+use Rattle.da_lang.specs.ExprMeaning.{Meaning, Meant, Tables, cond_after, gens_in, generator, meant, quantified}
 use Rattle.da_lang.specs.Scopes.{Scope}
 use Rattle.da_lang.proofs.MeantAt.{meant-Quant}
 use Rattle.da_types.specs.Sound.{IsSome}
@@ -29,10 +29,10 @@ pub range_distinct : (a k : ℕ) → Distinct (range_with_len a k)
 range_distinct a zero = tt
 range_distinct a (suc k) = ((λ h. let (low, high) = range_in (a + 1) k a h in absurd (omega (arith, low))), range_distinct (a + 1) k)
 
--- what stands behind other queries
-got_behind : (xs : List Query) (q : Query) (more : List Query) → slice_get (xs ++ q ∷ [] ++ more) (length xs) ≡ Some q
-got_behind [] q more = refl
-got_behind (x ∷ xs) q more = got_behind xs q more
+-- what stands after other queries
+got_after : (xs : List Query) (q : Query) (more : List Query) → slice_get (xs ++ q ∷ [] ++ more) (length xs) ≡ Some q
+got_after [] q more = refl
+got_after (x ∷ xs) q more = got_after xs q more
 
 module _ (qs : List Query) (scope : Scope Meaning) (tables : Tables) where
   abbrev Finds : Expr → Type 0
@@ -44,8 +44,8 @@ module _ (qs : List Query) (scope : Scope Meaning) (tables : Tables) where
       let grown : Grows (m.outside scope tables).1.queries qs = subst (λ (z : Meant). Grows (z.outside scope tables).1.queries qs) (meant-Quant false gens cond) last in
       record {
         gens = gens_in (map generator gens) scope;
-        cond = cond_behind (map generator gens) (option_map meant cond) scope;
-        is = ap (λ z. slice_get z (length tables.queries)) grown.is ∙ got_behind tables.queries (qu.Quant false (gens_in (map generator gens) scope) (cond_behind (map generator gens) (option_map meant cond) scope)) grown.more;
+        cond = cond_after (map generator gens) (option_map meant cond) scope;
+        is = ap (λ z. slice_get z (length tables.queries)) grown.is ∙ got_after tables.queries (qu.Quant false (gens_in (map generator gens) scope) (cond_after (map generator gens) (option_map meant cond) scope)) grown.more;
       }
 
   layer_finds : (y : Expr-F Expr PatternTree PeerTree ChainTree GenTree) → finds_in y ≡ true → Finds (roll-Expr y)

@@ -18,7 +18,7 @@ use Rattle.da_lang.specs.declared.program.RExpr.{RExpr}
 use Rattle.da_lang.specs.declared.query.Cond.{Cond}
 use Rattle.da_lang.specs.declared.query.Query.{Query}
 use Rattle.da_lang.specs.declared.tree.Expr.{Expr}
-use Rattle.da_lang.specs.BodyMeaning.{Becomes, Behind, Copy, Stating, next, fresh, named_slots, untyped, found_number, item_at, behind_label, block, block_if, each, states, with_expr, with_exprs, bound, as_branch, as_alt, timeout_block}
+use Rattle.da_lang.specs.BodyMeaning.{Becomes, AfterStmt, Copy, Stating, next, fresh, named_slots, untyped, found_number, item_at, after_label, block, block_if, each, states, with_expr, with_exprs, bound, as_branch, as_alt, timeout_block}
 use Rattle.da_lang.specs.ExprMeaning.{Meaning, InSlot, Tables, numbered, meant}
 use Rattle.da_lang.specs.ExprNames.{found_names}
 use Rattle.da_lang.specs.Scopes.{Scope, look}
@@ -82,7 +82,7 @@ module _ (p : Program) (qs : List Query) where
   abbrev pub PartGood : {A : Type 0} → (A → Type 0) → Becomes A → Type 0
   PartGood P f = (scope : Scope Meaning) (tables : Tables) → GoodScope p scope → GoodTables p tables → (Ends (f scope tables).1 → P (f scope tables).0) × Onward p tables (f scope tables).1
 
-  pub record Stated (tables : Tables) (b : Behind) : Type 0 where
+  pub record Stated (tables : Tables) (b : AfterStmt) : Type 0 where
     pub item : Ends b.tables → GoodItem b.item
     pub scope : GoodScope p b.scope
     pub onward : Onward p tables b.tables
@@ -229,17 +229,17 @@ module _ (p : Program) (qs : List Query) where
       let two = also.of_outside scope first.1 names one.1.good in
       ((λ e. go first.0 second.0 one.0 two.0), onward p tables first.1 second.1 one.1 two.1)
 
-  behind_good : (label : Option ℕ) (ss : List Stating) → AllByRecursion StateGood ss → PartGood GoodBlock (behind_label label ss)
-  behind_good label [] each scope tables names d = ((λ e. tt), stays p tables d)
-  behind_good label (s ∷ ss) each scope tables names d =
+  after_good : (label : Option ℕ) (ss : List Stating) → AllByRecursion StateGood ss → PartGood GoodBlock (after_label label ss)
+  after_good label [] each scope tables names d = ((λ e. tt), stays p tables d)
+  after_good label (s ∷ ss) each scope tables names d =
       let first = s label scope tables in
-      let last = (behind_label first.label ss first.scope first.tables).1 in
+      let last = (after_label first.label ss first.scope first.tables).1 in
       let one = each.0 label scope tables names d in
-      let others = behind_good first.label ss each.1 first.scope first.tables one.scope one.onward.good in
+      let others = after_good first.label ss each.1 first.scope first.tables one.scope one.onward.good in
       ((λ e. (one.item (ends first.tables last others.1 e), others.0 e)), onward p tables first.tables last one.onward others.1)
 
   pub block_good : (ss : List Stating) → AllByRecursion StateGood ss → PartGood GoodBlock (block ss)
-  block_good = behind_good None
+  block_good = after_good None
 
   pub block_if_good : (other : Option (List Stating)) → Where (AllByRecursion StateGood) other → PartGood GoodBlock (block_if other)
   block_if_good None each scope tables names d = ((λ e. tt), stays p tables d)

@@ -18,7 +18,7 @@ use Rattle.da_lang.specs.declared.tree.CmpOp.{CmpOp}
 use Rattle.da_lang.specs.declared.tree.MessageDecl.{MessageDecl}
 use Rattle.da_lang.specs.declared.ty.Ty.{Ty}
 use Rattle.da_lang.specs.declared.ty.Ty.TheVariants as t
-use Rattle.da_lang.specs.ExprMeaning.{Meaning, Tables, Meant, Signed, Generator, ask, foreign, as_term, as_condition, as_operand, quantified, comprehended, aggregated, agg_of, gens_in, cond_behind, behind, all_outside, signed_outside, one_outside, two_outside, list_outside, chain_outside, chain_operand, signed_operand, all_conditions, is_sum, is_minus}
+use Rattle.da_lang.specs.ExprMeaning.{Meaning, Tables, Meant, Signed, Generator, ask, foreign, as_term, as_condition, as_operand, quantified, comprehended, aggregated, agg_of, gens_in, cond_after, scope_after_gens, all_outside, signed_outside, one_outside, two_outside, list_outside, chain_outside, chain_operand, signed_operand, all_conditions, is_sum, is_minus}
 use Rattle.da_lang.specs.ExprTypes.{ExprType, typing, part_typing, int}
 use Rattle.da_lang.specs.QueryTypes.{Known, Side, given, term_type, operand_side, signed_side, cond_holds, plain, rows_where, written_cond, query_type, is_operand, all_types, flat}
 use Rattle.da_lang.specs.Scopes.{Scope}
@@ -115,17 +115,17 @@ module _ (messages : List MessageDecl) (queries : List Query) (slots : Slots) wh
 
   pub quantified_fills : (each : Bool) (gens : List Generator) (cond : Option Meant) → Fills (quantified each gens cond)
   quantified_fills each gens cond =
-      let query : Scope Meaning → Query = λ scope. qu.Quant each (gens_in gens scope) (cond_behind gens cond scope) in
-      as_condition_fills (ask query) (λ scope. co.Quant each (gens_in gens scope) (cond_behind gens cond scope)) (ask_fills query) (λ scope tables e d.
+      let query : Scope Meaning → Query = λ scope. qu.Quant each (gens_in gens scope) (cond_after gens cond scope) in
+      as_condition_fills (ask query) (λ scope. co.Quant each (gens_in gens scope) (cond_after gens cond scope)) (ask_fills query) (λ scope tables e d.
       let gs = gens_in gens scope in
-      let c = cond_behind gens cond scope in
+      let c = cond_after gens cond scope in
       let (row, is, h) = holds_parts (rows_where kn gs (option_map (cond_holds kn) c) []) (λ found. true) (sym (cond_holds_at-Quant kn each gs c []) ∙ e) in
       let found : rows_where kn gs (written_cond kn c) [] ≡ Some row = ap (λ w. rows_where kn gs w []) (written_same c) ∙ is in
       asked_by query scope tables t.Bool (ap (λ o. given o (λ row. Some t.Bool)) found) d)
 
   pub comprehended_fills : (x : Meant) (gens : List Generator) (cond : Option Meant) → Fills (comprehended x gens cond)
   comprehended_fills x gens cond =
-      let query : Scope Meaning → Query = λ scope. qu.Comp (x.term (behind gens scope)) (gens_in gens scope) (cond_behind gens cond scope) in
+      let query : Scope Meaning → Query = λ scope. qu.Comp (x.term (scope_after_gens gens scope)) (gens_in gens scope) (cond_after gens cond scope) in
       foreign_fills (ask query) (ask_fills query)
 
   pub aggregated_fills : (o : AggOp) (x : Meant) (other : Option Meant) → Fills (aggregated o x other)

@@ -26,7 +26,7 @@ use Rattle.da_lang.specs.declared.tree.GenTree.{GenTree, roll-GenTree}
 use Rattle.da_lang.specs.declared.tree.PatternTree.{PatternTree}
 use Rattle.da_lang.specs.declared.tree.PeerTree.{PeerTree}
 use Rattle.da_lang.specs.declared.tree.SourceTree.{SourceTree}
-use Rattle.da_lang.specs.ExprMeaning.{Generator, InRow, InSlot, Matching, Meaning, Meant, OneProcess, Peer, Processes, Range, Signed, Tables, aggregated, all_conditions, as_condition, as_operand, as_term, behind, chain_operand, chain_outside, cond_behind, constant, foreign, generator, gens_in, is_apt, is_sum, list_outside, matching, meant, misplaced, name_meant, name_term, one_outside, patterns_in, peer_of, peer_pattern, quantified, signed_of, signed_operand, two_outside, width, with_row}
+use Rattle.da_lang.specs.ExprMeaning.{Generator, InRow, InSlot, Matching, Meaning, Meant, OneProcess, Peer, Processes, Range, Signed, Tables, aggregated, all_conditions, as_condition, as_operand, as_term, scope_after_gens, chain_operand, chain_outside, cond_after, constant, foreign, generator, gens_in, is_apt, is_sum, list_outside, matching, meant, misplaced, name_meant, name_term, one_outside, patterns_in, peer_of, peer_pattern, quantified, signed_of, signed_operand, two_outside, width, with_row}
 use Rattle.da_lang.specs.Scopes.{Scope, look}
 use Rattle.da_lang.proofs.CondInduction.{Where}
 use Rattle.da_lang.proofs.MeantAt.{meant-Quant, meant-Or, meant-And, meant-Not, meant-Cmp, meant-Member, meant-Chain, meant-Int, meant-Text, meant-Truth, meant-Me, meant-Name, meant-Clock, meant-Range, meant-Tuple, meant-SetOf, meant-Comp, meant-Count, meant-Sum, meant-Min, meant-Max, matching-Wild, matching-Name, matching-Int, matching-Text, matching-Truth, matching-Me, matching-Equal, matching-Tuple, peer_of-From, peer_of-To, signed_of-of, generator-of}
@@ -177,19 +177,19 @@ links_within : (more : List ChainTree) → AllByRecursion LinkKeeps more → (sc
 links_within [] each scope = same_within []
 links_within (l ∷ more) each scope = both_within _ _ (link_notes l) _ (equal_within _ _ _ (signed_notes-of _ ((signed_of l).meant.operand scope)) (each.0 scope)) (links_within more each.1 scope)
 
--- generators and a condition behind them
-where_within : (gs : List Generator) (cond : Option Expr) → Where ExprKeeps cond → (scope : Scope Meaning) → Within (where_notes (cond_behind gs (option_map meant cond) scope)) (all (option_to_list (option_map notes cond)))
+-- generators and a condition after them
+where_within : (gs : List Generator) (cond : Option Expr) → Where ExprKeeps cond → (scope : Scope Meaning) → Within (where_notes (cond_after gs (option_map meant cond) scope)) (all (option_to_list (option_map notes cond)))
 where_within gs None keeps scope = same_within []
-where_within gs (Some x) keeps scope = within_nil _ (notes x) (keeps.of_condition (behind gs scope))
+where_within gs (Some x) keeps scope = within_nil _ (notes x) (keeps.of_condition (scope_after_gens gs scope))
 
 rows_within : (gs : List GenTree) (cond : Option Expr) → AllByRecursion GenKeeps gs → Where ExprKeeps cond → (scope : Scope Meaning)
-    → Within (ranges_notes (gens_in (map generator gs) scope) ++ where_notes (cond_behind (map generator gs) (option_map meant cond) scope)) (all (map gen_notes gs) ++ all (option_to_list (option_map notes cond)))
+    → Within (ranges_notes (gens_in (map generator gs) scope) ++ where_notes (cond_after (map generator gs) (option_map meant cond) scope)) (all (map gen_notes gs) ++ all (option_to_list (option_map notes cond)))
 rows_within gs cond each keeps scope = both_within _ _ (all (map gen_notes gs)) _ (gens_within gs each scope) (where_within (map generator gs) cond keeps scope)
 
 quant_keeps : (each : Bool) (gens : List GenTree) (cond : Option Expr) → AllByRecursion GenKeeps gens → Where ExprKeeps cond → ExprKeeps (ex.Quant each gens cond)
 quant_keeps each gens cond rows keeps =
     let outside : Outside = (quantified each (map generator gens) (option_map meant cond)).outside in
-    let condition : Scope Meaning → Cond = λ scope. co.Quant each (gens_in (map generator gens) scope) (cond_behind (map generator gens) (option_map meant cond) scope) in
+    let condition : Scope Meaning → Cond = λ scope. co.Quant each (gens_in (map generator gens) scope) (cond_after (map generator gens) (option_map meant cond) scope) in
     as_kept _ _ _ (meant-Quant each gens cond) (notes-Quant each gens cond)
     (condition_keeps _ outside condition (λ scope. equal_within _ _ _ (cond_notes-Quant each _ _) (rows_within gens cond rows keeps scope)))
 
@@ -198,7 +198,7 @@ comp_keeps x gens cond term rows keeps =
     let plain = foreign_keeps (notes x ++ (all (map gen_notes gens) ++ all (option_to_list (option_map notes cond)))) (λ scope tables. (re.Me, tables)) in
     as_kept _ _ _ (meant-Comp x gens cond) (notes-Comp x gens cond) (record {
       of_term = plain.of_term;
-      of_range = λ scope. turned_within _ _ (notes x) _ (rows_within gens cond rows keeps scope) (term.of_term (behind (map generator gens) scope));
+      of_range = λ scope. turned_within _ _ (notes x) _ (rows_within gens cond rows keeps scope) (term.of_term (scope_after_gens (map generator gens) scope));
       of_operand = plain.of_operand;
       of_condition = plain.of_condition;
     })

@@ -60,8 +60,8 @@ first_later : (o later : Option (List ℕ)) (class : List ℕ) → o ≡ None �
 first_later None later class e is = is
 first_later (Some c) later class e is = absurd (cc)
 
-made_behind : (other class : List ℕ) (count : Option ℕ) (line : ℕ) (ls : List MainLine) (name : List ℕ) → bytes_eq other name ≡ false → FirstMade ls name → FirstMade (main_line.New other class count line ∷ ls) name
-made_behind other class count line ls name differs rest = record { line = rest.line; class = rest.class; among = inr rest.among; made_by = rest.made_by; first = first_later (made_class name (main_line.New other class count line)) (first_class ls name) rest.class (ap (λ (b : Bool). if b then Some class else None) differs) rest.first }
+made_after : (other class : List ℕ) (count : Option ℕ) (line : ℕ) (ls : List MainLine) (name : List ℕ) → bytes_eq other name ≡ false → FirstMade ls name → FirstMade (main_line.New other class count line ∷ ls) name
+made_after other class count line ls name differs rest = record { line = rest.line; class = rest.class; among = inr rest.among; made_by = rest.made_by; first = first_later (made_class name (main_line.New other class count line)) (first_class ls name) rest.class (ap (λ (b : Bool). if b then Some class else None) differs) rest.first }
 
 first_made : (ls : List MainLine) (name : List ℕ) → Has (filter_map made_name ls) name → FirstMade ls name
 first_made [] name h = absurd h
@@ -75,7 +75,7 @@ first_made (main_line.New other class count line ∷ ls) name h = go (bytes_eq o
       made_by = ap (λ (b : Bool). if b then Some class else None) same;
       first = first_here (made_class name (main_line.New other class count line)) (first_class ls name) class (ap (λ (b : Bool). if b then Some class else None) same);
     }
-    go false same h later = made_behind other class count line ls name same (later (⊎_elim (λ is. absurd (true≢false (sym (name_same other name (sym is)) ∙ same))) (λ k. k) h))
+    go false same h later = made_after other class count line ls name same (later (⊎_elim (λ is. absurd (true≢false (sym (name_same other name (sym is)) ∙ same))) (λ k. k) h))
 first_made (main_line.Setup other args line ∷ ls) name h =
     let rest = first_made ls name h in
     record { line = rest.line; class = rest.class; among = inr rest.among; made_by = rest.made_by; first = rest.first }

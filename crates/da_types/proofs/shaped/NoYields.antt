@@ -18,7 +18,7 @@ use Rattle.da_lang.specs.declared.tree.Branch.{Branch, roll-Branch}
 use Rattle.da_lang.specs.declared.tree.Expr.{Expr}
 use Rattle.da_lang.specs.declared.tree.Stmt.{Stmt}
 use Rattle.da_lang.specs.declared.tree.Stmt.TheVariants as stmt
-use Rattle.da_lang.specs.BodyMeaning.{Becomes, Copy, Guarded, Stating, as_branch, behind_label, block, block_if, body_with, bound, each, for_each, fresh, found_number, guarding, ifs, item_at, loop, named_slots, next, states, stating, untyped}
+use Rattle.da_lang.specs.BodyMeaning.{Becomes, Copy, Guarded, Stating, as_branch, after_label, block, block_if, body_with, bound, each, for_each, fresh, found_number, guarding, ifs, item_at, loop, named_slots, next, states, stating, untyped}
 use Rattle.da_lang.specs.Deeds.{Deed, Doing, Labels, Calls, Awaits, all, all_if, deeds, deeds_of, deeds_of_branch}
 use Rattle.da_lang.specs.ExprMeaning.{Meaning, Tables, meant}
 use Rattle.da_lang.specs.ExprNames.{found_names}
@@ -94,12 +94,12 @@ kind_item line k goes = subst (λ (z : Item-F ItemKind Alt Item RBranch). KindGo
 kind_states : (line : ℕ) (f : Becomes ItemKind) → PartGoes KindGoes f → StateGoes (states line f)
 kind_states line f goes label scope tables = kind_item line (f scope tables).0 (goes scope tables)
 
-behind_part : (label : Option ℕ) (ss : List Stating) → AllByRecursion StateGoes ss → PartGoes BlockGoes (behind_label label ss)
-behind_part label [] goes scope tables = tt
-behind_part label (s ∷ ss) goes scope tables = let first = s label scope tables in (goes.0 label scope tables, behind_part first.label ss goes.1 first.scope first.tables)
+after_part : (label : Option ℕ) (ss : List Stating) → AllByRecursion StateGoes ss → PartGoes BlockGoes (after_label label ss)
+after_part label [] goes scope tables = tt
+after_part label (s ∷ ss) goes scope tables = let first = s label scope tables in (goes.0 label scope tables, after_part first.label ss goes.1 first.scope first.tables)
 
 block_part : (ss : List Stating) → AllByRecursion StateGoes ss → PartGoes BlockGoes (block ss)
-block_part = behind_part None
+block_part = after_part None
 
 block_if_part : (other : Option (List Stating)) → Where (AllByRecursion StateGoes) other → PartGoes BlockGoes (block_if other)
 block_if_part None goes scope tables = tt

@@ -48,7 +48,7 @@ no_truth = simp (finding, outs-Int)
 two_kinds : strict_holds d (co.Cmp Eq (od.Term (te.Const (kept.Int (pos 1)))) (od.Term (te.Slot 2))) [] ≡ None
 two_kinds = simp (finding, outs-Int, outs-Text)
 
--- what is missing behind a true part of an `or` is missed
+-- what is missing after a true part of an `or` is missed
 no_short_way : strict_holds d (co.Or (co.Truth (te.Const (kept.Bool true)) ∷ co.Truth (te.Slot 3) ∷ [])) [] ≡ None
 no_short_way = simp (finding, outs-Bool)
 

@@ -18,7 +18,7 @@ use Rattle.da_values.specs.Sets.{Has}
 use Rattle.da_values.specs.Str.{IsTextByte}
 use Rattle.da_values.proofs.Members.{of_append}
 use Rattle.da_lang.specs.Literals.{text_of, unquoted}
-use Rattle.da_lang.specs.Spelling.{Spelling, Room, At, Opens, Named, Number, Quoted, Separated, Closed, Behind, Many, Ended}
+use Rattle.da_lang.specs.Spelling.{Spelling, Room, At, Opens, Named, Number, Quoted, Separated, Closed, EachAfter, Many, Ended}
 use Rattle.da_lang.proofs.typing.ShapedAt.{has_processes-Bool, has_processes-Int, has_processes-Text}
 use Rattle.da_types.specs.Constants.{Note, Literal, Notes, IsFine, all, signs}
 use Rattle.da_types.proofs.resolved.NotesKept.{signs-append}
@@ -46,7 +46,7 @@ opener (Opens.opens room a) = token a
 pub name_says : {b : List ℕ} {t r : List Tok} → Named b t r → Says 1 [] t r
 name_says (Named.named e) = record { size = omega arith; fine = none_fine }
 
--- one behind the other; the notes of the first, or of the second, may be none
+-- one after the other; the notes of the first, or of the second, may be none
 pub both : {j k : ℕ} {xs ys : Notes} {t r s : List Tok} → Says j xs t r → Says k ys r s → Says j (xs ++ ys) t s
 both {j} {k} {xs} {ys} first second = record {
   size = omega (arith, first.size, second.size, signs-append xs ys);
@@ -132,9 +132,9 @@ module _ {A : Type 0} (noting : A → Notes) (Item : Spelling A) (says : (x : A)
   closed_says (Closed.empty h) = token h
   closed_says (Closed.full hs over) = until (separated_says hs) (token over)
 
-  pub behind_says : {k : Mark} {xs : List A} {t r : List Tok} → Behind k Item xs t r → Says 0 (all (map noting xs)) t r
-  behind_says Behind.none = nothing
-  behind_says (Behind.one comma h others) = less (omega arith) (after (token comma) (both (says _ _ _ h) (behind_says others)))
+  pub after_says : {k : Mark} {xs : List A} {t r : List Tok} → EachAfter k Item xs t r → Says 0 (all (map noting xs)) t r
+  after_says EachAfter.none = nothing
+  after_says (EachAfter.one comma h others) = less (omega arith) (after (token comma) (both (says _ _ _ h) (after_says others)))
 
   pub many_says : {xs : List A} {t r : List Tok} → Many Item xs t r → Says 0 (all (map noting xs)) t r
   many_says Many.none = nothing

@@ -27,7 +27,7 @@ use Rattle.da_types.specs.Constants.{Notes, AreFine, all, body_notes, class_note
 use Rattle.da_types.proofs.resolved.NotesKept.{signs-append}
 use Rattle.da_types.proofs.totality.FoundMatches.{flattened}
 use Rattle.da_types.proofs.written.ExprsFine.{deeper_says, pattern_says, PatternSays}
-use Rattle.da_types.proofs.written.Says.{Says, nothing, token, opener, name_says, number_says, both, after, until, less, noted, behind_says, ended_says}
+use Rattle.da_types.proofs.written.Says.{Says, nothing, token, opener, name_says, number_says, both, after, until, less, noted, after_says, ended_says}
 use Rattle.da_types.proofs.written.StmtsFine.{block_says, body_says, stmt_notes}
 
 -- tokens of which nothing is noted
@@ -112,7 +112,7 @@ module _ (room : ℕ → Room) (f : ℕ) where
   mline_says : {x : MainLine} {t r : List Tok} → IsMline (room 1) (deeper room f 2) x t r → Says 1 (line_notes x) t r
   mline_says (IsMline.new n h word o c many over line) = until (until (until (until (until (until (until (name_says n) (token h)) (token word)) (opener o)) (name_says c)) (silent (count_passes _ _ _ many))) (token over)) (token line)
   mline_says (IsMline.setup {n} {xs} h o name args c line) =
-      noted (sym (flattened notes xs)) (after (token h) (after (opener o) (after (name_says name) (until (until (behind_says notes (deeper room f 2).disj (deeper_says room f 2).disj args) (token c)) (token line)))))
+      noted (sym (flattened notes xs)) (after (token h) (after (opener o) (after (name_says name) (until (until (after_says notes (deeper room f 2).disj (deeper_says room f 2).disj args) (token c)) (token line)))))
 
   message_passes : Passes (IsMessage room f)
   message_passes _ t r (IsMessage.message h n o xs line) = omega (arith, (token h).size, (name_says n).size, (opener o).size, closed_passes (TypeIn room f 1) (type_passes room f 1) _ _ _ _ xs, (token line).size)

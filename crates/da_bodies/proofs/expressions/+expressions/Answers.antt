@@ -5,7 +5,7 @@ use Rattle.da_lang.specs.ExprNames.{QueryVariable, pattern_part, gen_part}
 use Rattle.da_bodies.specs.Told.{behind_all, told_all, told_expr}
 use Rattle.da_bodies.proofs.PartLaws.{gen_steady, pattern_steady}
 use Rattle.da_bodies.proofs.ToldParts.{told_all-more, behind_all-more}
-use Rattle.da_bodies.proofs.ToldExprs.{left_behind_gens, told_expr-Comp}
+use Rattle.da_bodies.proofs.ToldExprs.{left_after_gens, told_expr-Comp}
 use Rattle.da_bodies.proofs.expressions.+expressions.Goals as goal
 
 pub check_expr-returns-in_ok-check_condition-in-Quant-clause-same :
@@ -15,7 +15,7 @@ check_expr-returns-in_ok-check_condition-in-Quant-clause-same t c =
     let inside : c.check_condition.new.names ≡ behind_all gen_part QueryVariable old c.in-Quant.gens =
     c.in_ok-check_condition-in-Quant.ensures.same ∙ c.in_ok-enter_gens-in-Quant.ensures.entered ∙ ap (behind_all gen_part QueryVariable old) c.as_slice.ensures in
     c.leave_to.ensures ∙ ap (λ n. drop (length c.check_condition.new.names - n) c.check_condition.new.names) c.len-outside.ensures
-    ∙ ap (λ s. drop (length s - length old) s) inside ∙ left_behind_gens old c.in-Quant.gens
+    ∙ ap (λ s. drop (length s - length old) s) inside ∙ left_after_gens old c.in-Quant.gens
 
 pub check_expr-returns-in_ok-check_expr-in-Comp-clause-told :
     goal.check_expr-returns-in_ok-check_expr-in-Comp-clause-told
@@ -42,7 +42,7 @@ check_expr-returns-in_ok-check_expr-in-Comp-clause-same t c =
     let inside : c.check_expr.new.names ≡ behind_all gen_part QueryVariable old c.in-Comp.gens =
     c.in_ok-check_expr-in-Comp.ensures.same ∙ c.in_ok-check_condition-in-Comp.ensures.same ∙ c.in_ok-enter_gens-in-Comp.ensures.entered ∙ ap (behind_all gen_part QueryVariable old) c.as_slice-in-Comp.ensures in
     c.leave_to-in-Comp.ensures ∙ ap (λ n. drop (length c.check_expr.new.names - n) c.check_expr.new.names) c.len-outside-in-Comp.ensures
-    ∙ ap (λ s. drop (length s - length old) s) inside ∙ left_behind_gens old c.in-Comp.gens
+    ∙ ap (λ s. drop (length s - length old) s) inside ∙ left_after_gens old c.in-Comp.gens
 
 pub enter_gens-loop-generator-preserved : goal.enter_gens-loop-generator-preserved
 enter_gens-loop-generator-preserved t c =

@@ -1,5 +1,5 @@
 use Rattle.std.proofs.Common.{◌≡◌, ◌++◌, map, take}
-use Rattle.da_calls.specs.declared.order.Task.TheVariants.{Enter}
+use Rattle.da_calls.specs.declared.order.Visit.TheVariants.{Enter}
 use Rattle.da_calls.proofs.order.enter_all.Given as goal
 
 abbrev pub invariant-loop-node : goal.invariant-loop-node

@@ -1,5 +1,5 @@
 use Rattle.std.proofs.Common.{◌++◌, ◌∷◌, [], length, map, reverse, ap, sym, subst, ◌∙◌}
-use Rattle.da_calls.specs.declared.order.Task.TheVariants.{Enter, Leave}
+use Rattle.da_calls.specs.declared.order.Visit.TheVariants.{Enter, Leave}
 use Rattle.da_calls.proofs.CallOrder.{Walk, starts, step_leaves, step_passes, step_enters, step_fewer, all_left}
 use Rattle.da_calls.proofs.order.leaving_order.Goals as goal
 

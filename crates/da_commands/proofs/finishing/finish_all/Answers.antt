@@ -3,7 +3,7 @@ use Rattle.std.specs.Prelude.{None, Some}
 use Rattle.da_outside.specs.declared.spawner.Child.{Child}
 use Rattle.da_outside.specs.declared.spawner.Ended.{Ended}
 use Rattle.da_outside.specs.declared.spawner.SpawnEntry.TheVariants.{Finish}
-use Rattle.da_outside.specs.Outside.{AppendsFront, HasCause}
+use Rattle.da_outside.specs.Outside.{AppendsPrefix, HasCause}
 use Rattle.da_outside.specs.Spawner.{Tells}
 use Rattle.da_outside.proofs.OutsideLemmas.{no_cause}
 use Rattle.da_commands.specs.declared.status.Status.TheVariants.{WriteFault}
@@ -48,7 +48,7 @@ returns-in-Err-Write-clause-finished g c =
     let came : Came (numbers c.args.list) a x (numbers (c.in-Some.child ∷ c.next_of.new.list)) c.children.process c.children.status (g.S.Spawner.told c.children.children) (g.K.Sink.taken c.children.out) =
     subst (λ (l : List Child). Came (numbers c.args.list) a x (numbers l) c.children.process c.children.status (g.S.Spawner.told c.children.children) (g.K.Sink.taken c.children.out)) c.in-Some.ensures c.children.invariant.came in
     let cut : (end : Ended) × Tells (g.S.Spawner.told c.children.children) (g.S.Spawner.told c.finish_one.new.children) (Finish c.in-Some.child.number (Some end) ∷ [])
-    × AppendsFront (g.K.Sink.taken c.children.out) (g.K.Sink.taken c.finish_one.new.out) (child_text (c.children.process + 1) end) = rw c.in-Err-Write.field-0-is at c.in-Err-Write.ensures.finished in
+    × AppendsPrefix (g.K.Sink.taken c.children.out) (g.K.Sink.taken c.finish_one.new.out) (child_text (c.children.process + 1) end) = rw c.in-Err-Write.field-0-is at c.in-Err-Write.ensures.finished in
     let (end, told, written) = cut in
     came_cut (numbers c.args.list) a x (numbers c.next_of.new.list) c.in-Some.child.number c.children.process c.children.status _ _ came (c.children.process + 1) end _ _ refl told written
 

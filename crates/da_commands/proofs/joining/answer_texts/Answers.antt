@@ -3,7 +3,7 @@ use Rattle.std.specs.Prelude.{Err}
 use Rattle.da_core.specs.Compiled.{program_of}
 use Rattle.trace_join.specs.Joins.{AreTraces}
 use Rattle.da_commands.specs.declared.status.Status.TheVariants.{BadTrace}
-use Rattle.da_commands.specs.JoinReplies.{IsLeastBad, JoinedReply, SpellTraces, bad_trace}
+use Rattle.da_commands.specs.JoinReplies.{IsEarliestBad, JoinedReply, SpellTraces, bad_trace}
 use Rattle.da_commands.specs.JoinSteps.{AreRead}
 use Rattle.da_commands.specs.Lines.{badtrace_text}
 use Rattle.da_commands.proofs.JoinLemmas.{are_traces, bad_wholes, spell_wholes}
@@ -23,6 +23,6 @@ returns-in-Err-BadLine-clause-replies g c = λ wholes are.
     let process = c.in-Err-BadLine.process in
     let line = c.in-Err-BadLine.line in
     let read : AreRead c.args.texts.now (Err c.in-Err-BadLine.field-0) = c.in-Err-BadLine.ensures in
-    let wrong : IsLeastBad 1 c.args.texts.now process line = subst (λ e. AreRead c.args.texts.now (Err e)) c.in-Err-BadLine.field-0-is read in
+    let wrong : IsEarliestBad 1 c.args.texts.now process line = subst (λ e. AreRead c.args.texts.now (Err e)) c.in-Err-BadLine.field-0-is read in
     said_replied (JoinedReply (program_of c.args.compiled.now) wholes) _ _ (BadTrace process line) (badtrace_text process line) _ tt
     (bad_trace process line (bad_wholes c.args.texts.now wholes are process line wrong)) c.refuse_trace.ensures.said

@@ -12,7 +12,7 @@ returns-clause-said g c =
     let events = c.args.events.now in
     let program = program_of c.args.compiled.now in
     subst (λ s. HasSaid (run_status program events) (run_text program events) s (g.K.Sink.taken c.args.out.now) (g.K.Sink.taken c.replay.new.sink)) (sym c.status_of_run.ensures)
-    (replayed program _ _ c.in-Ok.ensures.program c.in-Ok.ensures.start events c.replay.result c.replay.new.system _ _ c.replay.ensures.ran c.replay.ensures.front)
+    (replayed program _ _ c.in-Ok.ensures.program c.in-Ok.ensures.start events c.replay.result c.replay.new.system _ _ c.replay.ensures.ran c.replay.ensures.prefix)
 
 pub returns-clause-ends : goal.returns-clause-ends
 returns-clause-ends g c = subst IsEnd (sym c.status_of_run.ensures) (run_ends c.replay.result)

@@ -12,7 +12,7 @@ pub returns-clause-said : goal.returns-clause-said
 returns-clause-said g c =
     let program = program_of c.args.compiled.now in
     subst (λ s. HasSaid Done (stress_text program c.args.start c.args.most) s (g.K.Sink.taken c.args.out.now) (g.K.Sink.taken c.stress.new.sink)) (sym c.status_of_run.ensures)
-    (stressed program _ _ c.in-Ok.ensures.program c.in-Ok.ensures.start c.args.start c.args.most c.stress.result c.stress.new.system _ _ c.stress.ensures.ran c.stress.ensures.done c.stress.ensures.front)
+    (stressed program _ _ c.in-Ok.ensures.program c.in-Ok.ensures.start c.args.start c.args.most c.stress.result c.stress.new.system _ _ c.stress.ensures.ran c.stress.ensures.done c.stress.ensures.prefix)
 
 pub returns-clause-ends : goal.returns-clause-ends
 returns-clause-ends g c = subst IsEnd (sym c.status_of_run.ensures) (run_ends c.stress.result)

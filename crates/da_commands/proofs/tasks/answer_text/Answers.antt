@@ -2,7 +2,7 @@ use Rattle.da_core.specs.Compiled.{program_of}
 use Rattle.da_commands.specs.declared.status.RefusedKind.TheVariants.{Size}
 use Rattle.da_commands.specs.declared.status.Status.TheVariants.{Done, Refused}
 use Rattle.da_commands.specs.Lines.{refused_text}
-use Rattle.da_commands.specs.Replies.{TaskReply, carried_out, declined, task_text}
+use Rattle.da_commands.specs.Replies.{TaskReply, executed, declined, task_text}
 use Rattle.da_commands.specs.Verdict.{too_long, program_limit}
 use Rattle.da_commands.proofs.ReplyLemmas.{read_within, refuses_within}
 use Rattle.da_commands.proofs.ToldLemmas.{said_replied, take_beyond}
@@ -22,4 +22,4 @@ returns-in-Err-Refused-clause-replies g c = λ t is.
 pub returns-in-Ok-clause-replies : goal.returns-in-Ok-clause-replies
 returns-in-Ok-clause-replies g c = λ t is.
     said_replied (TaskReply c.args.task t) _ _ Done (task_text c.args.task (program_of c.in-Ok.compiled)) c.answer_task.result tt
-    (carried_out (program_of c.in-Ok.compiled) (read_within c.args.text.now t (program_of c.in-Ok.compiled) is c.if-text-gt-PROGRAM_LIMIT.false c.in-Ok.ensures.read)) c.answer_task.ensures.said
+    (executed (program_of c.in-Ok.compiled) (read_within c.args.text.now t (program_of c.in-Ok.compiled) is c.if-text-gt-PROGRAM_LIMIT.false c.in-Ok.ensures.read)) c.answer_task.ensures.said

@@ -14,12 +14,12 @@ use Rattle.da_commands.specs.JoinReplies.{IsJoined, JoinReply}
 use Rattle.da_commands.specs.LaunchReplies.{HasLaunched, IsLaunched, LaunchStopped}
 use Rattle.da_commands.specs.Links.{told_over}
 use Rattle.da_commands.specs.NodeReplies.{BindsOnce, HasAnswered, HasKind, HasStopped, IsServed, LinkFailed}
-use Rattle.da_commands.specs.Replies.{IsCarriedOut, ReplayReply, TaskReply}
+use Rattle.da_commands.specs.Replies.{IsExecuted, ReplayReply, TaskReply}
 use Rattle.da_commands.specs.Told.{Begins, Gains, OfAllTold, OfTold}
 use Rattle.da_commands.proofs.JoinLemmas.{at_join, is_joined, join_begun, join_whole, not_read_join, told_names}
 use Rattle.da_commands.proofs.LaunchCallLemmas.{at_launch, end_no_child, launch_answered, launch_has_stopped, launch_no_node, launch_quiet, said_childless, same_launch}
 use Rattle.da_commands.proofs.LaunchLemmas.{no_child_cause}
-use Rattle.da_commands.proofs.ReplyLemmas.{at_names, is_carried_out, not_read, runs_whole, same_names, same_task}
+use Rattle.da_commands.proofs.ReplyLemmas.{at_names, is_executed, not_read, runs_whole, same_names, same_task}
 use Rattle.da_commands.proofs.TopLemmas.{at_node, both_begun, both_whole, node_answered, node_has_stopped, node_link_failed, node_served, said_front, said_whole, same_node, told_begun, told_whole}
 use Rattle.da_commands.proofs.WordLemmas.{join_no_launch, join_no_node, join_no_replay, join_no_task, same_join}
 use Rattle.da_commands.proofs.ToldLemmas.{end_no_link, end_no_words, ends_unlinked, said_unlinked, said_unread}
@@ -78,41 +78,41 @@ returns-in-Replay-clause-joined g c = λ p traces words. absurd (join_no_replay 
 pub returns-in-Carry-clause-answers : goal.returns-in-Carry-clause-answers
 returns-in-Carry-clause-answers g c = λ task p words answer.
     let same = same_task _ _ _ _ _ c.in-Carry.ensures words in
-    let R : Task → List ℕ → Type 0 = λ k x. OfTold (g.F.Files.told c.args.files.now x) (λ t. Gains (TaskReply k t) c.carry_out.result (g.K.Sink.taken c.args.out.now) (g.K.Sink.taken c.carry_out.new.out)) in
-    let here : R c.in-Carry.task c.in-Carry.program.now = told_whole (TaskReply c.in-Carry.task) _ c.carry_out.result _ _ c.carry_out.ensures.replies answer in
+    let R : Task → List ℕ → Type 0 = λ k x. OfTold (g.F.Files.told c.args.files.now x) (λ t. Gains (TaskReply k t) c.execute.result (g.K.Sink.taken c.args.out.now) (g.K.Sink.taken c.execute.new.out)) in
+    let here : R c.in-Carry.task c.in-Carry.program.now = told_whole (TaskReply c.in-Carry.task) _ c.execute.result _ _ c.execute.ensures.replies answer in
     subst (λ k. R k p) (sym same.0) (subst (R c.in-Carry.task) (sym same.1) here)
 
 pub returns-in-Carry-clause-begun_task : goal.returns-in-Carry-clause-begun_task
 returns-in-Carry-clause-begun_task g c = λ task p words never.
     let same = same_task _ _ _ _ _ c.in-Carry.ensures words in
-    let B : Task → List ℕ → Type 0 = λ k x. OfTold (g.F.Files.told c.args.files.now x) (λ t. Begins (TaskReply k t) (g.K.Sink.taken c.args.out.now) (g.K.Sink.taken c.carry_out.new.out)) in
-    let here : B c.in-Carry.task c.in-Carry.program.now = told_begun (TaskReply c.in-Carry.task) _ c.carry_out.result _ _ c.carry_out.ensures.replies never in
+    let B : Task → List ℕ → Type 0 = λ k x. OfTold (g.F.Files.told c.args.files.now x) (λ t. Begins (TaskReply k t) (g.K.Sink.taken c.args.out.now) (g.K.Sink.taken c.execute.new.out)) in
+    let here : B c.in-Carry.task c.in-Carry.program.now = told_begun (TaskReply c.in-Carry.task) _ c.execute.result _ _ c.execute.ensures.replies never in
     subst (λ k. B k p) (sym same.0) (subst (B c.in-Carry.task) (sym same.1) here)
 
-pub returns-in-Carry-clause-carried_out : goal.returns-in-Carry-clause-carried_out
-returns-in-Carry-clause-carried_out g c = λ task p t program words told accepts quiet quiet_out.
+pub returns-in-Carry-clause-executed : goal.returns-in-Carry-clause-executed
+returns-in-Carry-clause-executed g c = λ task p t program words told accepts quiet quiet_out.
     let same = same_task _ _ _ _ _ c.in-Carry.ensures words in
     let here : g.F.Files.told c.args.files.now c.in-Carry.program.now ≡ Some t = subst (λ n. g.F.Files.told c.args.files.now n ≡ Some t) same.1 told in
-    let quiet_here : Rose (g.F.Files.faults c.args.files.now c.in-Carry.program.now) (g.F.Files.faults c.carry_out.new.files c.in-Carry.program.now) → ⊥ =
-    subst (λ n. Rose (g.F.Files.faults c.args.files.now n) (g.F.Files.faults c.carry_out.new.files n) → ⊥) same.1 quiet in
-    subst (λ k. IsCarriedOut k program c.carry_out.result (g.K.Sink.taken c.args.out.now) (g.K.Sink.taken c.carry_out.new.out)) (sym same.0)
-    (is_carried_out c.in-Carry.task _ t program c.carry_out.result _ _ here accepts c.carry_out.ensures.ends (λ failed. quiet_here (c.carry_out.ensures.read failed)) (λ failed. quiet_out (c.carry_out.ensures.write.failed failed))
-    c.carry_out.ensures.replies)
+    let quiet_here : Rose (g.F.Files.faults c.args.files.now c.in-Carry.program.now) (g.F.Files.faults c.execute.new.files c.in-Carry.program.now) → ⊥ =
+    subst (λ n. Rose (g.F.Files.faults c.args.files.now n) (g.F.Files.faults c.execute.new.files n) → ⊥) same.1 quiet in
+    subst (λ k. IsExecuted k program c.execute.result (g.K.Sink.taken c.args.out.now) (g.K.Sink.taken c.execute.new.out)) (sym same.0)
+    (is_executed c.in-Carry.task _ t program c.execute.result _ _ here accepts c.execute.ensures.ends (λ failed. quiet_here (c.execute.ensures.read failed)) (λ failed. quiet_out (c.execute.ensures.write.failed failed))
+    c.execute.ensures.replies)
 
 pub returns-in-Carry-clause-link : goal.returns-in-Carry-clause-link
-returns-in-Carry-clause-link g c = ends_unlinked c.carry_out.result _ c.carry_out.ensures.ends
+returns-in-Carry-clause-link g c = ends_unlinked c.execute.result _ c.execute.ensures.ends
 
 pub returns-in-Carry-clause-only_words : goal.returns-in-Carry-clause-only_words
-returns-in-Carry-clause-only_words g c = λ is. absurd (end_no_words c.carry_out.result c.carry_out.ensures.ends is)
+returns-in-Carry-clause-only_words g c = λ is. absurd (end_no_words c.execute.result c.execute.ensures.ends is)
 
 pub returns-in-Carry-clause-only_node : goal.returns-in-Carry-clause-only_node
-returns-in-Carry-clause-only_node g c = λ is. absurd (end_no_link c.carry_out.result c.carry_out.ensures.ends is)
+returns-in-Carry-clause-only_node g c = λ is. absurd (end_no_link c.execute.result c.execute.ensures.ends is)
 
 pub returns-in-Carry-clause-children : goal.returns-in-Carry-clause-children
-returns-in-Carry-clause-children g c = no_child_cause _ c.carry_out.result (end_no_child c.carry_out.result c.carry_out.ensures.ends)
+returns-in-Carry-clause-children g c = no_child_cause _ c.execute.result (end_no_child c.execute.result c.execute.ensures.ends)
 
 pub returns-in-Carry-clause-only_launch : goal.returns-in-Carry-clause-only_launch
-returns-in-Carry-clause-only_launch g c = λ is. absurd (end_no_child c.carry_out.result c.carry_out.ensures.ends is)
+returns-in-Carry-clause-only_launch g c = λ is. absurd (end_no_child c.execute.result c.execute.ensures.ends is)
 
 pub returns-in-Carry-clause-joins : goal.returns-in-Carry-clause-joins
 returns-in-Carry-clause-joins g c = λ p traces words. absurd (join_no_task _ _ _ words _ _ c.in-Carry.ensures)
@@ -295,8 +295,8 @@ returns-in-Join-clause-begun g c = λ p q words. absurd (join_no_replay _ _ _ c.
 pub returns-in-Join-clause-answers : goal.returns-in-Join-clause-answers
 returns-in-Join-clause-answers g c = λ task p words. absurd (join_no_task _ _ _ c.in-Join.ensures task p words)
 
-pub returns-in-Join-clause-carried_out : goal.returns-in-Join-clause-carried_out
-returns-in-Join-clause-carried_out g c = λ task p t program words. absurd (join_no_task _ _ _ c.in-Join.ensures task p words)
+pub returns-in-Join-clause-executed : goal.returns-in-Join-clause-executed
+returns-in-Join-clause-executed g c = λ task p t program words. absurd (join_no_task _ _ _ c.in-Join.ensures task p words)
 
 pub returns-in-Join-clause-begun_task : goal.returns-in-Join-clause-begun_task
 returns-in-Join-clause-begun_task g c = λ task p words. absurd (join_no_task _ _ _ c.in-Join.ensures task p words)

@@ -1,6 +1,6 @@
 use Rattle.std.proofs.Common.{◌<◌, ◌≤◌, length, refl, arith}
-use Rattle.da_machine.proofs.Fronts.{on_err}
-use Rattle.da_core.proofs.Asking.{AnswersPart, all_answered, answers_front, none_answered, one_answered}
+use Rattle.da_machine.proofs.Prefixes.{on_err}
+use Rattle.da_core.proofs.Asking.{AnswersPart, all_answered, answers_prefix, none_answered, one_answered}
 use Rattle.da_core.proofs.answers.tell_answers.Goals as goal
 
 pub loop-place-init : goal.loop-place-init
@@ -16,17 +16,17 @@ returns-clause-told c =
     let past : length c.args.known.now.plan.now.queries ≤ c.loop-place.place = omega (arith, c.loop-place-test.false, c.len-count.ensures) in
     all_answered c.args.known.now c.args.out.now c.loop-place.out c.loop-place.place past c.loop-place.invariant
 
-pub returns-in_err-n-clause-front : goal.returns-in_err-n-clause-front
-returns-in_err-n-clause-front c =
+pub returns-in_err-n-clause-prefix : goal.returns-in_err-n-clause-prefix
+returns-in_err-n-clause-prefix c =
     on_err _ (AnswersPart c.args.known.now c.args.out.now c.loop-place.out)
-    (answers_front c.args.known.now c.args.out.now c.loop-place.out c.loop-place.out c.loop-place.place refl c.loop-place.invariant)
+    (answers_prefix c.args.known.now c.args.out.now c.loop-place.out c.loop-place.out c.loop-place.place refl c.loop-place.invariant)
 
-pub returns-in_err-rows-clause-front : goal.returns-in_err-rows-clause-front
-returns-in_err-rows-clause-front c =
+pub returns-in_err-rows-clause-prefix : goal.returns-in_err-rows-clause-prefix
+returns-in_err-rows-clause-prefix c =
     on_err _ (AnswersPart c.args.known.now c.args.out.now c.loop-place.out)
-    (answers_front c.args.known.now c.args.out.now c.loop-place.out c.loop-place.out c.loop-place.place refl c.loop-place.invariant)
+    (answers_prefix c.args.known.now c.args.out.now c.loop-place.out c.loop-place.out c.loop-place.place refl c.loop-place.invariant)
 
-pub returns-in_err-push-clause-front : goal.returns-in_err-push-clause-front
-returns-in_err-push-clause-front c =
+pub returns-in_err-push-clause-prefix : goal.returns-in_err-push-clause-prefix
+returns-in_err-push-clause-prefix c =
     on_err _ (AnswersPart c.args.known.now c.args.out.now c.push.new.self)
-    (answers_front c.args.known.now c.args.out.now c.loop-place.out c.push.new.self c.loop-place.place c.in_err-push.ensures.err c.loop-place.invariant)
+    (answers_prefix c.args.known.now c.args.out.now c.loop-place.out c.push.new.self c.loop-place.place c.in_err-push.ensures.err c.loop-place.invariant)

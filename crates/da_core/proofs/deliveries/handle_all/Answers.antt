@@ -1,8 +1,8 @@
 use Rattle.std.proofs.Common.{rules, ◌≡◌, false, true}
 use Rattle.da_lang.specs.Labels.{is_open}
 use Rattle.std.proofs.lemmas.Slice.Zip.{either_empty_from_Zip}
-use Rattle.da_machine.specs.RunsTo.{IsFront}
-use Rattle.da_machine.proofs.Fronts.{on_err}
+use Rattle.da_machine.specs.RunsTo.{AddsPrefix}
+use Rattle.da_machine.proofs.Prefixes.{on_err}
 use Rattle.da_core.specs.Arrivals.{Whoever, all_handled}
 use Rattle.da_core.proofs.Arriving.{came_first, came_here, came_on, came_past, came_through, faults_here, handled_part, one_more, too_long, turns_left, turns_taken}
 use Rattle.da_core.proofs.deliveries.handle_all.Goals as goal
@@ -26,7 +26,7 @@ pub returns-in_err-answer-clause-part : goal.returns-in_err-answer-clause-part
 returns-in_err-answer-clause-part c =
     let here : is_open c.args.delivery.now.label c.in-Some.handler.now ≡ true = search rules in
     let came = came_here c.args.delivery.now _ _ _ _ _ _ _ _ _ c.in-Some.ensures.steps.0 c.in-Some.ensures.steps.1 c.handlers.invariant in
-    on_err _ (Whoever c.args.delivery.now c.args.known.now (λ p d. IsFront c.args.known.now.actions c.try_handler.new.known.actions (all_handled c.args.delivery.now d).actions))
+    on_err _ (Whoever c.args.delivery.now c.args.known.now (λ p d. AddsPrefix c.args.known.now.actions c.try_handler.new.known.actions (all_handled c.args.delivery.now d).actions))
     (handled_part c.args.delivery.now c.args.known.now c.handlers.known c.handlers.turns c.in-Some.handler.now c.in-Some.entry.now c.next.new.self.a.rest.now c.next.new.self.b.rest.now came here (turns_left c.handlers.turns c.if-turns-ge-MOST_TURNS.false)
     c.try_handler.new.known.actions c.in_err-answer.ensures.part)
 

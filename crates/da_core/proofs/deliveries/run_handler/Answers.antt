@@ -1,15 +1,15 @@
 use Rattle.std.proofs.Common.{[], subst, sym}
 use Rattle.da_lang.specs.Turns.{bind_all, do_all}
-use Rattle.da_machine.proofs.Fronts.{on_err}
+use Rattle.da_machine.proofs.Prefixes.{on_err}
 use Rattle.da_core.specs.Arrivals.{HasTried}
 use Rattle.da_core.specs.Known.{Becomes}
 use Rattle.da_core.proofs.Arriving.{TriedPart, has_tried, ready, tried_part}
-use Rattle.da_machine.proofs.Fronts.{same_front}
+use Rattle.da_machine.proofs.Prefixes.{same_prefix}
 use Rattle.da_core.proofs.deliveries.run_handler.Goals as goal
 
 pub returns-in_err-bind-clause-part : goal.returns-in_err-bind-clause-part
 returns-in_err-bind-clause-part c =
-    on_err _ (TriedPart c.args.delivery.now c.args.handler.now c.args.turns c.args.known.now c.bind.new.known.actions) (λ p d may go. same_front _ _ _ c.in_err-bind.ensures.actions)
+    on_err _ (TriedPart c.args.delivery.now c.args.handler.now c.args.turns c.args.known.now c.bind.new.known.actions) (λ p d may go. same_prefix _ _ _ c.in_err-bind.ensures.actions)
 
 pub run_code-requires-clause-ready : goal.run_code-requires-clause-ready
 run_code-requires-clause-ready c =

@@ -1,12 +1,12 @@
 use Rattle.std.proofs.Common.{refl, sym, ◌∙◌}
-use Rattle.da_machine.proofs.Fronts.{on_err}
+use Rattle.da_machine.proofs.Prefixes.{on_err}
 use Rattle.da_core.proofs.Arriving.{TriedPart, not_tried}
-use Rattle.da_machine.proofs.Fronts.{same_front}
+use Rattle.da_machine.proofs.Prefixes.{same_prefix}
 use Rattle.da_core.proofs.deliveries.try_handler.Goals as goal
 
 pub returns-in_err-row-clause-part : goal.returns-in_err-row-clause-part
 returns-in_err-row-clause-part c =
-    on_err _ (TriedPart c.args.delivery.now c.args.handler.now c.args.turns c.args.known.now c.args.known.now.actions) (λ p d may go. same_front _ _ _ refl)
+    on_err _ (TriedPart c.args.delivery.now c.args.handler.now c.args.turns c.args.known.now c.args.known.now.actions) (λ p d may go. same_prefix _ _ _ refl)
 
 pub returns-in-None-clause-tried : goal.returns-in-None-clause-tried
 returns-in-None-clause-tried c =

@@ -1,6 +1,6 @@
 use Rattle.std.proofs.Common.{Some}
 use Rattle.da_lang.specs.declared.code.Instr.TheVariants as op
-use Rattle.da_machine.proofs.Fronts.{nothing_new, on_err}
+use Rattle.da_machine.proofs.Prefixes.{nothing_new, on_err}
 use Rattle.da_machine.proofs.effects.print.Goals as goal
 
 pub returns-in_err-output-clause-began : goal.returns-in_err-output-clause-began

@@ -2,7 +2,7 @@ use Rattle.std.proofs.Common.{Option, Some, subst, sym, arith}
 use Rattle.std.proofs.lemmas.Option.{slice_get_within, slice_get_past}
 use Rattle.da_machine.specs.declared.machine.Stop.{Stop}
 use Rattle.da_machine.specs.RunsTo.{Acted}
-use Rattle.da_machine.proofs.Fronts.{on_err}
+use Rattle.da_machine.proofs.Prefixes.{on_err}
 use Rattle.da_machine.proofs.Measure.{goes_less}
 use Rattle.da_machine.proofs.Running.{may_act, running_on, run_ends, run_breaks, run_past}
 use Rattle.da_machine.proofs.run.run_machine.Goals as goal

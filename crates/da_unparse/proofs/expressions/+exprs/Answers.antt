@@ -5,17 +5,17 @@ use Rattle.da_unparse.proofs.TextsAt.{expr_text-Quant, expr_text-Or, expr_text-A
 use Rattle.da_unparse.proofs.TextRules.{seen, told, two_parts, three_parts, comp_parts, expr_text-count, expr_text-sum, expr_text-no_link, expr_text-first_link}
 use Rattle.da_unparse.proofs.expressions.+exprs.Goals as goal
 
-pub put_expr-returns-in_ok-put_gens_behind-in-Quant : goal.put_expr-returns-in_ok-put_gens_behind-in-Quant
-put_expr-returns-in_ok-put_gens_behind-in-Quant t c =
+pub put_expr-returns-in_ok-put_gens_after-in-Quant : goal.put_expr-returns-in_ok-put_gens_after-in-Quant
+put_expr-returns-in_ok-put_gens_after-in-Quant t c =
     let q = c.in-Quant in
     let before = c.args.out.now in
     let gens = separated (codes ", ") gen_text q.gens in
-    let begun : c.put_gens_behind.new.out ≡ before ++ (quantifier_text q.each ++ gens) =
-    c.in_ok-put_gens_behind-in-Quant.ensures
+    let begun : c.put_gens_after.new.out ≡ before ++ (quantifier_text q.each ++ gens) =
+    c.in_ok-put_gens_after-in-Quant.ensures
     ∙ ap (λ u. before ++ (u ++ separated (codes ", ") gen_text c.as_slice.result.now)) c.quantifier.ensures
     ∙ ap (λ gs. before ++ (quantifier_text q.each ++ separated (codes ", ") gen_text gs)) c.as_slice.ensures in
-    seen c.put_condition.result before c.put_gens_behind.new.out c.put_condition.new.out (condition_text q.cond) (expr_text c.args.x.now) c.put_condition.ensures
-    (two_parts before c.put_gens_behind.new.out (quantifier_text q.each ++ gens) (condition_text q.cond) (expr_text c.args.x.now) begun (ap expr_text q.is ∙ expr_text-Quant q.each q.gens q.cond))
+    seen c.put_condition.result before c.put_gens_after.new.out c.put_condition.new.out (condition_text q.cond) (expr_text c.args.x.now) c.put_condition.ensures
+    (two_parts before c.put_gens_after.new.out (quantifier_text q.each ++ gens) (condition_text q.cond) (expr_text c.args.x.now) begun (ap expr_text q.is ∙ expr_text-Quant q.each q.gens q.cond))
 
 pub put_expr-returns-in-Or : goal.put_expr-returns-in-Or
 put_expr-returns-in-Or t c = search (rules, expr_text-Or)
@@ -69,16 +69,16 @@ put_expr-returns-in-Tuple t c = search (rules, expr_text-Tuple)
 pub put_expr-returns-in-SetOf : goal.put_expr-returns-in-SetOf
 put_expr-returns-in-SetOf t c = search (rules, expr_text-SetOf)
 
-pub put_expr-returns-in_ok-put_gens_behind-in-Comp : goal.put_expr-returns-in_ok-put_gens_behind-in-Comp
-put_expr-returns-in_ok-put_gens_behind-in-Comp t c =
+pub put_expr-returns-in_ok-put_gens_after-in-Comp : goal.put_expr-returns-in_ok-put_gens_after-in-Comp
+put_expr-returns-in_ok-put_gens_after-in-Comp t c =
     let q = c.in-Comp in
     let before = c.args.out.now in
     let term = text_at either q.term in
     let gens = separated (codes ", ") gen_text q.gens in
     let first = c.put_behind-in-Comp.new.out in
-    let second = c.put_gens_behind-in-Comp.new.out in
+    let second = c.put_gens_after-in-Comp.new.out in
     let one : first ≡ before ++ (codes "{" ++ term) = c.in_ok-put_behind-in-Comp.ensures ∙ ap (λ x. before ++ (codes "{" ++ text_at either x)) c.get-in-Comp.ensures in
-    let two : second ≡ first ++ (codes ": " ++ gens) = c.in_ok-put_gens_behind-in-Comp.ensures ∙ ap (λ gs. first ++ (codes ": " ++ separated (codes ", ") gen_text gs)) c.as_slice-in-Comp.ensures in
+    let two : second ≡ first ++ (codes ": " ++ gens) = c.in_ok-put_gens_after-in-Comp.ensures ∙ ap (λ gs. first ++ (codes ": " ++ separated (codes ", ") gen_text gs)) c.as_slice-in-Comp.ensures in
     seen c.put_last_condition.result before second c.put_last_condition.new.out (condition_text q.cond ++ codes "}") (expr_text c.args.x.now) c.put_last_condition.ensures
     (three_parts before first second (codes "{" ++ term) (codes ": " ++ gens) (condition_text q.cond ++ codes "}") (expr_text c.args.x.now) one two
     (ap expr_text q.is ∙ expr_text-Comp q.term q.gens q.cond ∙ comp_parts (codes "{" ++ term) (codes ": ") gens (condition_text q.cond) (codes "}")))

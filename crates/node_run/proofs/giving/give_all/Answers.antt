@@ -5,8 +5,8 @@ use Rattle.node_run.proofs.GivingLaws.{gave_on, gave_some}
 use Rattle.node_run.proofs.TalkLaws.{carries_then}
 use Rattle.node_run.proofs.giving.give_all.Goals as goal
 
-pub returns-in_err-give-clause-front : goal.returns-in_err-give-clause-front
-returns-in_err-give-clause-front g c =
+pub returns-in_err-give-clause-prefix : goal.returns-in_err-give-clause-prefix
+returns-in_err-give-clause-prefix g c =
     let some : GainsSome (g.L.Link.told c.args.link.now) (g.L.Link.told c.give.new.link) (gifts c.args.actions.now) =
     gave_some _ _ _ _ _ _ c.loop-action-test.true c.action-item.is c.loop-action.invariant.gave c.in_err-give.ensures.same c.in_err-give.ensures.some in
     search rules

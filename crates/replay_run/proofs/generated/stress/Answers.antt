@@ -1,6 +1,6 @@
 use Rattle.std.proofs.Common.{subst}
-use Rattle.da_outside.specs.Outside.{Appends, AppendsFront}
-use Rattle.da_outside.proofs.OutsideLemmas.{front_whole}
+use Rattle.da_outside.specs.Outside.{Appends, AppendsPrefix}
+use Rattle.da_outside.proofs.OutsideLemmas.{prefix_whole}
 use Rattle.da_system.specs.State.{program_of}
 use Rattle.da_system.proofs.StressLaws.{all_allowed, at_most}
 use Rattle.replay_run.proofs.StressLemmas.{lines_are}
@@ -37,13 +37,13 @@ returns-in-Ok-write_summary-clause-ran g c = λ ended s stands.
     let come = c.in-Ok.ensures.ran s stands in
     record { stands = come.stands; written = subst (Appends _ _) (lines_are _ _ _ _ _ _ come) c.in-Ok-write_summary.ensures.written }
 
-pub returns-in-Ok-write_summary-clause-front : goal.returns-in-Ok-write_summary-clause-front
-returns-in-Ok-write_summary-clause-front g c = λ s stands.
+pub returns-in-Ok-write_summary-clause-prefix : goal.returns-in-Ok-write_summary-clause-prefix
+returns-in-Ok-write_summary-clause-prefix g c = λ s stands.
     let come = c.in-Ok.ensures.ran s stands in
-    front_whole _ _ _ (subst (Appends _ _) (lines_are _ _ _ _ _ _ come) c.in-Ok-write_summary.ensures.written)
+    prefix_whole _ _ _ (subst (Appends _ _) (lines_are _ _ _ _ _ _ come) c.in-Ok-write_summary.ensures.written)
 
-pub returns-in-Err-Failed-clause-front : goal.returns-in-Err-Failed-clause-front
-returns-in-Err-Failed-clause-front g c = λ s stands. subst (AppendsFront _ _) (lines_are _ _ _ _ _ _ (c.in-Ok.ensures.ran s stands)) c.in-Err-Failed.ensures.front
+pub returns-in-Err-Failed-clause-prefix : goal.returns-in-Err-Failed-clause-prefix
+returns-in-Err-Failed-clause-prefix g c = λ s stands. subst (AppendsPrefix _ _) (lines_are _ _ _ _ _ _ (c.in-Ok.ensures.ran s stands)) c.in-Err-Failed.ensures.prefix
 
-pub returns-in-Err-Memory-clause-front : goal.returns-in-Err-Memory-clause-front
-returns-in-Err-Memory-clause-front g c = λ s stands. subst (AppendsFront _ _) (lines_are _ _ _ _ _ _ (c.in-Ok.ensures.ran s stands)) c.in-Err-Memory.ensures.front
+pub returns-in-Err-Memory-clause-prefix : goal.returns-in-Err-Memory-clause-prefix
+returns-in-Err-Memory-clause-prefix g c = λ s stands. subst (AppendsPrefix _ _) (lines_are _ _ _ _ _ _ (c.in-Ok.ensures.ran s stands)) c.in-Err-Memory.ensures.prefix

@@ -1,5 +1,5 @@
 use Rattle.std.proofs.Common.{refl, rules}
-use Rattle.da_outside.proofs.OutsideLemmas.{front_whole}
+use Rattle.da_outside.proofs.OutsideLemmas.{prefix_whole}
 use Rattle.replay_run.proofs.RunLemmas.{came_first, came_on, fails_here, ran_all, stop_fails, stops_exactly, stops_here}
 use Rattle.replay_run.proofs.run.replay.Goals as goal
 
@@ -22,26 +22,26 @@ returns-in-Ok-false-clause-ran g c = λ ended s stands.
     stops_here _ _ _ _ _ _ _ came _ c.loop-place.invariant.program _ c.loop-place-test.true _ _ _ _ (c.in-Ok-false.ensures.tried came.now came.stands) c.in-Ok-false.field-0-test
     _ (c.stop_at.ensures.stopped ended).0 (c.stop_at.ensures.stopped ended).1
 
-pub returns-in-Ok-false-clause-front : goal.returns-in-Ok-false-clause-front
-returns-in-Ok-false-clause-front g c = λ s stands.
+pub returns-in-Ok-false-clause-prefix : goal.returns-in-Ok-false-clause-prefix
+returns-in-Ok-false-clause-prefix g c = λ s stands.
     let came = c.loop-place.invariant.came s stands in
-    stop_fails _ _ _ _ _ _ _ came _ c.loop-place.invariant.program _ c.loop-place-test.true _ _ _ _ (c.in-Ok-false.ensures.tried came.now came.stands) c.in-Ok-false.field-0-test c.stop_at.ensures.front
+    stop_fails _ _ _ _ _ _ _ came _ c.loop-place.invariant.program _ c.loop-place-test.true _ _ _ _ (c.in-Ok-false.ensures.tried came.now came.stands) c.in-Ok-false.field-0-test c.stop_at.ensures.prefix
 
-pub returns-in-Err-Failed-clause-front : goal.returns-in-Err-Failed-clause-front
-returns-in-Err-Failed-clause-front g c = λ s stands.
+pub returns-in-Err-Failed-clause-prefix : goal.returns-in-Err-Failed-clause-prefix
+returns-in-Err-Failed-clause-prefix g c = λ s stands.
     let came = c.loop-place.invariant.came s stands in
-    fails_here _ _ _ _ _ _ _ came _ c.loop-place.invariant.program _ c.loop-place-test.true _ (c.in-Err-Failed.ensures.front came.now came.stands)
+    fails_here _ _ _ _ _ _ _ came _ c.loop-place.invariant.program _ c.loop-place-test.true _ (c.in-Err-Failed.ensures.prefix came.now came.stands)
 
-pub returns-in-Err-Memory-clause-front : goal.returns-in-Err-Memory-clause-front
-returns-in-Err-Memory-clause-front g c = λ s stands.
+pub returns-in-Err-Memory-clause-prefix : goal.returns-in-Err-Memory-clause-prefix
+returns-in-Err-Memory-clause-prefix g c = λ s stands.
     let came = c.loop-place.invariant.came s stands in
-    fails_here _ _ _ _ _ _ _ came _ c.loop-place.invariant.program _ c.loop-place-test.true _ (c.in-Err-Memory.ensures.front came.now came.stands)
+    fails_here _ _ _ _ _ _ _ came _ c.loop-place.invariant.program _ c.loop-place-test.true _ (c.in-Err-Memory.ensures.prefix came.now came.stands)
 
 pub returns-clause-ran : goal.returns-clause-ran
 returns-clause-ran g c = λ ended s stands. ran_all _ _ _ _ _ _ _ (c.loop-place.invariant.came s stands) c.loop-place-test.false
 
-pub returns-clause-front : goal.returns-clause-front
-returns-clause-front g c = λ s stands. front_whole _ _ _ (ran_all _ _ _ _ _ _ _ (c.loop-place.invariant.came s stands) c.loop-place-test.false).written
+pub returns-clause-prefix : goal.returns-clause-prefix
+returns-clause-prefix g c = λ s stands. prefix_whole _ _ _ (ran_all _ _ _ _ _ _ _ (c.loop-place.invariant.came s stands) c.loop-place-test.false).written
 
 -- WHERE IT STOPS
 

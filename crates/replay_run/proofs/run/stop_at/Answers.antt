@@ -1,5 +1,5 @@
-use Rattle.da_outside.proofs.OutsideLemmas.{front_whole}
+use Rattle.da_outside.proofs.OutsideLemmas.{prefix_whole}
 use Rattle.replay_run.proofs.run.stop_at.Goals as goal
 
-pub returns-in-Ok-clause-front : goal.returns-in-Ok-clause-front
-returns-in-Ok-clause-front g c = front_whole _ _ _ c.in-Ok.ensures.written
+pub returns-in-Ok-clause-prefix : goal.returns-in-Ok-clause-prefix
+returns-in-Ok-clause-prefix g c = prefix_whole _ _ _ c.in-Ok.ensures.written

@@ -1,5 +1,5 @@
 use Rattle.std.proofs.Common.{refl, rules, []}
-use Rattle.da_outside.specs.Outside.{AppendsFront}
+use Rattle.da_outside.specs.Outside.{AppendsPrefix}
 use Rattle.da_system.specs.State.{HasStepped, Whichever, program_of}
 use Rattle.da_system.specs.SystemStep.{sys_step}
 use Rattle.replay_run.specs.Replay.{step_text}
@@ -13,11 +13,11 @@ returns-in-Err-Forbidden-clause-tried g c = λ s stands. record {
   unwritten = refl;
 }
 
-pub returns-in_err-write_actions-clause-front : goal.returns-in_err-write_actions-clause-front
-returns-in_err-write_actions-clause-front g c =
+pub returns-in_err-write_actions-clause-prefix : goal.returns-in_err-write_actions-clause-prefix
+returns-in_err-write_actions-clause-prefix g c =
     let stepped : Whichever c.args.system.now (λ s. HasStepped (sys_step (program_of c.args.system.now) s c.args.event.now) c.step.new.self [] c.step.new.out) = rw (← c.new-actions.ensures) c.in-Ok.ensures.steps in
-    let front : Whichever c.args.system.now (λ s. AppendsFront (g.K.Sink.taken c.args.sink.now) (g.K.Sink.taken c.write_actions.new.sink) (step_text (program_of c.args.system.now) s c.args.event.now)) =
-    some_done (program_of c.args.system.now) c.args.event.now _ _ _ _ stepped c.as_slice.ensures _ _ c.in_err-write_actions.ensures.front in
+    let front : Whichever c.args.system.now (λ s. AppendsPrefix (g.K.Sink.taken c.args.sink.now) (g.K.Sink.taken c.write_actions.new.sink) (step_text (program_of c.args.system.now) s c.args.event.now)) =
+    some_done (program_of c.args.system.now) c.args.event.now _ _ _ _ stepped c.as_slice.ensures _ _ c.in_err-write_actions.ensures.prefix in
     search rules
 
 pub returns-clause-tried : goal.returns-clause-tried

@@ -4,9 +4,9 @@ use Rattle.schedule_hunt.proofs.runs.pick_next.Goals as goal
 pub returns-clause-picked : goal.returns-clause-picked
 returns-clause-picked c = λ s stands.
     picked_here _ _ _ _ _ _ _ _ _ _ c.next_number-number.ensures (c.choices-choices.ensures.number s stands) c.place_in.ensures.place (c.choice-event.ensures.event s stands)
-    c.if-not-branch.false (c.in_ok-carry_out.ensures.carried s stands) c.in_ok-push.ensures.ok
+    c.if-not-branch.false (c.in_ok-execute.ensures.carried s stands) c.in_ok-push.ensures.ok
 
 pub unreachable-requires : goal.unreachable-requires
 unreachable-requires c =
     let (s, stands) = picking_state _ _ c.requires c.choices-choices.ensures.spent c.if-choices-eq0.false in
-    not_refused _ c.args.trial.now.run c.carry_out.new.run _ (c.choice-event.ensures.allowed s stands) c.if-not-branch.true (c.in_ok-carry_out.ensures.carried s stands)
+    not_refused _ c.args.trial.now.run c.execute.new.run _ (c.choice-event.ensures.allowed s stands) c.if-not-branch.true (c.in_ok-execute.ensures.carried s stands)

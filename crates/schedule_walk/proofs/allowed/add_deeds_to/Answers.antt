@@ -10,5 +10,5 @@ loop-place-preserved c = λ s stands.
 
 pub returns : goal.returns
 returns c = λ s stands.
-    let all : c.loop-place.place ≡ c.under_way-count.result = omega (arith, c.loop-place-test.false, c.loop-place.auto.place-end) in
-    deeds_added (is_allowed (program_of c.args.system.now) s) c.args.deed s c.args.p c.args.q c.loop-place.place c.under_way-count.result c.args.out.now c.loop-place.out all (c.under_way-count.ensures s stands) (c.loop-place.invariant s stands)
+    let all : c.loop-place.place ≡ c.in_flight-count.result = omega (arith, c.loop-place-test.false, c.loop-place.auto.place-end) in
+    deeds_added (is_allowed (program_of c.args.system.now) s) c.args.deed s c.args.p c.args.q c.loop-place.place c.in_flight-count.result c.args.out.now c.loop-place.out all (c.in_flight-count.ensures s stands) (c.loop-place.invariant s stands)

@@ -9,4 +9,4 @@ use Rattle.scout_commands.proofs.searching.answer_walk.Goals as goal
 pub returns-clause-replies : goal.returns-clause-replies
 returns-clause-replies g c = λ t accepts.
     subst (λ s. Answers (SearchReply t (Walk c.args.start c.args.most)) s (g.K.Sink.taken c.args.out.now) (g.K.Sink.taken c.walk.new.sink)) (sym c.status_of_run.ensures)
-    (walk_replied t (program_of c.args.compiled.now) _ _ c.in-Ok.ensures.program c.in-Ok.ensures.start accepts c.args.start c.args.most c.walk.new.system _ _ c.walk.result c.walk.ensures.ran c.walk.ensures.done c.walk.ensures.front)
+    (walk_replied t (program_of c.args.compiled.now) _ _ c.in-Ok.ensures.program c.in-Ok.ensures.start accepts c.args.start c.args.most c.walk.new.system _ _ c.walk.result c.walk.ensures.ran c.walk.ensures.done c.walk.ensures.prefix)

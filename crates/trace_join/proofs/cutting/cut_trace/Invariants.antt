@@ -1,4 +1,4 @@
--- So far the trace was cut, and the process stands behind.
+-- So far the trace was cut, and the process stands after it.
 use Rattle.std.proofs.Common.{length}
 use Rattle.da_lang.specs.World.{opening}
 use Rattle.da_core.specs.Compiled.{program_of}

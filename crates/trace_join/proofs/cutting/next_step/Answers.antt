@@ -1,7 +1,7 @@
 -- What the step told decides.
 use Rattle.std.proofs.Common.{ap, length, sym, ◌∙◌}
 use Rattle.da_core.specs.StandsFor.{StandsFor, program_of}
-use Rattle.trace_join.proofs.NextLaws.{goes_on, goes_shorter, stops_before, stops_behind}
+use Rattle.trace_join.proofs.NextLaws.{goes_on, goes_shorter, stops_before, stops_after}
 use Rattle.trace_join.proofs.cutting.next_step.Goals as goal
 
 pub returns-in_default-2-clause-step : goal.returns-in_default-2-clause-step
@@ -11,7 +11,7 @@ returns-in_default-2-clause-step c = λ w stands.
 
 pub returns-in-None-clause-step : goal.returns-in-None-clause-step
 returns-in-None-clause-step c = λ w stands.
-    stops_behind (program_of c.args.core.now) w c.args.trace.now c.in-Some.asked.now c.in-Some.ensures.value
+    stops_after (program_of c.args.core.now) w c.args.trace.now c.in-Some.asked.now c.in-Some.ensures.value
     (StandsFor c.make_step.new.core) c.new-told.result c.make_step.new.told c.as_slice.result.now c.in-Some-2.times_out c.new-told.ensures c.as_slice.ensures
     ((rw c.in-Some-2.is at c.in_ok-times_out.ensures.step) w stands) c.in-None.ensures
 

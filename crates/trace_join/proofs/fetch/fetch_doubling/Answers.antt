@@ -1,4 +1,4 @@
--- With its copy there is one letter more, and both ways it leaves as it should.
+-- With its copy there is one message more, and both ways it leaves as it should.
 use Rattle.trace_join.proofs.FetchLaws.{copy_fetched, last_fetched, longer_by}
 use Rattle.trace_join.proofs.fetch.fetch_doubling.Goals as goal
 

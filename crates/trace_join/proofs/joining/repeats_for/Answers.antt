@@ -1,4 +1,4 @@
--- Where letters are not doubled nothing is asked.
+-- Where messages are not doubled nothing is asked.
 use Rattle.trace_join.proofs.AllRepeatsLaws.{tells_nothing}
 use Rattle.trace_join.proofs.joining.repeats_for.Goals as goal
 

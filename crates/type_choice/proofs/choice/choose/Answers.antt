@@ -63,3 +63,6 @@ pub returns-clause-chosen : goal.returns-clause-chosen
 returns-clause-chosen c =
     λ can. whole_chosen c.args.forms.now c.push-2.new.self c.len-proc.result c.len-set.result c.args.adds.now c.args.receives.now c.requires.table c.requires.adds c.requires.receives
     (based c.args.forms.now c.push.new.self c.push-2.new.self c.len-proc.result c.len-set.result c.len-proc.ensures c.in_ok-push.ensures.ok c.len-set.ensures c.in_ok-push-2.ensures.ok) c.force_all.new.forms (c.in_ok-force_all.ensures.forced c.if-not-branch.false) c.in_ok-ends.ends c.as_slice.result.now c.in_ok-ends.ensures.is c.as_slice.ensures c.fill.new.forms c.fill.ensures (c.in_ok-force_all.ensures.ready c.if-not-branch.false) c.all_add.result c.all_receive.result c.all_add.ensures c.if-not-all_add.false c.all_receive.ensures c.if-not-all_receive.false (subst (λ z. Fits (types_of z) z) c.as_slice-2.ensures (c.in_ok-can.ensures.fits can))
+
+pub returns-clause-fits : goal.returns-clause-fits
+returns-clause-fits c = λ can. subst (λ z. Fits (types_of z) z) c.as_slice-2.ensures (c.in_ok-can.ensures.fits can)

@@ -1,3 +1,4 @@
+use Rattle.type_choice.proofs.CountLaws.{no_longer}
 use Rattle.type_choice.proofs.KeepLaws.{no_deeper, still_ordered, still_no_set}
 use Rattle.type_choice.proofs.lean.lean_types.Goals as goal
 
@@ -9,3 +10,6 @@ returns-clause-ordered c = still_ordered
 
 pub returns-clause-single : goal.returns-clause-single
 returns-clause-single c = still_no_set
+
+pub returns-clause-tokens : goal.returns-clause-tokens
+returns-clause-tokens c = no_longer

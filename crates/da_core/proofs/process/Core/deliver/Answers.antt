@@ -11,8 +11,8 @@ pub returns-in_default-clause-allowed : goal.returns-in_default-clause-allowed
 returns-in_default-clause-allowed c = λ w s none.
     absurd (arrives_there c.args.self.now w s (val_of c.args.m.now) c.args.from c.args.time ((c.lets_arrive.ensures w s c.args.time).0 (search rules)) none)
 
-pub returns-in_default-clause-front : goal.returns-in_default-clause-front
-returns-in_default-clause-front c = λ fault w s.
+pub returns-in_default-clause-prefix : goal.returns-in_default-clause-prefix
+returns-in_default-clause-prefix c = λ fault w s.
     begins_there c.args.self.now w s (val_of c.args.m.now) c.args.from c.args.time ((c.lets_arrive.ensures w s c.args.time).0 (search rules)) c.args.out.now
 
 pub returns-clause-allowed : goal.returns-clause-allowed

@@ -1,7 +1,7 @@
 use Rattle.std.proofs.Common.{rules, ◌≡◌, ◌∙◌, Some, ap, length}
 use Rattle.std.specs.Prelude.{slice_set}
 use Rattle.da_lang.specs.declared.event.Action.TheVariants as action
-use Rattle.da_machine.proofs.Fronts.{on_err}
+use Rattle.da_machine.proofs.Prefixes.{on_err}
 use Rattle.da_core.specs.StandsFor.{program_of}
 use Rattle.da_core.proofs.Telling.{ArrivedPart, labelled_so, may_take, took, took_part}
 use Rattle.da_core.proofs.process.Core.run_delivery.Goals as goal
@@ -14,8 +14,8 @@ take_in-run-requires c =
     let labelled = labelled_so x c.in-Some-Some.code.now c.args.self.now.machine.place c.label_at-label.result made.code made.label c.label_at-label.ensures in
     (_, _, _, may_take c.args.self.now w s x c.args.time c.args.m c.args.from (ap Some made.class ∙ c.in-Some-Some.ensures) (ap Some made.code ∙ c.in-Some-Some.ensures') labelled made.message made.from c.requires.arrives (c.requires.taken w s) c.replace.result)
 
-pub returns-in_err-place-clause-front : goal.returns-in_err-place-clause-front
-returns-in_err-place-clause-front c =
+pub returns-in_err-place-clause-prefix : goal.returns-in_err-place-clause-prefix
+returns-in_err-place-clause-prefix c =
     let x = c.delivery_of-delivery.result in
     let made = c.delivery_of-delivery.ensures in
     let labelled = labelled_so x c.in-Some-Some.code.now c.args.self.now.machine.place c.label_at-label.result made.code made.label c.label_at-label.ensures in

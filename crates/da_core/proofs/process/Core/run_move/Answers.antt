@@ -1,6 +1,6 @@
 use Rattle.std.proofs.Common.{◌∙◌}
 use Rattle.da_core.specs.StandsFor.{program_of}
-use Rattle.da_machine.proofs.Fronts.{on_err}
+use Rattle.da_machine.proofs.Prefixes.{on_err}
 use Rattle.da_core.proofs.Moving.{MovedPart, has_begun, has_made, may_with, stands_after}
 use Rattle.da_core.proofs.process.Core.run_move.Goals as goal
 
@@ -10,8 +10,8 @@ run_from-run-requires c =
     let (w, step, s, can) = c.requires in
     (program_of core, can.class, can.d, can.todo, may_with (program_of core) can.class c.args.code.now core.known core.machine c.args.k c.args.begin can.d can.todo c.replace.result can.may)
 
-pub returns-in_err-place-clause-front : goal.returns-in_err-place-clause-front
-returns-in_err-place-clause-front c =
+pub returns-in_err-place-clause-prefix : goal.returns-in_err-place-clause-prefix
+returns-in_err-place-clause-prefix c =
     let core = c.args.self.now in
     let code = c.args.code.now in
     let begin = c.args.begin in

@@ -1,7 +1,7 @@
 use Rattle.std.proofs.Common.{ap, map}
 use Rattle.da_values.specs.Value.{val_of}
 use Rattle.da_values.specs.Views.{proc_of}
-use Rattle.da_machine.proofs.Fronts.{on_err}
+use Rattle.da_machine.proofs.Prefixes.{on_err}
 use Rattle.da_core.proofs.Sending.{sends_end, sends_first, sends_next, sends_some, sends_stop, sends_told}
 use Rattle.da_core.proofs.store.KnownStore.send.Goals as goal
 
@@ -10,11 +10,11 @@ send_one-requires c =
     let (p, class, d, knows, known, may) = c.requires in
     sends_some (val_of c.args.m.now) (map proc_of c.args.to.now) _ c.args.self.now c.processes.self (p, class, d, knows) c.processes.invariant
 
-pub returns-in_err-send_one-clause-front : goal.returns-in_err-send_one-clause-front
-returns-in_err-send_one-clause-front c =
+pub returns-in_err-send_one-clause-prefix : goal.returns-in_err-send_one-clause-prefix
+returns-in_err-send_one-clause-prefix c =
     on_err _ _
     (sends_stop c.args.m.now c.as_slice-processes.result.now c.processes.process-index c.process-item.result c.number_of.result (map proc_of c.args.to.now) c.args.self.now c.processes.self c.send_one.new.self
-    c.processes-test.true c.process-item.is c.number_of.ensures c.processes.invariant c.in_err-send_one.ensures.front)
+    c.processes-test.true c.process-item.is c.number_of.ensures c.processes.invariant c.in_err-send_one.ensures.prefix)
 
 pub processes-init : goal.processes-init
 processes-init c = sends_first (val_of c.args.m.now) (map proc_of c.args.to.now) _ c.args.self.now (ap (map proc_of) c.as_slice-processes.ensures.items)

@@ -2,16 +2,16 @@ use Rattle.std.proofs.Common.{◌<◌, ◌≤◌, arith, refl}
 use Rattle.std.specs.List.{filter}
 use Rattle.da_system.specs.Choices.{deliveries_to, is_allowed}
 use Rattle.da_system.specs.State.{program_of}
-use Rattle.da_system.proofs.ChoiceLemmas.{letters_start, no_letters, one_letter}
+use Rattle.da_system.proofs.ChoiceLemmas.{messages_start, no_messages, one_message}
 use Rattle.da_system.proofs.FindLemmas.{piece_here, piece_on, pieces_end}
 use Rattle.da_system.proofs.system.System.find_delivery_to.Goals as goal
 
-pub returns-then-under_way-eq0-clause-found : goal.returns-then-under_way-eq0-clause-found
-returns-then-under_way-eq0-clause-found c = λ s stands. no_letters c.args.self.now s stands c.args.p c.args.q c.args.j c.under_way.result (c.under_way.ensures s stands) c.if-under_way-eq0.true
+pub returns-then-in_flight-eq0-clause-found : goal.returns-then-in_flight-eq0-clause-found
+returns-then-in_flight-eq0-clause-found c = λ s stands. no_messages c.args.self.now s stands c.args.p c.args.q c.args.j c.in_flight.result (c.in_flight.ensures s stands) c.if-in_flight-eq0.true
 
 pub loop-place-init : goal.loop-place-init
 loop-place-init c = record {
-  leads = λ s stands. letters_start (is_allowed (program_of c.args.self.now) s) c.args.p c.args.q c.args.j 4 refl;
+  leads = λ s stands. messages_start (is_allowed (program_of c.args.self.now) s) c.args.p c.args.q c.args.j 4 refl;
   few = omega arith;
 }
 
@@ -19,14 +19,14 @@ pub returns-in-Ok-clause-found : goal.returns-in-Ok-clause-found
 returns-in-Ok-clause-found c = λ s stands.
     let allowed = is_allowed (program_of c.args.self.now) s in
     let inside : c.loop-place.place < 4 = omega (arith, c.loop-place-test.true) in
-    piece_here allowed (one_letter c.args.p c.args.q) (filter allowed (deliveries_to c.args.p c.args.q)) c.args.j _ _ _ (c.loop-place.invariant.leads s stands) inside _ (c.in-Ok.ensures.found s stands)
+    piece_here allowed (one_message c.args.p c.args.q) (filter allowed (deliveries_to c.args.p c.args.q)) c.args.j _ _ _ (c.loop-place.invariant.leads s stands) inside _ (c.in-Ok.ensures.found s stands)
 
 pub loop-place-preserved : goal.loop-place-preserved
 loop-place-preserved c = record {
   leads = λ s stands.
       let allowed = is_allowed (program_of c.args.self.now) s in
       let inside : c.loop-place.place < 4 = omega (arith, c.loop-place-test.true) in
-      piece_on allowed (one_letter c.args.p c.args.q) (filter allowed (deliveries_to c.args.p c.args.q)) c.args.j _ _ _ (c.loop-place.invariant.leads s stands) inside _ (c.in-Err.ensures.found s stands);
+      piece_on allowed (one_message c.args.p c.args.q) (filter allowed (deliveries_to c.args.p c.args.q)) c.args.j _ _ _ (c.loop-place.invariant.leads s stands) inside _ (c.in-Err.ensures.found s stands);
   few = omega (arith, c.loop-place.invariant.few, c.in-Err.ensures.few);
 }
 
@@ -34,4 +34,4 @@ pub returns-clause-found : goal.returns-clause-found
 returns-clause-found c = λ s stands.
     let allowed = is_allowed (program_of c.args.self.now) s in
     let past : 4 ≤ c.loop-place.place = omega (arith, c.loop-place-test.false) in
-    pieces_end allowed (one_letter c.args.p c.args.q) (filter allowed (deliveries_to c.args.p c.args.q)) c.args.j _ _ _ (c.loop-place.invariant.leads s stands) past
+    pieces_end allowed (one_message c.args.p c.args.q) (filter allowed (deliveries_to c.args.p c.args.q)) c.args.j _ _ _ (c.loop-place.invariant.leads s stands) past

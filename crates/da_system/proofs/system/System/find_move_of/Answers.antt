@@ -2,7 +2,7 @@ use Rattle.std.proofs.Common.{arith}
 use Rattle.std.specs.List.{filter}
 use Rattle.da_system.specs.Choices.{is_allowed}
 use Rattle.da_system.specs.State.{program_of}
-use Rattle.da_system.proofs.ChoiceLemmas.{among_moves, behind_first, behind_moves, first_move, one_take, takes_of}
+use Rattle.da_system.proofs.ChoiceLemmas.{among_moves, after_first, after_moves, first_move, one_take, takes_of}
 use Rattle.da_system.proofs.FindLemmas.{piece_here, piece_on, pieces_end}
 use Rattle.da_system.proofs.system.System.find_move_of.Goals as goal
 
@@ -11,7 +11,7 @@ returns-in-Ok-clause-found c = λ s stands. first_move (program_of c.args.self.n
 
 pub loop-place-init : goal.loop-place-init
 loop-place-init c = record {
-  leads = λ s stands. behind_first (program_of c.args.self.now) s c.args.p _ c.args.j (c.alternatives-place-end.ensures s stands) _ (c.in-Err.ensures.found s stands);
+  leads = λ s stands. after_first (program_of c.args.self.now) s c.args.p _ c.args.j (c.alternatives-place-end.ensures s stands) _ (c.in-Err.ensures.found s stands);
   few = omega (arith, c.in-Err.ensures.few);
 }
 
@@ -32,5 +32,5 @@ loop-place-preserved c = record {
 pub returns-clause-found : goal.returns-clause-found
 returns-clause-found c = λ s stands.
     let allowed = is_allowed (program_of c.args.self.now) s in
-    behind_moves (program_of c.args.self.now) s c.args.p c.args.j _ _
+    after_moves (program_of c.args.self.now) s c.args.p c.args.j _ _
     (pieces_end allowed (one_take c.args.p) (filter allowed (takes_of s c.args.p)) c.args.j _ _ _ (c.loop-place.invariant.leads s stands) c.loop-place-test.false) (c.find_one-2.ensures.found s stands)

@@ -4,7 +4,7 @@ use Rattle.da_lang.specs.declared.program.Program.{Program}
 use Rattle.da_lang.specs.World.{opening}
 use Rattle.da_types.proofs.sound.AcceptedLaws.{is_sound}
 use Rattle.da_core.specs.Compiled.{program_of}
-use Rattle.da_system.specs.Channels.{no_letters}
+use Rattle.da_system.specs.Channels.{no_messages}
 use Rattle.da_system.specs.Queues.{StandsFor}
 use Rattle.da_system.specs.State.{StandFrom}
 use Rattle.da_system.specs.SystemStep.{start}
@@ -56,7 +56,7 @@ returns-clause-ready c =
     λ unspent. (
       start (program_of c.args.compiled.now),
       opened_stands _ c.loop-place.place refl c.requires (all ∙ ap (λ (p : Program). length p.procs) c.program.ensures) c.loop-place.invariant
-          (c.in_ok-channels.ensures.count ∙ procs) (subst (λ n. StandsFor c.in_ok-channels.channels (no_letters n)) procs c.in_ok-channels.ensures.stands),
+          (c.in_ok-channels.ensures.count ∙ procs) (subst (λ n. StandsFor c.in_ok-channels.channels (no_messages n)) procs c.in_ok-channels.ensures.stands),
     )
 
 pub returns-clause-start : goal.returns-clause-start
@@ -64,7 +64,7 @@ returns-clause-start c =
     let all : c.loop-place.place ≡ length c.program.result.now.procs = omega (arith, c.loop-place-test.false, c.loop-place.auto.place-end, c.len-count.ensures) in
     let procs : c.len-count.result ≡ length (program_of c.args.compiled.now).procs = c.len-count.ensures ∙ ap (λ (p : Program). length p.procs) c.program.ensures in
     opened_stands _ c.loop-place.place refl c.requires (all ∙ ap (λ (p : Program). length p.procs) c.program.ensures) c.loop-place.invariant
-    (c.in_ok-channels.ensures.count ∙ procs) (subst (λ n. StandsFor c.in_ok-channels.channels (no_letters n)) procs c.in_ok-channels.ensures.stands)
+    (c.in_ok-channels.ensures.count ∙ procs) (subst (λ n. StandsFor c.in_ok-channels.channels (no_messages n)) procs c.in_ok-channels.ensures.stands)
 
 pub returns-clause-sound : goal.returns-clause-sound
 returns-clause-sound c = sound_start (program_of c.args.compiled.now) c.requires.accepted

@@ -2,7 +2,7 @@ use Rattle.std.proofs.Common.{◌≡◌, ◌++◌, refl, sym}
 use Rattle.da_lang.specs.World.{class_of}
 use Rattle.da_core.specs.StandsFor as process
 use Rattle.da_core.specs.Told.{answers_of}
-use Rattle.da_machine.specs.RunsTo.{IsFront}
+use Rattle.da_machine.specs.RunsTo.{AddsPrefix}
 use Rattle.da_system.proofs.StepLemmas.{begins_to_show, may_tell, none_told, shows, unspent_there}
 use Rattle.da_system.proofs.Tested.{when_err, when_ok}
 use Rattle.da_system.proofs.system.System.show.Goals as goal
@@ -25,8 +25,8 @@ returns-then-is_err-clause-answers c = (
   refl,
   λ s stands. begins_to_show c.args.self.now s stands c.args.p c.in-Some.core.now (sym c.in-Some.ensures) c.args.out.now c.answers.new.out
       (when_err c.answers.result c.is_err.result c.is_err.ensures.value
-      (process.Whichever c.in-Some.core.now (λ w. IsFront c.args.out.now c.answers.new.out (answers_of w.data'.me (class_of (process.program_of c.in-Some.core.now) w.data'.me) w.data')))
-      c.if-is_err.true c.answers.ensures.front),
+      (process.Whichever c.in-Some.core.now (λ w. AddsPrefix c.args.out.now c.answers.new.out (answers_of w.data'.me (class_of (process.program_of c.in-Some.core.now) w.data'.me) w.data')))
+      c.if-is_err.true c.answers.ensures.prefix),
 )
 
 pub returns-clause-answers : goal.returns-clause-answers

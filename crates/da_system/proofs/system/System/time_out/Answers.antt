@@ -46,7 +46,7 @@ returns-in-Ok-clause-answers c =
 pub returns-in-Err-Memory-clause-answers : goal.returns-in-Err-Memory-clause-answers
 returns-in-Err-Memory-clause-answers c =
     let there = numbered_at c.args.self.now.cores.items c.args.p c.in-Some.place c.index_mut-core.result.now c.in-Some.ensures.0 c.in-Some.ensures.1 c.index_mut-core.ensures.value in
-    (refl, λ s stands. core_begins c.args.self.now s stands (process_step (program_of c.args.self.now) s c.args.p TimeOut) s.channels c.args.p TimeOut refl c.index_mut-core.result.now there c.args.out.now c.make_timeout.new.out (c.in-Err-Memory.ensures.front (search rules)))
+    (refl, λ s stands. core_begins c.args.self.now s stands (process_step (program_of c.args.self.now) s c.args.p TimeOut) s.channels c.args.p TimeOut refl c.index_mut-core.result.now there c.args.out.now c.make_timeout.new.out (c.in-Err-Memory.ensures.prefix (search rules)))
 
 pub returns-in-Err-Forbidden-clause-answers : goal.returns-in-Err-Forbidden-clause-answers
 returns-in-Err-Forbidden-clause-answers c =

@@ -1,4 +1,4 @@
--- The next step is there and can be asked for, and behind it the search is ready again.
+-- The next step is there and can be asked for, and after it the search is ready again.
 use Rattle.std.proofs.Common.{◌≡◌, ◌+◌, ◌<◌, List, ap, arith, length, refl, subst}
 use Rattle.std.proofs.lemmas.Option.{slice_get_within}
 use Rattle.std.specs.Prelude.{false}

@@ -1,0 +1,6 @@
+use Rattle.type_choice.specs.Looks.{few_levels}
+use Rattle.type_choice.proofs.SeenLaws.{SeenTo}
+use Rattle.type_choice.proofs.sizes.level_numbers.Given as goal
+
+abbrev pub invariant-loop-number : goal.invariant-loop-number
+invariant-loop-number l = SeenTo few_levels l.forms l.order l.number-index l.levels
