@@ -1,11 +1,11 @@
 /* Refuses what a program asks of the C library. `.ci/refused` preloads it into the program that it tries, and says in the
  * environment what is refused:
- *   REFUSED=WHAT:HOW:N   the Nth call of a kind; with HOW `one` it alone fails, with `all` it and each one behind it; with
- *                        `short` it reads or takes one byte, and with `shorts` each one behind it too. With N 0 none fails.
+ *   REFUSED=WHAT:HOW:N   the Nth call of a kind; with HOW `one` it alone fails, with `all` it and each one after it; with
+ *                        `short` it reads or takes one byte, and with `shorts` each one after it too. With N 0 none fails.
  *     WHAT               memory: malloc, calloc, realloc, aligned_alloc, posix_memalign; open; read; write: to standard output;
  *                        tell: writes to standard error; link: socket, bind, ioctl, sendto, recvfrom
  *   REFUSED_COUNT=FILE   a file that takes the number of calls of this kind
- *   REFUSED_LINK=FILE    no socket is used: each line is a datagram in hexadecimal digits that is received, and behind the last
+ *   REFUSED_LINK=FILE    no socket is used: each line is a datagram in hexadecimal digits that is received, and after the last
  *                        one none is there. What is sent goes to the descriptor 9, as lines of a port and digits.
  * A program that runs for more than 20 seconds is ended by a signal. */
 #define _GNU_SOURCE
@@ -29,7 +29,7 @@ enum kind { NONE, MEMORY, OPEN, READ, WRITE, TELL, LINK };
 static const char *const names[] = {"none", "memory", "open", "read", "write", "tell", "link"};
 
 static enum kind refused;     /* the kind of the calls that are refused */
-static int whole, onwards;    /* whether a call fails, or is short; whether those behind it are refused too */
+static int whole, onwards;    /* whether a call fails, or is short; whether those after it are refused too */
 static long at, count;        /* the first call that is refused; how many there were */
 static int played;            /* whether there is a link that uses no socket */
 static char answers[1 << 20]; /* the lines of its datagrams that are still to come, from `next` on */
