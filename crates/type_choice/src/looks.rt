@@ -22,10 +22,14 @@ const MOST_TOKENS: usize = 1024;
 /// What is seen of the type of each number of a table.
 #[derive(Debug, Drop)]
 pub struct Looks {
-    ordered: List<bool>,
-    sets: List<bool>,
-    levels: List<usize>,
-    tokens: List<usize>,
+    /// Whether it is ordered.
+    pub ordered: List<bool>,
+    /// Whether it is a set.
+    pub sets: List<bool>,
+    /// Its levels, counted to 33 at most.
+    pub levels: List<usize>,
+    /// The tokens that spell it, counted to 1,025 at most.
+    pub tokens: List<usize>,
 }
 
 /// Looks at the types that a table gives. No type is built: each number is looked at a few times, and each part of a number.

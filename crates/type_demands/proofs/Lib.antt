@@ -1,7 +1,10 @@
+pub mod CondForms
+pub mod ExprForms
 pub mod ExprLaws
 pub mod ExprsAgree
 pub mod ExprsAt
 pub mod FoundLaws
+pub mod Listed
 pub mod PartLaws
 pub mod PatternForms
 pub mod PutLaws

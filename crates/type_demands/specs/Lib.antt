@@ -1,5 +1,6 @@
 pub mod Conds
 pub mod Demands
+pub mod ExprLists
 pub mod Exprs
 pub mod KnownView
 pub mod Listing

@@ -1,4 +1,4 @@
--- What calls list: demands of the statement on a line, behind those that are there.
+-- What calls list: demands of the statement on a line, after those that are there.
 use Rattle.std.specs.Prelude.{◌≡◌, List, ◌++◌}
 use Rattle.da_lang.specs.declared.program.RExpr.{RExpr}
 use Rattle.type_table.specs.declared.scheme.Scheme.{Scheme}

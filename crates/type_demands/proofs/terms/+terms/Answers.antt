@@ -1,27 +1,14 @@
-use Rattle.std.proofs.Common.{◌≡◌, ◌∙◌, ap, ap₂, sym, append_assoc, append-nil, ℕ, List, [], ◌∷◌, ◌++◌, map}
+use Rattle.std.proofs.Common.{◌≡◌, ◌∙◌, ap, sym, append-nil, List, ◌++◌, map}
 use Rattle.da_lang.specs.declared.query.Term.{Term}
-use Rattle.type_table.specs.declared.scheme.Scheme.{Scheme}
 use Rattle.type_table.specs.declared.scheme.Scheme.TheVariants as s
-use Rattle.type_demands.specs.declared.demand.Demand.TheVariants as d
-use Rattle.type_demands.specs.declared.demand.LineDemand.{LineDemand}
 use Rattle.type_demands.specs.Demands.{at_line}
 use Rattle.type_demands.specs.KnownView.{context_of}
-use Rattle.type_demands.specs.Syms.{Sym, demands_in, flat_sym, plain, schemes_in, tuple_sym}
+use Rattle.type_demands.specs.Syms.{Sym, demands_in, plain, schemes_in}
 use Rattle.type_demands.specs.Terms.{term_sym}
-use Rattle.type_demands.proofs.PutLaws.{at_line-both}
+use Rattle.type_demands.proofs.Listed.{tuple_listed}
 use Rattle.type_demands.proofs.QueriesAt.{term-Me}
 use Rattle.type_demands.proofs.TermForms.{term-parts}
 use Rattle.type_demands.proofs.terms.+terms.Goals as goal
-
-tuple_listed : (line : ℕ) (old mid new : List LineDemand) (syms : List Sym) (parts : List Scheme) (scheme : Scheme) (z : Sym) → z ≡ flat_sym (tuple_sym syms) → parts ≡ schemes_in syms → mid ≡ old ++ at_line line (demands_in syms) → scheme ≡ s.Tuple parts → new ≡ mid ++ at_line line (d.Flat (s.Tuple parts) ∷ []) → (scheme ≡ z.scheme) × (new ≡ old ++ at_line line z.demands)
-tuple_listed line old mid new syms parts scheme z is are grown made put = (
-  made ∙ ap (λ (ps : List Scheme). s.Tuple ps) are ∙ sym (ap (λ (x : Sym). x.scheme) is),
-  put
-      ∙ ap₂ (λ (m : List LineDemand) (ps : List Scheme). m ++ at_line line (d.Flat (s.Tuple ps) ∷ [])) grown are
-      ∙ append_assoc old (at_line line (demands_in syms)) (at_line line (d.Flat (s.Tuple (schemes_in syms)) ∷ []))
-      ∙ ap (λ (ds : List LineDemand). old ++ ds) (sym (at_line-both line (demands_in syms) (d.Flat (s.Tuple (schemes_in syms)) ∷ [])))
-      ∙ sym (ap (λ (x : Sym). old ++ at_line line x.demands) is),
-)
 
 pub term_demands-returns-in-Me : goal.term_demands-returns-in-Me
 term_demands-returns-in-Me t c =

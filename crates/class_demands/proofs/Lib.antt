@@ -1,0 +1,17 @@
+pub mod Below
+pub mod BelowHolds
+pub mod BindLaws
+pub mod ClassLaws
+pub mod Examples
+pub mod HeadLaws
+pub mod MarkLaws
+pub mod NeededLaws
+pub mod PrefixLaws
+pub mod ProgramLaws
+pub mod RuleLaws
+pub mod SchemeForms
+pub mod StatementForms
+pub mod StatementLaws
+pub mod StatementsAt
+pub mod UnknownLaws
+pub mod WalkForms

@@ -1,0 +1,10 @@
+pub mod DeclarableLaws
+pub mod FitLaws
+pub mod ListLaws
+pub mod ListedLaws
+pub mod LoopLaws
+pub mod MetLaws
+pub mod NarrowLaws
+pub mod PutLaws
+pub mod SightLaws
+pub mod SpellingLaws
