@@ -15,8 +15,9 @@ use std::{fs, rt};
 use texts::bytes_of;
 
 /// The files of calls, in the order of the answers.
-const FILES: [&str; 9] = [
-    "replays", "words", "faults", "links", "launches", "joins", "objects", "long", "many",
+const FILES: [&str; 11] = [
+    "replays", "words", "faults", "links", "launches", "joins", "objects", "long", "many", "infer",
+    "untyped",
 ];
 
 /// How many calls there were, and how many of them differ.

@@ -29,7 +29,7 @@ use Rattle.da_commands.specs.JoinSteps.{AddsTrace, AreRead, AreWhole, IsNoTrace}
 use Rattle.da_commands.specs.Replies.{IsAnswer, IsEnd, IsRefused, MayReadTraces, TraceReadCause}
 use Rattle.da_commands.specs.Told.{Begins, Gains, HasReplied, OfAllTold, OfTold}
 use Rattle.da_commands.specs.Verdict.{Accepts, program_limit}
-use Rattle.da_commands.proofs.ToldLemmas.{begins_nothing, begun_replied, of_any, of_map, of_read, quiet_replied, take_beyond, take_within, whole_replied}
+use Rattle.da_commands.proofs.ToldLemmas.{begins_nothing, begun_replied, of_any, of_map, of_read, quiet_answer, quiet_replied, take_beyond, take_within, whole_replied}
 
 -- THE TEXTS THAT ARE TOLD
 
@@ -73,15 +73,6 @@ module _ (one : Option (List ℕ)) (tolds : List (Option (List ℕ))) (status : 
   join_begun never =
       of_map one _ _ (λ t. of_all_map tolds (λ texts. HasReplied (JoinReply t texts) status before after) (λ texts. Begins (JoinReply t texts) before after)
       (λ texts. begun_replied (JoinReply t texts) before after status never)) replies
-
--- a status of a call that ended with neither a failed read nor a failed write
-quiet_answer : (status : Status) → IsEnd status → (status ≡ ReadFault → ⊥) → (status ≡ WriteFault → ⊥) → (status ≡ Memory) ⊎ IsAnswer status
-quiet_answer ReadFault ends read write = absurd (read refl)
-quiet_answer WriteFault ends read write = absurd (write refl)
-quiet_answer Memory ends read write = inl refl
-quiet_answer Status.LinkFault ends read write = absurd ends
-quiet_answer Status.ChildFault ends read write = absurd ends
-quiet_answer _ ends read write = inr tt
 
 pub is_joined : (one : Option (List ℕ)) (tolds : List (Option (List ℕ))) (status : Status) (before after : Option (List ℕ)) → IsEnd status → (status ≡ ReadFault → ⊥) → (status ≡ WriteFault → ⊥)
     → OfTold one (λ t. OfAllTold tolds (λ texts. HasReplied (JoinReply t texts) status before after)) → IsJoined one tolds status before after

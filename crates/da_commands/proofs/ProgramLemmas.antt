@@ -29,18 +29,27 @@ use Rattle.da_types.specs.declared.top.TypeFault.TheVariants as types
 use Rattle.da_types.specs.Refusing.{IsRefusedAs as IsNotTyped}
 use Rattle.quant_norm.specs.declared.top.PlanFault.{PlanFault}
 use Rattle.quant_norm.specs.declared.top.PlanFault.TheVariants as plan
+use Rattle.da_commands.specs.declared.program.ProgramFault.{ProgramFault}
+use Rattle.da_commands.specs.declared.program.ProgramFault.TheVariants as program_fault
 use Rattle.da_commands.specs.declared.status.RefusedKind.{RefusedKind}
 use Rattle.da_commands.specs.declared.status.RefusedKind.TheVariants as kind_is
 use Rattle.da_commands.specs.Faults.{after_names, after_plans, after_types}
-use Rattle.da_commands.specs.Verdict.{HasTree, HasNoTree, IsRefusedAs, Refuses, kind_after, misnamed, mistyped, no_program, not_cut, overplanned, too_deep, too_large, program_limit}
+use Rattle.da_commands.specs.Verdict.{HasTree, HasNoTree, IsNotCutAs, IsRefusedAs, NotCut, Refuses, kind_after, misnamed, mistyped, no_program, not_cut, overplanned, too_deep, too_large, program_limit, uncut}
 
 -- the text is not cut into tokens
 pub is_not_cut : (text : List ℕ) (e : LexFault) (kind : LexKind) (line : ℕ) (told : RefusedKind) (told_line : ℕ) → length text ≤ program_limit → IsFaultOf e (tokens text)
-    → e ≡ lex_fault.Refused kind line → told ≡ kind_after kind → told_line ≡ line → Refuses text told told_line
+    → e ≡ lex_fault.Refused kind line → told ≡ kind_after kind → told_line ≡ line → NotCut text told told_line
 is_not_cut text e kind line told told_line few faults is same same_line =
     let here : IsFaultOf (lex_fault.Refused kind line) (tokens text) = subst (λ x. IsFaultOf x (tokens text)) is faults in
-    let there : Refuses text told line = subst (λ k. Refuses text k line) (sym same) (not_cut kind line (few, here)) in
-    subst (Refuses text told) (sym same_line) there
+    let there : NotCut text told line = subst (λ k. NotCut text k line) (sym same) (uncut kind line (few, here)) in
+    subst (NotCut text told) (sym same_line) there
+
+cut_so : (text : List ℕ) (kind : RefusedKind) (line : ℕ) → NotCut text kind line → Refuses text kind line
+cut_so text _ _ (uncut kind line is) = not_cut kind line is
+
+pub cut_refused : (text : List ℕ) (why : ProgramFault) → IsNotCutAs text why → IsRefusedAs text why
+cut_refused text (program_fault.Refused kind line) is = cut_so text kind line is
+cut_refused text program_fault.Memory is = tt
 
 -- the tokens spell no tree, where the parser answers another fault than want of memory
 module _ (text seen : List ℕ) (list : List Token) (e : ParseFault) (same : seen ≡ text) (few : length text ≤ program_limit) (lexed : tokens text ≡ Ok list)

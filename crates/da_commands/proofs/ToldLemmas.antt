@@ -77,6 +77,15 @@ pub said_unlinked : (status : Status) (bytes : List ℕ) (result : Status) (befo
 said_unlinked status bytes result before after answer (said is written) link = let never : IsAnswer LinkFault = subst IsAnswer (sym is ∙ link) answer in never
 said_unlinked status bytes result before after answer (unsaid cut front) link = subst IsUnwritten link cut
 
+-- the status of a call in which neither a read nor a write failed
+pub quiet_answer : (status : Status) → IsEnd status → (status ≡ ReadFault → ⊥) → (status ≡ WriteFault → ⊥) → (status ≡ Memory) ⊎ IsAnswer status
+quiet_answer ReadFault ends read write = absurd (read refl)
+quiet_answer WriteFault ends read write = absurd (write refl)
+quiet_answer Memory ends read write = inl refl
+quiet_answer LinkFault ends read write = absurd ends
+quiet_answer ChildFault ends read write = absurd ends
+quiet_answer _ ends read write = inr tt
+
 -- a call that asks for no node does nothing with the link
 pub ends_unlinked : (status : Status) (faults : ℕ) → IsEnd status → HasCause faults faults (status ≡ LinkFault)
 ends_unlinked status faults ends = no_cause faults (end_no_link status ends)

@@ -1,6 +1,7 @@
 pub mod Endings
 pub mod ExitCode
 pub mod Faults
+pub mod InferReplies
 pub mod JoinReplies
 pub mod JoinSteps
 pub mod Launching

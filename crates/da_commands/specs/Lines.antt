@@ -4,7 +4,7 @@ use Rattle.std.specs.List.{flat_map}
 use Rattle.da_lang.specs.declared.event.Event.{Event}
 use Rattle.sched_text.specs.EventText.{event_line}
 use Rattle.da_commands.specs.declared.status.RefusedKind.{RefusedKind}
-use Rattle.da_commands.specs.declared.status.RefusedKind.TheVariants.{Size, Byte, Indent, Token, Unclosed, Syntax, Deep, Unknown, Twice, Shadow, Recursive, Yield, Setup, NoRun, Arity, Classes, Processes, Items, Blocks, Variables, Parts, Generators, Types, Nodes, Me, Traces}
+use Rattle.da_commands.specs.declared.status.RefusedKind.TheVariants.{Size, Byte, Indent, Token, Unclosed, Syntax, Deep, Unknown, Twice, Shadow, Recursive, Yield, Setup, NoRun, Arity, Classes, Processes, Items, Blocks, Variables, Parts, Generators, Types, Nodes, Infer, Me, Traces}
 
 abbrev pub refused_word : RefusedKind → List ℕ
 refused_word Size = codes "size"
@@ -31,6 +31,7 @@ refused_word Parts = codes "parts"
 refused_word Generators = codes "generators"
 refused_word Types = codes "type"
 refused_word Nodes = codes "nodes"
+refused_word Infer = codes "infer"
 refused_word Me = codes "me"
 refused_word Traces = codes "traces"
 

@@ -12,6 +12,7 @@ use Rattle.da_commands.specs.declared.words.Task.{Task}
 use Rattle.da_commands.specs.declared.words.Task.TheVariants.{Check, Plan, Stress}
 use Rattle.da_commands.specs.declared.words.LaunchSetting.{LaunchSetting}
 use Rattle.da_commands.specs.declared.words.NodeSetting.{NodeSetting}
+use Rattle.da_commands.specs.InferReplies.{IsInfer}
 use Rattle.da_commands.specs.JoinReplies.{IsJoin}
 use Rattle.da_commands.specs.LaunchReplies.{IsLaunch}
 use Rattle.da_commands.specs.NodeReplies.{IsNode}
@@ -112,6 +113,7 @@ IsOther words =
     × ((p : List ℕ) (setting : NodeSetting) → IsNode words p setting → ⊥)
     × ((p : List ℕ) (setting : LaunchSetting) → IsLaunch words p setting → ⊥)
     × ((p : List ℕ) (traces : List (List ℕ)) → IsJoin words p traces → ⊥)
+    × ((p : List ℕ) → IsInfer words p → ⊥)
 
 -- a schedule is read unless the told program is refused
 abbrev pub MayRead : Option (List ℕ) → Type 0
@@ -142,3 +144,4 @@ HasReadCause words told before now =
     ⊎ ((p : List ℕ) × (setting : NodeSetting) × IsNode words p setting × Rose (before p) (now p))
     ⊎ ((p : List ℕ) × (setting : LaunchSetting) × IsLaunch words p setting × Rose (before p) (now p))
     ⊎ ((p : List ℕ) × (traces : List (List ℕ)) × IsJoin words p traces × TraceReadCause (told p) before now p traces)
+    ⊎ ((p : List ℕ) × IsInfer words p × Rose (before p) (now p))

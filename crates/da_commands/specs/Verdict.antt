@@ -66,6 +66,14 @@ kind_after lex.BadIndent = kind_is.Indent
 kind_after lex.BadToken = kind_is.Token
 kind_after lex.Unclosed = kind_is.Unclosed
 
+-- why a text is not cut into tokens, or memory was refused
+pub data NotCut (text : List ℕ) : RefusedKind → ℕ → Type 0 where
+  uncut : (kind : LexKind) (line : ℕ) → IsNotCut text kind line → NotCut text (kind_after kind) line
+
+abbrev pub IsNotCutAs : List ℕ → ProgramFault → Type 0
+IsNotCutAs text (fault.Refused kind line) = NotCut text kind line
+IsNotCutAs text fault.Memory = Unit {0}
+
 -- the tree of the text breaks a rule of names: this is the one that is reported
 pub record IsMisnamed (text : List ℕ) (kind : ScopeKind) (line : ℕ) : Type 0 where
   pub tree : Tree

@@ -3,6 +3,7 @@
 
 mod endings;
 mod finishing;
+mod inferring;
 mod joining;
 mod launching;
 mod lines;

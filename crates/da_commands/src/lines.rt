@@ -40,6 +40,7 @@ fn refused_word(kind: RefusedKind) -> &'static [u8]
         RefusedKind::Generators => b"generators",
         RefusedKind::Types => b"type",
         RefusedKind::Nodes => b"nodes",
+        RefusedKind::Infer => b"infer",
         RefusedKind::Me => b"me",
         RefusedKind::Traces => b"traces",
     }

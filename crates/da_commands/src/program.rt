@@ -2,13 +2,17 @@
 ghost use Rattle.da_core.specs.Compiled.{IsCompiled, program_of};
 ghost use Rattle.da_lang.specs.Limits.{Resolves};
 ghost use Rattle.da_values.specs.declared.token.LexKind.TheVariants as lex;
-ghost use Rattle.da_commands.specs.Verdict.{Accepts, HasTree, IsRefusedAs, kind_after, kind_of_limit, kind_of_name};
-ghost use Rattle.std.specs.Prelude.{◌≡◌, ◌≤◌, IfErr, IfOk, length};
+ghost use Rattle.da_values.specs.TokenFacts.{IsOnLine};
+ghost use Rattle.da_values.specs.Tokens.{tokens as tokens_of};
+ghost use Rattle.da_commands.specs.Verdict.{Accepts, HasTree, IsNotCutAs, IsRefusedAs, kind_after, kind_of_limit, kind_of_name};
+ghost use Rattle.std.specs.List.{All};
+ghost use Rattle.std.specs.Prelude.{◌≡◌, ◌≤◌, IfErr, IfOk, Ok, length};
 
 use crate::status::RefusedKind;
 use da_core::{Compiled, compile};
+use da_infer::InferFault;
 use da_lang::{LimitKind, ScopeKind, Tree};
-use da_lex::{LexFault, LexKind, lex};
+use da_lex::{LexFault, LexKind, Tokens, lex};
 use da_parse::{ParseFault, parse};
 use da_scope::{ScopeFault, resolve};
 use da_types::{TypeFault, check_types};
@@ -85,6 +89,31 @@ impl From<PlanFault> for ProgramFault {
     }
 }
 
+impl From<InferFault> for ProgramFault {
+    ghost use Rattle.da_commands.specs.Faults.{after_infer};
+    ghost use Rattle.std.specs.Prelude.{◌≡◌};
+
+    ghost from_gives = { λ why fault. fault ≡ after_infer why };
+
+    fn from(why: InferFault) -> ProgramFault {
+        match why {
+            InferFault::Name { kind, line } => ProgramFault::Refused {
+                kind: kind_of_name(kind),
+                line,
+            },
+            InferFault::Limit { which, line } => ProgramFault::Refused {
+                kind: kind_of_limit(which),
+                line,
+            },
+            InferFault::NoTypes { line } => ProgramFault::Refused {
+                kind: RefusedKind::Infer,
+                line,
+            },
+            InferFault::Memory => ProgramFault::Memory,
+        }
+    }
+}
+
 /// The program of a text of at most 1,048,576 bytes, compiled: its tokens are cut, the tree that they spell is read,
 /// the names of the tree are resolved within the limits, its types are checked, and its classes get code and plans, in
 /// this order. The first of these that fails gives the refusal.
@@ -102,21 +131,13 @@ pub fn read_program(alloc: Global, text: &[u8]) -> Result<Compiled, ProgramFault
 }
 
 // The tree of a text.
+#[tactic(auto, using(crate::proofs::ProgramLemmas::cut_refused))]
 fn read_tree(alloc: Global, text: &[u8]) -> Result<Tree, ProgramFault>
     requires { length text.now ≤ 1048576 }
     ensures ok { IfOk result (HasTree text.now) }
     ensures refused { IfErr result (IsRefusedAs text.now) }
 {
-    let tokens = match lex(alloc, text) {
-        Ok(tokens) => tokens,
-        Err(LexFault::Memory) => return Err(ProgramFault::Memory),
-        Err(LexFault::Refused { kind, line }) => {
-            return Err(ProgramFault::Refused {
-                kind: kind_after(kind),
-                line,
-            });
-        }
-    };
+    let tokens = cut(alloc, text)?;
     match parse(alloc, &tokens) {
         Ok(tree) => Ok(tree),
         Err(ParseFault::Memory) => Err(ProgramFault::Memory),
@@ -126,6 +147,24 @@ fn read_tree(alloc: Global, text: &[u8]) -> Result<Tree, ProgramFault>
         }),
         Err(ParseFault::Deep { line }) => Err(ProgramFault::Refused {
             kind: RefusedKind::Deep,
+            line,
+        }),
+    }
+}
+
+/// The tokens of a text.
+pub fn cut<'a>(alloc: Global, text: &'a [u8]) -> Result<Tokens<'a>, ProgramFault>
+    requires { length text.now ≤ 1048576 }
+    ensures ok { IfOk result (λ tokens. tokens_of text.now ≡ Ok tokens.list) }
+    ensures text { IfOk result (λ tokens. tokens.text.now ≡ text.now) }
+    ensures lines { IfOk result (λ tokens. All (IsOnLine text.now) tokens.list) }
+    ensures refused { IfErr result (IsNotCutAs text.now) }
+{
+    match lex(alloc, text) {
+        Ok(tokens) => Ok(tokens),
+        Err(LexFault::Memory) => Err(ProgramFault::Memory),
+        Err(LexFault::Refused { kind, line }) => Err(ProgramFault::Refused {
+            kind: kind_after(kind),
             line,
         }),
     }

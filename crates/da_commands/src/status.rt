@@ -77,6 +77,9 @@ pub enum RefusedKind {
     /// The plan of a class has more than 4,096 nodes.
     #[error("the query plan of the class has more than 4,096 nodes")]
     Nodes,
+    /// No types keep the rules up to a line, for what the program leaves without them.
+    #[error("no types for what is not declared fit this line and the lines before it")]
+    Infer,
     /// The program has no process of the number that a node is to run.
     #[error("the program has no process of the number that the node is to run")]
     Me,

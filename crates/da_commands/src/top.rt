@@ -6,6 +6,7 @@ ghost use Rattle.da_lang.specs.declared.program.Program.{Program};
 ghost use Rattle.da_lang.specs.declared.ty.ChannelKind.{ChannelKind};
 ghost use Rattle.da_outside.specs.Outside.{Appends, AppendsPrefix, HasCause, Rose};
 ghost use Rattle.da_values.specs.Sets.{Has};
+ghost use Rattle.da_commands.specs.InferReplies.{InferReply, IsCompletedWhole, IsInfer};
 ghost use Rattle.da_commands.specs.JoinReplies.{IsJoin, IsJoined, JoinReply};
 ghost use Rattle.da_commands.specs.LaunchReplies.{HasLaunched, IsLaunch, IsLaunchAnswer, IsLaunched, LaunchStopped};
 ghost use Rattle.da_commands.specs.Launching.{HasChildCause};
@@ -23,6 +24,7 @@ ghost use Rattle.std.specs.Prelude.{ℕ, ◌≡◌, ◌<◌, ◌≤◌, List, So
 ghost use Rattle.std.specs.String.{string_bytes};
 
 use crate::endings::say;
+use crate::inferring::write_declared;
 use crate::joining::join;
 use crate::launching::launch;
 use crate::noding::run_node;
@@ -135,6 +137,19 @@ pub fn dalgo<F: Files, K: Sink, L: Link, S: Spawner>(
         → (Rose (K.faults out.old) (K.faults out.new) → ⊥)
         → IsJoined (F.told files.old p) (map (F.told files.old) traces) result (K.taken out.old) (K.taken out.new) }
 
+    // Asked for declarations, it answers by the program's text: with the refusal by the grammar in which parameters may lack their
+    // types, by names, by limits, or by the least line up to which no types keep the rules; or with what is printed of the program
+    // with some types that keep all rules.
+    ensures infers { (p : List ℕ) → IsInfer (map string_bytes words.now) p → IsAnswer result
+        → OfTold (F.told files.old p) (λ t. Gains (InferReply t) result (K.taken out.old) (K.taken out.new)) }
+    ensures begun_infer { (p : List ℕ) → IsInfer (map string_bytes words.now) p → (IsAnswer result → ⊥)
+        → OfTold (F.told files.old p) (λ t. Begins (InferReply t) (K.taken out.old) (K.taken out.new)) }
+
+    // It answers unless a read or a write failed or memory was refused.
+    ensures inferred { (p : List ℕ) → IsInfer (map string_bytes words.now) p
+        → (Rose (F.faults files.old p) (F.faults files.new p) → ⊥) → (Rose (K.faults out.old) (K.faults out.new) → ⊥)
+        → IsCompletedWhole (F.told files.old p) result (K.taken out.old) (K.taken out.new) }
+
     // Each fault has its cause, and where a count rose the status says so. What files tell stays as it was, and no count
     // falls.
     ensures read { result ≡ Status.ReadFault → HasReadCause (map string_bytes words.now) (F.told files.old) (F.faults files.old) (F.faults files.new) }
@@ -153,6 +168,7 @@ pub fn dalgo<F: Files, K: Sink, L: Link, S: Spawner>(
     match command_of(words) {
         Command::Replay(names) => replay(alloc, names.program, names.schedule, files, out),
         Command::Carry { task, program } => execute(alloc, task, program, files, out),
+        Command::Infer { program } => write_declared(alloc, program, files, out),
         Command::Node { setting, program } => run_node(alloc, setting, program, files, out, link),
         Command::Launch { setting, program } => launch(
             alloc, setting, program, files, out, children,

@@ -54,6 +54,10 @@ pub enum Command<'a> {
         task: Task,
         program: &'a str,
     },
+    /// To write the program of this name with the declarations that it lacks.
+    Infer {
+        program: &'a str,
+    },
     /// To run a process of the program of this name as a node.
     Node {
         setting: NodeSetting,
@@ -179,6 +183,8 @@ fn task_of<'a>(command: &str, program: &'a str) -> Command<'a>
             task: Task::Plan,
             program,
         }
+    } else if command == "infer" {
+        Command::Infer { program }
     } else {
         Command::Other
     }

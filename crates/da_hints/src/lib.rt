@@ -21,6 +21,7 @@ mod told;
 mod top;
 mod types;
 mod typing;
+mod undeclared;
 mod values;
 
-pub use top::{Why, explain};
+pub use top::{Why, explain, explain_loosely};

@@ -1,4 +1,7 @@
 //! Where a part of a program stands in its text.
+ghost use Rattle.da_values.specs.Tokens.{tokens as cut};
+ghost use Rattle.std.specs.Prelude.{◌≡◌, ◌≤◌, IfSome, Ok, length};
+
 use crate::shown::put_expr;
 use da_lang::Expr;
 use da_lex::{Token, TokenKind, Tokens, lex};
@@ -10,11 +13,18 @@ use text_hints::{Hint, Phrase, slice_at};
 const MOST_BYTES: usize = 1_048_576;
 
 /// The tokens of a text, or `None` where there are none or memory is refused.
-pub fn tokens_of(alloc: Global, text: &[u8]) -> Option<Tokens<'_>> {
+pub fn tokens_of(alloc: Global, text: &[u8]) -> Option<Tokens<'_>>
+    ensures size { IfSome result (λ tokens. length text.now ≤ 1048576) }
+    ensures lexed { IfSome result (λ tokens. cut text.now ≡ Ok tokens.list) }
+    ensures text { IfSome result (λ tokens. tokens.text.now ≡ text.now) }
+{
     if text.len() > MOST_BYTES {
         return None;
     }
-    lex(alloc, text).ok()
+    match lex(alloc, text) {
+        Ok(tokens) => Some(tokens),
+        Err(_) => None,
+    }
 }
 
 /// The tokens of the line of tokens that begins on this line of the text.

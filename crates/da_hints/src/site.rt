@@ -46,6 +46,27 @@ pub fn site_of<'t>(tree: &'t Tree, line: u32, scope: &mut Scope<'t>) -> Option<S
         }
         scope.leave_to(0);
     }
+    site_in_main(tree, line, scope)
+}
+
+/// What is used on this line, where declarations that stand on it are passed over.
+pub fn use_of<'t>(tree: &'t Tree, line: u32, scope: &mut Scope<'t>) -> Option<Site<'t>> {
+    for class in tree.classes.as_slice() {
+        enter_variables(class, scope);
+        for member in class.members.as_slice() {
+            if body_of(member).is_some() {
+                if let Some(site) = site_in_member(class, member, line, scope) {
+                    return Some(site);
+                }
+            }
+        }
+        scope.leave_to(0);
+    }
+    site_in_main(tree, line, scope)
+}
+
+// What stands on this line of `main`.
+fn site_in_main<'t>(tree: &'t Tree, line: u32, scope: &mut Scope<'t>) -> Option<Site<'t>> {
     for made in tree.main.as_slice() {
         if line_of_main(made) == line {
             return Some(outside(Part::Main(made)));

@@ -8,8 +8,9 @@ use crate::rules::{tell_arity, tell_norun, tell_recursive, tell_setup, tell_yiel
 use crate::scope::Scope;
 use crate::site::{Site, site_of};
 use crate::types::tell_types;
+use crate::undeclared::{loose_of, tell_no_types, with_int};
 use da_lang::{LimitKind, ScopeKind};
-use da_parse::parse;
+use da_parse::{ParseFault, parse};
 use da_values::LexKind;
 use std::alloc::Global;
 use text_hints::{Hint, tell_grammar, tell_tokens};
@@ -29,6 +30,8 @@ pub enum Why {
     Nodes,
     /// A rule of types is broken.
     Types,
+    /// No types keep the rules up to a line, for what is not declared.
+    NoTypes,
 }
 
 /// What a person is told of a text that is refused so at this line.
@@ -40,8 +43,54 @@ pub fn explain(alloc: Global, text: &[u8], why: Why, line: u32) -> Hint {
         Why::Name(_) | Why::Limit(_) | Why::Nodes | Why::Types => {
             tell_program(alloc, text, why, line, &mut hint);
         }
+        Why::NoTypes => {}
     }
     hint
+}
+
+/// The same of a text that may lack declarations.
+pub fn explain_loosely(alloc: Global, text: &[u8], why: Why, line: u32) -> Hint {
+    let mut hint = Hint::new(alloc);
+    match why {
+        Why::Token(kind) => tell_tokens(alloc, text, kind, line, &mut hint),
+        Why::Grammar => {
+            if breaks_grammar_at(alloc, text, line) {
+                tell_grammar(alloc, text, &mut hint);
+            }
+        }
+        Why::Name(_) | Why::Limit(_) => tell_undeclared(alloc, text, why, line, &mut hint),
+        Why::NoTypes => tell_no_types(alloc, text, line, &mut hint),
+        Why::Nodes | Why::Types => {}
+    }
+    hint
+}
+
+// Whether the grammar that asks for all types refuses the text at this line too.
+fn breaks_grammar_at(alloc: Global, text: &[u8], number: u32) -> bool {
+    let Some(tokens) = tokens_of(alloc, text) else {
+        return false;
+    };
+    match parse(alloc, &tokens) {
+        Err(ParseFault::Syntax { line }) | Err(ParseFault::Deep { line }) => line == number,
+        _ => false,
+    }
+}
+
+// Tells which name or limit is to blame in a text that may lack declarations.
+fn tell_undeclared(alloc: Global, text: &[u8], why: Why, line: u32, hint: &mut Hint) {
+    let Some(loose) = loose_of(alloc, text) else {
+        return;
+    };
+    let Ok(tree) = with_int(alloc, &loose) else {
+        return;
+    };
+    let case = Case {
+        alloc,
+        text,
+        tree: &tree,
+        line,
+    };
+    tell_case(case, why, hint);
 }
 
 // Tells why a text with a tree is refused.
@@ -71,7 +120,7 @@ fn tell_case(case: Case<'_>, why: Why, hint: &mut Hint) {
         Why::Limit(which) => tell_limit(case, site, which, hint),
         Why::Nodes => tell_nodes(case, site, hint),
         Why::Types => tell_types(case, site, &mut scope, hint),
-        Why::Token(_) | Why::Grammar => {}
+        Why::Token(_) | Why::Grammar | Why::NoTypes => {}
     }
 }
 

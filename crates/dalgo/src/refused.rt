@@ -1,7 +1,7 @@
 //! What a person is told of a program that is refused.
 use crate::again::{SHOWN, TOLD, shown, text_again};
 use da_commands::{PROGRAM_LIMIT, RefusedKind};
-use da_hints::{Why, explain};
+use da_hints::{Why, explain, explain_loosely};
 use da_lang::{LimitKind, ScopeKind};
 use da_values::{Buf, LexKind};
 use std::io::Eprint;
@@ -18,13 +18,33 @@ pub fn tell_refused<R: rt::Files + AllocGlobal + Eprint>(
     kind: RefusedKind,
     number: u32,
 ) -> io::Result<()> {
+    tell_by(rt, program, kind, number, false)
+}
+
+/// The same of a program that may lack declarations.
+pub fn tell_refused_loosely<R: rt::Files + AllocGlobal + Eprint>(
+    rt: &R,
+    program: &str,
+    kind: RefusedKind,
+    number: u32,
+) -> io::Result<()> {
+    tell_by(rt, program, kind, number, true)
+}
+
+fn tell_by<R: rt::Files + AllocGlobal + Eprint>(
+    rt: &R,
+    program: &str,
+    kind: RefusedKind,
+    number: u32,
+    loose: bool,
+) -> io::Result<()> {
     if number == 0 {
         return eprintln!(rt; "{program}: {kind}");
     }
     let Some(text) = text_again(rt, program, PROGRAM_LIMIT) else {
         return eprintln!(rt; "{program}:{number}: {kind}");
     };
-    let hint = hint_on(rt, &text, kind, number);
+    let hint = hint_on(rt, &text, kind, number, loose);
     match line_of(text.as_slice(), number) {
         Some(line) => tell_line(rt, program, kind, number, line, &hint)?,
         None => return eprintln!(rt; "{program}:{number}: {kind}"),
@@ -34,8 +54,15 @@ pub fn tell_refused<R: rt::Files + AllocGlobal + Eprint>(
 }
 
 // What is known besides of a refusal.
-fn hint_on<R: AllocGlobal>(rt: &R, text: &Buf, kind: RefusedKind, number: u32) -> Hint {
+fn hint_on<R: AllocGlobal>(
+    rt: &R,
+    text: &Buf,
+    kind: RefusedKind,
+    number: u32,
+    loose: bool,
+) -> Hint {
     match why_of(kind) {
+        Some(why) if loose => explain_loosely(rt.alloc(), text.as_slice(), why, number),
         Some(why) => explain(rt.alloc(), text.as_slice(), why, number),
         None => Hint::new(rt.alloc()),
     }
@@ -184,6 +211,7 @@ fn why_of(kind: RefusedKind) -> Option<Why> {
     match kind {
         RefusedKind::Types => Some(Why::Types),
         RefusedKind::Nodes => Some(Why::Nodes),
+        RefusedKind::Infer => Some(Why::NoTypes),
         _ => None,
     }
 }

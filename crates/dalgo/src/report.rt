@@ -2,7 +2,7 @@
 //! fault. What cannot be told is left out: the exit status says how the call ended.
 use crate::again::{TOLD, shown};
 use crate::joined::{tell_bad_trace, tell_blocks};
-use crate::refused::tell_refused;
+use crate::refused::{tell_refused, tell_refused_loosely};
 use crate::stopped::{tell_bad_line, tell_fault, tell_forbidden};
 use crate::words::why_not;
 use da_commands::{Command, Names, NodeSetting, RefusedKind, Status, command_of};
@@ -13,7 +13,7 @@ use std::{fs, io, rt};
 
 const USAGE: &str = "\
 usage:
-  dalgo check PROG, dalgo plan PROG
+  dalgo check PROG, dalgo plan PROG, dalgo infer PROG
   dalgo replay PROG SCHED
   dalgo join PROG TRACE..                 what the nodes wrote, in the order of their processes
   dalgo stress PROG START N               START from 0 to 281474976710655, N from 1 to 1000000
@@ -37,6 +37,7 @@ pub fn report<R: rt::Files + AllocGlobal + Eprint>(rt: &R, words: &[String], out
     let told = match command_of(words) {
         Command::Replay(names) => tell_replay(rt, names, outcome),
         Command::Carry { program, .. } => tell_program(rt, program, status),
+        Command::Infer { program } => tell_undeclared(rt, program, status),
         Command::Node { setting, program } => tell_node(rt, setting, program, outcome),
         Command::Launch { program, .. } => tell_launch(rt, program, outcome),
         Command::Join { program, traces } => tell_join(rt, program, traces, outcome),
@@ -82,6 +83,18 @@ fn tell_program<R: rt::Files + AllocGlobal + Eprint>(
             tell_common(rt, &[], status)
         }
         _ => tell_common(rt, &[], status),
+    }
+}
+
+// How a call ended that reads a program which may lack declarations.
+fn tell_undeclared<R: rt::Files + AllocGlobal + Eprint>(
+    rt: &R,
+    program: &str,
+    status: Status,
+) -> io::Result<()> {
+    match status {
+        Status::Refused { kind, line } => tell_refused_loosely(rt, program, kind, line),
+        _ => tell_program(rt, program, status),
     }
 }
 

@@ -3,10 +3,11 @@ use std::alloc::Global;
 use text_hints::{Nearest, Phrase};
 
 /// The commands, and how many words stand after each; after `join` there may be more.
-const COMMANDS: [(&[u8], usize); 7] = [
+const COMMANDS: [(&[u8], usize); 8] = [
     (b"check", 1),
     (b"replay", 2),
     (b"plan", 1),
+    (b"infer", 1),
     (b"stress", 3),
     (b"node", 5),
     (b"launch", 4),

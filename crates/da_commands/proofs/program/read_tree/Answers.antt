@@ -1,18 +1,15 @@
 use Rattle.std.proofs.Common.{subst, sym}
 use Rattle.std.specs.List.{All}
 use Rattle.da_values.specs.TokenFacts.{IsOnLine}
-use Rattle.da_commands.proofs.ProgramLemmas.{is_deep, is_not_cut, is_syntax}
+use Rattle.da_commands.proofs.ProgramLemmas.{is_deep, is_syntax}
 use Rattle.da_commands.proofs.program.read_tree.Goals as goal
-
-pub returns-in-Err-Refused-clause-refused : goal.returns-in-Err-Refused-clause-refused
-returns-in-Err-Refused-clause-refused c = is_not_cut _ _ c.in-Err-Refused.kind c.in-Err-Refused.line _ _ c.requires c.in-Err-Refused.ensures.refused c.in-Err-Refused.field-0-is (cc) (cc)
 
 pub returns-in-Err-Syntax-clause-refused : goal.returns-in-Err-Syntax-clause-refused
 returns-in-Err-Syntax-clause-refused c =
-    is_syntax _ _ _ _ c.in-Ok.ensures.text c.requires c.in-Ok.ensures.ok c.in-Err-Syntax.ensures.only c.in-Err-Syntax.ensures.answer
-    (c.in-Err-Syntax.ensures.line (subst (λ x. All (IsOnLine x) c.in-Ok.tokens.list) (sym c.in-Ok.ensures.text) c.in-Ok.ensures.lines)) _ c.in-Err-Syntax.field-0-is
+    is_syntax _ _ _ _ c.in_ok-tokens.ensures.text c.requires c.in_ok-tokens.ensures.ok c.in-Err-Syntax.ensures.only c.in-Err-Syntax.ensures.answer
+    (c.in-Err-Syntax.ensures.line (subst (λ x. All (IsOnLine x) c.in_ok-tokens.tokens.list) (sym c.in_ok-tokens.ensures.text) c.in_ok-tokens.ensures.lines)) _ c.in-Err-Syntax.field-0-is
 
 pub returns-clause-refused : goal.returns-clause-refused
 returns-clause-refused c =
-    is_deep _ _ _ _ c.in-Ok.ensures.text c.requires c.in-Ok.ensures.ok c.in-Err-Deep.ensures.only c.in-Err-Deep.ensures.answer
-    (c.in-Err-Deep.ensures.line (subst (λ x. All (IsOnLine x) c.in-Ok.tokens.list) (sym c.in-Ok.ensures.text) c.in-Ok.ensures.lines)) _ c.in-Err-Deep.field-0-is
+    is_deep _ _ _ _ c.in_ok-tokens.ensures.text c.requires c.in_ok-tokens.ensures.ok c.in-Err-Deep.ensures.only c.in-Err-Deep.ensures.answer
+    (c.in-Err-Deep.ensures.line (subst (λ x. All (IsOnLine x) c.in_ok-tokens.tokens.list) (sym c.in_ok-tokens.ensures.text) c.in_ok-tokens.ensures.lines)) _ c.in-Err-Deep.field-0-is

@@ -1,4 +1,4 @@
-use Rattle.std.proofs.Common.{◌≡◌, subst, List, ℕ, map, sym}
+use Rattle.std.proofs.Common.{◌≡◌, subst, List, ℕ, inl, inr, map, sym}
 use Rattle.std.specs.String.{string_bytes}
 use Rattle.std.specs.Prelude.{Some}
 use Rattle.arq_link.specs.ArqLink.{inner_of}
@@ -10,18 +10,20 @@ use Rattle.da_commands.specs.declared.words.LaunchSetting.{LaunchSetting}
 use Rattle.da_commands.specs.declared.words.NodeSetting.{NodeSetting}
 use Rattle.da_commands.specs.declared.words.Task.{Task}
 use Rattle.da_values.specs.Sets.{Has}
+use Rattle.da_commands.specs.InferReplies.{InferReply, IsCompletedWhole}
 use Rattle.da_commands.specs.JoinReplies.{IsJoined, JoinReply}
 use Rattle.da_commands.specs.LaunchReplies.{HasLaunched, IsLaunched, LaunchStopped}
 use Rattle.da_commands.specs.Links.{told_over}
 use Rattle.da_commands.specs.NodeReplies.{BindsOnce, HasAnswered, HasKind, HasStopped, IsServed, LinkFailed}
 use Rattle.da_commands.specs.Replies.{IsExecuted, ReplayReply, TaskReply}
 use Rattle.da_commands.specs.Told.{Begins, Gains, OfAllTold, OfTold}
+use Rattle.da_commands.proofs.InferLemmas.{is_completed_whole}
 use Rattle.da_commands.proofs.JoinLemmas.{at_join, is_joined, join_begun, join_whole, not_read_join, told_names}
 use Rattle.da_commands.proofs.LaunchCallLemmas.{at_launch, end_no_child, launch_answered, launch_has_stopped, launch_no_node, launch_quiet, said_childless, same_launch}
 use Rattle.da_commands.proofs.LaunchLemmas.{no_child_cause}
 use Rattle.da_commands.proofs.ReplyLemmas.{at_names, is_executed, not_read, runs_whole, same_names, same_task}
 use Rattle.da_commands.proofs.TopLemmas.{at_node, both_begun, both_whole, node_answered, node_has_stopped, node_link_failed, node_served, said_front, said_whole, same_node, told_begun, told_whole}
-use Rattle.da_commands.proofs.WordLemmas.{join_no_launch, join_no_node, join_no_replay, join_no_task, same_join}
+use Rattle.da_commands.proofs.WordLemmas.{infer_no_join, infer_no_launch, infer_no_node, infer_no_replay, infer_no_task, join_no_infer, join_no_launch, join_no_node, join_no_replay, join_no_task, same_infer, same_join}
 use Rattle.da_commands.proofs.ToldLemmas.{end_no_link, end_no_words, ends_unlinked, said_unlinked, said_unread}
 use Rattle.da_commands.proofs.top.dalgo.Goals as goal
 
@@ -73,6 +75,15 @@ returns-in-Replay-clause-begun_join g c = λ p traces words. absurd (join_no_rep
 pub returns-in-Replay-clause-joined : goal.returns-in-Replay-clause-joined
 returns-in-Replay-clause-joined g c = λ p traces words. absurd (join_no_replay _ _ _ words _ _ c.in-Replay.ensures)
 
+pub returns-in-Replay-clause-infers : goal.returns-in-Replay-clause-infers
+returns-in-Replay-clause-infers g c = λ p words. absurd (infer_no_replay _ _ words _ _ c.in-Replay.ensures)
+
+pub returns-in-Replay-clause-begun_infer : goal.returns-in-Replay-clause-begun_infer
+returns-in-Replay-clause-begun_infer g c = λ p words. absurd (infer_no_replay _ _ words _ _ c.in-Replay.ensures)
+
+pub returns-in-Replay-clause-inferred : goal.returns-in-Replay-clause-inferred
+returns-in-Replay-clause-inferred g c = λ p words. absurd (infer_no_replay _ _ words _ _ c.in-Replay.ensures)
+
 -- A TASK
 
 pub returns-in-Carry-clause-answers : goal.returns-in-Carry-clause-answers
@@ -122,6 +133,118 @@ returns-in-Carry-clause-begun_join g c = λ p traces words. absurd (join_no_task
 
 pub returns-in-Carry-clause-joined : goal.returns-in-Carry-clause-joined
 returns-in-Carry-clause-joined g c = λ p traces words. absurd (join_no_task _ _ _ words _ _ c.in-Carry.ensures)
+
+pub returns-in-Carry-clause-infers : goal.returns-in-Carry-clause-infers
+returns-in-Carry-clause-infers g c = λ p words. absurd (infer_no_task _ _ words _ _ c.in-Carry.ensures)
+
+pub returns-in-Carry-clause-begun_infer : goal.returns-in-Carry-clause-begun_infer
+returns-in-Carry-clause-begun_infer g c = λ p words. absurd (infer_no_task _ _ words _ _ c.in-Carry.ensures)
+
+pub returns-in-Carry-clause-inferred : goal.returns-in-Carry-clause-inferred
+returns-in-Carry-clause-inferred g c = λ p words. absurd (infer_no_task _ _ words _ _ c.in-Carry.ensures)
+
+-- DECLARATIONS
+
+pub returns-in-Infer-clause-infers : goal.returns-in-Infer-clause-infers
+returns-in-Infer-clause-infers g c = λ p words answer.
+    let R : List ℕ → Type 0 = λ x. OfTold (g.F.Files.told c.args.files.now x) (λ t. Gains (InferReply t) c.write_declared.result (g.K.Sink.taken c.args.out.now) (g.K.Sink.taken c.write_declared.new.out)) in
+    let here : R c.in-Infer.program.now = told_whole InferReply _ c.write_declared.result _ _ c.write_declared.ensures.replies answer in
+    subst R (sym (same_infer _ _ c.in-Infer.ensures p words)) here
+
+pub returns-in-Infer-clause-begun_infer : goal.returns-in-Infer-clause-begun_infer
+returns-in-Infer-clause-begun_infer g c = λ p words never.
+    let B : List ℕ → Type 0 = λ x. OfTold (g.F.Files.told c.args.files.now x) (λ t. Begins (InferReply t) (g.K.Sink.taken c.args.out.now) (g.K.Sink.taken c.write_declared.new.out)) in
+    let here : B c.in-Infer.program.now = told_begun InferReply _ c.write_declared.result _ _ c.write_declared.ensures.replies never in
+    subst B (sym (same_infer _ _ c.in-Infer.ensures p words)) here
+
+pub returns-in-Infer-clause-inferred : goal.returns-in-Infer-clause-inferred
+returns-in-Infer-clause-inferred g c = λ p words quiet quiet_out.
+    let same = same_infer _ _ c.in-Infer.ensures p words in
+    let quiet_here : Rose (g.F.Files.faults c.args.files.now c.in-Infer.program.now) (g.F.Files.faults c.write_declared.new.files c.in-Infer.program.now) → ⊥ =
+    subst (λ n. Rose (g.F.Files.faults c.args.files.now n) (g.F.Files.faults c.write_declared.new.files n) → ⊥) same quiet in
+    let R : List ℕ → Type 0 = λ x. IsCompletedWhole (g.F.Files.told c.args.files.now x) c.write_declared.result (g.K.Sink.taken c.args.out.now) (g.K.Sink.taken c.write_declared.new.out) in
+    let here : R c.in-Infer.program.now = is_completed_whole _ c.write_declared.result _ _ c.write_declared.ensures.ends (λ failed. quiet_here (c.write_declared.ensures.read failed)) (λ failed. quiet_out (c.write_declared.ensures.write.failed failed)) c.write_declared.ensures.replies in
+    subst R (sym same) here
+
+pub returns-in-Infer-clause-read : goal.returns-in-Infer-clause-read
+returns-in-Infer-clause-read g c = λ is. inr (inr (inr (inr (inr (c.in-Infer.program.now, c.in-Infer.ensures, c.write_declared.ensures.read is)))))
+
+pub returns-in-Infer-clause-link : goal.returns-in-Infer-clause-link
+returns-in-Infer-clause-link g c = ends_unlinked c.write_declared.result _ c.write_declared.ensures.ends
+
+pub returns-in-Infer-clause-only_words : goal.returns-in-Infer-clause-only_words
+returns-in-Infer-clause-only_words g c = λ is. absurd (end_no_words c.write_declared.result c.write_declared.ensures.ends is)
+
+pub returns-in-Infer-clause-only_node : goal.returns-in-Infer-clause-only_node
+returns-in-Infer-clause-only_node g c = λ is. absurd (end_no_link c.write_declared.result c.write_declared.ensures.ends is)
+
+pub returns-in-Infer-clause-children : goal.returns-in-Infer-clause-children
+returns-in-Infer-clause-children g c = no_child_cause _ c.write_declared.result (end_no_child c.write_declared.result c.write_declared.ensures.ends)
+
+pub returns-in-Infer-clause-only_launch : goal.returns-in-Infer-clause-only_launch
+returns-in-Infer-clause-only_launch g c = λ is. absurd (end_no_child c.write_declared.result c.write_declared.ensures.ends is)
+
+-- which ask for nothing else
+
+pub returns-in-Infer-clause-replies : goal.returns-in-Infer-clause-replies
+returns-in-Infer-clause-replies g c = λ p q words. absurd (infer_no_replay _ _ c.in-Infer.ensures p q words)
+
+pub returns-in-Infer-clause-complete : goal.returns-in-Infer-clause-complete
+returns-in-Infer-clause-complete g c = λ p q t s program events words. absurd (infer_no_replay _ _ c.in-Infer.ensures p q words)
+
+pub returns-in-Infer-clause-begun : goal.returns-in-Infer-clause-begun
+returns-in-Infer-clause-begun g c = λ p q words. absurd (infer_no_replay _ _ c.in-Infer.ensures p q words)
+
+pub returns-in-Infer-clause-answers : goal.returns-in-Infer-clause-answers
+returns-in-Infer-clause-answers g c = λ task p words. absurd (infer_no_task _ _ c.in-Infer.ensures task p words)
+
+pub returns-in-Infer-clause-executed : goal.returns-in-Infer-clause-executed
+returns-in-Infer-clause-executed g c = λ task p t program words. absurd (infer_no_task _ _ c.in-Infer.ensures task p words)
+
+pub returns-in-Infer-clause-begun_task : goal.returns-in-Infer-clause-begun_task
+returns-in-Infer-clause-begun_task g c = λ task p words. absurd (infer_no_task _ _ c.in-Infer.ensures task p words)
+
+pub returns-in-Infer-clause-node : goal.returns-in-Infer-clause-node
+returns-in-Infer-clause-node g c = λ p setting words. absurd (infer_no_node _ _ c.in-Infer.ensures p setting words)
+
+pub returns-in-Infer-clause-node_link : goal.returns-in-Infer-clause-node_link
+returns-in-Infer-clause-node_link g c = λ p setting words. absurd (infer_no_node _ _ c.in-Infer.ensures p setting words)
+
+pub returns-in-Infer-clause-node_stopped : goal.returns-in-Infer-clause-node_stopped
+returns-in-Infer-clause-node_stopped g c = λ p setting words. absurd (infer_no_node _ _ c.in-Infer.ensures p setting words)
+
+pub returns-in-Infer-clause-node_packets : goal.returns-in-Infer-clause-node_packets
+returns-in-Infer-clause-node_packets g c = λ p setting words. absurd (infer_no_node _ _ c.in-Infer.ensures p setting words)
+
+pub returns-in-Infer-clause-binds : goal.returns-in-Infer-clause-binds
+returns-in-Infer-clause-binds g c = λ p setting words. absurd (infer_no_node _ _ c.in-Infer.ensures p setting words)
+
+pub returns-in-Infer-clause-served : goal.returns-in-Infer-clause-served
+returns-in-Infer-clause-served g c = λ p t program setting words. absurd (infer_no_node _ _ c.in-Infer.ensures p setting words)
+
+pub returns-in-Infer-clause-launch : goal.returns-in-Infer-clause-launch
+returns-in-Infer-clause-launch g c = λ p setting words. absurd (infer_no_launch _ _ c.in-Infer.ensures p setting words)
+
+pub returns-in-Infer-clause-launch_stopped : goal.returns-in-Infer-clause-launch_stopped
+returns-in-Infer-clause-launch_stopped g c = λ p setting words. absurd (infer_no_launch _ _ c.in-Infer.ensures p setting words)
+
+pub returns-in-Infer-clause-launched : goal.returns-in-Infer-clause-launched
+returns-in-Infer-clause-launched g c = λ p t program setting words. absurd (infer_no_launch _ _ c.in-Infer.ensures p setting words)
+
+pub returns-in-Infer-clause-joins : goal.returns-in-Infer-clause-joins
+returns-in-Infer-clause-joins g c = λ p traces words. absurd (infer_no_join _ _ c.in-Infer.ensures p traces words)
+
+pub returns-in-Infer-clause-begun_join : goal.returns-in-Infer-clause-begun_join
+returns-in-Infer-clause-begun_join g c = λ p traces words. absurd (infer_no_join _ _ c.in-Infer.ensures p traces words)
+
+pub returns-in-Infer-clause-joined : goal.returns-in-Infer-clause-joined
+returns-in-Infer-clause-joined g c = λ p traces words. absurd (infer_no_join _ _ c.in-Infer.ensures p traces words)
+
+pub returns-in-Infer-clause-words : goal.returns-in-Infer-clause-words
+returns-in-Infer-clause-words g c = λ other. absurd (other.5 _ c.in-Infer.ensures)
+
+pub returns-in-Infer-clause-begun_words : goal.returns-in-Infer-clause-begun_words
+returns-in-Infer-clause-begun_words g c = λ other. absurd (other.5 _ c.in-Infer.ensures)
 
 -- A NODE
 
@@ -187,6 +310,15 @@ returns-in-Node-clause-begun_join g c = λ p traces words. absurd (join_no_node 
 pub returns-in-Node-clause-joined : goal.returns-in-Node-clause-joined
 returns-in-Node-clause-joined g c = λ p traces words. absurd (join_no_node _ _ _ words _ _ c.in-Node.ensures)
 
+pub returns-in-Node-clause-infers : goal.returns-in-Node-clause-infers
+returns-in-Node-clause-infers g c = λ p words. absurd (infer_no_node _ _ words _ _ c.in-Node.ensures)
+
+pub returns-in-Node-clause-begun_infer : goal.returns-in-Node-clause-begun_infer
+returns-in-Node-clause-begun_infer g c = λ p words. absurd (infer_no_node _ _ words _ _ c.in-Node.ensures)
+
+pub returns-in-Node-clause-inferred : goal.returns-in-Node-clause-inferred
+returns-in-Node-clause-inferred g c = λ p words. absurd (infer_no_node _ _ words _ _ c.in-Node.ensures)
+
 -- A LAUNCH
 
 pub returns-in-Launch-clause-launch : goal.returns-in-Launch-clause-launch
@@ -235,6 +367,15 @@ returns-in-Launch-clause-begun_join g c = λ p traces words. absurd (join_no_lau
 pub returns-in-Launch-clause-joined : goal.returns-in-Launch-clause-joined
 returns-in-Launch-clause-joined g c = λ p traces words. absurd (join_no_launch _ _ _ words _ _ c.in-Launch.ensures)
 
+pub returns-in-Launch-clause-infers : goal.returns-in-Launch-clause-infers
+returns-in-Launch-clause-infers g c = λ p words. absurd (infer_no_launch _ _ words _ _ c.in-Launch.ensures)
+
+pub returns-in-Launch-clause-begun_infer : goal.returns-in-Launch-clause-begun_infer
+returns-in-Launch-clause-begun_infer g c = λ p words. absurd (infer_no_launch _ _ words _ _ c.in-Launch.ensures)
+
+pub returns-in-Launch-clause-inferred : goal.returns-in-Launch-clause-inferred
+returns-in-Launch-clause-inferred g c = λ p words. absurd (infer_no_launch _ _ words _ _ c.in-Launch.ensures)
+
 -- A JOIN
 
 pub returns-in-Join-clause-joins : goal.returns-in-Join-clause-joins
@@ -265,6 +406,9 @@ returns-in-Join-clause-joined g c = λ p traces words quiet quiet_traces quiet_o
     (subst (λ os. IsJoined (g.F.Files.told c.args.files.now c.in-Join.program.now) os c.join.result (g.K.Sink.taken c.args.out.now) (g.K.Sink.taken c.join.new.out))
     (told_names (g.F.Files.told c.args.files.now) c.in-Join.traces.now)
     (is_joined (g.F.Files.told c.args.files.now c.in-Join.program.now) (map (λ name. g.F.Files.told c.args.files.now (string_bytes name)) c.in-Join.traces.now) c.join.result (g.K.Sink.taken c.args.out.now) (g.K.Sink.taken c.join.new.out) c.join.ensures.ends (λ failed. not_read_join (g.F.Files.told c.args.files.now c.in-Join.program.now) (g.F.Files.faults c.args.files.now) (g.F.Files.faults c.join.new.files) c.in-Join.program.now (map string_bytes c.in-Join.traces.now) (c.join.ensures.read failed) quiet_here quiet_there) (λ failed. quiet_out (c.join.ensures.write.failed failed)) c.join.ensures.replies))
+
+pub returns-in-Join-clause-read : goal.returns-in-Join-clause-read
+returns-in-Join-clause-read g c = λ is. inr (inr (inr (inr (inl (c.in-Join.program.now, map string_bytes c.in-Join.traces.now, c.in-Join.ensures, c.join.ensures.read is)))))
 
 pub returns-in-Join-clause-link : goal.returns-in-Join-clause-link
 returns-in-Join-clause-link g c = ends_unlinked c.join.result _ c.join.ensures.ends
@@ -334,6 +478,15 @@ returns-in-Join-clause-words g c = λ other. absurd (other.4 _ _ c.in-Join.ensur
 pub returns-in-Join-clause-begun_words : goal.returns-in-Join-clause-begun_words
 returns-in-Join-clause-begun_words g c = λ other. absurd (other.4 _ _ c.in-Join.ensures)
 
+pub returns-in-Join-clause-infers : goal.returns-in-Join-clause-infers
+returns-in-Join-clause-infers g c = λ p words. absurd (join_no_infer _ _ _ c.in-Join.ensures _ words)
+
+pub returns-in-Join-clause-begun_infer : goal.returns-in-Join-clause-begun_infer
+returns-in-Join-clause-begun_infer g c = λ p words. absurd (join_no_infer _ _ _ c.in-Join.ensures _ words)
+
+pub returns-in-Join-clause-inferred : goal.returns-in-Join-clause-inferred
+returns-in-Join-clause-inferred g c = λ p words. absurd (join_no_infer _ _ _ c.in-Join.ensures _ words)
+
 -- OTHER WORDS
 
 pub returns-in-Other-clause-words : goal.returns-in-Other-clause-words
@@ -386,3 +539,12 @@ returns-in-Other-clause-begun_join g c = λ p traces words. absurd (c.in-Other.e
 
 pub returns-in-Other-clause-joined : goal.returns-in-Other-clause-joined
 returns-in-Other-clause-joined g c = λ p traces words. absurd (c.in-Other.ensures.4 p traces words)
+
+pub returns-in-Other-clause-infers : goal.returns-in-Other-clause-infers
+returns-in-Other-clause-infers g c = λ p words. absurd (c.in-Other.ensures.5 p words)
+
+pub returns-in-Other-clause-begun_infer : goal.returns-in-Other-clause-begun_infer
+returns-in-Other-clause-begun_infer g c = λ p words. absurd (c.in-Other.ensures.5 p words)
+
+pub returns-in-Other-clause-inferred : goal.returns-in-Other-clause-inferred
+returns-in-Other-clause-inferred g c = λ p words. absurd (c.in-Other.ensures.5 p words)
