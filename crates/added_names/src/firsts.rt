@@ -175,8 +175,8 @@ fn first_variables<'t>(
 
 /// The tags without a `message` line, in the order in which they appear first.
 ///
-/// A tag is a text that spells a name and is the first part of the tuple of a `send`, of a pattern over `received` or
-/// `sent`, or of a handler's pattern.
+/// Where a `send`, a handler, or a pattern over `received` or `sent` has a tuple that begins with a text, and this text could
+/// be a name, it is a tag.
 #[tactic(auto, unfolding(crate::specs::StmtTags::added_tags))]
 pub fn added_tags(alloc: Global, tree: &Tree) -> Result<List<AddedTag>, NoMemory>
     ensures { IfOk result (λ tags. tags ≡ tags_of tree.now) }

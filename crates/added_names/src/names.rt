@@ -37,7 +37,8 @@ fn goes_on(rest: &[u8], text: &[u8]) -> bool
     all_in_name(rest) && !is_reserved(text)
 }
 
-/// Whether bytes spell a name: a letter or `_`, then letters, digits and `_`, but no reserved word and not `_` alone.
+/// Whether bytes could be a name: they are not empty, have nothing but letters, digits and `_`, do not begin with a digit, and
+/// are neither a reserved word nor `_` by itself.
 #[tactic(auto, unfolding(crate::specs::Names::is_name))]
 pub fn is_name(text: &[u8]) -> bool
     ensures { result ≡ spec.is_name text.now }

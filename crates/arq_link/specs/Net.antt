@@ -96,7 +96,7 @@ handed p q = flat_map (handed_in p q)
 abbrev pub IsPrefix : {A : Type 0} → List A → List A → Type 0
 IsPrefix {A} front whole = (rest : List A) × (whole ≡ front ++ rest)
 
--- what a process was handed from a sender is a prefix of what that sender gave to it
+-- of each sender a process has been handed the beginning of what this one gave to it, and nothing else
 abbrev pub ArrivesInOrder : Type 0
 ArrivesInOrder = (count : ℕ) (net : Net) → Runs count net → (p q : ℕ) → IsProcess count p → IsProcess count q
     → IsPrefix (handed p q net.events) (gave q p net.events)

@@ -7,8 +7,8 @@ use crate::telling::Telling;
 use da_outside::{DATAGRAM_MAX, Link, LinkEntry, Taken, Trouble};
 use std::alloc::Global;
 
-/// A link over another one, the inner link, that may lose, repeat and reorder what it is given. What it hands out of each sender
-/// comes once, and in the order in which that sender gave it.
+/// A link that keeps the order, made of an inner link that need not: payloads there may be lost, come twice, or overtake each
+/// other. Of every sender it hands out each payload a single time, the ones that were given first before the others.
 ///
 /// Each payload goes as a frame with a number, and waits until the peer has acknowledged it. At each hundredth answer in a row
 /// that nothing is there, what waits first for each peer is given again. Memory of a call is taken first, and where a call fails

@@ -53,10 +53,6 @@ repoint_keeps c k y hole = record {
   yields = λ j z real there. kept_elsewhere c k y j z hole real there (lies j k);
 }
 
-fill_yields : (c : Code) (places : List ℕ) (i : Instr) → (filled c places i).yields ≡ c.yields
-fill_yields c [] i = refl
-fill_yields c (at ∷ places) i = fill_yields (patched c at i) places i
-
 -- the number of the first of numbered points, which 32 bits count
 first_number : (class : Class) (from : ℕ) (point : Point) (ps : Points) → AreNumbered class from (point ∷ ps) → IsNumbered class from point
 first_number class from point ps all = let zero_more : from + 0 ≡ from = omega arith in subst (λ k. IsNumbered class k point) zero_more (all.each 0 point refl)

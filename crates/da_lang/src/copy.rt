@@ -1,7 +1,7 @@
 //! Copies of types and of the parts of queries. Each is equal to what it is made from.
 ghost use Rattle.std.specs.Prelude.{◌≡◌, IfOk};
 
-use crate::query::{Agg, Cond, LivePattern, Operand, Pattern, Query, RGen, SignedOperand, Term};
+use crate::query::{Agg, Cond, Operand, Pattern, RGen, SignedOperand, Term};
 use crate::ty::Ty;
 use da_values::{Boxed, List, NoMemory, copy_value};
 use std::alloc::Global;
@@ -109,19 +109,6 @@ pub fn copy_gens(alloc: Global, gens: &[RGen]) -> Result<List<RGen>, NoMemory>
         copy.push(copy_gen(alloc, gen_)?)?;
     }
     Ok(copy)
-}
-
-/// A copy of a live pattern.
-pub fn copy_live(alloc: Global, live: &LivePattern) -> Result<LivePattern, NoMemory>
-    ensures { IfOk result (λ copy. copy ≡ live.now) }
-{
-    let message = copy_pattern(alloc, &live.message)?;
-    let peer = copy_pattern(alloc, &live.peer)?;
-    Ok(LivePattern {
-        source: live.source,
-        message,
-        peer,
-    })
 }
 
 /// A copy of a condition.
@@ -254,29 +241,5 @@ fn copy_other(alloc: Global, other: &Option<Term>) -> Result<Option<Term>, NoMem
     match other {
         None => Ok(None),
         Some(term) => Ok(Some(copy_term(alloc, term)?)),
-    }
-}
-
-/// A copy of a query.
-pub fn copy_query(alloc: Global, query: &Query) -> Result<Query, NoMemory>
-    ensures { IfOk result (λ copy. copy ≡ query.now) }
-{
-    match query {
-        Query::Quant { each, gens, cond } => {
-            let gens = copy_gens(alloc, gens.as_slice())?;
-            let cond = copy_guard(alloc, cond)?;
-            Ok(Query::Quant {
-                each: *each,
-                gens,
-                cond,
-            })
-        }
-        Query::Comp { term, gens, cond } => {
-            let gens = copy_gens(alloc, gens.as_slice())?;
-            let cond = copy_guard(alloc, cond)?;
-            let term = copy_term(alloc, term)?;
-            Ok(Query::Comp { term, gens, cond })
-        }
-        Query::Agg(agg) => Ok(Query::Agg(boxed_agg(alloc, agg.get())?)),
     }
 }

@@ -13,8 +13,8 @@ mod ty;
 
 pub use code::Instr;
 pub use copy::{
-    copy_agg, copy_cond, copy_gen, copy_gens, copy_live, copy_operand, copy_pattern, copy_query,
-    copy_term, copy_type, copy_types,
+    copy_agg, copy_cond, copy_gen, copy_gens, copy_operand, copy_pattern, copy_term, copy_type,
+    copy_types,
 };
 pub use event::{Action, Event, FaultKind};
 pub use program::{
@@ -27,8 +27,8 @@ pub use query::{
 };
 pub use refusal::{LimitKind, ScopeKind};
 pub use same::{
-    same_agg, same_cond, same_gen, same_gens, same_live, same_operand, same_pattern, same_query,
-    same_source, same_term, same_value,
+    same_agg, same_cond, same_gen, same_gens, same_live, same_operand, same_pattern, same_source,
+    same_term, same_value,
 };
 pub use tree::{
     ArithOp, Branch, ChainTree, ClassTree, CmpOp, Expr, GenTree, MainLine, Member, MessageDecl,

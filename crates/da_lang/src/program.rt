@@ -93,14 +93,14 @@ pub enum ItemKind {
     For(u16, Boxed<RExpr>, List<Item>),
     /// A method's statements in the place of the call, with its arguments.
     Call(List<BindArg>, List<Item>),
-    /// Waits for one of the alternatives, or for the time to run out where there is a block for that. `label` is that of a
-    /// label which stands directly before it in the same block.
+    /// Waits for one of the alternatives; a `timeout` block is taken when time runs out. `label` numbers the label of the line
+    /// above, where that line is a label of this block.
     Await {
         alts: List<Alt>,
         timeout: Option<List<Item>>,
         label: Option<u32>,
     },
-    /// A yield point, which a move takes. The labels of a class are numbered from 1, in text order.
+    /// A yield point that only a move leaves. Its number counts the labels of the class, from 1, as they are written.
     Label(u32),
     /// Does nothing.
     Pass,

@@ -2,9 +2,7 @@
 ghost use Rattle.da_lang.specs.Live.{same_live};
 ghost use Rattle.std.specs.Prelude.{◌≡◌, ◌↔◌, IsTrue};
 
-use crate::query::{
-    Agg, Cond, LivePattern, Operand, Pattern, Query, RGen, SignedOperand, Source, Term,
-};
+use crate::query::{Agg, Cond, LivePattern, Operand, Pattern, RGen, SignedOperand, Source, Term};
 use da_values::{Boxed, Value, cmp_values};
 use std::cmp::Ordering;
 
@@ -236,40 +234,6 @@ fn same_other(a: &Option<Term>, b: &Option<Term>) -> bool
     match (a, b) {
         (None, None) => true,
         (Some(x), Some(y)) => same_term(x, y),
-        _ => false,
-    }
-}
-
-/// Whether two queries are equal.
-pub fn same_query(a: &Query, b: &Query) -> bool
-    ensures { IsTrue result ↔ (a.now ≡ b.now) }
-{
-    match (a, b) {
-        (
-            Query::Quant { each, gens, cond },
-            Query::Quant {
-                each: other_each,
-                gens: other_gens,
-                cond: other_cond,
-            },
-        ) => {
-            *each == *other_each
-                && same_gens(gens.as_slice(), other_gens.as_slice())
-                && same_guard(cond, other_cond)
-        }
-        (
-            Query::Comp { term, gens, cond },
-            Query::Comp {
-                term: other_term,
-                gens: other_gens,
-                cond: other_cond,
-            },
-        ) => {
-            same_term(term, other_term)
-                && same_gens(gens.as_slice(), other_gens.as_slice())
-                && same_guard(cond, other_cond)
-        }
-        (Query::Agg(x), Query::Agg(y)) => same_agg(x.get(), y.get()),
         _ => false,
     }
 }

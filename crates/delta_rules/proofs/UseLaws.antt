@@ -23,10 +23,6 @@ or_nil : (b : Bool) → (b || false) ≡ b
 or_nil true = refl
 or_nil false = refl
 
-or_again : (b : Bool) → (b || b) ≡ b
-or_again true = refl
-or_again false = refl
-
 or_assoc : (a b c : Bool) → ((a || b) || c) ≡ (a || (b || c))
 or_assoc true b c = refl
 or_assoc false b c = refl

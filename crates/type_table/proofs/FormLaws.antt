@@ -113,10 +113,6 @@ same_zip m [] (y ∷ ys) size same = absurd (omega (arith, size))
 same_zip m (x ∷ xs) [] size same = absurd (omega (arith, size))
 same_zip m (x ∷ xs) (y ∷ ys) size same = ap (λ z. z ∷ map m xs) same.0 ∙ ap (λ zs. m y ∷ zs) (same_zip m xs ys (omega (arith, size)) same.1)
 
-zip_none : (m : Meaning) (xs : List ℕ) → AreSame m (zip xs [])
-zip_none m [] = tt
-zip_none m (x ∷ xs) = tt
-
 open_is : (x : Form) → is_open x ≡ true → x ≡ f.Open
 open_is f.Open e = refl
 open_is _ e = absurd (false≢true e)
