@@ -136,6 +136,14 @@ pub fn label_at(code: &ClassCode, at: u64) -> Option<u32>
     wait_at(code, at)?.label
 }
 
+/// The number of the yield point at a place in the code, or `None` where none stands there.
+pub fn yield_at(code: &ClassCode, at: u64) -> Option<u32> {
+    match code.code.instrs.get(at as usize)? {
+        Instr::Yield(number) => Some(*number),
+        _ => None,
+    }
+}
+
 // What is waited for at a place in the code, or `None` where no yield point stands there.
 fn wait_at(code: &ClassCode, at: u64) -> Option<&Wait>
     ensures { option_copied result ≡ wait_def code.now at }

@@ -23,7 +23,7 @@ use crate::answers::tell_answers;
 use crate::compiled::{ClassCode, Compiled};
 use crate::deliveries::{Delivery, take_in};
 use crate::known::Known;
-use crate::moves::{Begin, alternative_at, begin_in, label_at, run_from, timeout_in};
+use crate::moves::{Begin, alternative_at, begin_in, label_at, run_from, timeout_in, yield_at};
 use crate::opened::is_taken;
 use crate::opening::first_values;
 use crate::place::{Place, StepFault, Stopped};
@@ -93,6 +93,16 @@ impl<'c> Core<'c> {
         ensures place { Whichever self.now (λ w. IsPlace w.todo result w.phase) }
     {
         self.place
+    }
+
+    /// The number of the label or `await` where the process waits, counted from 0 in the order of the text of `run` with calls
+    /// inlined; `None` where it does not wait. It tells a person where to look, and no clause speaks of it. It takes no memory.
+    pub fn yield_number(&self) -> Option<u32> {
+        if !self.is_waiting() {
+            return None;
+        }
+        let code = self.compiled.code_of(self.known.answers.me)?;
+        yield_at(code, self.machine.place)
     }
 
     /// Whether an earlier event found no memory. It takes no memory.

@@ -3,8 +3,11 @@
 
 mod channels;
 mod choices;
+mod looking;
 mod queue;
 mod system;
 
-pub use da_core::StepFault;
+pub use channels::{may_arrive, may_lose, may_repeat};
+pub use da_core::{Place, StepFault};
+pub use queue::InFlight;
 pub use system::System;
