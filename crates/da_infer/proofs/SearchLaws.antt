@@ -13,7 +13,7 @@ use Rattle.type_demands.specs.declared.demand.Demand.{Demand}
 use Rattle.type_demands.specs.declared.demand.LineDemand.{LineDemand}
 use Rattle.type_demands.specs.Demands.{met, all_met}
 use Rattle.type_demands.proofs.FoundLaws.{met_both}
-use Rattle.type_fitting.specs.Fit.{Fits, Knows, meaning_of}
+use Rattle.type_fitting.specs.Fit.{Fits, FitsBest, Knows, meaning_of}
 use Rattle.class_demands.specs.declared.demands.ClassDemands.{ClassDemands}
 use Rattle.class_demands.specs.declared.demands.Head.{Head}
 use Rattle.class_demands.specs.declared.demands.ProgramDemands.{ProgramDemands}
@@ -21,7 +21,7 @@ use Rattle.class_demands.specs.declared.demands.SetupDemands.{SetupDemands}
 use Rattle.class_demands.specs.Prefix.{upto, needed, headed, always, heads_of, class_upto, setup_upto, demands_upto, seen}
 use Rattle.class_demands.proofs.NeededLaws.{heads_needed}
 use Rattle.da_infer.specs.Known.{program_known}
-use Rattle.da_infer.specs.Search.{FitsUpto, last_of, last_in_classes, last_in_setups, last_line, AreUpto, IsLast, IsClash}
+use Rattle.da_infer.specs.Search.{FitsUpto, FitsBestUpto, FitsLast, last_of, last_in_classes, last_in_setups, last_line, AreUpto, IsLast, IsClash}
 use Rattle.da_infer.proofs.KnownLaws.{program_knows}
 
 -- ---- lines before
@@ -129,6 +129,12 @@ fits_all count p last types is fits n = elim (cases_lt n last) [
   | inr after ↦ subst (λ demands. Fits count demands types) (sym (demands_same last n after p is)) fits
 ]
 
+pub best_all : (count : ℕ) (p : ProgramDemands) (last : ℕ) (types : List Ty) → IsLast p last → FitsBestUpto count p last types → FitsLast count p types
+best_all count p last types is best = record {
+  fits = fits_all count p last types is best.fits;
+  lean = λ others all. best.lean others (all last);
+}
+
 -- ---- how far the search is: none up to the one line, and some up to each line before the other one
 
 pub record Halving (count : ℕ) (p : ProgramDemands) (low high : ℕ) : Type 0 where
@@ -153,7 +159,7 @@ halving_ends count p low high end so_far = record { none = so_far.none; before =
 -- ---- what code asks for
 
 abbrev pub Found : ℕ → List Demand → Option (List Ty) → Type 0
-Found count demands found = MatchOption found ((types : List Ty) → Fits count demands types → ⊥) (Fits count demands)
+Found count demands found = MatchOption found ((types : List Ty) → Fits count demands types → ⊥) (FitsBest count demands)
 
 pub asked_known : (count line : ℕ) (p : ProgramDemands) (asked lent : List (Bor Demand)) → lent ≡ asked → seen asked ≡ demands_upto line p → program_known count p ≡ true → AllByRecursion (Knows count) (map (λ (x : Bor Demand). x.now) lent)
 asked_known count line p asked lent same is known = subst (AllByRecursion (Knows count)) (sym (ap seen same ∙ is)) (program_knows count line p known)
@@ -166,5 +172,5 @@ pub fits_found : (count : ℕ) (demands : List Demand) (found : Option (List Ty)
     → MatchBool fits ((types : List Ty) × Fits count demands types) ((types : List Ty) → Fits count demands types → ⊥)
 fits_found count demands None true e p = absurd (cc)
 fits_found count demands None false e p = p
-fits_found count demands (Some types) true e p = (types, p)
+fits_found count demands (Some types) true e p = (types, p.fits)
 fits_found count demands (Some types) false e p = absurd (cc)

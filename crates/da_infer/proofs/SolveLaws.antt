@@ -29,6 +29,7 @@ use Rattle.da_scope.specs.Resolving as resolving
 use Rattle.da_unparse.proofs.PrintLaws.{spells_again}
 use Rattle.type_table.specs.Draws.{numbers_from}
 use Rattle.type_table.specs.Fits.{Meaning}
+use Rattle.type_choice.specs.Lean.{AreLean}
 use Rattle.type_demands.specs.Demands.{all_met}
 use Rattle.type_fitting.specs.Declarable.{IsDeclarable}
 use Rattle.type_fitting.specs.Fit.{meaning_of, Fits}
@@ -44,7 +45,7 @@ use Rattle.da_infer.specs.Answers.{Upto, HasTypes, IsMisnamed, IsTooLarge, HasNo
 use Rattle.da_infer.specs.Fills.{IsLoose, Fills, place_of, open_in, count_in}
 use Rattle.da_infer.specs.Laws.{FillsAreWritten, Alike, FillsAgree, types_by, FillsAreDemanded}
 use Rattle.da_infer.specs.Marked.{IsMarked}
-use Rattle.da_infer.specs.Search.{FitsUpto, IsClash}
+use Rattle.da_infer.specs.Search.{FitsLast, FitsUpto, IsClash}
 use Rattle.da_infer.specs.Unknowns.{AreUnknowns}
 use Rattle.da_infer.proofs.UnknownTypes.{int_declarable}
 
@@ -76,6 +77,12 @@ int_list_may (suc count) = All-cons IsDeclarable ty.Int (int_list count) int_dec
 
 padded_first : (count more : ℕ) (types : List Ty) → length types ≡ count → take count (types ++ int_list more) ≡ types
 padded_first count more types size = ap (λ n. take n (types ++ int_list more)) (sym size) ∙ take-append_seam types (int_list more)
+
+-- the first types of lists that are lean, one beside the other
+lean_first : (n : ℕ) (xs ys : List Ty) → AreLean xs ys → AreLean (take n xs) (take n ys)
+lean_first zero xs ys are = AreLean.none
+lean_first (suc n) xs ys AreLean.none = AreLean.none
+lean_first (suc n) xs ys (AreLean.more x y rest others first each) = AreLean.more x y (take n rest) (take n others) first (lean_first n rest others each)
 
 -- no line up to whichever one
 none_at : (x : ℕ) (xs : List ℕ) → none_upto x (x ∷ xs) ≡ true → ⊥
@@ -110,20 +117,29 @@ module _ (l : LooseTree) (is : IsLoose l) (demanded : FillsAreDemanded) (p : Pro
     keeps = broken_by types fits.size n ∙ fits.met;
   }
 
-  fits_types : (n : ℕ) → HasTypes l n → (types : List Ty) × FitsUpto known (program_demands p) n types
-  fits_types n h =
+  -- types that keep the rules, and `int` for what nothing is declared of
+  padded_fits : (n : ℕ) (h : HasTypes l n) → FitsUpto known (program_demands p) n (h.types ++ int_list (known - count_in l))
+  padded_fits n h =
       let rest = int_list (known - count_in l) in
-      let size : length (h.types ++ rest) ≡ known = omega (arith, length-append h.types rest, h.fills.size, int_list_size (known - count_in l), more) in (
-        h.types ++ rest,
-        record {
-          size = size;
-          each = All-append IsDeclarable h.types rest h.fills.each (int_list_may (known - count_in l));
-          met = sym (broken_by (h.types ++ rest) size n)
-              ∙ ap (λ z. none_upto n (type_breaks (resolved (filled (open_in l) z)))) (padded_first (count_in l) (known - count_in l) h.types h.fills.size)
-              ∙ ap (λ t. none_upto n (type_breaks (resolved t))) (sym h.fills.is)
-              ∙ h.keeps;
-        },
-      )
+      let size : length (h.types ++ rest) ≡ known = omega (arith, length-append h.types rest, h.fills.size, int_list_size (known - count_in l), more) in
+      record {
+        size = size;
+        each = All-append IsDeclarable h.types rest h.fills.each (int_list_may (known - count_in l));
+        met = sym (broken_by (h.types ++ rest) size n)
+            ∙ ap (λ z. none_upto n (type_breaks (resolved (filled (open_in l) z)))) (padded_first (count_in l) (known - count_in l) h.types h.fills.size)
+            ∙ ap (λ t. none_upto n (type_breaks (resolved t))) (sym h.fills.is)
+            ∙ h.keeps;
+      }
+
+  fits_types : (n : ℕ) → HasTypes l n → (types : List Ty) × FitsUpto known (program_demands p) n types
+  fits_types n h = (h.types ++ int_list (known - count_in l), padded_fits n h)
+
+  -- the first of these types are lean beside any others that keep the rules
+  lean_types : (types : List Ty) → FitsLast known (program_demands p) types → (others : List Ty) (u : Tree) → Fills l others u → type_breaks (resolved u) ≡ [] → AreLean (take (count_in l) types) others
+  lean_types types best others u fills keeps =
+      subst (AreLean (take (count_in l) types)) (padded_first (count_in l) (known - count_in l) others fills.size)
+      (lean_first (count_in l) types (others ++ int_list (known - count_in l))
+      (best.lean (others ++ int_list (known - count_in l)) (λ n. padded_fits n (record { types = others; tree = u; fills = fills; keeps = ap (none_upto n) keeps }))))
 
   pub clashes : (line : ℕ) → IsClash known (program_demands p) line → HasNoTypes l line
   clashes line clash = record {
@@ -136,8 +152,9 @@ module _ (l : LooseTree) (is : IsLoose l) (demanded : FillsAreDemanded) (p : Pro
     before = λ n less. let found = clash.before n less in has_types n found.0 found.1;
   }
 
-  pub inferred : FillsAgree → FillsAreWritten → (types : List Ty) (t : Tree) → ((n : ℕ) → FitsUpto known (program_demands p) n types) → t ≡ filled (open_in l) (take (count_in l) types) → IsInferred l t
-  inferred agree written types t fits same =
+  pub inferred : FillsAgree → FillsAreWritten → (types : List Ty) (t : Tree) → FitsLast known (program_demands p) types → t ≡ filled (open_in l) (take (count_in l) types) → IsInferred l t
+  inferred agree written types t best same =
+      let fits = best.fits in
       let first = take (count_in l) types in
       let given = first_fills 0 types (fits 0) in
       let fills : Fills l first t = record { size = given.size; each = given.each; is = same } in
@@ -153,6 +170,7 @@ module _ (l : LooseTree) (is : IsLoose l) (demanded : FillsAreDemanded) (p : Pro
           keeps = no_lines (type_breaks (resolved t)) (λ n. ap (λ u. none_upto n (type_breaks (resolved u))) same ∙ broken_by types (fits 0).size n ∙ (fits n).met);
           becomes = refl;
         };
+        lean = lean_types types best;
         written = spelled;
         printed = spells_again t spelled.tokens spelled.spells;
       }
@@ -166,10 +184,10 @@ module _ (l : LooseTree) (is : IsLoose l) (places : List OpenPlace) (open_places
   tree_by types seen t same made = made ∙ ap₂ (λ (ps : List OpenPlace) (tys : List Ty). filled (record { tree = l.tree; untyped = ps }) tys) open_places same
 
   pub solved_types : FillsAreDemanded → FillsAgree → FillsAreWritten → (p : Program) → IsMarked l p → (demands : ProgramDemands) → demands ≡ program_demands p → (known : ℕ) → count ≤ known
-      → (types listed first : List Ty) (t : Tree) → ((n : ℕ) → FitsUpto known demands n types) → listed ≡ types → first ≡ take count listed → t ≡ filled (record { tree = l.tree; untyped = places }) first → IsInferred l t
-  solved_types demanded agree written p marked demands is_listed known more types listed first t fits same taken made =
+      → (types listed first : List Ty) (t : Tree) → FitsLast known demands types → listed ≡ types → first ≡ take count listed → t ≡ filled (record { tree = l.tree; untyped = places }) first → IsInferred l t
+  solved_types demanded agree written p marked demands is_listed known more types listed first t best same taken made =
       inferred l is demanded p marked known (omega (arith, more, counted)) agree written types t
-      (subst (λ d. (n : ℕ) → FitsUpto known d n types) is_listed fits)
+      (subst (λ d. FitsLast known d types) is_listed best)
       (tree_by (take (count_in l) types) first t (taken ∙ ap₂ (λ n xs. take n xs) counted same) made)
 
   pub solved_clash : FillsAreDemanded → (p : Program) → IsMarked l p → (demands : ProgramDemands) → demands ≡ program_demands p → (known : ℕ) → count ≤ known → (line : ℕ) → IsClash known demands line → HasNoTypes l line

@@ -14,6 +14,7 @@ use Rattle.da_parse.specs.declared.loose.LooseTree.{LooseTree}
 use Rattle.da_unparse.specs.Prints.{SpellsAgain}
 use Rattle.da_unparse.specs.Programs.{tree_text}
 use Rattle.class_demands.specs.Prefix.{none_upto}
+use Rattle.type_choice.specs.Lean.{AreLean}
 use Rattle.da_infer.specs.declared.top.InferFault.{InferFault}
 use Rattle.da_infer.specs.declared.top.InferFault.TheVariants as fault
 use Rattle.da_infer.specs.Fills.{Fills}
@@ -60,7 +61,8 @@ IsRefusedAs l (fault.Limit which line) = IsTooLarge l which line
 IsRefusedAs l (fault.NoTypes line) = HasNoTypes l line
 IsRefusedAs l fault.Memory = ⊥
 
--- A program with types for what has none: it has a program, which keeps all rules of types. Some tokens spell it, few enough
+-- A program with types for what has none: it has a program, which keeps all rules of types. No other types with which it does are
+-- better: each type is that of any others, with `int` or `proc` in place of some parts. Some tokens spell the program, few enough
 -- to be counted by 32 bits, and the tokens of what is printed of it spell it again, but for the numbers of lines.
 pub record IsInferred (l : LooseTree) (t : Tree) : Type 0 where
   pub types : List Ty
@@ -69,5 +71,6 @@ pub record IsInferred (l : LooseTree) (t : Tree) : Type 0 where
   pub resolves : Resolves t program
   pub whole : Program
   pub typed : Typed program whole
+  pub lean : (others : List Ty) (u : Tree) → Fills l others u → type_breaks (resolved u) ≡ [] → AreLean types others
   pub written : IsWritten t
   pub printed : SpellsAgain (tree_text t) t

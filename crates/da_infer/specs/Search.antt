@@ -3,7 +3,8 @@ use Rattle.std.specs.Prelude.{ℕ, ◌<◌, ◌≤◌, max, List, [], ◌∷◌}
 use Rattle.std.specs.List.{AllByRecursion}
 use Rattle.da_lang.specs.declared.ty.Ty.{Ty}
 use Rattle.type_demands.specs.declared.demand.LineDemand.{LineDemand}
-use Rattle.type_fitting.specs.Fit.{Fits}
+use Rattle.type_choice.specs.Lean.{AreLean}
+use Rattle.type_fitting.specs.Fit.{Fits, FitsBest}
 use Rattle.class_demands.specs.declared.demands.ClassDemands.{ClassDemands}
 use Rattle.class_demands.specs.declared.demands.ProgramDemands.{ProgramDemands}
 use Rattle.class_demands.specs.declared.demands.SetupDemands.{SetupDemands}
@@ -13,6 +14,9 @@ use Rattle.da_infer.specs.declared.search.Found.TheVariants as found
 
 abbrev pub FitsUpto : ℕ → ProgramDemands → ℕ → List Ty → Type 0
 FitsUpto count p n types = Fits count (demands_upto n p) types
+
+abbrev pub FitsBestUpto : ℕ → ProgramDemands → ℕ → List Ty → Type 0
+FitsBestUpto count p n types = FitsBest count (demands_upto n p) types
 
 -- the last line of demands, of classes and of lines of `setup`, or the line before them
 abbrev pub last_of : ℕ → List LineDemand → ℕ
@@ -43,6 +47,11 @@ pub record IsClash (count : ℕ) (p : ProgramDemands) (line : ℕ) : Type 0 wher
   pub none : (types : List Ty) → FitsUpto count p line types → ⊥
   pub before : (n : ℕ) → n < line → (types : List Ty) × FitsUpto count p n types
 
+-- with these types all is met, and they are lean beside any others with which all is met
+pub record FitsLast (count : ℕ) (p : ProgramDemands) (types : List Ty) : Type 0 where
+  pub fits : (n : ℕ) → FitsUpto count p n types
+  pub lean : (others : List Ty) → ((n : ℕ) → FitsUpto count p n others) → AreLean types others
+
 abbrev pub IsFound : ℕ → ProgramDemands → Found → Type 0
-IsFound count p (found.Types types) = (n : ℕ) → FitsUpto count p n types
+IsFound count p (found.Types types) = FitsLast count p types
 IsFound count p (found.Clash line) = IsClash count p line

@@ -3,7 +3,7 @@ ghost use Rattle.std.specs.Prelude.{◌≡◌, true, IfOk, List, MatchBool, Matc
 ghost use Rattle.da_lang.specs.declared.ty.Ty.{Ty as TyOf};
 ghost use Rattle.da_infer.specs.Known.{program_known};
 ghost use Rattle.da_infer.specs.Search as spec;
-ghost use Rattle.da_infer.specs.Search.{FitsUpto, IsFound};
+ghost use Rattle.da_infer.specs.Search.{FitsBestUpto, FitsUpto, IsFound};
 
 use class_demands::{ClassDemands, ProgramDemands, SetupDemands, demands_upto};
 use da_lang::Ty;
@@ -60,7 +60,7 @@ pub fn last_line(demands: &ProgramDemands) -> u32
     last_in_setups(demands.setups.as_slice(), last)
 }
 
-/// Types with which all is met that is demanded up to a line, if there are any.
+/// Types with which all is met that is demanded up to a line, if there are any. No others are better.
 pub fn fitting_upto(
     alloc: Global,
     count: usize,
@@ -68,7 +68,7 @@ pub fn fitting_upto(
     line: u32,
 ) -> Result<Option<List<Ty>>, NoMemory>
     requires { program_known count demands.now ≡ true }
-    ensures { IfOk result (λ found. MatchOption found ((types : List TyOf) → FitsUpto count demands.now line types → ⊥) (FitsUpto count demands.now line)) }
+    ensures { IfOk result (λ found. MatchOption found ((types : List TyOf) → FitsUpto count demands.now line types → ⊥) (FitsBestUpto count demands.now line)) }
 {
     let asked = demands_upto(alloc, line, demands)?;
     fitting(alloc, count, asked.as_slice())

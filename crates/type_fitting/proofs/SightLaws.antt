@@ -92,7 +92,13 @@ module _ (table : Table) (now : List Form) (alike : Alike table.forms table.equa
   pub solve_solves : (types : List Ty) → IsSolved count (plain now table.notes) types → IsSolved count table types
   solve_solves types s =
       let before = alike.gives s.meaning s.holds.fits tt in
-      record { meaning = s.meaning; holds = record { fits = before.0; same = before.1; noted = s.holds.noted }; may = s.may; first = s.first }
+      record {
+        meaning = s.meaning;
+        holds = record { fits = before.0; same = before.1; noted = s.holds.noted };
+        may = s.may;
+        first = s.first;
+        lean = λ m h. s.lean m (record { fits = (alike.keeps m h.fits h.same).0; same = tt; noted = h.noted });
+      }
 
 pub clash_refuses : (table : Table) (count : ℕ) → Clashes table.forms table.equations → IsRefused count table
 clash_refuses table count clash m h may = clash m h.fits h.same
@@ -119,13 +125,14 @@ module _ (old : List Form) (notes : List Note) (inside : AllByRecursion (IsInsid
     pub sight_refuses : (count : ℕ) → count ≤ length old → IsBlocked count chosen notes → IsRefused count (plain old notes)
     sight_refuses count counts blocked m h may = blocked (seen_chosen m h) (may_chosen count counts m h may)
 
-    pub sight_solves : (count : ℕ) (types : List Ty) → IsPassed count chosen notes types → IsSolved count (plain old notes) types
-    sight_solves count types passed =
+    pub sight_solves : (count : ℕ) → count ≤ length old → (types : List Ty) → IsPassed count chosen notes types → IsSolved count (plain old notes) types
+    sight_solves count counts types passed =
         record {
           meaning = chosen;
           holds = record { fits = choice.meets.fits; same = tt; noted = noted_back chosen notes passed.seen choice.meets.added choice.meets.received };
           may = passed.may;
           first = passed.first;
+          lean = λ m h k below. choice.lean m (meets_plain m h) k (omega (arith, below, counts));
         }
 
 -- as calls tell it
@@ -149,7 +156,7 @@ module _ (old new : List Form) (notes : List Note) (inside : AllByRecursion (IsI
       subst (λ z. Chosen old (numbers_where adds notes) (numbers_where receives notes) (types_of z)) (sym same) (subst (λ z. Chosen old (numbers_where adds notes) z (types_of new)) received_are (subst (λ z. Chosen old z received (types_of new)) added_are choice))
       in
       match_weaker found (IsBlocked count (types_of slice) notes) (IsRefused count (plain old notes)) (IsPassed count (types_of slice) notes) (IsSolved count (plain old notes)) (sight_refuses old notes inside (types_of slice) chosen count counts)
-      (sight_solves old notes inside (types_of slice) chosen count) is
+      (sight_solves old notes inside (types_of slice) chosen count counts) is
 
 pub solve_found : (table : Table) (now : List Form) (pairs : List (ℕ × ℕ)) (notes : List Note) (count : ℕ) (found : Option (List Ty)) → pairs ≡ table.equations → notes ≡ table.notes → Alike table.forms pairs now []
     → MatchOption found (IsRefused count (plain now notes)) (IsSolved count (plain now notes)) → MatchOption found (IsRefused count table) (IsSolved count table)

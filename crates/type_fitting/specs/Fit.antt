@@ -8,6 +8,7 @@ use Rattle.type_table.specs.Schemes.{IsKnown}
 use Rattle.type_demands.specs.declared.demand.Demand.{Demand}
 use Rattle.type_demands.specs.declared.demand.Demand.TheVariants as d
 use Rattle.type_demands.specs.Demands.{all_met}
+use Rattle.type_choice.specs.Lean.{AreLean}
 use Rattle.type_fitting.specs.Declarable.{IsDeclarable}
 
 -- the type of each number in a list; `int` after its end
@@ -19,6 +20,11 @@ pub record Fits (count : ℕ) (demands : List Demand) (types : List Ty) : Type 0
   pub size : length types ≡ count
   pub each : All IsDeclarable types
   pub met : all_met (meaning_of types) (λ slot. true) demands ≡ true
+
+-- these are such types, and no others are better: each is that of any others, with `int` or `proc` in place of some parts
+pub record FitsBest (count : ℕ) (demands : List Demand) (types : List Ty) : Type 0 where
+  pub fits : Fits count demands types
+  pub lean : (others : List Ty) → Fits count demands others → AreLean types others
 
 -- a demand speaks of the first so many unknown types alone
 abbrev pub Knows : ℕ → Demand → Type 0

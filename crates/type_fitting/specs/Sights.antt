@@ -6,6 +6,7 @@ use Rattle.da_lang.specs.Types.{ordered, is_flat}
 use Rattle.type_table.specs.declared.form.Form.{Form}
 use Rattle.type_table.specs.Fits.{Meaning}
 use Rattle.type_demands.specs.Demands.{is_single}
+use Rattle.type_choice.specs.Lean.{IsLean}
 use Rattle.type_choice.specs.Looks.{is_short}
 use Rattle.type_fitting.specs.declared.table.Kind.{Kind}
 use Rattle.type_fitting.specs.declared.table.Kind.TheVariants as kind
@@ -54,12 +55,13 @@ numbers_where test (note ∷ notes) = if test note.kind then note.number ∷ num
 abbrev pub IsRefused : ℕ → Table → Type 0
 IsRefused count table = (m : Meaning) → Holds table m → MayDeclare count m → ⊥
 
--- these are the types of the first so many numbers in some that are such, and may be declared
+-- these are the types of the first so many numbers in some that are such, and may be declared; they are lean beside any that are such
 pub record IsSolved (count : ℕ) (table : Table) (types : List Ty) : Type 0 where
   pub meaning : Meaning
   pub holds : Holds table meaning
   pub may : MayDeclare count meaning
   pub first : AreFirst count meaning types
+  pub lean : (m : Meaning) → Holds table m → (k : ℕ) → k < count → IsLean (meaning k) (m k)
 
 -- a table without equations
 abbrev pub plain : List Form → List Note → Table
