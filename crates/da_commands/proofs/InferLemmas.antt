@@ -15,24 +15,25 @@ use Rattle.da_parse.specs.declared.whole.ParseFault.TheVariants as parse_fault
 use Rattle.da_parse.specs.Loose.{loose_of}
 use Rattle.da_parse.specs.Parameters.{IsFirstBy, SpellsWithinBy}
 use Rattle.da_parse.specs.Parse.{IsLineOf, NamesLine}
-use Rattle.da_commands.specs.declared.program.ProgramFault.{ProgramFault}
-use Rattle.da_commands.specs.declared.program.ProgramFault.TheVariants as fault
-use Rattle.da_commands.specs.declared.status.RefusedKind.{RefusedKind}
-use Rattle.da_commands.specs.declared.status.RefusedKind.TheVariants as kind_is
+use Rattle.da_front.specs.declared.refusal.ProgramFault.{ProgramFault}
+use Rattle.da_front.specs.declared.refusal.ProgramFault.TheVariants as fault
+use Rattle.da_front.specs.declared.refusal.RefusedKind.{RefusedKind}
+use Rattle.da_front.specs.declared.refusal.RefusedKind.TheVariants as kind_is
 use Rattle.da_commands.specs.declared.status.Status.{Status}
 use Rattle.da_commands.specs.declared.status.Status.TheVariants.{Memory, ReadFault, WriteFault}
 use Rattle.da_commands.specs.Faults.{after_infer}
-use Rattle.da_commands.specs.InferReplies.{HasLoose, HasNoLoose, InferReply, IsCompleted, IsCompletedWhole, IsLooselyRefusedAs, RefusesLoosely, misnamed, no_program, not_cut, too_deep, too_large, untypable}
+use Rattle.da_commands.specs.InferReplies.{HasLoose, HasNoLoose, InferReply, IsCompleted, IsCompletedWhole, IsLooselyRefusedAs, RefusesLoosely, misnamed, no_program, not_cut, too_deep, too_large, too_long, untypable}
 use Rattle.da_commands.specs.Replies.{IsAnswer, IsEnd}
 use Rattle.da_commands.specs.Told.{Begins, HasReplied, OfTold}
-use Rattle.da_commands.specs.Verdict.{IsNotCutAs, NotCut, program_limit, uncut}
-use Rattle.da_commands.proofs.ToldLemmas.{begins_nothing, of_any, quiet_answer, take_within}
+use Rattle.da_front.specs.Verdict.{IsNotCutAs, NotCut, overlong, program_limit, uncut}
+use Rattle.da_commands.proofs.ToldLemmas.{begins_nothing, of_any, quiet_answer, take_beyond, take_within}
 use Rattle.da_commands.proofs.TopLemmas.{told_whole}
 
 -- WHAT IS READ
 
 -- a text that is not cut into tokens
 cut_so : (text : List ℕ) (kind : RefusedKind) (line : ℕ) → NotCut text kind line → RefusesLoosely text kind line
+cut_so text _ _ (overlong long) = too_long long
 cut_so text _ _ (uncut kind line is) = not_cut kind line is
 
 pub cut_loosely : (text : List ℕ) (why : ProgramFault) → IsNotCutAs text why → IsLooselyRefusedAs text why
@@ -93,14 +94,27 @@ not_inferred text l (infer_fault.NoTypes line) has is = untypable l line has (is
 not_inferred text l infer_fault.Memory has is = tt
 
 -- so it is for a text that was read whole
-pub completed_within : (text whole : List ℕ) (tree : Tree) → text ≡ take (program_limit + 1) whole → length text ≤ program_limit → IsCompleted text tree → IsCompleted whole tree
-completed_within text whole tree is few = subst (λ t. IsCompleted t tree) (take_within program_limit text whole is few)
+pub completed_within : (text whole : List ℕ) (tree : Tree) → text ≡ take (program_limit + 1) whole → IsCompleted text tree → IsCompleted whole tree
+completed_within text whole tree is completed = subst (λ t. IsCompleted t tree) (take_within program_limit text whole is completed.has.size) completed
 
-pub refused_within : (text whole : List ℕ) (kind : RefusedKind) (line : ℕ) (why : ProgramFault) → text ≡ take (program_limit + 1) whole → length text ≤ program_limit → why ≡ fault.Refused kind line
+module _ (text whole : List ℕ) (is : text ≡ take (program_limit + 1) whole) where
+  within : (kind : RefusedKind) (line : ℕ) → length text ≤ program_limit → RefusesLoosely text kind line → RefusesLoosely whole kind line
+  within kind line few = subst (λ t. RefusesLoosely t kind line) (take_within program_limit text whole is few)
+
+  refuses_whole : (kind : RefusedKind) (line : ℕ) → RefusesLoosely text kind line → RefusesLoosely whole kind line
+  refuses_whole _ _ (too_long long) = too_long (take_beyond program_limit text whole is long)
+  refuses_whole _ _ (not_cut which at why) = within _ _ why.0 (not_cut which at why)
+  refuses_whole _ _ (no_program at why) = within _ _ why.size (no_program at why)
+  refuses_whole _ _ (too_deep at why) = within _ _ why.size (too_deep at why)
+  refuses_whole _ _ (misnamed l which at has why) = within _ _ has.size (misnamed l which at has why)
+  refuses_whole _ _ (too_large l which at has why) = within _ _ has.size (too_large l which at has why)
+  refuses_whole _ _ (untypable l at has why) = within _ _ has.size (untypable l at has why)
+
+pub refused_within : (text whole : List ℕ) (kind : RefusedKind) (line : ℕ) (why : ProgramFault) → text ≡ take (program_limit + 1) whole → why ≡ fault.Refused kind line
     → IsLooselyRefusedAs text why → RefusesLoosely whole kind line
-refused_within text whole kind line why is few same refused =
+refused_within text whole kind line why is same refused =
     let here : RefusesLoosely text kind line = subst (IsLooselyRefusedAs text) same refused in
-    subst (λ t. RefusesLoosely t kind line) (take_within program_limit text whole is few) here
+    refuses_whole text whole is kind line here
 
 -- THE REPLIES
 

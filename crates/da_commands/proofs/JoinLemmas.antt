@@ -21,14 +21,14 @@ use Rattle.trace_join.specs.Joins.{AreTraces}
 use Rattle.trace_join.specs.Names.{IsNameable}
 use Rattle.da_commands.specs.declared.joining.TracesFault.{TracesFault}
 use Rattle.da_commands.specs.declared.joining.TracesFault.TheVariants as fault
-use Rattle.da_commands.specs.declared.status.RefusedKind.{RefusedKind}
+use Rattle.da_front.specs.declared.refusal.RefusedKind.{RefusedKind}
 use Rattle.da_commands.specs.declared.status.Status.{Status}
 use Rattle.da_commands.specs.declared.status.Status.TheVariants.{Memory, ReadFault, WriteFault}
 use Rattle.da_commands.specs.JoinReplies.{IsJoin, IsJoined, IsEarliestBad, JoinReply, SpellTraces, bad, good}
 use Rattle.da_commands.specs.JoinSteps.{AddsTrace, AreRead, AreWhole, IsNoTrace}
-use Rattle.da_commands.specs.Replies.{IsAnswer, IsEnd, IsRefused, MayReadTraces, TraceReadCause}
+use Rattle.da_commands.specs.Replies.{IsAnswer, IsEnd, MayReadTraces, TraceReadCause}
 use Rattle.da_commands.specs.Told.{Begins, Gains, HasReplied, OfAllTold, OfTold}
-use Rattle.da_commands.specs.Verdict.{Accepts, program_limit}
+use Rattle.da_front.specs.Verdict.{Accepts, IsRefused, program_limit}
 use Rattle.da_commands.proofs.ToldLemmas.{begins_nothing, begun_replied, of_any, of_map, of_read, quiet_answer, quiet_replied, take_beyond, take_within, whole_replied}
 
 -- THE TEXTS THAT ARE TOLD

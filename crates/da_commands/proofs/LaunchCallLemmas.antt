@@ -5,7 +5,7 @@ use Rattle.da_values.proofs.Numerals.{decimal_injective_wide}
 use Rattle.da_lang.specs.declared.program.Program.{Program}
 use Rattle.da_outside.specs.declared.spawner.SpawnEntry.{SpawnEntry}
 use Rattle.da_outside.proofs.OutsideLemmas.{appends_none}
-use Rattle.da_commands.specs.declared.status.RefusedKind.{RefusedKind}
+use Rattle.da_front.specs.declared.refusal.RefusedKind.{RefusedKind}
 use Rattle.da_commands.specs.declared.status.Status.{Status}
 use Rattle.da_commands.specs.declared.status.Status.TheVariants.{ChildFault, ChildStatus, Done, LinkFault, Memory, ReadFault, Refused, Words, WriteFault}
 use Rattle.da_commands.specs.declared.words.LaunchSetting.{LaunchSetting}
@@ -20,14 +20,15 @@ use Rattle.da_commands.specs.Lines.{refused_text}
 use Rattle.da_commands.specs.NodeReplies.{IsNode}
 use Rattle.da_commands.specs.Replies.{IsAnswer, IsAsking, IsEnd, IsReplay}
 use Rattle.da_commands.specs.Told.{HasSaid, IsUnwritten, OfTold, said, unsaid}
-use Rattle.da_commands.specs.Verdict.{Accepts, Refuses}
+use Rattle.da_front.specs.Verdict.{Accepts, Refuses}
 use Rattle.da_commands.proofs.LaunchLemmas.{tells_none}
 use Rattle.da_commands.proofs.ToldLemmas.{of_any, of_known, of_map}
 
 -- NOTHING WAS DONE
 
-pub none_launched : (file : Option (List ℕ)) (name : List ℕ) (setting : LaunchSetting) (told : Option (List SpawnEntry)) (taken : Option (List ℕ)) → OfTold file (λ text. LaunchStopped text name setting told told taken taken)
-none_launched file name setting told taken = of_any file _ (λ text. reply.early (tells_none told) (appends_none taken))
+pub none_launched : (file : Option (List ℕ)) (name : List ℕ) (setting : LaunchSetting) (status : Status) (told : Option (List SpawnEntry)) (taken : Option (List ℕ)) → (status ≡ WriteFault → ⊥)
+    → OfTold file (λ text. LaunchStopped text name setting status told told taken taken)
+none_launched file name setting status told taken never = of_any file _ (λ text. reply.early never (tells_none told) (appends_none taken))
 
 -- A REFUSAL
 
@@ -53,8 +54,8 @@ launch_ran program text name setting count status told_before told_after before 
   where
     by_status : (status : Status) → HasRun (child_words name setting) (length program.procs) status told_before told_after before after → IsFinishEnd status
         → HasLaunchEnd text name setting status told_before told_after before after
-    by_status WriteFault began ends = reply.running program may began
-    by_status Memory began ends = reply.running program may began
+    by_status WriteFault began ends = reply.writing program may refl began
+    by_status Memory began ends = reply.running program may refl began
     by_status ReadFault runs ends = absurd ends
     by_status _ (calls, bytes, replies, told, written) ends = reply.ran program calls bytes may replies told written
 
@@ -139,7 +140,7 @@ module _ (name : List ℕ) (setting : LaunchSetting) (told_before told_after : O
   answered text Memory answer has = absurd answer
   answered text status answer has = has
 
-  stopped : (text : List ℕ) (status : Status) → (IsLaunchAnswer status → ⊥) → Ends status text → LaunchStopped text name setting told_before told_after before after
+  stopped : (text : List ℕ) (status : Status) → (IsLaunchAnswer status → ⊥) → Ends status text → LaunchStopped text name setting status told_before told_after before after
   stopped text ReadFault never has = has
   stopped text WriteFault never has = has
   stopped text Memory never has = has
@@ -155,8 +156,8 @@ module _ (name : List ℕ) (setting : LaunchSetting) (told_before told_after : O
     pub launch_answered : IsLaunchAnswer status → OfTold told (λ t. HasLaunched t name setting status told_before told_after before after)
     launch_answered answer = of_map told (Ends status) (λ t. HasLaunched t name setting status told_before told_after before after) (λ t has. answered t status answer has) ends
 
-    pub launch_has_stopped : (IsLaunchAnswer status → ⊥) → OfTold told (λ t. LaunchStopped t name setting told_before told_after before after)
-    launch_has_stopped never = of_map told (Ends status) (λ t. LaunchStopped t name setting told_before told_after before after) (λ t has. stopped t status never has) ends
+    pub launch_has_stopped : (IsLaunchAnswer status → ⊥) → OfTold told (λ t. LaunchStopped t name setting status told_before told_after before after)
+    launch_has_stopped never = of_map told (Ends status) (λ t. LaunchStopped t name setting status told_before told_after before after) (λ t has. stopped t status never has) ends
 
     -- nothing failed
     pub launch_quiet : (t : List ℕ) → told ≡ Some t → (status ≡ ReadFault → ⊥) → (status ≡ WriteFault → ⊥) → IsLaunched t name setting status told_before told_after before after

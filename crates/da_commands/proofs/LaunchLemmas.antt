@@ -11,24 +11,11 @@ use Rattle.da_outside.specs.Spawner.{Tells}
 use Rattle.da_outside.proofs.OutsideLemmas.{appends_none, appends_then, prefix_before, prefix_after, prefix_none, prefix_whole}
 use Rattle.da_commands.specs.declared.starting.Started.TheVariants as children
 use Rattle.da_commands.specs.declared.status.Status.{Status}
-use Rattle.da_commands.specs.declared.status.Status.TheVariants.{ChildFault, ChildStatus, Done, Memory, WriteFault}
-use Rattle.da_commands.specs.Launching.{FinishReply, HasChildCause, LaunchBegan, LaunchReply, child_text, children_status, children_text, finishes, starts}
+use Rattle.da_commands.specs.declared.status.Status.TheVariants.{ChildFault, ChildStatus, Done, Memory, ReadFault, WriteFault}
+use Rattle.da_commands.specs.Launching.{FinishReply, HasChildCause, LaunchBegan, LaunchReply, WroteEnds, WroteLast, child_text, children_status, children_text, ends_in, finishes, passed_ends, starts}
 use Rattle.da_commands.specs.Launching as reply
+use Rattle.da_commands.proofs.LaunchEndLemmas.{ends_failed, ends_finished, ends_started, finishes_none, finishes_then, last_started, length_copies, length_map, map_then, none_started, passed_more, starts_then, text_more, text_then, wrote_part, wrote_started, wrote_whole}
 use Rattle.da_commands.specs.LaunchSteps.{FinishBegan, HasFinished, HasFinishedRest, HasRun, HasStarted, IsFinishEnd, numbers, status_after}
-
--- LISTS
-
-pub map_then : {X Y : Type 0} (f : X → Y) (xs ys : List X) → map f (xs ++ ys) ≡ map f xs ++ map f ys
-map_then f [] ys = refl
-map_then f (x ∷ xs) ys = ap (λ l. f x ∷ l) (map_then f xs ys)
-
-pub length_map : {X Y : Type 0} (f : X → Y) (xs : List X) → length (map f xs) ≡ length xs
-length_map f [] = refl
-length_map f (x ∷ xs) = ap (λ n. suc n) (length_map f xs)
-
-pub length_copies : {X : Type 0} (n : ℕ) (x : X) → length (replicate n x) ≡ n
-length_copies zero x = refl
-length_copies (suc n) x = ap (λ m. suc m) (length_copies n x)
 
 -- WHAT IS TOLD, call by call
 
@@ -47,36 +34,7 @@ tells_same a b same = subst (λ x. Tells a x []) (sym same) (tells_none a)
 pub appends_same : (a b : Option (List ℕ)) → b ≡ a → Appends a b []
 appends_same a b same = subst (λ x. Appends a x []) (sym same) (appends_none a)
 
--- CALLS
-
-pub starts_then : (words : ℕ → List (List ℕ)) (k : ℕ) (xs ys : List ℕ) → starts words k (xs ++ ys) ≡ starts words k xs ++ starts words (k + length xs) ys
-starts_then words k [] ys = let same : k ≡ k + 0 = omega arith in ap (λ n. starts words n ys) same
-starts_then words k (x ∷ xs) ys =
-    let next : k + 1 + length xs ≡ k + length (x ∷ xs) = omega arith in
-    ap (λ l. Start (words k) (Some x) ∷ l) (starts_then words (k + 1) xs ys ∙ ap (λ n. starts words (k + 1) xs ++ starts words n ys) next)
-
-pub finishes_none : (list : List ℕ) → finishes list [] ≡ []
-finishes_none [] = refl
-finishes_none (x ∷ xs) = refl
-
-pub finishes_then : (list : List ℕ) (xs ys : List (Option Ended)) → finishes list (xs ++ ys) ≡ finishes list xs ++ finishes (drop (length xs) list) ys
-finishes_then [] [] ys = refl
-finishes_then [] (x ∷ xs) ys = refl
-finishes_then (child ∷ list) [] ys = refl
-finishes_then (child ∷ list) (x ∷ xs) ys = ap (λ l. Finish child x ∷ l) (finishes_then list xs ys)
-
--- TEXTS AND STATUSES
-
-pub text_then : (k : ℕ) (xs ys : List Ended) → children_text k (xs ++ ys) ≡ children_text k xs ++ children_text (k + length xs) ys
-text_then k [] ys = let same : k ≡ k + 0 = omega arith in ap (λ n. children_text n ys) same
-text_then k (x ∷ xs) ys =
-    let next : k + 1 + length xs ≡ k + length (x ∷ xs) = omega arith in
-    ap (λ l. child_text k x ++ l) (text_then (k + 1) xs ys) ∙ sym (append_assoc (child_text k x) (children_text (k + 1) xs) (children_text (k + 1 + length xs) ys))
-    ∙ ap (λ n. child_text k x ++ children_text (k + 1) xs ++ children_text n ys) next
-
--- one more child
-pub text_more : (k : ℕ) (xs : List Ended) (x : Ended) → children_text k (xs ++ x ∷ []) ≡ children_text k xs ++ child_text (k + length xs) x
-text_more k xs x = text_then k xs (x ∷ []) ∙ ap (λ l. children_text k xs ++ l) (append-nil (child_text (k + length xs) x))
+-- STATUSES
 
 pub status_more : (k : ℕ) (xs : List Ended) (x : Ended) → children_status k (xs ++ x ∷ []) ≡ status_after (children_status k xs) (k + length xs) x.status
 status_more k [] x = let same : k ≡ k + 0 = omega arith in ap (λ n. status_after Done n x.status) same
@@ -129,13 +87,17 @@ drop_then zero (y ∷ ys) rest x is = cc
 drop_then (suc n) [] rest x is = absurd (let clash : x ∷ rest ≡ [] = is in cc)
 drop_then (suc n) (y ∷ ys) rest x is = let next : suc (n + 1) ≡ suc n + 1 = omega arith in drop_then n ys rest x is ∙ ap (λ m. drop m (y ∷ ys)) next
 
+-- one more call
+finishes_more : (list left : List ℕ) (child : ℕ) (ends : List (Option Ended)) (end : Option Ended) → child ∷ left ≡ drop (length ends) list → finishes list (ends ++ end ∷ []) ≡ finishes list ends ++ Finish child end ∷ []
+finishes_more list left child ends end is =
+    let here : finishes (drop (length ends) list) (end ∷ []) ≡ Finish child end ∷ [] = sym (ap (λ l. finishes l (end ∷ [])) is) ∙ ap (λ l. Finish child end ∷ l) (finishes_none left) in
+    finishes_then list ends (end ∷ []) ∙ ap (λ l. finishes list ends ++ l) here
+
 pub one_so_far : (list left : List ℕ) (child : ℕ) (ends : List (Option Ended)) (end : Option Ended) (told_before told_now told_after : Option (List SpawnEntry))
     → FinishedSoFar list (child ∷ left) ends told_before told_now → Tells told_now told_after (Finish child end ∷ []) → FinishedSoFar list left (ends ++ end ∷ []) told_before told_after
 one_so_far list left child ends end told_before told_now told_after before told =
     let size : length (ends ++ end ∷ []) ≡ length ends + 1 = length-append ends (end ∷ []) in
-    let here : finishes (drop (length ends) list) (end ∷ []) ≡ Finish child end ∷ [] =
-    sym (ap (λ l. finishes l (end ∷ [])) before.left_is) ∙ ap (λ l. Finish child end ∷ l) (finishes_none left) in
-    let calls : finishes list (ends ++ end ∷ []) ≡ finishes list ends ++ Finish child end ∷ [] = finishes_then list ends (end ∷ []) ∙ ap (λ l. finishes list ends ++ l) here in
+    let calls : finishes list (ends ++ end ∷ []) ≡ finishes list ends ++ Finish child end ∷ [] = finishes_more list left child ends end before.left_is in
     record {
       left_is = drop_then (length ends) list left child before.left_is ∙ ap (λ n. drop n list) (sym size);
       sizes = omega (arith, size, before.sizes);
@@ -150,6 +112,19 @@ filled : (n : ℕ) → length (fill n) ≡ n
 unfolding fill
 filled n = length_copies n (record { status = 0; output = [] })
 
+-- what stops at a child
+began_front : (list : List ℕ) (told_before told_after : Option (List SpawnEntry)) (before after : Option (List ℕ)) → FinishBegan list told_before told_after before after WroteLast → FinishBegan list told_before told_after before after WroteEnds
+began_front list told_before told_after before after cut = record {
+  calls = cut.calls;
+  more = cut.more;
+  status = cut.status;
+  bytes = cut.bytes;
+  reply = cut.reply;
+  told = cut.told;
+  written = cut.written;
+  wrote = cut.wrote.front;
+}
+
 -- WHAT CAME SO FAR
 
 module _ (list : List ℕ) (told_before : Option (List SpawnEntry)) (before : Option (List ℕ)) where
@@ -162,9 +137,10 @@ module _ (list : List ℕ) (told_before : Option (List SpawnEntry)) (before : Op
     pub written : Appends before now (children_text 1 ends)
 
   -- they are the first ones of a reply, of whose bytes a prefix was written
-  began_ended : (left : List ℕ) (ends : List Ended) (told_now : Option (List SpawnEntry)) (now : Option (List ℕ)) → FinishedSoFar list left (map Some ends) told_before told_now
-      → AppendsPrefix before now (children_text 1 ends) → FinishBegan list told_before told_now before now
-  began_ended left ends told_now now so_far written =
+  began_ended : (Wrote : List SpawnEntry → Option (List ℕ) → Option (List ℕ) → Type 0) (left : List ℕ) (ends : List Ended) (told_now : Option (List SpawnEntry)) (now : Option (List ℕ))
+      → FinishedSoFar list left (map Some ends) told_before told_now → AppendsPrefix before now (children_text 1 ends) → Wrote (finishes list (map Some ends)) before now
+      → FinishBegan list told_before told_now before now Wrote
+  began_ended Wrote left ends told_now now so_far written wrote =
       let all : List Ended = ends ++ fill (length left) in
       let size : length all ≡ length list = omega (arith, length-append ends (fill (length left)), filled (length left), so_far.sizes, length_map (λ (e : Ended). Some e) ends) in
       let behind : List SpawnEntry = finishes (drop (length (map (λ (e : Ended). Some e) ends)) list) (map Some (fill (length left))) in
@@ -177,7 +153,19 @@ module _ (list : List ℕ) (told_before : Option (List SpawnEntry)) (before : Op
         reply = subst (λ c. FinishReply list c (children_status 1 all) (children_text 1 all)) calls (reply.ended all size);
         told = so_far.told;
         written = subst (AppendsPrefix before now) (sym (text_then 1 ends (fill (length left)))) (prefix_before before now (children_text 1 ends) (children_text (1 + length ends) (fill (length left))) written);
+        wrote = wrote;
       }
+
+  -- there are no more of them than children
+  few_ended : (left : List ℕ) (ends : List Ended) (told_now : Option (List SpawnEntry)) → FinishedSoFar list left (map Some ends) told_before told_now → length ends ≤ length list
+  few_ended left ends told_now so_far = omega (arith, so_far.sizes, length_map (λ (e : Ended). Some e) ends)
+
+  -- memory was refused where all was written
+  began_whole : (left : List ℕ) (ends : List Ended) (told_now : Option (List SpawnEntry)) (now : Option (List ℕ)) → FinishedSoFar list left (map Some ends) told_before told_now
+      → Appends before now (children_text 1 ends) → FinishBegan list told_before told_now before now WroteEnds
+  began_whole left ends told_now now so_far written =
+      began_ended WroteEnds left ends told_now now so_far (prefix_whole before now (children_text 1 ends) written)
+      (wrote_whole (finishes list (map Some ends)) ends before now (ends_finished list ends (few_ended left ends told_now so_far)) written)
 
   pub came_first : (left : List ℕ) → left ≡ list → Came left 0 Done told_before before
   came_first left is = record {
@@ -215,19 +203,27 @@ module _ (list : List ℕ) (told_before : Option (List SpawnEntry)) (before : Op
 
     -- what was written of the last one was cut short
     pub came_cut : (place : ℕ) (end : Ended) (told_after : Option (List SpawnEntry)) (after : Option (List ℕ)) → place ≡ process + 1 → Tells told_now told_after (Finish child (Some end) ∷ [])
-        → AppendsPrefix now after (child_text place end) → FinishBegan list told_before told_after before after
+        → AppendsPrefix now after (child_text place end) → FinishBegan list told_before told_after before after WroteLast
     came_cut place end told_after after is told written =
-        began_ended left (came.ends ++ end ∷ []) told_after after (ended_more end told_after told)
+        let ends : List Ended = came.ends ++ end ∷ [] in
+        let so_far : FinishedSoFar list left (map Some ends) told_before told_after = ended_more end told_after told in
+        let calls : finishes list (map Some ends) ≡ finishes list (map Some came.ends) ++ Finish child (Some end) ∷ [] =
+        ap (finishes list) (map_then Some came.ends (end ∷ [])) ∙ finishes_more list left child (map Some came.ends) (Some end) came.so_far.left_is in
+        let passed : passed_ends (finishes list (map Some ends)) ≡ came.ends =
+        ap passed_ends calls ∙ passed_more (finishes list (map Some came.ends)) (Finish child (Some end)) ∙ ends_finished list came.ends (few_ended (child ∷ left) came.ends told_now came.so_far) in
+        let same : place ≡ 1 + length came.ends = omega (arith, is, came.process_is) in
+        began_ended WroteLast left ends told_after after so_far
         (subst (AppendsPrefix before after) (text_is place end is) (prefix_after before now after (children_text 1 came.ends) (child_text place end) came.written written))
+        (wrote_part (finishes list (map Some ends)) came.ends end place before now after (ends_finished list ends (few_ended left ends told_after so_far)) passed same came.written written)
 
     -- memory was refused
     pub came_memory : (place : ℕ) (told_after : Option (List SpawnEntry)) (after : Option (List ℕ)) → place ≡ process + 1
         → ((told_after ≡ told_now) × (after ≡ now)) ⊎ ((end : Ended) × Tells told_now told_after (Finish child (Some end) ∷ []) × AppendsPrefix now after (child_text place end))
-        → FinishBegan list told_before told_after before after
-    came_memory place told_after after is (inr (end, told, written)) = came_cut place end told_after after is told written
+        → FinishBegan list told_before told_after before after WroteEnds
+    came_memory place told_after after is (inr (end, told, written)) = began_front list told_before told_after before after (came_cut place end told_after after is told written)
     came_memory place told_after after is (inl (told, same)) =
-        subst (λ t. FinishBegan list told_before t before after) (sym told) (subst (λ a. FinishBegan list told_before told_now before a) (sym same)
-        (began_ended (child ∷ left) came.ends told_now now came.so_far (prefix_whole before now (children_text 1 came.ends) came.written)))
+        subst (λ t. FinishBegan list told_before t before after WroteEnds) (sym told) (subst (λ a. FinishBegan list told_before told_now before a WroteEnds) (sym same)
+        (began_whole (child ∷ left) came.ends told_now now came.so_far came.written))
 
     -- it could not be finished, and the others were finished with nothing written
     pub came_failed : (told_failed told_after : Option (List SpawnEntry)) (after : Option (List ℕ)) (result : Status) → Tells told_now told_failed (Finish child None ∷ []) → after ≡ now
@@ -251,7 +247,7 @@ module _ (list : List ℕ) (told_before : Option (List SpawnEntry)) (before : Op
         told : (others : List (Option Ended)) → Tells told_failed told_after (finishes left others) → Tells told_before told_after (finishes list (map Some came.ends ++ None ∷ others))
         told others next = subst (Tells told_before told_after) (sym (calls others)) (tells_then told_before told_failed told_after _ _ here.told next)
 
-        began : (others : List (Option Ended)) → length others ≤ length left → Tells told_failed told_after (finishes left others) → FinishBegan list told_before told_after before after
+        began : (others : List (Option Ended)) → length others ≤ length left → Tells told_failed told_after (finishes left others) → FinishBegan list told_before told_after before after WroteEnds
         began others few next =
             let fillers : List (Option Ended) = map Some (fill (length left - length others)) in
             let size : length fillers ≡ length left - length others = length_map Some (fill (length left - length others)) ∙ filled (length left - length others) in
@@ -267,6 +263,7 @@ module _ (list : List ℕ) (told_before : Option (List SpawnEntry)) (before : Op
               reply = subst (λ c. FinishReply list c ChildFault (children_text 1 came.ends)) joined (reply.unfinished came.ends (others ++ fillers) whole);
               told = told others next;
               written = prefix_whole before after (children_text 1 came.ends) written;
+              wrote = wrote_whole (finishes list first) came.ends before after (ends_failed list came.ends others (omega (arith, sizes))) written;
             }
 
         by_status : (status : Status) → HasFinishedRest left status told_failed told_after → HasFinished list status told_before told_after before after
@@ -302,6 +299,13 @@ module _ (list : List ℕ) (told_before : Option (List SpawnEntry)) (before : Op
   came_unlike left process status told_now now came =
       let plain : IsPlain status = subst IsPlain (sym came.status_is) (status_plain 1 came.ends) in
       (λ is. subst IsPlain is plain, λ is. subst IsPlain is plain)
+
+-- that no write failed
+pub memory_unwritten : Memory ≡ WriteFault → ⊥
+memory_unwritten is = cc
+
+pub unread_unwritten : ReadFault ≡ WriteFault → ⊥
+unread_unwritten is = cc
 
 -- a call that starts no child
 pub no_child_cause : (n : ℕ) (status : Status) → (status ≡ ChildFault → ⊥) → HasChildCause n n status
@@ -347,8 +351,9 @@ module _ (words : ℕ → List (List ℕ)) (count : ℕ) (told_before told_now t
       first : List SpawnEntry
       first = starts words 1 (numbers list)
 
-      began : FinishBegan (numbers list) told_now told_after before after → LaunchBegan words count told_before told_after before after
-      began cut = record {
+      began : (Wrote : List SpawnEntry → Option (List ℕ) → Option (List ℕ) → Type 0) (cut : FinishBegan (numbers list) told_now told_after before after Wrote) → Wrote (first ++ cut.calls) before after
+          → LaunchBegan words count told_before told_after before after Wrote
+      began Wrote cut wrote = record {
         calls = first ++ cut.calls;
         more = cut.more;
         status = cut.status;
@@ -356,11 +361,12 @@ module _ (words : ℕ → List (List ℕ)) (count : ℕ) (told_before told_now t
         reply = subst (λ c. LaunchReply words count c cut.status cut.bytes) (sym (append_assoc first cut.calls cut.more)) (reply.started (numbers list) (cut.calls ++ cut.more) cut.status cut.bytes size cut.reply);
         told = tells_then told_before told_now told_after first cut.calls started.1 cut.told;
         written = cut.written;
+        wrote = wrote;
       }
 
       by_status : (status : Status) → HasFinished (numbers list) status told_now told_after before after → HasRun words count status told_before told_after before after
-      by_status WriteFault cut = began cut
-      by_status Memory cut = began cut
+      by_status WriteFault cut = began WroteLast cut (last_started words 1 (numbers list) cut.calls before after cut.wrote)
+      by_status Memory cut = began WroteEnds cut (wrote_started words 1 (numbers list) cut.calls before after cut.wrote)
       by_status status (calls, bytes, finished, told, written) =
           (first ++ calls, bytes, reply.started (numbers list) calls status bytes size finished, tells_then told_before told_now told_after first calls started.1 told, written)
 
@@ -393,7 +399,7 @@ module _ (words : ℕ → List (List ℕ)) (count : ℕ) (told_before told_now t
       none : Appends before after []
       none = appends_same before after same
 
-      began : (ends : List (Option Ended)) → length ends ≤ length (numbers list) → Tells told_now told_after (finishes (numbers list) ends) → LaunchBegan words count told_before told_after before after
+      began : (ends : List (Option Ended)) → length ends ≤ length (numbers list) → Tells told_now told_after (finishes (numbers list) ends) → LaunchBegan words count told_before told_after before after WroteEnds
       began ends within next =
           let fillers : List (Option Ended) = map Some (fill (length (numbers list) - length ends)) in
           let added : length fillers ≡ length (numbers list) - length ends = length_map Some (fill (length (numbers list) - length ends)) ∙ filled (length (numbers list) - length ends) in
@@ -409,6 +415,7 @@ module _ (words : ℕ → List (List ℕ)) (count : ℕ) (told_before told_now t
             reply = subst (λ c. LaunchReply words count c ChildFault []) joined (reply.unstarted (numbers list) (ends ++ fillers) few whole);
             told = told ends next;
             written = prefix_whole before after [] none;
+            wrote = wrote_whole (first ++ finishes (numbers list) ends) [] before after (ap ends_in (calls ends) ∙ ends_started words 1 (numbers list) (last ∷ finishes (numbers list) ends)) none;
           }
 
       by_status : (status : Status) → HasFinishedRest (numbers list) status told_now told_after → HasRun words count status told_before told_after before after
@@ -436,6 +443,7 @@ ran_memory words count told_before told_after taken (list, few, told) =
           (reply.started (list ++ zeros) rest (children_status 1 (fill count)) (children_text 1 (fill count)) whole (reply.ended (fill count) size));
       told = told;
       written = prefix_none taken (children_text 1 (fill count));
+      wrote = wrote_whole (starts words 1 list) [] taken taken (none_started words 1 list) (appends_none taken);
     }
 
 -- WHERE A CHILD FAILED

@@ -25,7 +25,7 @@ use Rattle.node_run.specs.declared.outcome.NodeOutcome.TheVariants as outcome
 use Rattle.node_run.specs.NodeCall.{GivesPackets, HasEnded, HasRun, IsPacketOf, WasCut, WroteAll, WrotePrefix, WroteGiven, end_for}
 use Rattle.node_run.specs.NodeRun.{GoesOn, Node, NodeEnd, NodeRun, Round, event_round, gifts, stays, delivers, hears, talk_of}
 use Rattle.node_run.proofs.TalkLaws.{gains_nothing, gains_then}
-use Rattle.da_commands.specs.declared.status.RefusedKind.{RefusedKind}
+use Rattle.da_front.specs.declared.refusal.RefusedKind.{RefusedKind}
 use Rattle.da_commands.specs.declared.status.Status.{Status}
 use Rattle.da_commands.specs.declared.status.Status.TheVariants.{ChildFault, Done, Faulted, Idle, LinkFault, Memory, ReadFault, Refused, Spent, Words, WriteFault}
 use Rattle.da_commands.specs.declared.words.NodeSetting.{NodeSetting}
@@ -36,7 +36,7 @@ use Rattle.da_commands.specs.NodeReplies as reply
 use Rattle.da_commands.specs.NodeSteps.{BindsFor, HasServed, RunsBound}
 use Rattle.da_commands.specs.Endings.{status_of_node}
 use Rattle.da_commands.specs.Told.{HasSaid, IsUnwritten, OfTold, said, unsaid}
-use Rattle.da_commands.specs.Verdict.{Accepts}
+use Rattle.da_front.specs.Verdict.{Accepts}
 use Rattle.da_commands.proofs.ToldLemmas.{of_any}
 
 -- HOW MANY PROCESSES

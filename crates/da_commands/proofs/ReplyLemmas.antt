@@ -3,12 +3,8 @@ use Rattle.std.proofs.Common.{◌≡◌, refl, sym, ◌∙◌, ap, subst, ℕ, �
 use Rattle.std.specs.Prelude.{Option, Some, None}
 use Rattle.da_lang.specs.declared.event.Event.{Event}
 use Rattle.da_lang.specs.declared.program.Program.{Program}
-use Rattle.da_lang.specs.declared.tree.Tree.{Tree}
-use Rattle.da_lang.specs.Limits.{Resolves}
-use Rattle.da_lang.specs.Typing.{Typed}
 use Rattle.da_outside.specs.Outside.{Appends, AppendsPrefix, HasCause, IsWhole, Rose}
 use Rattle.da_outside.proofs.OutsideLemmas.{cause_as}
-use Rattle.da_core.specs.PlanLimit.{nodes_fault}
 use Rattle.da_system.specs.declared.system.System.{System}
 use Rattle.da_system.specs.SourceRun.{src_run}
 use Rattle.da_system.specs.State.{Stands, Whichever}
@@ -19,38 +15,47 @@ use Rattle.replay_run.specs.declared.outcome.Outcome.TheVariants as outcome
 use Rattle.replay_run.specs.Replay.{HasEnded, HasRun, outcome_of}
 use Rattle.replay_run.specs.Replay.{run_text as text_on}
 use Rattle.replay_run.specs.Stress.{HasPicked}
-use Rattle.da_commands.specs.declared.program.ProgramFault.{ProgramFault}
-use Rattle.da_commands.specs.declared.program.ProgramFault.TheVariants as fault
-use Rattle.da_commands.specs.declared.status.RefusedKind.{RefusedKind}
+use Rattle.da_front.specs.declared.refusal.ProgramFault.{ProgramFault}
+use Rattle.da_front.specs.declared.refusal.ProgramFault.TheVariants as fault
+use Rattle.da_front.specs.declared.refusal.RefusedKind.{RefusedKind}
 use Rattle.da_commands.specs.declared.status.Status.{Status}
 use Rattle.da_commands.specs.declared.status.Status.TheVariants.{Done, Forbidden, Memory, ReadFault, WriteFault}
 use Rattle.da_commands.specs.declared.words.Task.{Task}
 use Rattle.da_commands.specs.declared.words.Task.TheVariants.{Check, Plan, Stress}
 use Rattle.da_values.proofs.Numerals.{decimal_injective_wide}
-use Rattle.da_commands.specs.Replies.{TaskReply, executed, declined, IsAnswer, IsAsking, IsExecuted, IsEnd, IsRefused, IsReplay, MayRead, ReadCause, ReplayReply, refused, answered, RunReply, bad_schedule, ran, RunsWhole, ended_by, run_status, run_text, task_text, words_of}
+use Rattle.da_commands.specs.Replies.{TaskReply, executed, declined, IsAnswer, IsAsking, IsExecuted, IsEnd, IsReplay, MayRead, ReadCause, ReplayReply, refused, answered, RunReply, bad_schedule, ran, RunsWhole, ended_by, run_status, run_text, task_text, words_of}
 use Rattle.da_commands.specs.Endings.{status_of_run}
 use Rattle.da_commands.specs.Told.{Gains, HasReplied, HasSaid, OfTold, said, unsaid}
-use Rattle.da_commands.specs.Verdict.{Accepts, HasTree, IsRefusedAs, Refuses, program_limit}
+use Rattle.da_front.specs.Verdict.{Accepts, IsRefused, IsRefusedAs, Refuses, misnamed, mistyped, no_program, not_cut, overplanned, program_limit, too_deep, too_large, too_long}
 use Rattle.da_commands.proofs.ToldLemmas.{of_known, quiet_replied, take_beyond, take_within}
-use Rattle.da_commands.proofs.VerdictLemmas.{accepted_or_not, accepts_one, not_refused}
+use Rattle.da_front.proofs.VerdictLemmas.{accepted_or_not, accepts_one, not_refused}
 use Rattle.sched_text.specs.ScheduleText.{IsBadSchedule, SpellsSchedule, schedule_limit}
 use Rattle.sched_text.proofs.ScheduleLaws.{not_bad, one_schedule}
 
 -- WHAT WAS READ
 
--- a program that was read
-pub accepts_read : (t : List ℕ) (tree : Tree) (p q : Program) → HasTree t tree → Resolves tree p → Typed p q → nodes_fault q ≡ None → Accepts t q
-accepts_read t tree p q has resolves typed planned = record { tree = tree; has = has; resolved = p; resolves = resolves; typed = typed; planned = planned }
+-- a text that gives a program, or is refused, where it was read up to one byte past the limit
+pub read_within : (text t : List ℕ) (program : Program) → text ≡ take (program_limit + 1) t → Accepts text program → Accepts t program
+read_within text t program is accepts = subst (λ x. Accepts x program) (take_within program_limit text t is accepts.has.size) accepts
 
--- a text that was read whole, and gives a program
-pub read_within : (text t : List ℕ) (program : Program) → text ≡ take (program_limit + 1) t → length text ≤ program_limit → Accepts text program → Accepts t program
-read_within text t program is few accepts = subst (λ x. Accepts x program) (take_within program_limit text t is few) accepts
+module _ (text t : List ℕ) (is : text ≡ take (program_limit + 1) t) where
+  within : (kind : RefusedKind) (line : ℕ) → length text ≤ program_limit → Refuses text kind line → Refuses t kind line
+  within kind line few = subst (λ x. Refuses x kind line) (take_within program_limit text t is few)
 
--- a text that was read whole, and is refused
-pub refuses_within : (text t : List ℕ) (e : ProgramFault) (kind : RefusedKind) (line : ℕ) → text ≡ take (program_limit + 1) t → length text ≤ program_limit → e ≡ fault.Refused kind line → IsRefusedAs text e → Refuses t kind line
-refuses_within text t e kind line is few e_is why =
+  refuses_whole : (kind : RefusedKind) (line : ℕ) → Refuses text kind line → Refuses t kind line
+  refuses_whole _ _ (too_long long) = too_long (take_beyond program_limit text t is long)
+  refuses_whole _ _ (not_cut which at why) = within _ _ why.0 (not_cut which at why)
+  refuses_whole _ _ (no_program at why) = within _ _ why.size (no_program at why)
+  refuses_whole _ _ (too_deep at why) = within _ _ why.size (too_deep at why)
+  refuses_whole _ _ (misnamed which at why) = within _ _ why.has.size (misnamed which at why)
+  refuses_whole _ _ (too_large which at why) = within _ _ why.has.size (too_large which at why)
+  refuses_whole _ _ (mistyped at why) = within _ _ why.has.size (mistyped at why)
+  refuses_whole _ _ (overplanned at why) = within _ _ why.has.size (overplanned at why)
+
+pub refuses_within : (text t : List ℕ) (e : ProgramFault) (kind : RefusedKind) (line : ℕ) → text ≡ take (program_limit + 1) t → e ≡ fault.Refused kind line → IsRefusedAs text e → Refuses t kind line
+refuses_within text t e kind line is e_is why =
     let here : IsRefusedAs text (fault.Refused kind line) = subst (IsRefusedAs text) e_is why in
-    subst (λ x. Refuses x kind line) (take_within program_limit text t is few) here
+    refuses_whole text t is kind line here
 
 -- a schedule that was read whole, and one that is refused
 pub schedule_within : (text whole : List ℕ) (events : List Event) → text ≡ take (schedule_limit + 1) whole → SpellsSchedule text events → SpellsSchedule whole events

@@ -16,8 +16,8 @@ use Rattle.da_commands.specs.NodeReplies.{HasAnswered, HasKind, HasStopped, IsNo
 use Rattle.da_commands.specs.NodeSteps.{HasServed}
 use Rattle.da_commands.specs.Replies.{IsAnswer, IsAsking, IsReplay}
 use Rattle.da_commands.specs.Told.{Begins, Gains, HasReplied, HasSaid, OfTold, said, unsaid}
-use Rattle.da_commands.specs.Verdict.{Accepts}
-use Rattle.da_commands.proofs.VerdictLemmas.{accepts_one}
+use Rattle.da_front.specs.Verdict.{Accepts}
+use Rattle.da_front.proofs.VerdictLemmas.{accepts_one}
 use Rattle.da_commands.proofs.ToldLemmas.{begun_replied, of_known, of_map, unwritten_or_answer, whole_replied}
 
 -- WORDS

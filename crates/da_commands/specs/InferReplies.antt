@@ -16,15 +16,15 @@ use Rattle.da_parse.specs.Loose.{loose_of}
 use Rattle.da_parse.specs.Parameters.{IsFirstBy, SpellsWithinBy}
 use Rattle.da_parse.specs.Parse.{IsLineOf}
 use Rattle.da_unparse.specs.Programs.{tree_text}
-use Rattle.da_commands.specs.declared.program.ProgramFault.{ProgramFault}
-use Rattle.da_commands.specs.declared.program.ProgramFault.TheVariants as fault
-use Rattle.da_commands.specs.declared.status.RefusedKind.{RefusedKind}
-use Rattle.da_commands.specs.declared.status.RefusedKind.TheVariants as kind_is
+use Rattle.da_front.specs.declared.refusal.ProgramFault.{ProgramFault}
+use Rattle.da_front.specs.declared.refusal.ProgramFault.TheVariants as fault
+use Rattle.da_front.specs.declared.refusal.RefusedKind.{RefusedKind}
+use Rattle.da_front.specs.declared.refusal.RefusedKind.TheVariants as kind_is
 use Rattle.da_commands.specs.declared.status.Status.{Status}
 use Rattle.da_commands.specs.declared.status.Status.TheVariants.{Done, Memory, Refused}
 use Rattle.da_commands.specs.Lines.{refused_text}
 use Rattle.da_commands.specs.Told.{Gains, OfTold}
-use Rattle.da_commands.specs.Verdict.{IsNotCut, kind_after, kind_of_limit, kind_of_name, program_limit}
+use Rattle.da_front.specs.Verdict.{IsNotCut, kind_after, kind_of_limit, kind_of_name, program_limit}
 
 -- the words ask for the declarations of the program of this name
 abbrev pub IsInfer : List (List ℕ) → List ℕ → Type 0

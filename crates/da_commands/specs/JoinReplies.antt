@@ -7,13 +7,13 @@ use Rattle.da_lang.specs.declared.program.Program.{Program}
 use Rattle.sched_text.specs.EventText.{HasNames}
 use Rattle.sched_text.specs.TraceText.{IsBadTrace, SpellsTrace}
 use Rattle.trace_join.specs.Joins.{AreBlocks, Joined, NoneJoins}
-use Rattle.da_commands.specs.declared.status.RefusedKind.{RefusedKind}
-use Rattle.da_commands.specs.declared.status.RefusedKind.TheVariants.{Traces}
+use Rattle.da_front.specs.declared.refusal.RefusedKind.{RefusedKind}
+use Rattle.da_front.specs.declared.refusal.RefusedKind.TheVariants.{Traces}
 use Rattle.da_commands.specs.declared.status.Status.{Status}
 use Rattle.da_commands.specs.declared.status.Status.TheVariants.{BadTrace, Done, Memory, NoJoin, Refused}
 use Rattle.da_commands.specs.Lines.{badtrace_text, blocked_line, refused_text, schedule_text}
 use Rattle.da_commands.specs.Told.{Gains, OfAllTold, OfTold}
-use Rattle.da_commands.specs.Verdict.{Accepts, Refuses}
+use Rattle.da_front.specs.Verdict.{Accepts, Refuses}
 
 -- the words ask to join traces of these names for the program of that name
 abbrev pub IsJoin : List (List ℕ) → List ℕ → List (List ℕ) → Type 0

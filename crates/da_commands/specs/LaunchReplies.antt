@@ -4,13 +4,13 @@ use Rattle.da_lang.specs.declared.program.Program.{Program}
 use Rattle.da_outside.specs.declared.spawner.SpawnEntry.{SpawnEntry}
 use Rattle.da_outside.specs.Outside.{Appends, AppendsPrefix}
 use Rattle.da_outside.specs.Spawner.{Tells}
-use Rattle.da_commands.specs.declared.status.RefusedKind.{RefusedKind}
+use Rattle.da_front.specs.declared.refusal.RefusedKind.{RefusedKind}
 use Rattle.da_commands.specs.declared.status.Status.{Status}
 use Rattle.da_commands.specs.declared.status.Status.TheVariants.{Memory, ReadFault, Refused, WriteFault}
 use Rattle.da_commands.specs.declared.words.LaunchSetting.{LaunchSetting}
-use Rattle.da_commands.specs.Launching.{LaunchBegan, LaunchReply, child_words}
+use Rattle.da_commands.specs.Launching.{LaunchBegan, LaunchReply, WroteEnds, WroteLast, child_words}
 use Rattle.da_commands.specs.Lines.{refused_text}
-use Rattle.da_commands.specs.Verdict.{Accepts, Refuses}
+use Rattle.da_front.specs.Verdict.{Accepts, Refuses}
 
 -- THE WORDS
 
@@ -46,15 +46,18 @@ pub data HasLaunched (text name : List ℕ) (setting : LaunchSetting) (status : 
       → Tells told_before told_after calls → Appends before after bytes
       → HasLaunched text name setting status told_before told_after before after
 
--- A read or a write failed, or memory was refused. No child was started, and nothing was written or a prefix of a refusal; or
--- the launch was cut short.
-pub data LaunchStopped (text name : List ℕ) (setting : LaunchSetting) (told_before told_after : Option (List SpawnEntry)) (before after : Option (List ℕ)) : Type 0 where
-  early : Tells told_before told_after [] → Appends before after [] → LaunchStopped text name setting told_before told_after before after
+-- A read or a write failed, or memory was refused. No child was started, and nothing was written, where no write failed, or a
+-- prefix of a refusal; or the launch was cut short: where a write failed, at the child whose text was being written.
+pub data LaunchStopped (text name : List ℕ) (setting : LaunchSetting) (status : Status) (told_before told_after : Option (List SpawnEntry)) (before after : Option (List ℕ)) : Type 0 where
+  early : (status ≡ WriteFault → ⊥) → Tells told_before told_after [] → Appends before after [] → LaunchStopped text name setting status told_before told_after before after
   refusing : (kind : RefusedKind) (line : ℕ) → Refuses text kind line → Tells told_before told_after []
-      → AppendsPrefix before after (refused_text kind line) → LaunchStopped text name setting told_before told_after before after
-  running : (program : Program) → Accepts text program
-      → LaunchBegan (child_words name setting) (length program.procs) told_before told_after before after
-      → LaunchStopped text name setting told_before told_after before after
+      → AppendsPrefix before after (refused_text kind line) → LaunchStopped text name setting status told_before told_after before after
+  writing : (program : Program) → Accepts text program → status ≡ WriteFault
+      → LaunchBegan (child_words name setting) (length program.procs) told_before told_after before after WroteLast
+      → LaunchStopped text name setting status told_before told_after before after
+  running : (program : Program) → Accepts text program → status ≡ Memory
+      → LaunchBegan (child_words name setting) (length program.procs) told_before told_after before after WroteEnds
+      → LaunchStopped text name setting status told_before told_after before after
 
 -- the launch was answered, or memory was refused
 abbrev pub IsLaunched : List ℕ → List ℕ → LaunchSetting → Status → Option (List SpawnEntry) → Option (List SpawnEntry) → Option (List ℕ) → Option (List ℕ) → Type 0
@@ -70,9 +73,9 @@ IsLaunchAnswer _ = Unit {0}
 
 -- what a launch leaves that was asked for over a program's text
 abbrev pub HasLaunchEnd : List ℕ → List ℕ → LaunchSetting → Status → Option (List SpawnEntry) → Option (List SpawnEntry) → Option (List ℕ) → Option (List ℕ) → Type 0
-HasLaunchEnd text name setting ReadFault told_before told_after before after = LaunchStopped text name setting told_before told_after before after
-HasLaunchEnd text name setting WriteFault told_before told_after before after = LaunchStopped text name setting told_before told_after before after
-HasLaunchEnd text name setting Memory told_before told_after before after = LaunchStopped text name setting told_before told_after before after
+HasLaunchEnd text name setting ReadFault told_before told_after before after = LaunchStopped text name setting ReadFault told_before told_after before after
+HasLaunchEnd text name setting WriteFault told_before told_after before after = LaunchStopped text name setting WriteFault told_before told_after before after
+HasLaunchEnd text name setting Memory told_before told_after before after = LaunchStopped text name setting Memory told_before told_after before after
 HasLaunchEnd text name setting status told_before told_after before after = HasLaunched text name setting status told_before told_after before after
 
 -- the same for each text of an accepted program

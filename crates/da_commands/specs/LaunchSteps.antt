@@ -12,7 +12,7 @@ use Rattle.da_commands.specs.declared.starting.Started.{Started}
 use Rattle.da_commands.specs.declared.starting.Started.TheVariants as children
 use Rattle.da_commands.specs.declared.status.Status.{Status}
 use Rattle.da_commands.specs.declared.status.Status.TheVariants.{ChildFault, ChildStatus, Done, Memory, ReadFault, WriteFault}
-use Rattle.da_commands.specs.Launching.{FinishReply, LaunchBegan, LaunchReply, child_text, finishes, starts}
+use Rattle.da_commands.specs.Launching.{FinishReply, LaunchBegan, LaunchReply, WroteEnds, WroteLast, child_text, finishes, starts}
 
 -- the numbers of children
 abbrev pub numbers : List Child → List ℕ
@@ -57,8 +57,10 @@ abbrev pub status_after : Status → ℕ → ℕ → Status
 status_after Done child code = if code == 0 then Done else ChildStatus child code
 status_after status child code = status
 
--- The finishing of these children was cut short: these were the first calls of a reply, and a prefix of its bytes was written.
-pub record FinishBegan (list : List ℕ) (told_before told_after : Option (List SpawnEntry)) (before after : Option (List ℕ)) : Type 0 where
+-- The finishing of these children was cut short: these were the first calls of a reply, a prefix of its bytes was written, and no
+-- more of them than these calls allow.
+pub record FinishBegan (list : List ℕ) (told_before told_after : Option (List SpawnEntry)) (before after : Option (List ℕ))
+    (Wrote : List SpawnEntry → Option (List ℕ) → Option (List ℕ) → Type 0) : Type 0 where
   pub calls : List SpawnEntry
   pub more : List SpawnEntry
   pub status : Status
@@ -66,18 +68,19 @@ pub record FinishBegan (list : List ℕ) (told_before told_after : Option (List 
   pub reply : FinishReply list (calls ++ more) status bytes
   pub told : Tells told_before told_after calls
   pub written : AppendsPrefix before after bytes
+  pub wrote : Wrote calls before after
 
 -- what comes of finishing these children
 abbrev pub HasFinished : List ℕ → Status → Option (List SpawnEntry) → Option (List SpawnEntry) → Option (List ℕ) → Option (List ℕ) → Type 0
-HasFinished list WriteFault told_before told_after before after = FinishBegan list told_before told_after before after
-HasFinished list Memory told_before told_after before after = FinishBegan list told_before told_after before after
+HasFinished list WriteFault told_before told_after before after = FinishBegan list told_before told_after before after WroteLast
+HasFinished list Memory told_before told_after before after = FinishBegan list told_before told_after before after WroteEnds
 HasFinished list status told_before told_after before after =
     (calls : List SpawnEntry) × (bytes : List ℕ) × FinishReply list calls status bytes × Tells told_before told_after calls × Appends before after bytes
 
 -- what comes of starting and finishing the children for so many processes
 abbrev pub HasRun : (ℕ → List (List ℕ)) → ℕ → Status → Option (List SpawnEntry) → Option (List SpawnEntry) → Option (List ℕ) → Option (List ℕ) → Type 0
-HasRun words count WriteFault told_before told_after before after = LaunchBegan words count told_before told_after before after
-HasRun words count Memory told_before told_after before after = LaunchBegan words count told_before told_after before after
+HasRun words count WriteFault told_before told_after before after = LaunchBegan words count told_before told_after before after WroteLast
+HasRun words count Memory told_before told_after before after = LaunchBegan words count told_before told_after before after WroteEnds
 HasRun words count status told_before told_after before after =
     (calls : List SpawnEntry) × (bytes : List ℕ) × LaunchReply words count calls status bytes × Tells told_before told_after calls × Appends before after bytes
 

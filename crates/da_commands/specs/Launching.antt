@@ -1,9 +1,9 @@
 -- What a launch does and answers, by what its spawner answers.
-use Rattle.std.specs.Prelude.{◌≡◌, ◌<◌, ◌≤◌, ℕ, ◌+◌, ◌==◌, ◌⊎◌, if◌then◌else◌, List, [], ◌∷◌, ◌++◌, length, map, codes, decimal, Option, Some, None}
+use Rattle.std.specs.Prelude.{◌≡◌, ◌<◌, ◌≤◌, ℕ, ◌+◌, ◌-◌, ◌==◌, ◌⊎◌, if◌then◌else◌, List, [], ◌∷◌, ◌++◌, length, take, map, codes, decimal, Option, Some, None}
 use Rattle.da_outside.specs.declared.spawner.Ended.{Ended}
 use Rattle.da_outside.specs.declared.spawner.SpawnEntry.{SpawnEntry}
 use Rattle.da_outside.specs.declared.spawner.SpawnEntry.TheVariants.{Start, Finish}
-use Rattle.da_outside.specs.Outside.{AppendsPrefix, Rose}
+use Rattle.da_outside.specs.Outside.{Appends, AppendsPrefix, Rose}
 use Rattle.da_outside.specs.Spawner.{Tells}
 use Rattle.da_commands.specs.declared.status.Status.{Status}
 use Rattle.da_commands.specs.declared.status.Status.TheVariants.{ChildFault, ChildStatus, Done, Memory}
@@ -61,8 +61,37 @@ pub data LaunchReply (words : ℕ → List (List ℕ)) (count : ℕ) : List Spaw
   unstarted : (children : List ℕ) (ends : List (Option Ended)) → length children < count → length ends ≡ length children
       → LaunchReply words count (starts words 1 children ++ Start (words (length children + 1)) None ∷ finishes children ends) ChildFault []
 
--- A launch was cut short: these were the first calls of a reply, and a prefix of its bytes was written.
-pub record LaunchBegan (words : ℕ → List (List ℕ)) (count : ℕ) (told_before told_after : Option (List SpawnEntry)) (before after : Option (List ℕ)) : Type 0 where
+-- A LAUNCH THAT IS CUT SHORT
+
+-- the ends of children that these calls told, up to the first call that failed
+abbrev pub ends_in : List SpawnEntry → List Ended
+ends_in [] = []
+ends_in (Start words (Some child) ∷ calls) = ends_in calls
+ends_in (Start words None ∷ calls) = []
+ends_in (Finish child (Some end) ∷ calls) = end ∷ ends_in calls
+ends_in (Finish child None ∷ calls) = []
+
+-- those of them after which more was told
+abbrev pub passed_ends : List SpawnEntry → List Ended
+passed_ends calls = ends_in (take (length calls - 1) calls)
+
+-- A prefix of the texts of the children whose ends were told was written, in which nothing is missing of a child after whose end
+-- more was told.
+pub record WroteEnds (calls : List SpawnEntry) (before after : Option (List ℕ)) : Type 0 where
+  pub size : ℕ
+  pub written : Appends before after (take size (children_text 1 (ends_in calls)))
+  pub reaches : length (children_text 1 (passed_ends calls)) ≤ size
+
+-- The same, where the calls stop at the child whose text was being written: the last of them told its end.
+pub record WroteLast (calls : List SpawnEntry) (before after : Option (List ℕ)) : Type 0 where
+  pub front : WroteEnds calls before after
+  pub end : Ended
+  pub stops : ends_in calls ≡ passed_ends calls ++ end ∷ []
+
+-- A launch was cut short: these were the first calls of a reply, a prefix of its bytes was written, and no more of them than
+-- these calls allow.
+pub record LaunchBegan (words : ℕ → List (List ℕ)) (count : ℕ) (told_before told_after : Option (List SpawnEntry)) (before after : Option (List ℕ))
+    (Wrote : List SpawnEntry → Option (List ℕ) → Option (List ℕ) → Type 0) : Type 0 where
   pub calls : List SpawnEntry
   pub more : List SpawnEntry
   pub status : Status
@@ -70,6 +99,7 @@ pub record LaunchBegan (words : ℕ → List (List ℕ)) (count : ℕ) (told_bef
   pub reply : LaunchReply words count (calls ++ more) status bytes
   pub told : Tells told_before told_after calls
   pub written : AppendsPrefix before after bytes
+  pub wrote : Wrote calls before after
 
 -- A count tells of a child at which a call failed: it does not fall, that status comes only where it rose, and where it rose it is
 -- that status, or memory was refused afterwards.

@@ -11,7 +11,7 @@ pub mod Lines
 pub mod Links
 pub mod NodeReplies
 pub mod NodeSteps
+pub mod PlanJson
 pub mod Replies
 pub mod Told
-pub mod Verdict
 pub mod Words

@@ -3,8 +3,8 @@ use Rattle.std.specs.Prelude.{ℕ, List, ◌++◌, codes, decimal}
 use Rattle.std.specs.List.{flat_map}
 use Rattle.da_lang.specs.declared.event.Event.{Event}
 use Rattle.sched_text.specs.EventText.{event_line}
-use Rattle.da_commands.specs.declared.status.RefusedKind.{RefusedKind}
-use Rattle.da_commands.specs.declared.status.RefusedKind.TheVariants.{Size, Byte, Indent, Token, Unclosed, Syntax, Deep, Unknown, Twice, Shadow, Recursive, Yield, Setup, NoRun, Arity, Classes, Processes, Items, Blocks, Variables, Parts, Generators, Types, Nodes, Infer, Me, Traces}
+use Rattle.da_front.specs.declared.refusal.RefusedKind.{RefusedKind}
+use Rattle.da_front.specs.declared.refusal.RefusedKind.TheVariants.{Size, Byte, Indent, Token, Unclosed, Syntax, Deep, Unknown, Twice, Shadow, Recursive, Yield, Setup, NoRun, Arity, Classes, Processes, Items, Blocks, Variables, Parts, Generators, Types, Nodes, Infer, Me, Traces}
 
 abbrev pub refused_word : RefusedKind → List ℕ
 refused_word Size = codes "size"

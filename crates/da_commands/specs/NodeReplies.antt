@@ -9,13 +9,13 @@ use Rattle.da_outside.specs.Outside.{Appends, AppendsPrefix}
 use Rattle.node_run.specs.NodeCall.{HasRun, WasCut, WroteAll, WrotePrefix, WroteGiven}
 use Rattle.node_run.specs.NodeRun.{NodeEnd, Round}
 use Rattle.node_run.specs.NodeRun as by
-use Rattle.da_commands.specs.declared.status.RefusedKind.{RefusedKind}
-use Rattle.da_commands.specs.declared.status.RefusedKind.TheVariants as kind_is
+use Rattle.da_front.specs.declared.refusal.RefusedKind.{RefusedKind}
+use Rattle.da_front.specs.declared.refusal.RefusedKind.TheVariants as kind_is
 use Rattle.da_commands.specs.declared.status.Status.{Status}
 use Rattle.da_commands.specs.declared.status.Status.TheVariants.{Done, Refused, Idle, Spent, Faulted, Memory, WriteFault}
 use Rattle.da_commands.specs.declared.words.NodeSetting.{NodeSetting}
 use Rattle.da_commands.specs.Lines.{refused_text}
-use Rattle.da_commands.specs.Verdict.{Accepts, Refuses}
+use Rattle.da_front.specs.Verdict.{Accepts, Refuses}
 
 -- the numbers of a setting are within their ranges
 pub record SettingInRange (setting : NodeSetting) : Type 0 where

@@ -9,7 +9,7 @@ use Rattle.da_commands.specs.declared.status.Status.{Status}
 use Rattle.da_commands.specs.declared.status.Status.TheVariants.{ChildFault, LinkFault, Memory, ReadFault, WriteFault}
 use Rattle.da_commands.specs.declared.words.NodeSetting.{NodeSetting}
 use Rattle.da_commands.specs.NodeReplies.{HasAnswered, HasStopped, LinkFailed, binding, status_for}
-use Rattle.da_commands.specs.Verdict.{Accepts}
+use Rattle.da_front.specs.Verdict.{Accepts}
 
 -- what a node leaves that was asked for over a program's text
 abbrev pub HasServed : List ℕ → NodeSetting → Status → Option (List LinkEntry) → Option (List LinkEntry) → Option (List ℕ) → Option (List ℕ) → Type 0

@@ -5,7 +5,7 @@ use Rattle.da_lang.specs.declared.event.Event.{Event}
 use Rattle.da_lang.specs.declared.program.Program.{Program}
 use Rattle.da_system.specs.SourceRun.{src_run}
 use Rattle.da_system.specs.StressRun.{stress_text}
-use Rattle.da_commands.specs.declared.status.RefusedKind.{RefusedKind}
+use Rattle.da_front.specs.declared.refusal.RefusedKind.{RefusedKind}
 use Rattle.da_commands.specs.declared.status.Status.{Status}
 use Rattle.da_commands.specs.declared.status.Status.TheVariants.{Done, Refused, Forbidden, BadSchedule, ReadFault, WriteFault, Memory, LinkFault, ChildFault, Words}
 use Rattle.da_commands.specs.declared.words.Task.{Task}
@@ -18,15 +18,10 @@ use Rattle.da_commands.specs.LaunchReplies.{IsLaunch}
 use Rattle.da_commands.specs.NodeReplies.{IsNode}
 use Rattle.da_commands.specs.Lines.{accepted_text, badline_text, refused_text}
 use Rattle.da_outside.specs.Outside.{Appends, Rose}
-use Rattle.da_commands.specs.Verdict.{Accepts, Refuses}
-use Rattle.plan_json.specs.PlanJson.{plan_text}
+use Rattle.da_front.specs.Verdict.{Accepts, IsRefused, Refuses}
+use Rattle.da_commands.specs.PlanJson.{plan_text}
 use Rattle.sched_text.specs.ActionText.{action_text}
 use Rattle.sched_text.specs.ScheduleText.{IsBadSchedule, SpellsSchedule}
-
-pub record IsRefused (text : List ℕ) : Type 0 where
-  pub kind : RefusedKind
-  pub line : ℕ
-  pub refuses : Refuses text kind line
 
 -- the status of a run that stops at the event of this number, or at none
 abbrev pub ended_by : Option ℕ → Status

@@ -7,7 +7,8 @@ ghost use Rattle.da_outside.specs.Outside.{HasCause};
 ghost use Rattle.std.specs.Prelude.{◌≡◌};
 
 use crate::lines::{bad_line, refused_line, trace_line};
-use crate::status::{RefusedKind, Status};
+use crate::status::Status;
+use da_front::RefusedKind;
 use da_outside::{Sink, Trouble, write_all};
 use node_run::NodeOutcome;
 use replay_run::Outcome;

@@ -1,15 +1,16 @@
 //! The command `infer`.
 ghost use Rattle.da_outside.specs.Outside.{HasCause, Rose};
 ghost use Rattle.da_unparse.specs.Programs.{tree_text};
+ghost use Rattle.da_commands.specs.Faults.{after_infer as refusal_of};
 ghost use Rattle.da_commands.specs.InferReplies.{HasLoose, InferReply, IsCompleted, IsLooselyRefusedAs};
 ghost use Rattle.da_commands.specs.Replies.{IsEnd};
 ghost use Rattle.da_commands.specs.Told.{HasReplied, HasSaid, OfTold};
-ghost use Rattle.std.specs.Prelude.{ℕ, ◌≡◌, ◌+◌, ◌<◌, ◌≤◌, IfErr, IfOk, List, length, take};
+ghost use Rattle.std.specs.Prelude.{ℕ, ◌≡◌, ◌+◌, ◌<◌, ◌≤◌, IfErr, IfOk, List, take};
 
 use crate::endings::{refuse, say};
-use crate::program::{PROGRAM_LIMIT, ProgramFault, cut};
-use crate::status::{RefusedKind, Status};
-use da_infer::infer;
+use crate::status::Status;
+use da_front::{PROGRAM_LIMIT, ProgramFault, RefusedKind, read_tokens};
+use da_infer::{InferFault, infer};
 use da_lang::Tree;
 use da_outside::{Files, Sink, Trouble, read_all};
 use da_parse::{LooseTree, ParseFault, parse_loose};
@@ -50,9 +51,6 @@ fn answer_text<K: Sink>(alloc: Global, text: &[u8], out: &mut K) -> Status
     ensures read { result ≡ Status.ReadFault → ⊥ }
     ensures write { HasCause (K.faults out.old) (K.faults out.new) (result ≡ Status.WriteFault) }
 {
-    if text.len() > PROGRAM_LIMIT {
-        return refuse(alloc, out, RefusedKind::Size, 0);
-    }
     match complete(alloc, text) {
         Ok(tree) => answer_tree(alloc, &tree, out),
         Err(ProgramFault::Refused { kind, line }) => refuse(alloc, out, kind, line),
@@ -63,22 +61,44 @@ fn answer_text<K: Sink>(alloc: Global, text: &[u8], out: &mut K) -> Status
 // The program of a text, with the declarations that it lacks.
 #[tactic(auto, using(crate::proofs::InferLemmas::is_completed, crate::proofs::InferLemmas::not_inferred))]
 fn complete(alloc: Global, text: &[u8]) -> Result<Tree, ProgramFault>
-    requires { length text.now ≤ 1048576 }
     ensures completed { IfOk result (IsCompleted text.now) }
     ensures refused { IfErr result (IsLooselyRefusedAs text.now) }
 {
     let loose = read_loose(alloc, text)?;
-    Ok(infer(alloc, &loose)?)
+    match infer(alloc, &loose) {
+        Ok(tree) => Ok(tree),
+        Err(why) => Err(after_infer(why)),
+    }
+}
+
+// The refusal of a text that gets no declarations.
+fn after_infer(why: InferFault) -> ProgramFault
+    ensures { result ≡ refusal_of why }
+{
+    match why {
+        InferFault::Name { kind, line } => ProgramFault::Refused {
+            kind: RefusedKind::from(kind),
+            line,
+        },
+        InferFault::Limit { which, line } => ProgramFault::Refused {
+            kind: RefusedKind::from(which),
+            line,
+        },
+        InferFault::NoTypes { line } => ProgramFault::Refused {
+            kind: RefusedKind::Infer,
+            line,
+        },
+        InferFault::Memory => ProgramFault::Memory,
+    }
 }
 
 // What a text spells by the grammar in which parameters may lack their types.
 #[tactic(auto, using(crate::proofs::InferLemmas::cut_loosely, crate::proofs::InferLemmas::has_loose))]
 fn read_loose(alloc: Global, text: &[u8]) -> Result<LooseTree, ProgramFault>
-    requires { length text.now ≤ 1048576 }
     ensures ok { IfOk result (HasLoose text.now) }
     ensures refused { IfErr result (IsLooselyRefusedAs text.now) }
 {
-    let tokens = cut(alloc, text)?;
+    let tokens = read_tokens(alloc, text)?;
     match parse_loose(alloc, &tokens) {
         Ok(loose) => Ok(loose),
         Err(ParseFault::Memory) => Err(ProgramFault::Memory),

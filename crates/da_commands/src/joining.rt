@@ -6,18 +6,18 @@ ghost use Rattle.da_values.specs.Sets.{Has};
 ghost use Rattle.da_commands.specs.JoinReplies.{JoinReply, JoinedReply, SpellTraces};
 ghost use Rattle.da_commands.specs.JoinSteps.{AddsTrace, AreRead, AreWhole, IsNoTrace};
 ghost use Rattle.da_commands.specs.Lines.{schedule_text};
-ghost use Rattle.da_commands.specs.Replies.{IsEnd, IsRefused, TraceReadCause};
+ghost use Rattle.da_commands.specs.Replies.{IsEnd, TraceReadCause};
 ghost use Rattle.da_commands.specs.Told.{HasReplied, OfAllTold, OfTold};
-ghost use Rattle.da_commands.specs.Verdict.{Accepts};
+ghost use Rattle.da_front.specs.Verdict.{Accepts, IsRefused};
 ghost use Rattle.trace_join.specs.Joins.{AreTraces};
 ghost use Rattle.std.specs.Prelude.{ℕ, ◌≡◌, ◌+◌, ◌<◌, ◌≤◌, IfErr, IfOk, IsErrOf, List as Seq, OnOk, length, map, take};
 ghost use Rattle.std.specs.String.{string_bytes};
 
 use crate::endings::{refuse, refuse_trace, say};
 use crate::lines::{block_lines, event_lines};
-use crate::program::{PROGRAM_LIMIT, ProgramFault, read_program};
-use crate::status::{RefusedKind, Status};
+use crate::status::Status;
 use da_core::Compiled;
+use da_front::{PROGRAM_LIMIT, ProgramFault, RefusedKind, read_program};
 use da_lang::Action;
 use da_outside::{Files, Sink, Trouble, read_all};
 use da_values::{Buf, List, NoMemory};
@@ -97,9 +97,6 @@ fn answer_program<F: Files, K: Sink>(
     ensures rises { (x : Seq ℕ) → F.faults files.old x < F.faults files.new x → result ≡ Status.ReadFault }
     ensures write { HasCause (K.faults out.old) (K.faults out.new) (result ≡ Status.WriteFault) }
 {
-    if text.len() > PROGRAM_LIMIT {
-        return refuse(alloc, out, RefusedKind::Size, 0);
-    }
     let compiled = match read_program(alloc, text) {
         Ok(compiled) => compiled,
         Err(ProgramFault::Refused { kind, line }) => return refuse(alloc, out, kind, line),

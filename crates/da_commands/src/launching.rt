@@ -9,15 +9,17 @@ ghost use Rattle.std.specs.Prelude.{ℕ, ◌≡◌, ◌+◌, ◌<◌, ◌≤◌,
 
 use crate::endings::refuse;
 use crate::finishing::{finish_all, finish_rest};
-use crate::program::{PROGRAM_LIMIT, ProgramFault, read_program};
 use crate::starting::{Started, start_all};
-use crate::status::{RefusedKind, Status};
+use crate::status::Status;
 use crate::words::LaunchSetting;
 use da_core::Compiled;
+use da_front::{PROGRAM_LIMIT, ProgramFault, read_program};
 use da_outside::{Files, Sink, Spawner, Trouble, read_all};
 use std::alloc::Global;
 
 /// Reads the program, and refuses it or runs each process of it as a child of its own.
+///
+/// It ends with the first call of the spawner for which memory was refused; such a call is not made again.
 pub fn launch<F: Files, K: Sink, S: Spawner>(
     alloc: Global,
     setting: LaunchSetting,
@@ -62,9 +64,6 @@ fn answer_text<K: Sink, S: Spawner>(
     ensures write { HasCause (K.faults out.old) (K.faults out.new) (result ≡ Status.WriteFault) }
     ensures children { HasChildCause (S.faults children.old) (S.faults children.new) result }
 {
-    if text.len() > PROGRAM_LIMIT {
-        return refuse(alloc, out, RefusedKind::Size, 0);
-    }
     match read_program(alloc, text) {
         Ok(compiled) => answer_program(alloc, setting, name, &compiled, out, children),
         Err(ProgramFault::Refused { kind, line }) => refuse(alloc, out, kind, line),

@@ -2,22 +2,29 @@
 #![tactic(auto)]
 
 mod endings;
+mod exit;
 mod finishing;
 mod inferring;
 mod joining;
+mod json;
 mod launching;
 mod lines;
 mod noding;
-mod program;
+mod plans;
 mod replaying;
 mod starting;
 mod status;
 mod tasks;
 mod top;
+mod unread;
 mod words;
 
+pub use exit::{Ending, NoWords, exit_code, words_of_call};
 pub use lines::{bad_line, refused_line};
-pub use program::{PROGRAM_LIMIT, ProgramFault, read_program};
-pub use status::{RefusedKind, Status};
+pub use status::Status;
 pub use top::dalgo;
-pub use words::{Command, LaunchSetting, Names, NodeSetting, Task, command_of, number_between};
+pub use unread::tell_unread;
+pub use words::{
+    Command, FIRST_PORT, LAST_PORT, LAST_START, LaunchSetting, MOST_ANSWERS, MOST_EVENTS,
+    MOST_PROCESSES, Names, NodeSetting, Task, command_of, number_between,
+};

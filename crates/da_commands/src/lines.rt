@@ -4,7 +4,7 @@ ghost use Rattle.da_commands.specs.Lines.{accepted_text, badline_text, badtrace_
 ghost use Rattle.std.specs.List.{flat_map};
 ghost use Rattle.std.specs.Prelude.{◌≡◌, ◌++◌, IfOk, OnOk, map};
 
-use crate::status::RefusedKind;
+use da_front::RefusedKind;
 use da_lang::Event;
 use da_values::{Buf, List, NoMemory, write_number};
 use sched_text::write_event;

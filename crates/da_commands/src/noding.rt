@@ -12,11 +12,11 @@ ghost use Rattle.node_run.specs.NodeCall.{GivesPackets};
 ghost use Rattle.std.specs.Prelude.{ℕ, ◌≡◌, ◌+◌, ◌<◌, ◌≤◌, [], List, take, length};
 
 use crate::endings::{refuse, status_of_node};
-use crate::program::{PROGRAM_LIMIT, ProgramFault, read_program};
-use crate::status::{RefusedKind, Status};
+use crate::status::Status;
 use crate::words::NodeSetting;
 use arq_link::ArqLink;
 use da_core::Compiled;
+use da_front::{PROGRAM_LIMIT, ProgramFault, RefusedKind, read_program};
 use da_lang::ChannelKind;
 use da_outside::{Files, Link, Sink, Trouble, read_all};
 use node_run::node;
@@ -76,9 +76,6 @@ fn answer_text<K: Sink, L: Link>(
     ensures write { HasCause (K.faults out.old) (K.faults out.new) (result ≡ Status.WriteFault) }
     ensures link { HasCause (L.faults (inner_of link.old)) (L.faults (inner_of link.new)) (result ≡ Status.LinkFault) }
 {
-    if text.len() > PROGRAM_LIMIT {
-        return refuse(alloc, out, RefusedKind::Size, 0);
-    }
     match read_program(alloc, text) {
         Ok(compiled) => answer_program(alloc, setting, &compiled, out, link),
         Err(ProgramFault::Refused { kind, line }) => refuse(alloc, out, kind, line),

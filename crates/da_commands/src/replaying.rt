@@ -1,14 +1,15 @@
 //! The command `replay`.
+ghost use Rattle.da_front.specs.Verdict.{IsRefused};
 ghost use Rattle.da_core.specs.Compiled.{IsCompiled, program_of};
 ghost use Rattle.da_outside.specs.Outside.{HasCause, Rose};
-ghost use Rattle.da_commands.specs.Replies.{IsEnd, IsRefused, ReadCause, ReplayReply, RunReply, run_status, run_text};
+ghost use Rattle.da_commands.specs.Replies.{IsEnd, ReadCause, ReplayReply, RunReply, run_status, run_text};
 ghost use Rattle.da_commands.specs.Told.{HasReplied, HasSaid, OfTold};
 ghost use Rattle.std.specs.Prelude.{ℕ, ◌≡◌, ◌+◌, ◌<◌, ◌≤◌, List, take};
 
 use crate::endings::{refuse, refuse_schedule, status_of_run};
-use crate::program::{PROGRAM_LIMIT, ProgramFault, read_program};
-use crate::status::{RefusedKind, Status};
+use crate::status::Status;
 use da_core::Compiled;
+use da_front::{PROGRAM_LIMIT, ProgramFault, read_program};
 use da_lang::Event;
 use da_outside::{Files, Sink, Trouble, read_all};
 use da_system::System;
@@ -63,9 +64,6 @@ fn answer_program<F: Files, K: Sink>(
     ensures rises { (x : List ℕ) → F.faults files.old x < F.faults files.new x → result ≡ Status.ReadFault }
     ensures write { HasCause (K.faults out.old) (K.faults out.new) (result ≡ Status.WriteFault) }
 {
-    if text.len() > PROGRAM_LIMIT {
-        return refuse(alloc, out, RefusedKind::Size, 0);
-    }
     let compiled = match read_program(alloc, text) {
         Ok(compiled) => compiled,
         Err(ProgramFault::Refused { kind, line }) => return refuse(alloc, out, kind, line),

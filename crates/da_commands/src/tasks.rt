@@ -8,13 +8,13 @@ ghost use Rattle.std.specs.Prelude.{ℕ, ◌≡◌, ◌+◌, ◌<◌, ◌≤◌,
 
 use crate::endings::{refuse, say, status_of_run};
 use crate::lines::accepted_line;
-use crate::program::{PROGRAM_LIMIT, ProgramFault, read_program};
-use crate::status::{RefusedKind, Status};
+use crate::plans::plan_line;
+use crate::status::Status;
 use crate::words::Task;
 use da_core::Compiled;
+use da_front::{PROGRAM_LIMIT, ProgramFault, read_program};
 use da_outside::{Files, Sink, Trouble, read_all};
 use da_system::System;
-use plan_json::plan_line;
 use std::alloc::Global;
 
 /// Reads the program, and refuses it or carries out the task on it.
@@ -52,9 +52,6 @@ fn answer_text<K: Sink>(alloc: Global, task: Task, text: &[u8], out: &mut K) -> 
     ensures read { result ≡ Status.ReadFault → ⊥ }
     ensures write { HasCause (K.faults out.old) (K.faults out.new) (result ≡ Status.WriteFault) }
 {
-    if text.len() > PROGRAM_LIMIT {
-        return refuse(alloc, out, RefusedKind::Size, 0);
-    }
     match read_program(alloc, text) {
         Ok(compiled) => answer_task(alloc, task, &compiled, out),
         Err(ProgramFault::Refused { kind, line }) => refuse(alloc, out, kind, line),

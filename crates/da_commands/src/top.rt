@@ -17,7 +17,7 @@ ghost use Rattle.da_commands.specs.declared.words.LaunchSetting.{LaunchSetting};
 ghost use Rattle.da_commands.specs.declared.words.NodeSetting.{NodeSetting};
 ghost use Rattle.da_commands.specs.declared.words.Task.{Task};
 ghost use Rattle.da_commands.specs.Told.{Begins, Gains, OfAllTold, OfTold};
-ghost use Rattle.da_commands.specs.Verdict.{Accepts};
+ghost use Rattle.da_front.specs.Verdict.{Accepts};
 ghost use Rattle.node_run.specs.NodeCall.{GivesPackets};
 ghost use Rattle.sched_text.specs.ScheduleText.{SpellsSchedule};
 ghost use Rattle.std.specs.Prelude.{ℕ, ◌≡◌, ◌<◌, ◌≤◌, List, Some, codes, map};
@@ -100,11 +100,13 @@ pub fn dalgo<F: Files, K: Sink, L: Link, S: Spawner>(
     // A launch answers by the program's text and by what its spawner answers. Unless the program is refused, a child is started for
     // each process, with the words of its node, and each child is finished, in the order of their numbers; the bytes and the
     // status are those of the reply to these calls. Where a write failed or memory was refused, a telling spawner tells the
-    // first calls of a reply, and the sink gained a prefix of its bytes.
+    // first calls of a reply, and the sink gained a prefix of its bytes: of the children whose ends were told, with nothing missing
+    // of a child after whose end more was told. Where a write failed, the calls stop at the child whose text was being written.
+    // A call for which memory was refused is not told, so no clause speaks of it; the launch ends there, and makes no other one.
     ensures launch { (p : List ℕ) (setting : LaunchSetting) → IsLaunch (map string_bytes words.now) p setting → IsLaunchAnswer result
         → OfTold (F.told files.old p) (λ t. HasLaunched t p setting result (S.told children.old) (S.told children.new) (K.taken out.old) (K.taken out.new)) }
     ensures launch_stopped { (p : List ℕ) (setting : LaunchSetting) → IsLaunch (map string_bytes words.now) p setting → (IsLaunchAnswer result → ⊥)
-        → OfTold (F.told files.old p) (λ t. LaunchStopped t p setting (S.told children.old) (S.told children.new) (K.taken out.old) (K.taken out.new)) }
+        → OfTold (F.told files.old p) (λ t. LaunchStopped t p setting result (S.told children.old) (S.told children.new) (K.taken out.old) (K.taken out.new)) }
 
     // Each accepted program is launched, unless a read, a write or the spawner failed or memory was refused.
     ensures launched { (p t : List ℕ) (program : Program) (setting : LaunchSetting) → IsLaunch (map string_bytes words.now) p setting → F.told files.old p ≡ Some t → Accepts t program

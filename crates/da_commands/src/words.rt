@@ -85,21 +85,22 @@ pub struct Names<'a> {
 }
 
 /// The greatest number with which a generated schedule begins.
-const LAST_START: u64 = 281_474_976_710_655;
+pub const LAST_START: u64 = 281_474_976_710_655;
 
 /// The most events of a generated schedule.
-const MOST_EVENTS: u64 = 1_000_000;
+pub const MOST_EVENTS: u64 = 1_000_000;
 
-/// The ports that the link of a node may be asked for.
-const FIRST_PORT: u64 = 1_024;
+/// The first port that the link of a node may be asked for.
+pub const FIRST_PORT: u64 = 1_024;
 
-const LAST_PORT: u64 = 65_000;
+/// The last such port.
+pub const LAST_PORT: u64 = 65_000;
 
 /// The most processes of a program.
-const MOST_PROCESSES: u64 = 64;
+pub const MOST_PROCESSES: u64 = 64;
 
-/// The most answers that a node may take.
-const MOST_ANSWERS: u64 = 1_000_000_000;
+/// The most answers that a node may take, and the most idle turns in a row.
+pub const MOST_ANSWERS: u64 = 1_000_000_000;
 
 /// What these words ask for.
 #[tactic(auto, using(crate::proofs::WordLemmas::asked_plainly))]

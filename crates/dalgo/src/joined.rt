@@ -1,7 +1,7 @@
 //! What a person is told of a join of traces: of a line that is none of its trace, and of processes that are blocked.
 use crate::again::{TOLD, shown, text_again};
 use crate::refused::show;
-use da_commands::PROGRAM_LIMIT;
+use da_front::PROGRAM_LIMIT;
 use da_values::{Buf, List};
 use run_hints::{Blocked, explain_blocks, explain_trace_line, trace_line};
 use sched_text::TRACE_LIMIT;

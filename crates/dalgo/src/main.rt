@@ -3,7 +3,6 @@
 #![tactic(auto)]
 
 mod again;
-mod exit;
 mod joined;
 mod needs;
 mod refused;
@@ -13,12 +12,9 @@ mod watch;
 mod words;
 
 use arq_link::ArqLink;
-use da_commands::{Status, dalgo};
+use da_commands::{NoWords, Status, dalgo, exit_code, words_of_call};
 use da_outside::{RealFiles, RealSink, RealSpawner};
-use exit::{NoWords, exit_code};
 use report::{Outcome, report};
-use std::env;
-use std::io::ErrorKind;
 use std::process::ExitCode;
 use udp_link::UdpLink;
 use watch::Watched;
@@ -59,17 +55,4 @@ fn main(rt: HostRuntime) -> ExitCode {
         report(&rt, words.as_slice(), outcome);
         status
     })
-}
-
-// The words after the name of the program.
-fn words_of_call(rt: &HostRuntime) -> Result<Vec<String>, NoWords> {
-    let args = env::args(rt).map_err(|error| match error.kind() {
-        ErrorKind::OutOfMemory => NoWords::Memory,
-        _ => NoWords::Refused,
-    })?;
-    let mut words = Vec::new(rt.alloc());
-    for word in args.skip(1) {
-        words.push(word).map_err(|_| NoWords::Memory)?;
-    }
-    Ok(words)
 }

@@ -1,6 +1,6 @@
 //! What a person is told of a program that is refused.
 use crate::again::{SHOWN, TOLD, shown, text_again};
-use da_commands::{PROGRAM_LIMIT, RefusedKind};
+use da_front::{PROGRAM_LIMIT, RefusedKind};
 use da_hints::{Why, explain, explain_loosely};
 use da_lang::{LimitKind, ScopeKind};
 use da_values::{Buf, LexKind};

@@ -5,11 +5,12 @@ use crate::joined::{tell_bad_trace, tell_blocks};
 use crate::refused::{tell_refused, tell_refused_loosely};
 use crate::stopped::{tell_bad_line, tell_fault, tell_forbidden};
 use crate::words::why_not;
-use da_commands::{Command, Names, NodeSetting, RefusedKind, Status, command_of};
+use da_commands::{Command, Names, NodeSetting, Status, command_of, tell_unread};
+use da_front::RefusedKind;
 use da_outside::ChildTrouble;
 use run_hints::Blocked;
 use std::io::Eprint;
-use std::{fs, io, rt};
+use std::{io, rt};
 
 const USAGE: &str = "\
 usage:
@@ -216,30 +217,5 @@ fn tell_common<R: AllocGlobal + Eprint>(
         Status::WriteFault => eprintln!(rt; "dalgo: standard output cannot be written"),
         Status::Memory => eprintln!(rt; "dalgo: out of memory"),
         _ => Ok(()),
-    }
-}
-
-// Why a file cannot be read, if the system says so once more. Whether it did.
-fn tell_unread<R: rt::Files + AllocGlobal + Eprint>(rt: &R, name: &str) -> io::Result<bool> {
-    match fs::metadata(rt, name) {
-        Ok(found) if found.is_dir() => {
-            eprintln!(rt; "{name}: this is a directory")?;
-            Ok(true)
-        }
-        Ok(found) if !found.is_file() => Ok(false),
-        Ok(_) => match fs::open(rt, name) {
-            Ok(_) => Ok(false),
-            Err(why) => {
-                eprintln!(rt; "{name}: {why}")?;
-                Ok(true)
-            }
-        },
-        Err(why) => {
-            eprintln!(rt; "{name}: {why}")?;
-            if name == "-" {
-                eprintln!(rt; "standard input is read by its name, /dev/stdin")?;
-            }
-            Ok(true)
-        }
     }
 }

@@ -2,7 +2,8 @@
 use crate::again::{TOLD, shown, text_again};
 use crate::needs::needs_of;
 use crate::refused::{show, tell_notes};
-use da_commands::{Names, PROGRAM_LIMIT};
+use da_commands::Names;
+use da_front::PROGRAM_LIMIT;
 use run_hints::{Fault, explain_fault, explain_line, explain_stop};
 use sched_text::{Place, SCHEDULE_LIMIT, line_of_event, line_of_number};
 use std::io::Eprint;

@@ -1,4 +1,7 @@
 //! Which word of a call is wrong.
+use da_commands::{
+    FIRST_PORT, LAST_PORT, LAST_START, MOST_ANSWERS, MOST_EVENTS, MOST_PROCESSES, number_between,
+};
 use std::alloc::Global;
 use text_hints::{Nearest, Phrase};
 
@@ -28,13 +31,13 @@ const STRESS: [Range; 2] = [
         name: b"START",
         place: 2,
         least: 0,
-        most: 281_474_976_710_655,
+        most: LAST_START,
     },
     Range {
         name: b"N",
         place: 3,
         least: 1,
-        most: 1_000_000,
+        most: MOST_EVENTS,
     },
 ];
 
@@ -42,26 +45,26 @@ const NODE: [Range; 4] = [
     Range {
         name: b"PORT",
         place: 2,
-        least: 1_024,
-        most: 65_000,
+        least: FIRST_PORT,
+        most: LAST_PORT,
     },
     Range {
         name: b"ME",
         place: 3,
         least: 1,
-        most: 64,
+        most: MOST_PROCESSES,
     },
     Range {
         name: b"IDLE",
         place: 4,
         least: 1,
-        most: 1_000_000_000,
+        most: MOST_ANSWERS,
     },
     Range {
         name: b"TURNS",
         place: 5,
         least: 1,
-        most: 1_000_000_000,
+        most: MOST_ANSWERS,
     },
 ];
 
@@ -69,20 +72,20 @@ const LAUNCH: [Range; 3] = [
     Range {
         name: b"PORT",
         place: 2,
-        least: 1_024,
-        most: 65_000,
+        least: FIRST_PORT,
+        most: LAST_PORT,
     },
     Range {
         name: b"IDLE",
         place: 3,
         least: 1,
-        most: 1_000_000_000,
+        most: MOST_ANSWERS,
     },
     Range {
         name: b"TURNS",
         place: 4,
         least: 1,
-        most: 1_000_000_000,
+        most: MOST_ANSWERS,
     },
 ];
 
@@ -147,7 +150,7 @@ fn tell_ranges(command: &[u8], words: &[String], out: &mut Phrase) {
     };
     for range in ranges {
         if let Some(word) = words.get(range.place) {
-            if !is_within(word.as_str(), range.least, range.most) {
+            if number_between(word.as_bytes(), range.least, range.most).is_none() {
                 out.put(range.name);
                 out.put(b" is a number from ");
                 out.number(range.least);
@@ -158,17 +161,5 @@ fn tell_ranges(command: &[u8], words: &[String], out: &mut Phrase) {
                 return;
             }
         }
-    }
-}
-
-fn is_within(word: &str, least: u64, most: u64) -> bool {
-    let bytes = word.as_bytes();
-    let plain = match bytes {
-        [b'0', _, ..] | [b'+', ..] => false,
-        _ => true,
-    };
-    match word.parse::<u64>() {
-        Ok(number) => plain && number >= least && number <= most,
-        Err(_) => false,
     }
 }

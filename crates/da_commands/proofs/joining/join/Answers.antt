@@ -3,7 +3,7 @@ use Rattle.std.specs.Prelude.{Option}
 use Rattle.std.specs.String.{string_bytes}
 use Rattle.da_commands.specs.JoinReplies.{JoinReply}
 use Rattle.da_commands.specs.Told.{HasReplied, OfAllTold}
-use Rattle.da_commands.specs.Verdict.{program_limit}
+use Rattle.da_front.specs.Verdict.{program_limit}
 use Rattle.da_commands.proofs.JoinLemmas.{may_read_traces, none_joined, told_same}
 use Rattle.da_commands.proofs.ReplyLemmas.{rose_later}
 use Rattle.da_commands.proofs.ToldLemmas.{of_read}

@@ -1,6 +1,6 @@
 use Rattle.std.proofs.Common.{◌<◌, length, rules}
 use Rattle.da_core.specs.Compiled.{program_of}
-use Rattle.da_commands.specs.declared.status.RefusedKind.TheVariants.{Me}
+use Rattle.da_front.specs.declared.refusal.RefusedKind.TheVariants.{Me}
 use Rattle.da_commands.specs.NodeReplies.{by_number}
 use Rattle.da_commands.proofs.NodeLemmas.{served_refused}
 use Rattle.da_commands.proofs.noding.answer_program.Goals as goal

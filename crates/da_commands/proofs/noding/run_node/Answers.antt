@@ -5,7 +5,7 @@ use Rattle.da_commands.specs.declared.status.Status.TheVariants.{Memory, ReadFau
 use Rattle.da_commands.specs.Links.{told_over}
 use Rattle.da_commands.specs.NodeReplies.{BindsOnce, HasKind, HasStopped}
 use Rattle.da_commands.specs.NodeSteps.{HasServed}
-use Rattle.da_commands.specs.Verdict.{program_limit}
+use Rattle.da_front.specs.Verdict.{program_limit}
 use Rattle.arq_link.specs.ArqLink.{inner_of}
 use Rattle.da_commands.proofs.NodeLemmas.{none_given, once_quiet, quiet_served}
 use Rattle.da_commands.proofs.ToldLemmas.{of_any, of_read}

@@ -1,37 +1,29 @@
 use Rattle.std.proofs.Common.{◌∙◌, ℕ}
 use Rattle.da_core.specs.Compiled.{program_of}
-use Rattle.da_commands.specs.declared.status.RefusedKind.{RefusedKind}
-use Rattle.da_commands.specs.declared.status.RefusedKind.TheVariants.{Size}
+use Rattle.da_front.specs.declared.refusal.RefusedKind.{RefusedKind}
 use Rattle.da_commands.specs.declared.status.Status.TheVariants.{Refused}
 use Rattle.da_commands.specs.Lines.{refused_text}
 use Rattle.da_commands.specs.Replies.{ReplayReply, RunReply, answered, refused}
 use Rattle.da_commands.specs.Told.{HasReplied}
-use Rattle.da_commands.specs.Verdict.{program_limit, too_long}
 use Rattle.sched_text.specs.ScheduleText.{schedule_limit}
 use Rattle.da_commands.proofs.ReplyLemmas.{read_within, refuses_within}
-use Rattle.da_commands.proofs.ToldLemmas.{of_any, of_read, replied_as, said_replied, take_beyond}
-use Rattle.da_commands.proofs.VerdictLemmas.{not_refused}
+use Rattle.da_commands.proofs.ToldLemmas.{of_any, of_read, replied_as, said_replied}
+use Rattle.da_front.proofs.VerdictLemmas.{not_refused}
 use Rattle.da_commands.proofs.replaying.answer_program.Goals as goal
-
-pub returns-then-text-gt-PROGRAM_LIMIT-clause-replies : goal.returns-then-text-gt-PROGRAM_LIMIT-clause-replies
-returns-then-text-gt-PROGRAM_LIMIT-clause-replies g c = λ t is.
-    let kind : RefusedKind = Size in
-    let line : ℕ = 0 in
-    of_any _ _ (λ s. said_replied (ReplayReply t s) _ _ (Refused kind line) (refused_text kind line) _ tt (refused kind line (too_long (take_beyond program_limit _ t is c.if-text-gt-PROGRAM_LIMIT.true))) c.refuse.ensures.said)
 
 pub returns-in-Err-Refused-clause-replies : goal.returns-in-Err-Refused-clause-replies
 returns-in-Err-Refused-clause-replies g c = λ t is.
     let kind = c.in-Err-Refused.kind in
     let line = c.in-Err-Refused.line in
     of_any _ _ (λ s. said_replied (ReplayReply t s) _ _ (Refused kind line) (refused_text kind line) _ tt
-    (refused kind line (refuses_within _ t _ _ _ is c.if-text-gt-PROGRAM_LIMIT.false c.in-Err-Refused.field-0-is c.in-Err-Refused.ensures.refused)) c.refuse-in-Err-Refused.ensures.said)
+    (refused kind line (refuses_within _ t _ _ _ is c.in-Err-Refused.field-0-is c.in-Err-Refused.ensures.refused)) c.refuse.ensures.said)
 
 pub returns-in-Ok-read_all-clause-replies : goal.returns-in-Ok-read_all-clause-replies
 returns-in-Ok-read_all-clause-replies g c = λ t is.
-    let accepts = read_within _ t _ is c.if-text-gt-PROGRAM_LIMIT.false c.in-Ok.ensures.read in
+    let accepts = read_within _ t _ is c.in-Ok.ensures.read in
     of_read (g.F.Files.told c.args.files.now c.args.name.now) (λ s. HasReplied (ReplayReply t s) c.answer_schedule.result (g.K.Sink.taken c.args.out.now) (g.K.Sink.taken c.answer_schedule.new.out)) schedule_limit c.in-Ok-read_all.schedule c.in-Ok-read_all.ensures.whole
     (λ s read.
     replied_as (RunReply (program_of c.in-Ok.compiled) s) (ReplayReply t s) _ _ (answered (program_of c.in-Ok.compiled) accepts) c.answer_schedule.result (c.answer_schedule.ensures.replies s (c.as_slice.ensures ∙ read)))
 
 pub returns-in-Err-Failed-clause-refused : goal.returns-in-Err-Failed-clause-refused
-returns-in-Err-Failed-clause-refused g c = λ t is failed. not_refused t (program_of c.in-Ok.compiled) (read_within _ t _ is c.if-text-gt-PROGRAM_LIMIT.false c.in-Ok.ensures.read)
+returns-in-Err-Failed-clause-refused g c = λ t is failed. not_refused t (program_of c.in-Ok.compiled) (read_within _ t _ is c.in-Ok.ensures.read)

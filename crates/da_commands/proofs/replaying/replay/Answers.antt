@@ -2,7 +2,7 @@ use Rattle.std.proofs.Common.{inr, ◌∙◌, subst, List, ℕ}
 use Rattle.std.specs.Prelude.{Option}
 use Rattle.da_commands.specs.Replies.{ReplayReply}
 use Rattle.da_commands.specs.Told.{HasReplied, OfTold}
-use Rattle.da_commands.specs.Verdict.{program_limit}
+use Rattle.da_front.specs.Verdict.{program_limit}
 use Rattle.da_commands.proofs.ReplyLemmas.{may_read, rose_later}
 use Rattle.da_commands.proofs.ToldLemmas.{of_read}
 use Rattle.da_commands.proofs.replaying.replay.Goals as goal

@@ -1,7 +1,7 @@
 use Rattle.std.proofs.Common.{◌∙◌}
 use Rattle.da_commands.specs.Replies.{TaskReply}
 use Rattle.da_commands.specs.Told.{HasReplied}
-use Rattle.da_commands.specs.Verdict.{program_limit}
+use Rattle.da_front.specs.Verdict.{program_limit}
 use Rattle.da_commands.proofs.ToldLemmas.{of_read}
 use Rattle.da_commands.proofs.tasks.execute.Goals as goal
 

@@ -328,7 +328,7 @@ returns-in-Launch-clause-launch g c = λ p setting words answer.
 
 pub returns-in-Launch-clause-launch_stopped : goal.returns-in-Launch-clause-launch_stopped
 returns-in-Launch-clause-launch_stopped g c = λ p setting words never.
-    let P : List ℕ → LaunchSetting → Type 0 = λ x s. OfTold (g.F.Files.told c.args.files.now x) (λ t. LaunchStopped t x s (g.S.Spawner.told c.args.children.now) (g.S.Spawner.told c.launch.new.children) (g.K.Sink.taken c.args.out.now) (g.K.Sink.taken c.launch.new.out)) in
+    let P : List ℕ → LaunchSetting → Type 0 = λ x s. OfTold (g.F.Files.told c.args.files.now x) (λ t. LaunchStopped t x s c.launch.result (g.S.Spawner.told c.args.children.now) (g.S.Spawner.told c.launch.new.children) (g.K.Sink.taken c.args.out.now) (g.K.Sink.taken c.launch.new.out)) in
     at_launch P p _ setting _ (same_launch _ _ _ _ _ c.in-Launch.ensures words) (launch_has_stopped _ _ _ _ _ _ _ c.launch.result c.launch.ensures.launched never)
 
 pub returns-in-Launch-clause-launched : goal.returns-in-Launch-clause-launched

@@ -1,0 +1,28 @@
+//! Why a file cannot be read.
+use std::io::Eprint;
+use std::{fs, io, rt};
+
+/// Tells on standard error why the file of this name cannot be read, if the system says so once more. Whether it did.
+pub fn tell_unread<R: rt::Files + AllocGlobal + Eprint>(rt: &R, name: &str) -> io::Result<bool> {
+    match fs::metadata(rt, name) {
+        Ok(found) if found.is_dir() => {
+            eprintln!(rt; "{name}: this is a directory")?;
+            Ok(true)
+        }
+        Ok(found) if !found.is_file() => Ok(false),
+        Ok(_) => match fs::open(rt, name) {
+            Ok(_) => Ok(false),
+            Err(why) => {
+                eprintln!(rt; "{name}: {why}")?;
+                Ok(true)
+            }
+        },
+        Err(why) => {
+            eprintln!(rt; "{name}: {why}")?;
+            if name == "-" {
+                eprintln!(rt; "standard input is read by its name, /dev/stdin")?;
+            }
+            Ok(true)
+        }
+    }
+}

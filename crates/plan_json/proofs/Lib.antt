@@ -1,4 +1,0 @@
-mod NamedAt
-mod ClassesAt
-pub mod Floatless
-mod examples
