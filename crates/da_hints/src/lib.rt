@@ -3,16 +3,15 @@
 #![tactic(auto)]
 
 mod case;
-mod elsewhere;
 mod extents;
 mod labels;
 mod limits;
-mod misuse;
 mod names;
 mod parts;
 mod patterns;
 mod queries;
 mod repeats;
+mod rows;
 mod rules;
 mod scope;
 mod shown;
@@ -23,5 +22,6 @@ mod types;
 mod typing;
 mod undeclared;
 mod values;
+mod walk;
 
 pub use top::{Why, explain, explain_loosely};

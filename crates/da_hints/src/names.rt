@@ -1,99 +1,90 @@
 //! Names that are not what their place asks for.
 use crate::case::Case;
-use crate::elsewhere::bound_before;
 use crate::labels::tell_no_label;
-use crate::misuse::{Misuse, Wanted, misuse_in, misuse_in_all, misuse_in_pattern};
-use crate::parts::{blame_expr, blame_name};
-use crate::scope::{Role, Scope, put_role};
-use crate::shown::{put_expr, put_type};
-use crate::site::{Part, Site};
-use crate::typing::type_of;
-use da_bodies::Place;
-use da_lang::{ClassTree, Expr, MainLine, Member, ScopeKind, Stmt};
-use std::alloc::Global;
-use text_hints::{Hint, Nearest};
+use crate::parts::{blame_place, blame_source, blame_word, place_of, written};
+use crate::scope::{Role, Scope, role_name};
+use crate::site::{Part, enter_before, line_of_main};
+use crate::typing::enter_gen;
+use crate::walk::{Step, Wanted};
+use da_lang::{Expr, MainLine, Member, ScopeKind, Stmt, Tree, Ty};
+use da_values::List;
+use text_hints::Nearest;
+
+/// A name that breaks a rule, or an expression where a name is wanted.
+#[derive(Clone, Copy, Debug)]
+pub enum Misuse<'t> {
+    Name(&'t [u8], Wanted),
+    Form(&'t Expr),
+}
 
 /// Tells which name is unknown.
-pub fn tell_unknown<'t>(case: Case<'t>, site: Site<'t>, scope: &mut Scope<'t>, hint: &mut Hint) {
-    if tell_target(case, site, scope, hint) || tell_callee(case, site, hint) {
+pub fn tell_unknown(case: &mut Case<'_>) {
+    if tell_target(case) || tell_callee(case) {
         return;
     }
-    match misuse_at(site, ScopeKind::Unknown, scope) {
-        Some(Misuse::Name(name, wanted)) => tell_name(case, site, name, wanted, scope, hint),
-        Some(Misuse::Form(x)) => tell_form(case, x, hint),
-        None => tell_no_label(case, site, hint),
+    match misuse_at(ScopeKind::Unknown, case) {
+        Some(Misuse::Name(name, wanted)) => tell_name(name, wanted, case),
+        Some(Misuse::Form(x)) => tell_form(x, case),
+        None => tell_no_label(case),
     }
 }
 
-/// The first name of what stands on a line that breaks the rule of this kind.
-pub fn misuse_at<'t>(site: Site<'t>, kind: ScopeKind, scope: &mut Scope<'t>) -> Option<Misuse<'t>> {
-    match site.part {
-        Part::Statement(stmt) => misuse_in_stmt(stmt, kind, scope),
-        Part::Branch(cond) => misuse_in(cond, kind, scope),
-        Part::Wait(cond) => misuse_in(cond, kind, scope),
-        Part::Main(MainLine::Setup { args, .. }) => misuse_in_all(args.as_slice(), kind, scope),
-        Part::Header => misuse_in_header(site, kind, scope),
-        _ => None,
-    }
-}
-
-// The patterns of a handler. Its own names are in scope in its body alone.
-fn misuse_in_header<'t>(
-    site: Site<'t>,
-    kind: ScopeKind,
-    scope: &mut Scope<'t>,
-) -> Option<Misuse<'t>> {
-    let body = site.body?;
-    for param in body.params {
-        if kind == ScopeKind::Shadow && scope.look(param.name.as_slice()).is_some() {
-            return Some(Misuse::Name(param.name.as_slice(), Wanted::Fresh));
-        }
-    }
-    let Place::Handler { message, from, .. } = body.place else {
-        return None;
-    };
-    if let Some(found) = misuse_in_pattern(message, Role::HandlerVariable, kind, scope) {
-        return Some(found);
-    }
-    match from {
-        None => None,
-        Some(pattern) => misuse_in_pattern(pattern, Role::HandlerVariable, kind, scope),
-    }
-}
-
-fn misuse_in_stmt<'t>(
-    stmt: &'t Stmt,
-    kind: ScopeKind,
-    scope: &mut Scope<'t>,
-) -> Option<Misuse<'t>> {
-    match stmt {
-        Stmt::Assign { value, .. } => misuse_in(value.get(), kind, scope),
-        Stmt::Add { value, .. } => misuse_in(value.get(), kind, scope),
-        Stmt::Del { value, .. } => misuse_in(value.get(), kind, scope),
-        Stmt::Send { message, to, .. } => match misuse_in(message.get(), kind, scope) {
-            Some(found) => Some(found),
-            None => misuse_in(to.get(), kind, scope),
-        },
-        Stmt::Output { value, .. } => misuse_in(value.get(), kind, scope),
-        Stmt::Call { args, .. } => misuse_in_all(args.as_slice(), kind, scope),
-        Stmt::While { cond, .. } => misuse_in(cond.get(), kind, scope),
-        Stmt::For { name, over, .. } => match misuse_in(over.get(), kind, scope) {
-            Some(found) => Some(found),
-            None => {
-                if kind == ScopeKind::Shadow && scope.look(name.as_slice()).is_some() {
-                    Some(Misuse::Name(name.as_slice(), Wanted::Fresh))
-                } else {
-                    None
+/// The first name of what stands on the line that breaks the rule of this kind. What is in scope there stays so.
+pub fn misuse_at<'t>(kind: ScopeKind, case: &mut Case<'t>) -> Option<Misuse<'t>> {
+    let mut outside = List::new(case.alloc);
+    for step in case.steps.as_slice() {
+        match *step {
+            Step::Name(name, wanted) => {
+                if kind == ScopeKind::Unknown && !serves(name, wanted, &case.scope) {
+                    return Some(Misuse::Name(name, wanted));
                 }
             }
-        },
-        _ => None,
+            Step::Fresh(name, role) => {
+                if kind == ScopeKind::Shadow && is_variable(name, &case.scope) {
+                    return Some(Misuse::Name(name, Wanted::Fresh));
+                }
+                // the names of a handler are in scope in its body alone
+                if role != Role::HandlerVariable || kind == ScopeKind::Shadow {
+                    case.scope.enter(name, role, None);
+                }
+            }
+            Step::Form(x) => {
+                if kind == ScopeKind::Unknown {
+                    return Some(Misuse::Form(x));
+                }
+            }
+            Step::Open => {
+                let _ = outside.push(case.scope.len());
+            }
+            Step::Gen(generator) => enter_gen(generator, Role::QueryVariable, &mut case.scope),
+            Step::Close => case.scope.leave_to(outside.pop().unwrap_or(0)),
+            Step::Whole(_, _, _) | Step::Pattern(_, _) => {}
+        }
+    }
+    None
+}
+
+fn is_variable(name: &[u8], scope: &Scope<'_>) -> bool {
+    match scope.look(name) {
+        None => false,
+        Some(entry) => entry.role != Role::Made,
+    }
+}
+
+// Whether a name stands for what is wanted.
+fn serves(name: &[u8], wanted: Wanted, scope: &Scope<'_>) -> bool {
+    match scope.look(name) {
+        None => false,
+        Some(entry) => {
+            wanted == Wanted::Value
+                || (entry.role != Role::QueryVariable && entry.role != Role::Made)
+        }
     }
 }
 
 // A name that is set and is no variable of the class.
-fn tell_target<'t>(case: Case<'t>, site: Site<'t>, scope: &mut Scope<'t>, hint: &mut Hint) -> bool {
-    let Part::Statement(stmt) = site.part else {
+fn tell_target(case: &mut Case<'_>) -> bool {
+    let Part::Statement(stmt) = case.site.part else {
         return false;
     };
     let (name, value, plain) = match stmt {
@@ -102,122 +93,117 @@ fn tell_target<'t>(case: Case<'t>, site: Site<'t>, scope: &mut Scope<'t>, hint: 
         Stmt::Del { name, value, .. } => (name.as_slice(), value.get(), false),
         _ => return false,
     };
-    let role = scope.look(name).map(|entry| entry.role);
-    match role {
+    match case.scope.look(name).map(|entry| entry.role) {
         Some(Role::ClassVariable) => return false,
         Some(role) => {
-            hint.quote(name);
-            hint.say(b" is ");
-            put_role(role, &mut hint.sentence);
-            hint.say(b", and only variables of the class are changed");
-            hint.note(b"keep the value in a variable of the class with a name of its own (var ..)");
+            let form = b"@ is $, and only variables of the class are changed";
+            case.tell(form, name, role_name(role));
+            case.note(b"keep the value in a variable of the class with a name of its own (var ..)");
         }
         None => {
-            put_missing_variable(site, name, hint);
-            note_declaration(case, name, value, plain, scope, hint);
+            match case.site.class {
+                Some(class) => {
+                    let form = b"the class @ has no variable @";
+                    case.tell(form, class.name.as_slice(), name);
+                }
+                None => case.tell(b"there is no variable @", name, b""),
+            }
+            note_declaration(name, value, plain, case);
         }
     }
-    blame_name(case.alloc, case.text, case.line, name, false, hint);
+    blame_word(name, case);
     true
-}
-
-// There is no variable of the class with this name.
-fn put_missing_variable(site: Site<'_>, name: &[u8], hint: &mut Hint) {
-    if let Some(class) = site.class {
-        hint.say(b"the class ");
-        hint.quote(class.name.as_slice());
-        hint.say(b" has no variable ");
-    } else {
-        hint.say(b"there is no variable ");
-    }
-    hint.quote(name);
 }
 
 // How the name would be declared, or which one is meant.
-fn note_declaration<'t>(
-    case: Case<'t>,
-    name: &'t [u8],
-    value: &'t Expr,
-    plain: bool,
-    scope: &mut Scope<'t>,
-    hint: &mut Hint,
-) {
-    note_nearest(case.alloc, name, scope, hint);
-    hint.notes.put(b"variables are declared in the class: var ");
-    hint.notes.put(name);
-    hint.notes.put(b": ");
-    let found = type_of(value, case.line, scope);
-    match (found, plain) {
-        (Some(ty), true) => put_type(&ty, &mut hint.notes),
-        (Some(ty), false) => {
-            hint.notes.put(b"set[");
-            put_type(&ty, &mut hint.notes);
-            hint.notes.put(b"]");
-        }
-        (None, true) => hint.notes.put(b"int"),
-        (None, false) => hint.notes.put(b"set[int]"),
-    }
-    hint.note(b"");
+fn note_declaration<'t>(name: &'t [u8], value: &'t Expr, plain: bool, case: &mut Case<'t>) {
+    case.note_meant(nearest_in(name, case));
+    let shown = match case.type_of(value) {
+        Some(ty) => case.shown(&ty),
+        None => case.shown(&Ty::Int),
+    };
+    let form = if plain {
+        b"variables are declared in the class: var $: $".as_slice()
+    } else {
+        b"variables are declared in the class: var $: set[$]"
+    };
+    case.note_of(form, name, shown.as_slice());
 }
 
 // The name in scope that is most like one.
-fn note_nearest(alloc: Global, name: &[u8], scope: &Scope<'_>, hint: &mut Hint) {
-    let mut nearest = Nearest::new(alloc, name);
-    for entry in scope.entries() {
+fn nearest_in<'t>(name: &'t [u8], case: &Case<'t>) -> Option<&'t [u8]> {
+    let mut nearest = Nearest::new(case.alloc, name);
+    for entry in case.scope.entries() {
         nearest.offer(entry.name);
     }
-    note_found(nearest.found(), hint);
-}
-
-fn note_found(found: Option<&[u8]>, hint: &mut Hint) {
-    if let Some(found) = found {
-        hint.notes.put(b"is ");
-        hint.notes.quote(found);
-        hint.note(b" meant?");
-    }
+    nearest.found()
 }
 
 // A method, a class or a name of `main` that is not there.
-fn tell_callee<'t>(case: Case<'t>, site: Site<'t>, hint: &mut Hint) -> bool {
-    match site.part {
-        Part::Statement(Stmt::Call { name, .. }) => match site.class {
-            Some(class) => tell_method(case, class, name.as_slice(), hint),
-            None => false,
-        },
-        Part::Main(MainLine::New { class, .. }) => tell_class(case, class.as_slice(), hint),
-        Part::Main(MainLine::Setup { name, .. }) => tell_made(case, name.as_slice(), hint),
-        _ => false,
-    }
-}
-
-fn tell_method(case: Case<'_>, class: &ClassTree, name: &[u8], hint: &mut Hint) -> bool {
-    let mut nearest = Nearest::new(case.alloc, name);
-    for member in class.members.as_slice() {
-        if let Member::Method { name: other, .. } = member {
-            if other.as_slice() == name {
-                return false;
+fn tell_callee(case: &mut Case<'_>) -> bool {
+    let tree = case.tree;
+    let mut names = List::new(case.alloc);
+    let (form, holder, name) = match (case.site.part, case.site.class) {
+        (Part::Statement(Stmt::Call { name, .. }), Some(class)) => {
+            for member in class.members.as_slice() {
+                if let Member::Method { name: other, .. } = member {
+                    let _ = names.push(other.as_slice());
+                }
             }
-            nearest.offer(other.as_slice());
+            let form = b"the class @ has no method @".as_slice();
+            (form, class.name.as_slice(), name.as_slice())
+        }
+        (Part::Main(MainLine::New { class, .. }), _) => {
+            for other in tree.classes.as_slice() {
+                let _ = names.push(other.name.as_slice());
+            }
+            (
+                b"there is no class $@".as_slice(),
+                b"".as_slice(),
+                class.as_slice(),
+            )
+        }
+        (Part::Main(MainLine::Setup { name, .. }), _) => {
+            put_made(tree, case.line, &mut names);
+            (NOT_MADE, b"".as_slice(), name.as_slice())
+        }
+        _ => return false,
+    };
+    if names.as_slice().contains(&name) {
+        return false;
+    }
+    case.tell(form, holder, name);
+    blame_word(name, case);
+    match cure_of_call(name) {
+        Some(cure) if !holder.is_empty() => case.note(cure),
+        _ => {
+            let mut nearest = Nearest::new(case.alloc, name);
+            for other in names.as_slice() {
+                nearest.offer(other);
+            }
+            case.note_meant(nearest.found());
         }
     }
-    hint.say(b"the class ");
-    hint.quote(class.name.as_slice());
-    hint.say(b" has no method ");
-    hint.quote(name);
-    blame_name(case.alloc, case.text, case.line, name, false, hint);
-    match cure_of_call(name) {
-        Some(cure) => hint.note(cure),
-        None => note_found(nearest.found(), hint),
-    }
     true
+}
+
+// Adds the names that `main` makes before a line.
+fn put_made<'t>(tree: &'t Tree, line: u32, names: &mut List<&'t [u8]>) {
+    for made in tree.main.as_slice() {
+        if let MainLine::New { name, .. } = made {
+            if line_of_main(made) < line {
+                let _ = names.push(name.as_slice());
+            }
+        }
+    }
 }
 
 // What is written in the place of a call of another language.
 fn cure_of_call(name: &[u8]) -> Option<&'static [u8]> {
     match name {
-        b"print" | b"println" | b"write" | b"log" => Some(
-            b"write output(..): it takes one value, which may be a tuple",
-        ),
+        b"print" | b"println" | b"write" | b"log" => {
+            Some(b"write output(..): it takes one value, which may be a tuple")
+        }
         b"sleep" | b"wait" => Some(b"write await and a condition"),
         b"start" => Some(b"a process starts by an event of the schedule, as move 1"),
         b"exit" | b"quit" => Some(b"a process ends with the last line of run"),
@@ -226,128 +212,67 @@ fn cure_of_call(name: &[u8]) -> Option<&'static [u8]> {
     }
 }
 
-fn tell_class(case: Case<'_>, name: &[u8], hint: &mut Hint) -> bool {
-    let mut nearest = Nearest::new(case.alloc, name);
-    for class in case.tree.classes.as_slice() {
-        if class.name.as_slice() == name {
-            return false;
-        }
-        nearest.offer(class.name.as_slice());
+const NOT_MADE: &[u8] = b"no line before this one makes $@ by new(..)";
+
+// A name that is unknown, or that is not what is wanted.
+fn tell_name<'t>(name: &'t [u8], wanted: Wanted, case: &mut Case<'t>) {
+    if wanted == Wanted::Source {
+        blame_source(name, case);
+    } else {
+        blame_word(name, case);
     }
-    hint.say(b"there is no class ");
-    hint.quote(name);
-    blame_name(case.alloc, case.text, case.line, name, false, hint);
-    note_found(nearest.found(), hint);
-    true
-}
-
-fn tell_made(case: Case<'_>, name: &[u8], hint: &mut Hint) -> bool {
-    let mut nearest = Nearest::new(case.alloc, name);
-    for made in case.tree.main.as_slice() {
-        if let MainLine::New {
-            name: other,
-            line,
-            ..
-        } = made
-        {
-            if *line < case.line {
-                if other.as_slice() == name {
-                    return false;
-                }
-                nearest.offer(other.as_slice());
-            }
-        }
-    }
-    put_not_made(name, hint);
-    blame_name(case.alloc, case.text, case.line, name, false, hint);
-    note_found(nearest.found(), hint);
-    true
-}
-
-fn put_not_made(name: &[u8], hint: &mut Hint) {
-    hint.say(b"no line before this one makes ");
-    hint.quote(name);
-    hint.say(b" by new(..)");
-}
-
-// A name in an expression.
-fn tell_name<'t>(
-    case: Case<'t>,
-    site: Site<'t>,
-    name: &'t [u8],
-    wanted: Wanted,
-    scope: &Scope<'t>,
-    hint: &mut Hint,
-) {
-    blame_name(
-        case.alloc,
-        case.text,
-        case.line,
-        name,
-        wanted == Wanted::Source,
-        hint,
-    );
-    if let Some(entry) = scope.look(name) {
-        hint.quote(name);
-        hint.say(b" is ");
-        put_role(entry.role, &mut hint.sentence);
-        hint.say(b", and ");
-        hint.say(match wanted {
-            Wanted::Source =>
-                b"a query goes through received, sent, or a variable of the class or the body".as_slice(),
-            _ =>
-                b"count, sum, min and max are of a variable of the class or the body, or of {t: x in s}",
+    if let Some(role) = case.scope.look(name).map(|entry| entry.role) {
+        case.tell(b"@ is $, and ", name, role_name(role));
+        case.say(if wanted == Wanted::Source {
+            b"a query goes through received, sent, or a variable of the class or the body".as_slice()
+        } else {
+            b"count, sum, min and max are of a variable of the class or the body, or of {t: x in s}"
         });
         return;
     }
-    if matches!(site.part, Part::Main(_)) {
-        put_not_made(name, hint);
+    let form = if matches!(case.site.part, Part::Main(_)) {
+        NOT_MADE
     } else {
-        hint.say(b"there is no variable, parameter or pattern variable ");
-        hint.quote(name);
-        hint.say(b" here");
-    }
+        b"there is no variable, parameter or pattern variable $@ here"
+    };
+    case.tell(form, b"", name);
     match cure_of_value(name) {
-        Some(cure) => hint.note(cure),
+        Some(cure) => case.note(cure),
         None => {
-            if !note_elsewhere(case, site, name, hint) {
-                note_value(case, name, wanted, scope, hint);
+            if !note_elsewhere(name, case) {
+                note_value(name, wanted, case);
             }
         }
     }
 }
 
 // Where else the name is in scope.
-fn note_elsewhere(case: Case<'_>, site: Site<'_>, name: &[u8], hint: &mut Hint) -> bool {
-    let Some(class) = site.class else {
+fn note_elsewhere(name: &[u8], case: &mut Case<'_>) -> bool {
+    let Some(class) = case.site.class else {
         return false;
     };
-    if matches!(site.part, Part::Header) {
-        hint.note(b"the names of the patterns of a handler are in scope in its body alone");
+    if matches!(case.site.part, Part::Header) {
+        case.note(b"the names of the patterns of a handler are in scope in its body alone");
         return true;
     }
-    let Some(bound) = bound_before(class, name, case.line) else {
+    let mut scope = Scope::new(case.alloc, &[]);
+    enter_before(class, case.line, &mut scope);
+    let Some(entry) = scope.look(name) else {
         return false;
     };
-    hint.notes.put(b"line ");
-    hint.notes.number(u64::from(bound.line));
-    hint.notes.put(b" has the name as ");
-    put_role(bound.role, &mut hint.notes);
-    hint.note(b", and it is in scope in its block alone");
+    let line = case.digits(u64::from(entry.line));
+    let form = b"line $ has the name as $, and it is in scope in its block alone";
+    case.note_of(form, line.as_slice(), role_name(entry.role));
     true
 }
 
 // The name that is meant, or where a name could come from.
-fn note_value(case: Case<'_>, name: &[u8], wanted: Wanted, scope: &Scope<'_>, hint: &mut Hint) {
-    let mut nearest = Nearest::new(case.alloc, name);
-    for entry in scope.entries() {
-        nearest.offer(entry.name);
+fn note_value<'t>(name: &'t [u8], wanted: Wanted, case: &mut Case<'t>) {
+    let found = nearest_in(name, case);
+    if found.is_none() && wanted != Wanted::Value {
+        case.note(b"sets are kept in variables of the class (var s: set[int])");
     }
-    if nearest.found().is_some() {
-        note_found(nearest.found(), hint);
-    } else if wanted != Wanted::Value {
-        hint.note(b"sets are kept in variables of the class (var s: set[int])");
-    }
+    case.note_meant(found);
 }
 
 // What is written in the place of a value of another language.
@@ -359,17 +284,19 @@ fn cure_of_value(name: &[u8]) -> Option<&'static [u8]> {
             b"there is no None: a set that is empty, or a variable of type bool, says that nothing is there",
         ),
         b"this" | b"me" => Some(b"write self for the process itself"),
-        b"msg" | b"message" | b"sender" => Some(
-            b"receive (..) from p: names the message's parts and its sender by patterns",
-        ),
+        b"msg" | b"message" | b"sender" => {
+            Some(b"receive (..) from p: names the message's parts and its sender by patterns")
+        }
         _ => None,
     }
 }
 
 // An argument of an aggregate that is neither a name nor a comprehension.
-fn tell_form(case: Case<'_>, x: &Expr, hint: &mut Hint) {
-    hint.say(b"count, sum, min and max are of a variable or of {t: x in s}, and not of ");
-    put_expr(x, &mut hint.sentence);
-    hint.note(b"put it into a variable first, and take that");
-    blame_expr(case.alloc, case.text, case.line, x, hint);
+fn tell_form(x: &Expr, case: &mut Case<'_>) {
+    let place = place_of(x, case);
+    blame_place(place, case);
+    let form = b"count, sum, min and max are of a variable or of {t: x in s}, and not of $";
+    let written = written(place, case);
+    case.tell(form, written.as_slice(), b"");
+    case.note(b"put it into a variable first, and take that");
 }

@@ -2,12 +2,13 @@
 ghost use Rattle.da_values.specs.Tokens.{tokens as cut};
 ghost use Rattle.std.specs.Prelude.{◌≡◌, ◌≤◌, IfSome, Ok, length};
 
-use crate::shown::put_expr;
-use da_lang::Expr;
+use crate::case::Case;
+use crate::walk::{Span, Step};
+use da_lang::{Expr, PatternTree};
 use da_lex::{Token, TokenKind, Tokens, lex};
 use da_values::List;
 use std::alloc::Global;
-use text_hints::{Hint, Phrase, slice_at};
+use text_hints::{Phrase, slice_at};
 
 /// The most bytes of a text that has tokens.
 const MOST_BYTES: usize = 1_048_576;
@@ -27,117 +28,183 @@ pub fn tokens_of(alloc: Global, text: &[u8]) -> Option<Tokens<'_>>
     }
 }
 
-/// The tokens of the line of tokens that begins on this line of the text.
-pub fn tokens_at<'k>(tokens: &'k [Token], line: u32) -> &'k [Token] {
-    let first = tokens
-        .iter()
-        .take_while(|token| token.line < line || token.length == 0)
-        .count();
-    let (_, rest) = tokens.split_at(first.min(tokens.len()));
-    let length = rest
-        .iter()
-        .take_while(|token| token.kind != TokenKind::Newline)
-        .count();
-    let (own, _) = rest.split_at(length.min(rest.len()));
+/// The tokens with bytes of the line of tokens that begins on this line of the text.
+pub fn tokens_at(alloc: Global, text: &[u8], line: u32) -> List<Token> {
+    let mut own = List::new(alloc);
+    if let Some(tokens) = tokens_of(alloc, text) {
+        for token in tokens.list.as_slice() {
+            if token.line >= line && token.length != 0 {
+                let _ = own.push(*token);
+            } else if token.kind == TokenKind::Newline && own.len() != 0 {
+                return own;
+            }
+        }
+    }
     own
 }
 
-/// Blames a name on a line: its first place there, or the one after the word `in`.
-pub fn blame_name(
-    alloc: Global,
-    text: &[u8],
-    line: u32,
-    name: &[u8],
-    as_source: bool,
-    hint: &mut Hint,
-) {
-    let Some(tokens) = tokens_of(alloc, text) else {
-        return;
-    };
+/// Whether a token is a parenthesis, a bracket or a comma.
+pub fn is_passed(text: &[u8], token: &Token) -> bool {
+    matches!(slice_at(text, token), b"(" | b")" | b"[" | b"]" | b",")
+}
+
+/// Blames the first token with these bytes on the line.
+pub fn blame_word(word: &[u8], case: &mut Case<'_>) {
+    blame_where(word, false, case);
+}
+
+/// Blames the first token with these bytes that stands after the word `in` on the line.
+pub fn blame_source(name: &[u8], case: &mut Case<'_>) {
+    blame_where(name, true, case);
+}
+
+fn blame_where(name: &[u8], as_source: bool, case: &mut Case<'_>) {
     let mut before = b"".as_slice();
-    for token in tokens_at(tokens.list.as_slice(), line) {
-        let bytes = slice_at(text, token);
+    for token in case.tokens.as_slice() {
+        let bytes = slice_at(case.text, token);
         if bytes == name && (!as_source || before == b"in".as_slice()) {
-            hint.blame(token.first as usize, token.length as usize);
+            case.hint.blame(token.first as usize, token.length as usize);
             return;
         }
         before = bytes;
     }
 }
 
-/// Blames the first token with these bytes on a line.
-pub fn blame_word(alloc: Global, text: &[u8], line: u32, word: &[u8], hint: &mut Hint) {
-    blame_name(alloc, text, line, word, false, hint);
+/// Blames the first place of an expression on the line.
+pub fn blame_expr(x: &Expr, case: &mut Case<'_>) {
+    let place = place_of(x, case);
+    blame_place(place, case);
 }
 
-/// Blames the first place of an expression on a line.
-pub fn blame_expr(alloc: Global, text: &[u8], line: u32, x: &Expr, hint: &mut Hint) {
-    let mut printed = Phrase::new(alloc);
-    put_expr(x, &mut printed);
-    blame_printed(alloc, text, line, printed.as_slice(), hint);
-}
-
-/// Blames the first place on a line where the same tokens stand as in some other text.
-pub fn blame_printed(alloc: Global, text: &[u8], line: u32, printed: &[u8], hint: &mut Hint) {
-    let Some(tokens) = tokens_of(alloc, text) else {
-        return;
-    };
-    let Some(wanted) = shown_tokens(alloc, printed) else {
-        return;
-    };
-    let wanted = Wanted {
-        text: printed,
-        tokens: wanted.as_slice(),
-    };
-    let mut rest = tokens_at(tokens.list.as_slice(), line);
-    for _place in 0..rest.len() {
-        if let Some(end) = end_of_match(text, rest, wanted) {
-            blame_from(rest, end, hint);
-            return;
-        }
-        let [_, others @ ..] = rest else {
-            return;
-        };
-        rest = others;
-    }
-}
-
-/// Tokens of another text.
-#[derive(Clone, Copy)]
-struct Wanted<'w> {
-    text: &'w [u8],
-    tokens: &'w [Token],
-}
-
-// The tokens of a text that have bytes.
-fn shown_tokens(alloc: Global, printed: &[u8]) -> Option<List<Token>> {
-    let tokens = tokens_of(alloc, printed)?;
-    let mut shown = List::new(alloc);
-    for token in tokens.list.as_slice() {
-        if token.length != 0 {
-            shown.push(*token).ok()?;
-        }
-    }
-    Some(shown)
-}
-
-// The place after the last of the wanted tokens, where all of them stand at the front of tokens.
-fn end_of_match(text: &[u8], front: &[Token], wanted: Wanted<'_>) -> Option<usize> {
-    let mut end = None;
-    for (place, token) in wanted.tokens.iter().enumerate() {
-        let found = front.get(place)?;
-        if slice_at(text, found) != slice_at(wanted.text, token) {
-            return None;
-        }
-        end = Some((found.first as usize).saturating_add(found.length as usize));
-    }
-    end
-}
-
-// Blames the text from the first of some tokens up to a place.
-fn blame_from(tokens: &[Token], end: usize, hint: &mut Hint) {
-    if let [first, ..] = tokens {
+/// Blames what stands at a place.
+pub fn blame_place(place: Span, case: &mut Case<'_>) {
+    let own = tokens_in(place, case.tokens.as_slice());
+    if let ([first, ..], [.., last]) = (own, own) {
+        let end = (last.first as usize).saturating_add(last.length as usize);
         let first = first.first as usize;
-        hint.blame(first, end.saturating_sub(first));
+        case.hint.blame(first, end.saturating_sub(first));
+    }
+}
+
+/// What stands at a place, on one line.
+pub fn written(place: Span, case: &Case<'_>) -> Phrase {
+    let mut out = Phrase::new(case.alloc);
+    let mut end = usize::MAX;
+    for token in tokens_in(place, case.tokens.as_slice()) {
+        let first = token.first as usize;
+        if first > end {
+            out.put(b" ");
+        }
+        out.put(slice_at(case.text, token));
+        end = first.saturating_add(token.length as usize);
+    }
+    out
+}
+
+/// The first place of an expression on the line: its first token there, and the one after its last.
+pub fn place_of(x: &Expr, case: &Case<'_>) -> Span {
+    for step in case.steps.as_slice() {
+        if let Step::Whole(found, _, span) = *step {
+            if found == x {
+                let mut place = counted(span, case);
+                if matches!(x, Expr::Clock) {
+                    place.end = place.end.saturating_add(1);
+                }
+                return widened(place, matches!(x, Expr::Tuple(_)), case);
+            }
+        }
+    }
+    NOWHERE
+}
+
+/// The same of a pattern.
+pub fn place_of_pattern(pattern: &PatternTree, case: &Case<'_>) -> Span {
+    for step in case.steps.as_slice() {
+        if let Step::Pattern(found, span) = *step {
+            if found == pattern {
+                let is_tuple = matches!(pattern, PatternTree::Tuple(_));
+                return widened(counted(span, case), is_tuple, case);
+            }
+        }
+    }
+    NOWHERE
+}
+
+const NOWHERE: Span = Span { first: 0, end: 0 };
+
+// The tokens at a place.
+fn tokens_in(place: Span, tokens: &[Token]) -> &[Token] {
+    let (front, _) = tokens.split_at(place.end.min(tokens.len()));
+    let (_, own) = front.split_at(place.first.min(front.len()));
+    own
+}
+
+// A part of the line among all of its tokens.
+fn counted(span: Span, case: &Case<'_>) -> Span {
+    let mut place = NOWHERE;
+    let mut number = 0usize;
+    for (at, token) in case.tokens.as_slice().iter().enumerate() {
+        if !is_passed(case.text, token) {
+            if number == span.first {
+                place.first = at;
+            }
+            number = number.saturating_add(1);
+            if number == span.end {
+                place.end = at.saturating_add(1);
+            }
+        }
+    }
+    place
+}
+
+// A place with the partners of the brackets in it; a tuple has brackets of its own round it.
+fn widened(place: Span, is_tuple: bool, case: &Case<'_>) -> Span {
+    let mut place = place;
+    for _token in 0..case.tokens.len() {
+        match bracket_missing(
+            tokens_in(place, case.tokens.as_slice()),
+            is_tuple,
+            case.text,
+        ) {
+            Missing::Before => place.first = place.first.saturating_sub(1),
+            Missing::After => place.end = place.end.saturating_add(1),
+            Missing::Nothing => return place,
+        }
+    }
+    place
+}
+
+/// Where a bracket is missing.
+#[derive(Clone, Copy, Debug)]
+enum Missing {
+    Before,
+    After,
+    Nothing,
+}
+
+fn bracket_missing(own: &[Token], is_tuple: bool, text: &[u8]) -> Missing {
+    let mut depth = 0usize;
+    let mut outside = false;
+    let last = own.len().saturating_sub(1);
+    for (place, token) in own.iter().enumerate() {
+        let bytes = slice_at(text, token);
+        if bytes == b"(".as_slice() {
+            depth = depth.saturating_add(1);
+        } else if bytes == b")".as_slice() {
+            if depth == 0 {
+                return Missing::Before;
+            }
+            depth = depth.saturating_sub(1);
+            outside = outside || (depth == 0 && place != last);
+        } else {
+            outside = outside || depth == 0;
+        }
+    }
+    if is_tuple && outside {
+        Missing::Before
+    } else if depth != 0 {
+        Missing::After
+    } else {
+        Missing::Nothing
     }
 }

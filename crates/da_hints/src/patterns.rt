@@ -1,306 +1,178 @@
 //! Rules of types in patterns and generators, and messages that are sent.
 use crate::case::Case;
-use crate::parts::{blame_name, blame_printed, blame_word};
+use crate::parts::{blame_source, blame_word, place_of_pattern};
 use crate::queries::tell_term;
-use crate::scope::{Role, Scope};
-use crate::shown::{put_pattern, put_type, put_types};
-use crate::told::tell_other;
-use crate::typing::{element, enter_gen, type_of};
+use crate::scope::Role;
+use crate::shown::put_types;
+use crate::told::{put_place, tell_form, tell_no, tell_other};
+use crate::typing::{element, enter_gen};
+use crate::values::tell_misfit;
 use da_lang::{Expr, GenTree, MessageDecl, PatternTree, PeerTree, SourceTree, Ty};
 use da_typing::same_type;
-use text_hints::{Hint, Nearest, Phrase};
+use text_hints::{Nearest, Phrase};
 
 const WRITTEN: &[u8] =
     b"a message is a tuple that begins with its tag as a text, as in ('ping', 5)";
 
-/// Tells the first breach of generators. The scope is as it was after it.
-pub fn tell_gens<'t>(
-    gens: &'t [GenTree],
-    case: Case<'t>,
-    scope: &mut Scope<'t>,
-    hint: &mut Hint,
-) -> bool {
-    let outside = scope.len();
-    let mut told = false;
+/// Tells the first breach of generators, and answers whether there is one. Their names come into scope.
+pub fn tell_gens<'t>(gens: &'t [GenTree], case: &mut Case<'t>) -> bool {
     for generator in gens {
-        told = told || tell_gen(generator, case, scope, hint);
-        enter_gen(generator, Role::QueryVariable, case.line, scope);
-    }
-    scope.leave_to(outside);
-    told
-}
-
-fn tell_gen<'t>(
-    generator: &'t GenTree,
-    case: Case<'t>,
-    scope: &mut Scope<'t>,
-    hint: &mut Hint,
-) -> bool {
-    match &generator.source {
-        SourceTree::Received => {
-            tell_message_pattern(&generator.message, case, scope, hint)
-                || tell_peer(&generator.peer, true, case, scope, hint)
-        }
-        SourceTree::Sent => {
-            tell_message_pattern(&generator.message, case, scope, hint)
-                || tell_peer(&generator.peer, false, case, scope, hint)
-        }
-        SourceTree::Name(name) => { tell_slot(generator, name.as_slice(), case, scope, hint) }
-    }
-}
-
-// A generator through a variable.
-fn tell_slot<'t>(
-    generator: &'t GenTree,
-    name: &'t [u8],
-    case: Case<'t>,
-    scope: &mut Scope<'t>,
-    hint: &mut Hint,
-) -> bool {
-    let Some(found) = scope.type_of(name) else {
-        return false;
-    };
-    if let Ty::Set(element) = &found {
-        return tell_elements(generator, name, element.get(), case, scope, hint);
-    }
-    hint.quote(name);
-    hint.say(b" is ");
-    put_type(&found, &mut hint.sentence);
-    hint.say(b", and a query goes through a set");
-    blame_name(case.alloc, case.text, case.line, name, true, hint);
-    true
-}
-
-// A generator through a variable that holds a set with elements of this type.
-fn tell_elements<'t>(
-    generator: &'t GenTree,
-    name: &'t [u8],
-    ty: &Ty,
-    case: Case<'t>,
-    scope: &mut Scope<'t>,
-    hint: &mut Hint,
-) -> bool {
-    if generator.peer.is_some() {
-        hint.say(b"'from' and 'to' stand with received and sent alone, and ");
-        hint.quote(name);
-        hint.say(b" is a set");
-        let word = match &generator.peer {
-            Some(PeerTree::To(_)) => b"to".as_slice(),
-            _ => b"from",
+        let told = match &generator.source {
+            SourceTree::Name(name) => tell_slot(generator, name.as_slice(), case),
+            source => {
+                tell_message_pattern(&generator.message, case)
+                    || tell_peer(
+                        &generator.peer,
+                        matches!(source, SourceTree::Received),
+                        case,
+                    )
+            }
         };
-        blame_word(case.alloc, case.text, case.line, word, hint);
-        return true;
-    }
-    tell_pattern(&generator.message, ty, case, scope, hint)
-}
-
-// The pattern after `from` or `to`.
-fn tell_peer<'t>(
-    peer: &'t Option<PeerTree>,
-    received: bool,
-    case: Case<'t>,
-    scope: &mut Scope<'t>,
-    hint: &mut Hint,
-) -> bool {
-    match peer {
-        None => false,
-        Some(PeerTree::From(pattern)) => {
-            if received {
-                return tell_pattern(pattern, &Ty::Proc, case, scope, hint);
-            }
-            hint.say(b"'from' stands with received: for sent, write to");
-            blame_word(case.alloc, case.text, case.line, b"from", hint);
-            true
+        if told {
+            return true;
         }
-        Some(PeerTree::To(pattern)) => {
-            if !received {
-                return tell_pattern(pattern, &Ty::Proc, case, scope, hint);
-            }
-            hint.say(b"'to' stands with sent: for received, write from");
-            blame_word(case.alloc, case.text, case.line, b"to", hint);
-            true
-        }
-    }
-}
-
-/// Tells the first breach of a message pattern.
-pub fn tell_message_pattern<'t>(
-    pattern: &'t PatternTree,
-    case: Case<'t>,
-    scope: &mut Scope<'t>,
-    hint: &mut Hint,
-) -> bool {
-    let PatternTree::Tuple(parts) = pattern else {
-        put_pattern_part(pattern, case, hint);
-        hint.say(b" is no pattern of a message");
-        hint.note(WRITTEN);
-        return true;
-    };
-    let [PatternTree::Text(tag), rest @ ..] = parts.as_slice() else {
-        put_pattern_part(pattern, case, hint);
-        hint.say(b" does not begin with the tag of a message");
-        hint.note(WRITTEN);
-        return true;
-    };
-    match scope.message(tag.as_bytes(), rest.len()) {
-        Some(message) => tell_pattern_parts(rest, message, case, scope, hint),
-        None => tell_undeclared(tag.as_bytes(), rest.len(), case, scope, hint),
-    }
-}
-
-// Adds a pattern to the sentence, and blames it.
-fn put_pattern_part(pattern: &PatternTree, case: Case<'_>, hint: &mut Hint) {
-    let mut printed = Phrase::new(case.alloc);
-    put_pattern(pattern, &mut printed);
-    hint.sentence.quote_front(printed.as_slice());
-    blame_printed(case.alloc, case.text, case.line, printed.as_slice(), hint);
-}
-
-fn tell_pattern_parts<'t>(
-    parts: &'t [PatternTree],
-    message: &'t MessageDecl,
-    case: Case<'t>,
-    scope: &mut Scope<'t>,
-    hint: &mut Hint,
-) -> bool {
-    for (place, part) in parts.iter().enumerate() {
-        if let Some(ty) = message.parts.get(place) {
-            if tell_pattern(part, ty, case, scope, hint) {
-                note_message(message, hint);
-                return true;
-            }
-        }
+        enter_gen(generator, Role::QueryVariable, &mut case.scope);
     }
     false
 }
 
-// How a message is declared.
-fn note_message(message: &MessageDecl, hint: &mut Hint) {
-    hint.notes.put(b"line ");
-    hint.notes.number(u64::from(message.line));
-    hint.notes.put(b" declares the message ");
-    put_message(message, &mut hint.notes);
-    hint.note(b"");
+// A generator through a variable.
+fn tell_slot<'t>(generator: &'t GenTree, name: &'t [u8], case: &mut Case<'t>) -> bool {
+    let Some(found) = case.scope.type_of(name) else {
+        return false;
+    };
+    let Ty::Set(element) = &found else {
+        let shown = case.shown(&found);
+        let form = b"@ is $, and a query goes through a set";
+        case.tell(form, name, shown.as_slice());
+        blame_source(name, case);
+        return true;
+    };
+    if generator.peer.is_none() {
+        return tell_pattern(&generator.message, element.get(), case);
+    }
+    let form = b"'from' and 'to' stand with received and sent alone, and @ is a set";
+    case.tell(form, name, b"");
+    let word = match &generator.peer {
+        Some(PeerTree::To(_)) => b"to".as_slice(),
+        _ => b"from",
+    };
+    blame_word(word, case);
+    true
 }
 
-fn put_message(message: &MessageDecl, out: &mut Phrase) {
-    out.put(message.tag.as_slice());
-    out.put(b"(");
-    put_types(message.parts.as_slice(), out);
-    out.put(b")");
+// The pattern after `from` or `to`.
+fn tell_peer<'t>(peer: &'t Option<PeerTree>, received: bool, case: &mut Case<'t>) -> bool {
+    match peer {
+        None => return false,
+        Some(PeerTree::From(pattern)) => {
+            if received {
+                return tell_pattern(pattern, &Ty::Proc, case);
+            }
+            case.say(b"'from' stands with received: for sent, write to");
+            blame_word(b"from", case);
+        }
+        Some(PeerTree::To(pattern)) => {
+            if !received {
+                return tell_pattern(pattern, &Ty::Proc, case);
+            }
+            case.say(b"'to' stands with sent: for received, write from");
+            blame_word(b"to", case);
+        }
+    }
+    true
+}
+
+/// Tells the first breach of a message pattern.
+pub fn tell_message_pattern<'t>(pattern: &'t PatternTree, case: &mut Case<'t>) -> bool {
+    let PatternTree::Tuple(parts) = pattern else {
+        return tell_no_message(pattern, b" is no pattern of a message", case);
+    };
+    let [PatternTree::Text(tag), rest @ ..] = parts.as_slice() else {
+        return tell_no_message(pattern, b" does not begin with the tag of a message", case);
+    };
+    let Some(message) = case.scope.message(tag.as_bytes(), Some(rest.len())) else {
+        return tell_undeclared(tag.as_bytes(), rest.len(), case);
+    };
+    if tell_parts(rest, message.parts.as_slice(), case) {
+        note_message(message, case);
+        return true;
+    }
+    false
+}
+
+fn tell_no_message(pattern: &PatternTree, why: &[u8], case: &mut Case<'_>) -> bool {
+    put_pattern_part(pattern, case);
+    case.say(why);
+    case.note(WRITTEN);
+    true
+}
+
+// Adds a pattern to the sentence, and blames it.
+fn put_pattern_part(pattern: &PatternTree, case: &mut Case<'_>) {
+    let place = place_of_pattern(pattern, case);
+    put_place(place, case);
+}
+
+// How a message is declared.
+fn note_message(message: &MessageDecl, case: &mut Case<'_>) {
+    let line = case.digits(u64::from(message.line));
+    let form = b"line $ declares the message $(";
+    case.hint
+        .notes
+        .fill(form, line.as_slice(), message.tag.as_slice());
+    put_types(message.parts.as_slice(), &mut case.hint.notes);
+    case.note(b")");
 }
 
 // No message of this tag with so many parts is declared.
-fn tell_undeclared(
-    tag: &[u8],
-    count: usize,
-    case: Case<'_>,
-    scope: &Scope<'_>,
-    hint: &mut Hint,
-) -> bool {
-    hint.say(b"no message ");
-    hint.say(tag);
-    match scope.message_of(tag) {
+fn tell_undeclared(tag: &[u8], count: usize, case: &mut Case<'_>) -> bool {
+    case.tell(b"no message $", tag, b"");
+    match case.scope.message(tag, None) {
         Some(message) => {
-            hint.say(b" with ");
-            hint.sentence.count(count, b"part", b"parts");
-            hint.say(b" is declared; ");
-            hint.say(tag);
-            hint.say(b" has ");
-            hint.sentence.number(message.parts.len() as u64);
-            note_message(message, hint);
+            let parts = case.digits(message.parts.len() as u64);
+            case.say(b" with ");
+            case.hint.sentence.count(count, b"part", b"parts");
+            case.tell(b" is declared; $ has $", tag, parts.as_slice());
+            note_message(message, case);
         }
         None => {
-            hint.say(b" is declared");
-            note_tag(tag, case, hint);
+            case.say(b" is declared");
+            note_tag(tag, case);
         }
     }
     let mut quoted = Phrase::new(case.alloc);
     quoted.enclose(tag);
-    blame_word(case.alloc, case.text, case.line, quoted.as_slice(), hint);
+    blame_word(quoted.as_slice(), case);
     true
 }
 
 // The declaration that is missing, or the tag that is meant.
-fn note_tag(tag: &[u8], case: Case<'_>, hint: &mut Hint) {
+fn note_tag(tag: &[u8], case: &mut Case<'_>) {
+    let tree = case.tree;
     let mut nearest = Nearest::new(case.alloc, tag);
-    for message in case.tree.messages.as_slice() {
+    for message in tree.messages.as_slice() {
         nearest.offer(message.tag.as_slice());
     }
-    match nearest.found() {
-        Some(found) => {
-            hint.notes.put(b"is ");
-            hint.notes.quote(found);
-            hint.note(b" meant?");
-        }
-        None => {}
-    }
-    hint.notes.put(
-        b"messages are declared outside of classes, with the types of their parts: message ",
+    case.note_meant(nearest.found());
+    case.note_of(
+        b"messages are declared outside of classes, with the types of their parts: message $(int)",
+        tag,
+        b"",
     );
-    hint.notes.put(tag);
-    hint.note(b"(int)");
 }
 
 /// Tells the first breach of a pattern over a type.
 #[cycle(patterns)]
-pub fn tell_pattern<'t>(
-    pattern: &'t PatternTree,
-    ty: &Ty,
-    case: Case<'t>,
-    scope: &mut Scope<'t>,
-    hint: &mut Hint,
-) -> bool {
-    match pattern {
+pub fn tell_pattern<'t>(pattern: &'t PatternTree, ty: &Ty, case: &mut Case<'t>) -> bool {
+    let (fits, own) = match pattern {
         PatternTree::Tuple(parts) => match ty {
             Ty::Tuple(types) if types.len() == parts.len() => {
-                tell_tuple(parts.as_slice(), types.as_slice(), case, scope, hint)
+                return tell_parts(parts.as_slice(), types.as_slice(), case);
             }
-            _ => tell_misfit(pattern, b"a tuple", ty, case, hint),
+            _ => (false, b"a tuple".as_slice()),
         },
-        PatternTree::Equal(x) => tell_equal(x.get(), ty, case, scope, hint),
-        _ => tell_literal(pattern, ty, case, hint),
-    }
-}
-
-#[cycle(patterns)]
-fn tell_tuple<'t>(
-    parts: &'t [PatternTree],
-    types: &[Ty],
-    case: Case<'t>,
-    scope: &mut Scope<'t>,
-    hint: &mut Hint,
-) -> bool {
-    for (place, part) in parts.iter().enumerate() {
-        if let Some(ty) = types.get(place) {
-            if tell_pattern(part, ty, case, scope, hint) {
-                return true;
-            }
-        }
-    }
-    false
-}
-
-// `=e`
-fn tell_equal<'t>(
-    x: &'t Expr,
-    ty: &Ty,
-    case: Case<'t>,
-    scope: &mut Scope<'t>,
-    hint: &mut Hint,
-) -> bool {
-    if tell_term(x, case, scope, hint) {
-        return true;
-    }
-    match type_of(x, case.line, scope) {
-        Some(found) if !same_type(&found, ty) => tell_other(x, ty, case, scope, hint),
-        _ => false,
-    }
-}
-
-// A literal of another type.
-fn tell_literal(pattern: &PatternTree, ty: &Ty, case: Case<'_>, hint: &mut Hint) -> bool {
-    let (fits, own) = match pattern {
+        PatternTree::Equal(x) => return tell_equal(x.get(), ty, case),
         PatternTree::Int(_) => (matches!(ty, Ty::Int), b"int".as_slice()),
         PatternTree::Text(_) => (matches!(ty, Ty::Text), b"str".as_slice()),
         PatternTree::Truth(_) => (matches!(ty, Ty::Bool), b"bool".as_slice()),
@@ -310,40 +182,17 @@ fn tell_literal(pattern: &PatternTree, ty: &Ty, case: Case<'_>, hint: &mut Hint)
     if fits {
         return false;
     }
-    tell_misfit(pattern, own, ty, case, hint)
-}
-
-fn tell_misfit(
-    pattern: &PatternTree,
-    own: &[u8],
-    ty: &Ty,
-    case: Case<'_>,
-    hint: &mut Hint,
-) -> bool {
-    put_pattern_part(pattern, case, hint);
-    hint.say(b" is ");
-    hint.say(own);
-    hint.say(b", and ");
-    put_type(ty, &mut hint.sentence);
-    hint.say(b" stands there");
+    put_pattern_part(pattern, case);
+    let shown = case.shown(ty);
+    case.tell(b" is $, and $ stands there", own, shown.as_slice());
     true
 }
 
-/// Tells the first breach of a message that is sent.
-pub fn tell_sent<'t>(x: &'t Expr, case: Case<'t>, scope: &mut Scope<'t>, hint: &mut Hint) -> bool {
-    let Expr::Tuple(parts) = x else {
-        return tell_unwritten(x, case, hint);
-    };
-    let [Expr::Text(tag), rest @ ..] = parts.as_slice() else {
-        return tell_unwritten(x, case, hint);
-    };
-    let Some(message) = scope.message(tag.as_bytes(), rest.len()) else {
-        return tell_undeclared(tag.as_bytes(), rest.len(), case, scope, hint);
-    };
-    for (place, part) in rest.iter().enumerate() {
-        if let Some(ty) = message.parts.get(place) {
-            if crate::values::tell_misfit(part, ty, case, scope, hint) {
-                note_message(message, hint);
+#[cycle(patterns)]
+fn tell_parts<'t>(parts: &'t [PatternTree], types: &[Ty], case: &mut Case<'t>) -> bool {
+    for (place, part) in parts.iter().enumerate() {
+        if let Some(ty) = types.get(place) {
+            if tell_pattern(part, ty, case) {
                 return true;
             }
         }
@@ -351,35 +200,49 @@ pub fn tell_sent<'t>(x: &'t Expr, case: Case<'t>, scope: &mut Scope<'t>, hint: &
     false
 }
 
-fn tell_unwritten(x: &Expr, case: Case<'_>, hint: &mut Hint) -> bool {
-    crate::told::tell_form(
-        x,
-        b" is sent, and is no message that is written out",
-        WRITTEN,
-        case,
-        hint,
-    )
+// `=e`
+fn tell_equal<'t>(x: &'t Expr, ty: &Ty, case: &mut Case<'t>) -> bool {
+    if tell_term(x, case) {
+        return true;
+    }
+    match case.type_of(x) {
+        Some(found) if !same_type(&found, ty) => tell_other(x, ty, case),
+        _ => false,
+    }
+}
+
+/// Tells the first breach of a message that is sent.
+pub fn tell_sent<'t>(x: &'t Expr, case: &mut Case<'t>) -> bool {
+    let why = b" is sent, and is no message that is written out";
+    let Expr::Tuple(parts) = x else {
+        return tell_form(x, why, WRITTEN, case);
+    };
+    let [Expr::Text(tag), rest @ ..] = parts.as_slice() else {
+        return tell_form(x, why, WRITTEN, case);
+    };
+    let Some(message) = case.scope.message(tag.as_bytes(), Some(rest.len())) else {
+        return tell_undeclared(tag.as_bytes(), rest.len(), case);
+    };
+    for (place, part) in rest.iter().enumerate() {
+        if let Some(ty) = message.parts.get(place) {
+            if tell_misfit(part, ty, case) {
+                note_message(message, case);
+                return true;
+            }
+        }
+    }
+    false
 }
 
 /// Tells that a message is sent to what is neither a process nor a set of them.
-pub fn tell_recipient<'t>(
-    x: &'t Expr,
-    case: Case<'t>,
-    scope: &mut Scope<'t>,
-    hint: &mut Hint,
-) -> bool {
-    let found = type_of(x, case.line, scope);
-    if matches!(found, Some(Ty::Proc)) {
+pub fn tell_recipient<'t>(x: &'t Expr, case: &mut Case<'t>) -> bool {
+    let found = case.type_of(x);
+    if matches!(found, Some(Ty::Proc)) || matches!(element(found), Some(Ty::Proc)) {
         return false;
     }
-    if matches!(element(found), Some(Ty::Proc)) {
-        return false;
-    }
-    crate::told::tell_no(
+    tell_no(
         x,
         b"a process (proc) or a set of processes (set[proc]) behind 'to'",
         case,
-        scope,
-        hint,
     )
 }

@@ -1,128 +1,158 @@
 //! Names that are declared twice, and names of variables that are taken.
 use crate::case::Case;
-use crate::labels::{labels_of, line_of_label, tell_label_again};
-use crate::misuse::Misuse;
-use crate::names::misuse_at;
-use crate::parts::{blame_name, blame_word};
-use crate::scope::{Role, Scope, put_role};
+use crate::labels::{Label, labels_of, line_of_label, put_label, tell_label_again};
+use crate::names::{Misuse, misuse_at};
+use crate::parts::blame_word;
+use crate::scope::{Role, role_name};
 use crate::site::{Part, Site, line_of_main};
-use da_bodies::{Body, Place, body_of};
-use da_lang::{MainLine, Member, Param, ScopeKind, Stmt};
-use text_hints::Hint;
+use da_bodies::{Place, body_of};
+use da_lang::{ClassTree, MainLine, Member, Param, ScopeKind, Stmt, Tree};
+use da_values::List;
+use std::alloc::Global;
 
 /// Tells which name is declared a second time.
-pub fn tell_twice<'t>(case: Case<'t>, site: Site<'t>, hint: &mut Hint) {
-    match site.part {
-        Part::Message(message) => tell_message(case, message.tag.as_slice(), hint),
-        Part::Class => tell_class(case, site, hint),
-        Part::Variable(name, _) => tell_variable(case, site, name, hint),
-        Part::Header => tell_header(case, site, hint),
-        Part::Statement(Stmt::Label { name, .. }) => tell_label(case, site, name.as_slice(), hint),
-        Part::Main(made) => tell_main(case, made, hint),
+pub fn tell_twice(case: &mut Case<'_>) {
+    if let (Part::Header, Some(class)) = (case.site.part, case.site.class) {
+        return tell_header(class, case);
+    }
+    let Some((what, name)) = declared_at(case.site) else {
+        return;
+    };
+    let all = all_declared(case.alloc, case.tree, case.site);
+    let Some(first) = line_of_label(all.as_slice(), name) else {
+        return;
+    };
+    if let Part::Main(MainLine::Setup { .. }) = case.site.part {
+        case.tell(b"@ is set up already, in line ", name, b"");
+        case.hint.sentence.number(u64::from(first));
+        return blame_word(b"setup", case);
+    }
+    put_twice(what, name, first, case);
+    match case.site.part {
+        Part::Message(_) => case.note(b"a tag has one line 'message', and one list of types"),
+        Part::Statement(_) => case.note(b"the labels of a class have different names"),
         _ => {}
     }
 }
 
-// A name is declared again; the first one is on a line.
-fn put_twice(case: Case<'_>, what: &[u8], name: &[u8], first: u32, hint: &mut Hint) {
-    hint.say(what);
-    hint.say(b" ");
-    hint.quote(name);
-    hint.say(b" is declared already, in line ");
-    hint.sentence.number(u64::from(first));
-    blame_name(case.alloc, case.text, case.line, name, false, hint);
-}
-
-fn tell_message(case: Case<'_>, tag: &[u8], hint: &mut Hint) {
-    for message in case.tree.messages.as_slice() {
-        if message.tag.as_slice() == tag {
-            put_twice(case, b"the message", tag, message.line, hint);
-            hint.note(b"a tag has one line 'message', and one list of types");
-            return;
-        }
+// What is declared there, and its name.
+fn declared_at<'t>(site: Site<'t>) -> Option<(&'static [u8], &'t [u8])> {
+    match (site.part, site.class) {
+        (Part::Message(message), _) => Some((b"the message", message.tag.as_slice())),
+        (Part::Class, Some(class)) => Some((b"the class", class.name.as_slice())),
+        (Part::Variable(name, _), _) => Some((b"the variable", name)),
+        (Part::Statement(Stmt::Label { name, .. }), _) => Some((b"the label", name.as_slice())),
+        (Part::Main(made), _) => Some((b"the process", name_of_main(made))),
+        _ => None,
     }
 }
 
-fn tell_class(case: Case<'_>, site: Site<'_>, hint: &mut Hint) {
-    let Some(own) = site.class else {
-        return;
-    };
-    for class in case.tree.classes.as_slice() {
-        if class.name.as_slice() == own.name.as_slice() {
-            put_twice(case, b"the class", own.name.as_slice(), class.line, hint);
-            return;
-        }
-    }
-}
-
-fn tell_variable(case: Case<'_>, site: Site<'_>, name: &[u8], hint: &mut Hint) {
-    let Some(class) = site.class else {
-        return;
-    };
-    for member in class.members.as_slice() {
-        if let Member::Var {
-            name: other,
-            line,
-            ..
-        } = member
-        {
-            if other.as_slice() == name {
-                put_twice(case, b"the variable", name, *line, hint);
-                return;
+// All that is declared in the same way, in the order of the text.
+fn all_declared<'t>(alloc: Global, tree: &'t Tree, site: Site<'t>) -> List<Label<'t>> {
+    let mut all = List::new(alloc);
+    match (site.part, site.class) {
+        (Part::Message(_), _) => {
+            for message in tree.messages.as_slice() {
+                put_label(message.tag.as_slice(), message.line, &mut all);
             }
         }
+        (Part::Class, _) => {
+            for class in tree.classes.as_slice() {
+                put_label(class.name.as_slice(), class.line, &mut all);
+            }
+        }
+        (Part::Variable(_, _), Some(class)) => {
+            for member in class.members.as_slice() {
+                if let Member::Var { name, line, .. } = member {
+                    put_label(name.as_slice(), *line, &mut all);
+                }
+            }
+        }
+        (Part::Main(made), _) => {
+            for other in tree.main.as_slice() {
+                if is_setup(other) == is_setup(made) {
+                    put_label(name_of_main(other), line_of_main(other), &mut all);
+                }
+            }
+        }
+        (_, Some(class)) => return labels_of(alloc, class),
+        _ => {}
     }
+    all
+}
+
+fn is_setup(made: &MainLine) -> bool {
+    matches!(made, MainLine::Setup { .. })
+}
+
+// The name that a line of `main` makes or sets up.
+fn name_of_main(made: &MainLine) -> &[u8] {
+    match made {
+        MainLine::New { name, .. } => name.as_slice(),
+        MainLine::Setup { name, .. } => name.as_slice(),
+    }
+}
+
+// A name is declared again; the first one is on a line.
+fn put_twice(what: &[u8], name: &[u8], first: u32, case: &mut Case<'_>) {
+    case.tell(b"$ @ is declared already, in line ", what, name);
+    case.hint.sentence.number(u64::from(first));
+    blame_word(name, case);
 }
 
 // A parameter, a label after `at`, or a method, `setup` or `run`.
-fn tell_header(case: Case<'_>, site: Site<'_>, hint: &mut Hint) {
-    let (Some(class), Some(body)) = (site.class, site.body) else {
+fn tell_header(class: &ClassTree, case: &mut Case<'_>) {
+    let Some(body) = case.site.body else {
         return;
     };
-    if tell_params(case, body.params, hint) || tell_label_again(case, site, hint) {
+    if tell_params(body.params, case) || tell_label_again(case) {
         return;
     }
     for member in class.members.as_slice() {
         if let Some(other) = body_of(member) {
-            if is_same(body.place, other.place) {
-                tell_body(case, body, other.line, hint);
+            if let Some(name) = same_name(body.place, other.place) {
+                tell_body(is_method(body.place), name, other.line, case);
                 return;
             }
         }
     }
 }
 
-// Whether both are `setup`, or both `run`, or methods of one name.
-fn is_same(first: Place<'_>, second: Place<'_>) -> bool {
-    match first {
-        Place::Setup => matches!(second, Place::Setup),
-        Place::Run => matches!(second, Place::Run),
-        Place::Method(name) => match second {
-            Place::Method(other) => name == other,
-            _ => false,
-        },
-        Place::Handler { .. } => false,
+// The name of a body that two places have, where they have the same.
+fn same_name<'t>(place: Place<'t>, other: Place<'t>) -> Option<&'t [u8]> {
+    let name = name_at(place)?;
+    if is_method(place) == is_method(other) && name_at(other) == Some(name) {
+        Some(name)
+    } else {
+        None
     }
 }
 
-fn tell_body(case: Case<'_>, body: Body<'_>, first: u32, hint: &mut Hint) {
-    match body.place {
-        Place::Method(name) => put_twice(case, b"the method", name, first, hint),
-        Place::Setup => put_second(case, b"setup", first, hint),
-        _ => put_second(case, b"run", first, hint),
+// The name of a method, or the word of a body that has none.
+fn name_at<'t>(place: Place<'t>) -> Option<&'t [u8]> {
+    match place {
+        Place::Setup => Some(b"setup".as_slice()),
+        Place::Run => Some(b"run".as_slice()),
+        Place::Method(name) => Some(name),
+        _ => None,
     }
 }
 
-fn put_second(case: Case<'_>, word: &[u8], first: u32, hint: &mut Hint) {
-    hint.say(b"the class has a method ");
-    hint.quote(word);
-    hint.say(b" already, in line ");
-    hint.sentence.number(u64::from(first));
-    blame_word(case.alloc, case.text, case.line, word, hint);
+fn is_method(place: Place<'_>) -> bool {
+    matches!(place, Place::Method(_))
+}
+
+fn tell_body(is_method: bool, name: &[u8], first: u32, case: &mut Case<'_>) {
+    if is_method {
+        return put_twice(b"the method", name, first, case);
+    }
+    case.tell(b"the class has a method @ already, in line ", name, b"");
+    case.hint.sentence.number(u64::from(first));
+    blame_word(name, case);
 }
 
 // Two parameters of one name.
-fn tell_params(case: Case<'_>, params: &[Param], hint: &mut Hint) -> bool {
+fn tell_params(params: &[Param], case: &mut Case<'_>) -> bool {
     let mut rest = params;
     for _param in 0..params.len() {
         let [first, others @ ..] = rest else {
@@ -130,9 +160,8 @@ fn tell_params(case: Case<'_>, params: &[Param], hint: &mut Hint) -> bool {
         };
         let name = first.name.as_slice();
         if others.iter().any(|other| other.name.as_slice() == name) {
-            hint.say(b"two parameters of this list have the name ");
-            hint.quote(name);
-            blame_name(case.alloc, case.text, case.line, name, false, hint);
+            case.tell(b"two parameters of this list have the name @", name, b"");
+            blame_word(name, case);
             return true;
         }
         rest = others;
@@ -140,83 +169,31 @@ fn tell_params(case: Case<'_>, params: &[Param], hint: &mut Hint) -> bool {
     false
 }
 
-// A label with the name of one before it in its class.
-fn tell_label(case: Case<'_>, site: Site<'_>, name: &[u8], hint: &mut Hint) {
-    let Some(class) = site.class else {
-        return;
-    };
-    let labels = labels_of(case.alloc, class);
-    if let Some(line) = line_of_label(labels.as_slice(), name) {
-        put_twice(case, b"the label", name, line, hint);
-        hint.note(b"the labels of a class have different names");
-    }
-}
-
-// A name of `main`, or its second line of `setup`.
-fn tell_main(case: Case<'_>, made: &MainLine, hint: &mut Hint) {
-    match made {
-        MainLine::New { name, .. } => {
-            if let Some(line) = first_made(case, name.as_slice(), false) {
-                put_twice(case, b"the process", name.as_slice(), line, hint);
-            }
-        }
-        MainLine::Setup { name, .. } => {
-            if let Some(line) = first_made(case, name.as_slice(), true) {
-                hint.quote(name.as_slice());
-                hint.say(b" is set up already, in line ");
-                hint.sentence.number(u64::from(line));
-                blame_word(case.alloc, case.text, case.line, b"setup", hint);
-            }
-        }
-    }
-}
-
-// The first line of `main` that makes a name, or that sets it up.
-fn first_made(case: Case<'_>, name: &[u8], setup: bool) -> Option<u32> {
-    for made in case.tree.main.as_slice() {
-        let found = match made {
-            MainLine::New { name: other, .. } => !setup && other.as_slice() == name,
-            MainLine::Setup { name: other, .. } => setup && other.as_slice() == name,
-        };
-        if found {
-            return Some(line_of_main(made));
-        }
-    }
-    None
-}
-
 /// Tells which new variable has the name of one in scope.
-pub fn tell_shadow<'t>(case: Case<'t>, site: Site<'t>, scope: &mut Scope<'t>, hint: &mut Hint) {
-    let Some(Misuse::Name(name, _)) = misuse_at(site, ScopeKind::Shadow, scope) else {
+pub fn tell_shadow(case: &mut Case<'_>) {
+    let Some(Misuse::Name(name, _)) = misuse_at(ScopeKind::Shadow, case) else {
         return;
     };
-    blame_name(case.alloc, case.text, case.line, name, false, hint);
-    hint.quote(name);
-    hint.say(b" is in scope already, as ");
-    let Some(entry) = scope.look(name) else {
+    blame_word(name, case);
+    case.tell(b"@ is in scope already, as ", name, b"");
+    let Some(entry) = case.scope.look(name) else {
         return;
     };
-    put_role(entry.role, &mut hint.sentence);
-    if entry.line != 0 && entry.line != case.line {
-        hint.say(b" (line ");
-        hint.sentence.number(u64::from(entry.line));
-        hint.say(b")");
+    let (role, line) = (entry.role, entry.line);
+    case.say(role_name(role));
+    if line != 0 && line != case.line {
+        let line = case.digits(u64::from(line));
+        case.tell(b" (line $)", line.as_slice(), b"");
     }
-    note_shadow(site, name, entry.role, hint);
-}
-
-// What helps against it.
-fn note_shadow(site: Site<'_>, name: &[u8], role: Role, hint: &mut Hint) {
-    let is_new = match site.part {
+    let is_new = match case.site.part {
         Part::Header => matches!(role, Role::ClassVariable),
         Part::Statement(Stmt::For { .. }) => true,
         _ => false,
     };
     if is_new {
-        hint.note(b"give the new one another name");
-        return;
+        case.note(b"give the new one another name");
+    } else {
+        let form = b"=$ in a pattern compares with it; a new variable needs another name";
+        case.note_of(form, name, b"");
     }
-    hint.notes.put(b"=");
-    hint.notes.put(name);
-    hint.note(b" in a pattern compares with it; a new variable needs another name");
 }

@@ -2,7 +2,6 @@
 use da_lang::{MessageDecl, Ty, copy_type};
 use da_values::List;
 use std::alloc::Global;
-use text_hints::Phrase;
 
 /// What a name stands for.
 #[derive(Clone, Copy, Debug, PartialEq, Eq)]
@@ -16,21 +15,24 @@ pub enum Role {
     Made,
 }
 
-/// A name in scope, the line that declares it, and its type, where it is known.
+/// A name in scope, the line that declares it, how many blocks it is in, and its type, where it is known.
 #[derive(Debug, Drop)]
 pub struct Entry<'t> {
     pub name: &'t [u8],
     pub role: Role,
     pub line: u32,
-    pub ty: Option<Ty>,
+    depth: usize,
+    ty: Option<Ty>,
 }
 
-/// The names in scope, the innermost last, and the messages of the program.
+/// The names in scope, the innermost last, the line and the blocks that names come into scope at, and the messages of the program.
 #[derive(Debug, Drop)]
 pub struct Scope<'t> {
     pub alloc: Global,
-    pub messages: &'t [MessageDecl],
+    messages: &'t [MessageDecl],
     entries: List<Entry<'t>>,
+    line: u32,
+    depth: usize,
 }
 
 impl<'t> Scope<'t> {
@@ -40,6 +42,8 @@ impl<'t> Scope<'t> {
             alloc,
             messages,
             entries: List::new(alloc),
+            line: 0,
+            depth: 0,
         }
     }
 
@@ -48,12 +52,20 @@ impl<'t> Scope<'t> {
         self.entries.len()
     }
 
+    /// The names that come next do so on this line, in so many blocks.
+    pub fn stand_at(&mut self, line: u32, depth: usize) {
+        self.line = line;
+        self.depth = depth;
+    }
+
     /// A name comes into scope.
-    pub fn enter(&mut self, name: &'t [u8], role: Role, line: u32, ty: Option<Ty>) {
+    pub fn enter(&mut self, name: &'t [u8], role: Role, ty: Option<Ty>) {
+        let (line, depth) = (self.line, self.depth);
         let _ = self.entries.push(Entry {
             name,
             role,
             line,
+            depth,
             ty,
         });
     }
@@ -63,15 +75,23 @@ impl<'t> Scope<'t> {
         self.entries.truncate(len);
     }
 
+    /// The names that are in more blocks than so many leave the scope.
+    pub fn leave_blocks(&mut self, depth: usize) {
+        let entries = self.entries.as_slice();
+        let len = entries
+            .iter()
+            .take_while(|entry| entry.depth <= depth)
+            .count();
+        self.entries.truncate(len);
+    }
+
     /// What a name stands for.
     pub fn look(&self, name: &[u8]) -> Option<&Entry<'t>> {
-        let mut found = None;
-        for entry in self.entries.as_slice() {
-            if entry.name == name {
-                found = Some(entry);
-            }
-        }
-        found
+        self.entries
+            .as_slice()
+            .iter()
+            .rev()
+            .find(|entry| entry.name == name)
     }
 
     /// The names.
@@ -81,8 +101,7 @@ impl<'t> Scope<'t> {
 
     /// A copy of the type of a name.
     pub fn type_of(&self, name: &[u8]) -> Option<Ty> {
-        let entry = self.look(name)?;
-        self.copy(entry.ty.as_ref())
+        self.copy(self.look(name)?.ty.as_ref())
     }
 
     /// A copy of a type.
@@ -93,32 +112,19 @@ impl<'t> Scope<'t> {
         }
     }
 
-    /// The first message of this tag with so many parts after it.
-    pub fn message(&self, tag: &[u8], count: usize) -> Option<&'t MessageDecl> {
-        let messages = self.messages;
-        for message in messages {
-            if message.tag.as_slice() == tag && message.parts.len() == count {
-                return Some(message);
-            }
-        }
-        None
-    }
-
-    /// The first message of this tag.
-    pub fn message_of(&self, tag: &[u8]) -> Option<&'t MessageDecl> {
-        let messages = self.messages;
-        for message in messages {
-            if message.tag.as_slice() == tag {
-                return Some(message);
-            }
-        }
-        None
+    /// The first message of this tag with so many parts after it, or with any where no number is given.
+    pub fn message(&self, tag: &[u8], count: Option<usize>) -> Option<&'t MessageDecl> {
+        let mut messages = self.messages.iter();
+        messages.find(|message| {
+            message.tag.as_slice() == tag
+                && count.unwrap_or(message.parts.len()) == message.parts.len()
+        })
     }
 }
 
-/// Adds what a name stands for.
-pub fn put_role(role: Role, out: &mut Phrase) {
-    out.put(match role {
+/// What a name stands for, in words.
+pub fn role_name(role: Role) -> &'static [u8] {
+    match role {
         Role::ClassVariable => b"a variable of the class",
         Role::Parameter => b"a parameter",
         Role::LoopVariable => b"the variable of a loop",
@@ -126,5 +132,5 @@ pub fn put_role(role: Role, out: &mut Phrase) {
         Role::BoundVariable => b"a variable that 'some' binds",
         Role::QueryVariable => b"a variable of a query",
         Role::Made => b"a name of main",
-    });
+    }
 }

@@ -1,8 +1,10 @@
 //! The place in a program that a line stands for, with the names in scope there.
+use crate::rows::{Row, rows_of};
 use crate::scope::{Role, Scope};
 use crate::typing::{element, enter_found, enter_message, enter_pattern, set, type_of};
+use crate::walk::{Step, Walk, put_pattern, put_steps};
 use da_bodies::{Body, Place, body_of};
-use da_lang::{Branch, ClassTree, Expr, MainLine, Member, MessageDecl, Param, Stmt, Tree, Ty};
+use da_lang::{ClassTree, Expr, MainLine, Member, MessageDecl, Stmt, Tree, Ty};
 
 /// What stands on a line.
 #[derive(Clone, Copy, Debug)]
@@ -15,7 +17,7 @@ pub enum Part<'t> {
     Variable(&'t [u8], &'t Ty),
     /// The header of `setup`, of `run`, of a method or of a handler.
     Header,
-    /// A statement without a condition that has a block, or the header of a loop.
+    /// A statement that is no `if` and no condition of an `await`, or the header of a loop.
     Statement(&'t Stmt),
     /// A condition with a block: of an `if` or `elif`.
     Branch(&'t Expr),
@@ -33,47 +35,34 @@ pub struct Site<'t> {
     pub part: Part<'t>,
 }
 
-/// What stands on this line of a program. The names that are in scope there are in `scope`, in which there were none.
-pub fn site_of<'t>(tree: &'t Tree, line: u32, scope: &mut Scope<'t>) -> Option<Site<'t>> {
+/// What stands on this line of a program, or what is used on it, where declarations are passed over. The names that are in scope
+/// there are in `scope`, in which there were none.
+pub fn site_of<'t>(
+    tree: &'t Tree,
+    line: u32,
+    used: bool,
+    scope: &mut Scope<'t>,
+) -> Option<Site<'t>> {
     for message in tree.messages.as_slice() {
-        if message.line == line {
+        if message.line == line && !used {
             return Some(outside(Part::Message(message)));
         }
     }
     for class in tree.classes.as_slice() {
-        if let Some(site) = site_in_class(class, line, scope) {
+        enter_variables(class, scope);
+        if class.line == line && !used {
+            return Some(Site {
+                class: Some(class),
+                body: None,
+                part: Part::Class,
+            });
+        }
+        if let Some(site) = site_in_class(class, line, used, scope) {
             return Some(site);
         }
         scope.leave_to(0);
     }
     site_in_main(tree, line, scope)
-}
-
-/// What is used on this line, where declarations that stand on it are passed over.
-pub fn use_of<'t>(tree: &'t Tree, line: u32, scope: &mut Scope<'t>) -> Option<Site<'t>> {
-    for class in tree.classes.as_slice() {
-        enter_variables(class, scope);
-        for member in class.members.as_slice() {
-            if body_of(member).is_some() {
-                if let Some(site) = site_in_member(class, member, line, scope) {
-                    return Some(site);
-                }
-            }
-        }
-        scope.leave_to(0);
-    }
-    site_in_main(tree, line, scope)
-}
-
-// What stands on this line of `main`.
-fn site_in_main<'t>(tree: &'t Tree, line: u32, scope: &mut Scope<'t>) -> Option<Site<'t>> {
-    for made in tree.main.as_slice() {
-        if line_of_main(made) == line {
-            return Some(outside(Part::Main(made)));
-        }
-        enter_made(made, scope);
-    }
-    None
 }
 
 // What stands in no class.
@@ -85,6 +74,24 @@ fn outside(part: Part<'_>) -> Site<'_> {
     }
 }
 
+// What stands on this line of `main`.
+fn site_in_main<'t>(tree: &'t Tree, line: u32, scope: &mut Scope<'t>) -> Option<Site<'t>> {
+    for made in tree.main.as_slice() {
+        if line_of_main(made) == line {
+            return Some(outside(Part::Main(made)));
+        }
+        if let MainLine::New { name, count, .. } = made {
+            let ty = match count {
+                None => Some(Ty::Proc),
+                Some(_) => set(scope.alloc, Ty::Proc),
+            };
+            scope.stand_at(line_of_main(made), 0);
+            scope.enter(name.as_slice(), Role::Made, ty);
+        }
+    }
+    None
+}
+
 /// The line of a line of `main`.
 pub fn line_of_main(made: &MainLine) -> u32 {
     match made {
@@ -93,75 +100,41 @@ pub fn line_of_main(made: &MainLine) -> u32 {
     }
 }
 
-// The name that a line of `main` makes comes into scope.
-fn enter_made<'t>(made: &'t MainLine, scope: &mut Scope<'t>) {
-    if let MainLine::New {
-        name,
-        count,
-        line,
-        ..
-    } = made
-    {
-        let ty = match count {
-            None => Some(Ty::Proc),
-            Some(_) => set(scope.alloc, Ty::Proc),
-        };
-        scope.enter(name.as_slice(), Role::Made, *line, ty);
-    }
-}
-
-/// The variables of a class come into scope.
-pub fn enter_variables<'t>(class: &'t ClassTree, scope: &mut Scope<'t>) {
+// The variables of a class come into scope.
+fn enter_variables<'t>(class: &'t ClassTree, scope: &mut Scope<'t>) {
     for member in class.members.as_slice() {
         if let Member::Var { name, ty, line } = member {
             let ty = scope.copy(Some(ty));
-            scope.enter(name.as_slice(), Role::ClassVariable, *line, ty);
+            scope.stand_at(*line, 0);
+            scope.enter(name.as_slice(), Role::ClassVariable, ty);
         }
     }
 }
 
-fn site_in_class<'t>(class: &'t ClassTree, line: u32, scope: &mut Scope<'t>) -> Option<Site<'t>> {
-    enter_variables(class, scope);
-    if class.line == line {
-        return Some(Site {
-            class: Some(class),
-            body: None,
-            part: Part::Class,
-        });
-    }
+fn site_in_class<'t>(
+    class: &'t ClassTree,
+    number: u32,
+    used: bool,
+    scope: &mut Scope<'t>,
+) -> Option<Site<'t>> {
     for member in class.members.as_slice() {
-        if let Some(site) = site_in_member(class, member, line, scope) {
-            return Some(site);
+        let body = body_of(member);
+        let part = match (body, member) {
+            (Some(body), _) => part_in_body(body, number, scope),
+            (None, Member::Var { name, ty, line }) if *line == number && !used => {
+                Some(Part::Variable(name.as_slice(), ty))
+            }
+            _ => None,
+        };
+        if let Some(part) = part {
+            return Some(Site {
+                class: Some(class),
+                body,
+                part,
+            });
         }
     }
     None
-}
-
-fn site_in_member<'t>(
-    class: &'t ClassTree,
-    member: &'t Member,
-    line: u32,
-    scope: &mut Scope<'t>,
-) -> Option<Site<'t>> {
-    let body = body_of(member);
-    let part = match body {
-        None => part_of_variable(member, line)?,
-        Some(body) => part_in_body(body, line, scope)?,
-    };
-    Some(Site {
-        class: Some(class),
-        body,
-        part,
-    })
-}
-
-fn part_of_variable(member: &Member, number: u32) -> Option<Part<'_>> {
-    match member {
-        Member::Var { name, ty, line } if *line == number => {
-            Some(Part::Variable(name.as_slice(), ty))
-        }
-        _ => None,
-    }
 }
 
 // What stands on a line of a body. The names of the body are in scope where it is found, and else they leave it.
@@ -170,173 +143,130 @@ fn part_in_body<'t>(body: Body<'t>, line: u32, scope: &mut Scope<'t>) -> Option<
         return Some(Part::Header);
     }
     let outside = scope.len();
-    enter_params(body.params, body.line, scope);
-    enter_place(body.place, body.line, scope);
-    let part = part_in_block(body.stmts, line, scope);
-    if part.is_none() {
-        scope.leave_to(outside);
-    }
-    part
-}
-
-/// Parameters come into scope.
-pub fn enter_params<'t>(params: &'t [Param], line: u32, scope: &mut Scope<'t>) {
-    for param in params {
-        let ty = scope.copy(Some(&param.ty));
-        scope.enter(param.name.as_slice(), Role::Parameter, line, ty);
-    }
-}
-
-// The names of a handler come into scope.
-fn enter_place<'t>(place: Place<'t>, line: u32, scope: &mut Scope<'t>) {
-    if let Place::Handler { message, from, .. } = place {
-        enter_message(message, Role::HandlerVariable, line, scope);
-        if let Some(pattern) = from {
-            enter_pattern(pattern, Some(&Ty::Proc), Role::HandlerVariable, line, scope);
+    enter_head(body, scope);
+    for row in rows_of(scope.alloc, body.stmts).as_slice() {
+        scope.leave_blocks(row.depth);
+        if row.line == line {
+            return Some(row.part);
         }
-    }
-}
-
-// What stands on a line of a block. The names of the block leave the scope where nothing is found.
-#[cycle(site)]
-fn part_in_block<'t>(stmts: &'t [Stmt], line: u32, scope: &mut Scope<'t>) -> Option<Part<'t>> {
-    let outside = scope.len();
-    for stmt in stmts {
-        if let Some(part) = part_in(stmt, line, scope) {
-            return Some(part);
-        }
+        enter_row(row, scope);
     }
     scope.leave_to(outside);
     None
 }
 
-#[cycle(site)]
-fn part_in<'t>(stmt: &'t Stmt, number: u32, scope: &mut Scope<'t>) -> Option<Part<'t>> {
+/// The parameters of a body and the names of a handler come into scope.
+pub fn enter_head<'t>(body: Body<'t>, scope: &mut Scope<'t>) {
+    scope.stand_at(body.line, 0);
+    for param in body.params {
+        let ty = scope.copy(Some(&param.ty));
+        scope.enter(param.name.as_slice(), Role::Parameter, ty);
+    }
+    if let Place::Handler { message, from, .. } = body.place {
+        enter_message(message, Role::HandlerVariable, scope);
+        if let Some(pattern) = from {
+            enter_pattern(pattern, Some(&Ty::Proc), Role::HandlerVariable, scope);
+        }
+    }
+}
+
+/// The names that a row binds come into scope.
+pub fn enter_row<'t>(row: &Row<'t>, scope: &mut Scope<'t>) {
+    scope.stand_at(row.line, row.inner);
+    match row.part {
+        Part::Statement(Stmt::For { name, over, .. }) => {
+            let ty = element(type_of(over.get(), scope));
+            scope.enter(name.as_slice(), Role::LoopVariable, ty);
+        }
+        Part::Branch(cond) => enter_found(cond, scope),
+        Part::Wait(cond) => enter_found(cond, scope),
+        _ => {}
+    }
+}
+
+/// All names that come into scope in the bodies of a class before a line do so.
+pub fn enter_before<'t>(class: &'t ClassTree, line: u32, scope: &mut Scope<'t>) {
+    for member in class.members.as_slice() {
+        if let Some(body) = body_of(member) {
+            if body.line < line {
+                enter_head(body, scope);
+                for row in rows_of(scope.alloc, body.stmts).as_slice() {
+                    if row.line < line {
+                        enter_row(row, scope);
+                    }
+                }
+            }
+        }
+    }
+}
+
+/// Walks through the expressions and patterns of what stands at a place.
+pub fn put_site<'t>(site: Site<'t>, walk: &mut Walk<'t>) {
+    walk.pass(1);
+    match site.part {
+        Part::Statement(stmt) => put_statement(stmt, walk),
+        Part::Branch(cond) => put_steps(cond, 0, walk),
+        Part::Wait(cond) => put_steps(cond, 0, walk),
+        Part::Main(MainLine::Setup { args, .. }) => {
+            walk.pass(1);
+            put_exprs(args.as_slice(), walk);
+        }
+        Part::Header => {
+            if let Some(body) = site.body {
+                put_head(body, walk);
+            }
+        }
+        _ => {}
+    }
+}
+
+fn put_head<'t>(body: Body<'t>, walk: &mut Walk<'t>) {
+    for param in body.params {
+        walk.put(Step::Fresh(param.name.as_slice(), Role::Parameter));
+    }
+    if let Place::Handler { message, from, .. } = body.place {
+        put_pattern(message, Role::HandlerVariable, 0, walk);
+        if let Some(pattern) = from {
+            walk.pass(1);
+            put_pattern(pattern, Role::HandlerVariable, 0, walk);
+        }
+    }
+}
+
+// A statement after its first token.
+fn put_statement<'t>(stmt: &'t Stmt, walk: &mut Walk<'t>) {
     match stmt {
-        Stmt::If {
-            branches,
-            otherwise,
-            line: _,
-        } => match part_in_branches(branches.as_slice(), number, false, scope) {
-            Some(part) => Some(part),
-            None => match otherwise {
-                None => None,
-                Some(body) => part_in_block(body.as_slice(), number, scope),
-            },
-        },
-        Stmt::Await {
-            alts,
-            timeout,
-            line: _,
-        } => match part_in_branches(alts.as_slice(), number, true, scope) {
-            Some(part) => Some(part),
-            None => match timeout {
-                None => None,
-                Some(tree) => part_in_block(tree.body.as_slice(), number, scope),
-            },
-        },
-        Stmt::While {
-            cond: _,
-            body,
-            line,
-        } => {
-            if *line == number {
-                return Some(Part::Statement(stmt));
-            }
-            part_in_block(body.as_slice(), number, scope)
+        Stmt::Assign { value, .. } => {
+            walk.pass(1);
+            put_steps(value.get(), 0, walk);
         }
-        Stmt::For {
-            name,
-            over,
-            body,
-            line,
-        } => {
-            if *line == number {
-                return Some(Part::Statement(stmt));
-            }
-            let outside = scope.len();
-            let ty = element(type_of(over.get(), *line, scope));
-            scope.enter(name.as_slice(), Role::LoopVariable, *line, ty);
-            let part = part_in_block(body.as_slice(), number, scope);
-            if part.is_none() {
-                scope.leave_to(outside);
-            }
-            part
+        Stmt::Add { value, .. } => {
+            walk.pass(2);
+            put_steps(value.get(), 0, walk);
         }
-        Stmt::AwaitOne { cond, line } => {
-            if *line == number {
-                return Some(Part::Wait(cond.get()));
-            }
-            enter_found(cond.get(), *line, scope);
-            None
+        Stmt::Del { value, .. } => {
+            walk.pass(2);
+            put_steps(value.get(), 0, walk);
         }
-        _ => part_of_plain(stmt, number),
+        Stmt::Send { message, to, .. } => {
+            put_steps(message.get(), 0, walk);
+            walk.pass(1);
+            put_steps(to.get(), 0, walk);
+        }
+        Stmt::Output { value, .. } => put_steps(value.get(), 0, walk),
+        Stmt::Call { args, .. } => put_exprs(args.as_slice(), walk),
+        Stmt::While { cond, .. } => put_steps(cond.get(), 0, walk),
+        Stmt::For { name, over, .. } => {
+            walk.pass(2);
+            put_steps(over.get(), 0, walk);
+            walk.put(Step::Fresh(name.as_slice(), Role::LoopVariable));
+        }
+        _ => {}
     }
 }
 
-// A statement that has no statements in it.
-fn part_of_plain(stmt: &Stmt, number: u32) -> Option<Part<'_>> {
-    if line_of_plain(stmt) == number {
-        Some(Part::Statement(stmt))
-    } else {
-        None
+fn put_exprs<'t>(xs: &'t [Expr], walk: &mut Walk<'t>) {
+    for x in xs {
+        put_steps(x, 0, walk);
     }
-}
-
-/// The line of a statement.
-pub fn line_of_plain(stmt: &Stmt) -> u32 {
-    match stmt {
-        Stmt::Assign { line, .. } => *line,
-        Stmt::Add { line, .. } => *line,
-        Stmt::Del { line, .. } => *line,
-        Stmt::Send { line, .. } => *line,
-        Stmt::Output { line, .. } => *line,
-        Stmt::Pass { line } => *line,
-        Stmt::Label { line, .. } => *line,
-        Stmt::Call { line, .. } => *line,
-        Stmt::If { line, .. } => *line,
-        Stmt::While { line, .. } => *line,
-        Stmt::For { line, .. } => *line,
-        Stmt::AwaitOne { line, .. } => *line,
-        Stmt::Await { line, .. } => *line,
-    }
-}
-
-#[cycle(site)]
-fn part_in_branches<'t>(
-    branches: &'t [Branch],
-    line: u32,
-    waits: bool,
-    scope: &mut Scope<'t>,
-) -> Option<Part<'t>> {
-    for branch in branches {
-        if let Some(part) = part_in_branch(branch, line, waits, scope) {
-            return Some(part);
-        }
-    }
-    None
-}
-
-#[cycle(site)]
-fn part_in_branch<'t>(
-    branch: &'t Branch,
-    line: u32,
-    waits: bool,
-    scope: &mut Scope<'t>,
-) -> Option<Part<'t>> {
-    if branch.line == line {
-        let cond = branch.cond.get();
-        return Some(if waits {
-            Part::Wait(cond)
-        } else {
-            Part::Branch(cond)
-        });
-    }
-    let outside = scope.len();
-    enter_found(branch.cond.get(), branch.line, scope);
-    let part = part_in_block(branch.body.as_slice(), line, scope);
-    if part.is_none() {
-        scope.leave_to(outside);
-    }
-    part
 }

@@ -5,11 +5,9 @@ use crate::names::tell_unknown;
 use crate::parts::tokens_of;
 use crate::repeats::{tell_shadow, tell_twice};
 use crate::rules::{tell_arity, tell_norun, tell_recursive, tell_setup, tell_yield};
-use crate::scope::Scope;
-use crate::site::{Site, site_of};
 use crate::types::tell_types;
 use crate::undeclared::{loose_of, tell_no_types, with_int};
-use da_lang::{LimitKind, ScopeKind};
+use da_lang::{LimitKind, ScopeKind, Tree};
 use da_parse::{ParseFault, parse};
 use da_values::LexKind;
 use std::alloc::Global;
@@ -40,10 +38,14 @@ pub fn explain(alloc: Global, text: &[u8], why: Why, line: u32) -> Hint {
     match why {
         Why::Token(kind) => tell_tokens(alloc, text, kind, line, &mut hint),
         Why::Grammar => tell_grammar(alloc, text, &mut hint),
-        Why::Name(_) | Why::Limit(_) | Why::Nodes | Why::Types => {
-            tell_program(alloc, text, why, line, &mut hint);
-        }
         Why::NoTypes => {}
+        _ => {
+            if let Some(tokens) = tokens_of(alloc, text) {
+                if let Ok(tree) = parse(alloc, &tokens) {
+                    return hint_on(alloc, text, &tree, why, line);
+                }
+            }
+        }
     }
     hint
 }
@@ -58,7 +60,13 @@ pub fn explain_loosely(alloc: Global, text: &[u8], why: Why, line: u32) -> Hint 
                 tell_grammar(alloc, text, &mut hint);
             }
         }
-        Why::Name(_) | Why::Limit(_) => tell_undeclared(alloc, text, why, line, &mut hint),
+        Why::Name(_) | Why::Limit(_) => {
+            if let Some(loose) = loose_of(alloc, text) {
+                if let Ok(tree) = with_int(alloc, &loose) {
+                    return hint_on(alloc, text, &tree, why, line);
+                }
+            }
+        }
         Why::NoTypes => tell_no_types(alloc, text, line, &mut hint),
         Why::Nodes | Why::Types => {}
     }
@@ -76,69 +84,33 @@ fn breaks_grammar_at(alloc: Global, text: &[u8], number: u32) -> bool {
     }
 }
 
-// Tells which name or limit is to blame in a text that may lack declarations.
-fn tell_undeclared(alloc: Global, text: &[u8], why: Why, line: u32, hint: &mut Hint) {
-    let Some(loose) = loose_of(alloc, text) else {
-        return;
-    };
-    let Ok(tree) = with_int(alloc, &loose) else {
-        return;
-    };
-    let case = Case {
-        alloc,
-        text,
-        tree: &tree,
-        line,
-    };
-    tell_case(case, why, hint);
-}
-
-// Tells why a text with a tree is refused.
-fn tell_program(alloc: Global, text: &[u8], why: Why, line: u32, hint: &mut Hint) {
-    let Some(tokens) = tokens_of(alloc, text) else {
-        return;
-    };
-    let Ok(tree) = parse(alloc, &tokens) else {
-        return;
-    };
-    let case = Case {
-        alloc,
-        text,
-        tree: &tree,
-        line,
-    };
-    tell_case(case, why, hint);
-}
-
-fn tell_case(case: Case<'_>, why: Why, hint: &mut Hint) {
-    let mut scope = Scope::new(case.alloc, case.tree.messages.as_slice());
-    let Some(site) = site_of(case.tree, case.line, &mut scope) else {
-        return;
+// Tells why a program is refused.
+fn hint_on(alloc: Global, text: &[u8], tree: &Tree, why: Why, line: u32) -> Hint {
+    let Some(mut case) = Case::new(alloc, text, tree, line, false) else {
+        return Hint::new(alloc);
     };
     match why {
-        Why::Name(kind) => tell_names(case, site, kind, &mut scope, hint),
-        Why::Limit(which) => tell_limit(case, site, which, hint),
-        Why::Nodes => tell_nodes(case, site, hint),
-        Why::Types => tell_types(case, site, &mut scope, hint),
+        Why::Name(kind) => tell_names(kind, &mut case),
+        Why::Limit(which) => tell_limit(which, &mut case),
+        Why::Nodes => tell_nodes(&mut case),
+        Why::Types => {
+            tell_types(&mut case);
+        }
         Why::Token(_) | Why::Grammar | Why::NoTypes => {}
     }
+    let Case { hint, .. } = case;
+    hint
 }
 
-fn tell_names<'t>(
-    case: Case<'t>,
-    site: Site<'t>,
-    kind: ScopeKind,
-    scope: &mut Scope<'t>,
-    hint: &mut Hint,
-) {
+fn tell_names(kind: ScopeKind, case: &mut Case<'_>) {
     match kind {
-        ScopeKind::Unknown => tell_unknown(case, site, scope, hint),
-        ScopeKind::Twice => tell_twice(case, site, hint),
-        ScopeKind::Shadow => tell_shadow(case, site, scope, hint),
-        ScopeKind::Recursive => tell_recursive(case, site, hint),
-        ScopeKind::Yield => tell_yield(case, site, hint),
-        ScopeKind::Setup => tell_setup(case, site, hint),
-        ScopeKind::NoRun => tell_norun(case, site, hint),
-        ScopeKind::Arity => tell_arity(case, site, hint),
+        ScopeKind::Unknown => tell_unknown(case),
+        ScopeKind::Twice => tell_twice(case),
+        ScopeKind::Shadow => tell_shadow(case),
+        ScopeKind::Recursive => tell_recursive(case),
+        ScopeKind::Yield => tell_yield(case),
+        ScopeKind::Setup => tell_setup(case),
+        ScopeKind::NoRun => tell_norun(case),
+        ScopeKind::Arity => tell_arity(case),
     }
 }

@@ -1,170 +1,105 @@
 //! Which rule of types is broken on a line.
 use crate::case::Case;
-use crate::parts::blame_name;
+use crate::parts::blame_word;
 use crate::patterns::{tell_message_pattern, tell_pattern, tell_recipient, tell_sent};
 use crate::queries::tell_condition;
 use crate::rules::{class_made, params_of};
-use crate::scope::Scope;
-use crate::shown::put_type;
-use crate::site::{Part, Site};
-use crate::typing::type_of;
+use crate::site::Part;
 use crate::values::{tell_misfit, tell_no_set, tell_truth, tell_untyped, tell_value};
+use crate::walk::Step;
 use da_bodies::Place;
 use da_lang::{Expr, MainLine, Param, Stmt, Ty};
-use text_hints::Hint;
 
 /// The levels that a type may have.
 const MOST_LEVELS: usize = 32;
 
-/// Tells which part of a line breaks a rule of types.
-pub fn tell_types<'t>(case: Case<'t>, site: Site<'t>, scope: &mut Scope<'t>, hint: &mut Hint) {
-    match site.part {
-        Part::Statement(stmt) => {
-            tell_stmt(stmt, case, site, scope, hint);
-        }
-        Part::Branch(cond) => {
-            tell_test(cond, case, scope, hint);
-        }
-        Part::Wait(cond) => {
-            tell_condition(cond, case, scope, hint);
-        }
-        Part::Header => tell_handler(case, site, scope, hint),
-        Part::Main(MainLine::Setup { name, args, .. }) => {
-            if let Some(class) = class_made(case, name.as_slice()) {
-                tell_args(args.as_slice(), params_of(class, None), case, scope, hint);
-            }
-        }
+/// Tells which part of the line breaks a rule of types, and answers whether one does.
+pub fn tell_types<'t>(case: &mut Case<'t>) -> bool {
+    let part = case.site.part;
+    match part {
+        Part::Header => return tell_handler(case),
+        Part::Wait(cond) => return tell_condition(cond, case),
         _ => {}
     }
-}
-
-// The condition of an `if`, an `elif` or a `while`.
-fn tell_test<'t>(x: &'t Expr, case: Case<'t>, scope: &mut Scope<'t>, hint: &mut Hint) -> bool {
-    tell_value(x, case, scope, hint) || tell_truth(x, case, scope, hint)
-}
-
-fn tell_stmt<'t>(
-    stmt: &'t Stmt,
-    case: Case<'t>,
-    site: Site<'t>,
-    scope: &mut Scope<'t>,
-    hint: &mut Hint,
-) -> bool {
-    match stmt {
-        Stmt::Assign { name, value, .. } => {
-            tell_value(value.get(), case, scope, hint)
-                || tell_assigned(name.as_slice(), value.get(), case, scope, hint)
-                || tell_levels(value.get(), case, scope, hint)
-        }
-        Stmt::Add { name, value, .. } => {
-            tell_value(value.get(), case, scope, hint)
-                || tell_changed(name.as_slice(), value.get(), case, scope, hint)
-        }
-        Stmt::Del { name, value, .. } => {
-            tell_value(value.get(), case, scope, hint)
-                || tell_changed(name.as_slice(), value.get(), case, scope, hint)
-                || tell_untyped(value.get(), case, scope, hint)
-        }
-        Stmt::Send { message, to, .. } => {
-            tell_value(message.get(), case, scope, hint)
-                || tell_value(to.get(), case, scope, hint)
-                || tell_sent(message.get(), case, scope, hint)
-                || tell_recipient(to.get(), case, scope, hint)
-        }
-        Stmt::Output { value, .. } => {
-            tell_value(value.get(), case, scope, hint)
-                || tell_untyped(value.get(), case, scope, hint)
-                || tell_levels(value.get(), case, scope, hint)
-        }
-        Stmt::Call { name, args, .. } => match site.class {
-            Some(class) => {
-                let params = params_of(class, Some(name.as_slice()));
-                tell_args(args.as_slice(), params, case, scope, hint)
+    for place in 0..case.steps.len() {
+        if let Some(Step::Whole(part, 0, _)) = case.steps.get(place).copied() {
+            if tell_value(part, case) {
+                return true;
             }
+        }
+    }
+    match part {
+        Part::Statement(stmt) => tell_stmt(stmt, case),
+        Part::Branch(cond) => tell_truth(cond, case),
+        Part::Main(MainLine::Setup { name, args, .. }) => match class_made(name.as_slice(), case) {
+            Some(class) => tell_args(args.as_slice(), params_of(class, None), case),
             None => false,
         },
-        Stmt::While { cond, .. } => tell_test(cond.get(), case, scope, hint),
-        Stmt::For { over, .. } => {
-            tell_value(over.get(), case, scope, hint)
-                || tell_untyped(over.get(), case, scope, hint)
-                || tell_no_set(over.get(), case, scope, hint)
-        }
         _ => false,
     }
 }
 
-// A value that is given to a variable.
-fn tell_assigned<'t>(
-    name: &[u8],
-    value: &'t Expr,
-    case: Case<'t>,
-    scope: &mut Scope<'t>,
-    hint: &mut Hint,
-) -> bool {
-    let Some(ty) = scope.type_of(name) else {
-        return false;
-    };
-    if !tell_misfit(value, &ty, case, scope, hint) {
-        return false;
+// A statement whose expressions break no rule by themselves.
+fn tell_stmt<'t>(stmt: &'t Stmt, case: &mut Case<'t>) -> bool {
+    match stmt {
+        Stmt::Assign { name, value, .. } => {
+            tell_changed(name.as_slice(), value.get(), true, case) || tell_levels(value.get(), case)
+        }
+        Stmt::Add { name, value, .. } => tell_changed(name.as_slice(), value.get(), false, case),
+        Stmt::Del { name, value, .. } => {
+            tell_changed(name.as_slice(), value.get(), false, case)
+                || tell_untyped(value.get(), case)
+        }
+        Stmt::Send { message, to, .. } => {
+            tell_sent(message.get(), case) || tell_recipient(to.get(), case)
+        }
+        Stmt::Output { value, .. } => {
+            tell_untyped(value.get(), case) || tell_levels(value.get(), case)
+        }
+        Stmt::Call { name, args, .. } => match case.site.class {
+            Some(class) => tell_args(
+                args.as_slice(),
+                params_of(class, Some(name.as_slice())),
+                case,
+            ),
+            None => false,
+        },
+        Stmt::While { cond, .. } => tell_truth(cond.get(), case),
+        Stmt::For { over, .. } => tell_untyped(over.get(), case) || tell_no_set(over.get(), case),
+        _ => false,
     }
-    note_variable(name, &ty, hint);
-    true
 }
 
-// The type of a variable.
-fn note_variable(name: &[u8], ty: &Ty, hint: &mut Hint) {
-    hint.notes.put(b"the variable ");
-    hint.notes.quote(name);
-    hint.notes.put(b" is ");
-    put_type(ty, &mut hint.notes);
-    hint.note(b"");
-}
-
-// An element that is put into the set of a variable, or taken out.
-fn tell_changed<'t>(
-    name: &[u8],
-    value: &'t Expr,
-    case: Case<'t>,
-    scope: &mut Scope<'t>,
-    hint: &mut Hint,
-) -> bool {
-    let Some(ty) = scope.type_of(name) else {
+// A value that is given to a variable, or an element that is put into its set or taken out.
+fn tell_changed<'t>(name: &[u8], value: &'t Expr, assigned: bool, case: &mut Case<'t>) -> bool {
+    let Some(ty) = case.scope.type_of(name) else {
         return false;
     };
-    let Ty::Set(element) = &ty else {
-        hint.quote(name);
-        hint.say(b" is ");
-        put_type(&ty, &mut hint.sentence);
-        hint.say(b", and add and del are of a set");
-        blame_name(case.alloc, case.text, case.line, name, false, hint);
-        return true;
+    let shown = case.shown(&ty);
+    let told = match &ty {
+        Ty::Set(element) if !assigned => tell_misfit(value, element.get(), case),
+        _ if assigned => tell_misfit(value, &ty, case),
+        _ => {
+            let form = b"@ is $, and add and del are of a set";
+            case.tell(form, name, shown.as_slice());
+            blame_word(name, case);
+            return true;
+        }
     };
-    if !tell_misfit(value, element.get(), case, scope, hint) {
-        return false;
+    if told {
+        case.note_of(b"the variable @ is $", name, shown.as_slice());
     }
-    note_variable(name, &ty, hint);
-    true
+    told
 }
 
 // Arguments, each of the type of its parameter.
-fn tell_args<'t>(
-    args: &'t [Expr],
-    params: &'t [Param],
-    case: Case<'t>,
-    scope: &mut Scope<'t>,
-    hint: &mut Hint,
-) -> bool {
+fn tell_args<'t>(args: &'t [Expr], params: &'t [Param], case: &mut Case<'t>) -> bool {
     for (place, arg) in args.iter().enumerate() {
-        if tell_value(arg, case, scope, hint) {
-            return true;
-        }
         if let Some(param) = params.get(place) {
-            if tell_misfit(arg, &param.ty, case, scope, hint) {
-                hint.notes.put(b"it is given to the parameter ");
-                hint.notes.quote(param.name.as_slice());
-                hint.notes.put(b": ");
-                put_type(&param.ty, &mut hint.notes);
-                hint.note(b"");
+            if tell_misfit(arg, &param.ty, case) {
+                let shown = case.shown(&param.ty);
+                let form = b"it is given to the parameter @: $";
+                case.note_of(form, param.name.as_slice(), shown.as_slice());
                 return true;
             }
         }
@@ -173,33 +108,34 @@ fn tell_args<'t>(
 }
 
 // The patterns of a handler.
-fn tell_handler<'t>(case: Case<'t>, site: Site<'t>, scope: &mut Scope<'t>, hint: &mut Hint) {
-    let Some(body) = site.body else {
-        return;
+fn tell_handler(case: &mut Case<'_>) -> bool {
+    let Some(body) = case.site.body else {
+        return false;
     };
     let Place::Handler { message, from, .. } = body.place else {
-        return;
+        return false;
     };
-    if tell_message_pattern(message, case, scope, hint) {
-        return;
+    if tell_message_pattern(message, case) {
+        return true;
     }
-    if let Some(pattern) = from {
-        tell_pattern(pattern, &Ty::Proc, case, scope, hint);
+    match from {
+        Some(pattern) => tell_pattern(pattern, &Ty::Proc, case),
+        None => false,
     }
 }
 
 // Tells that the type of an expression has too many levels.
-fn tell_levels<'t>(x: &'t Expr, case: Case<'t>, scope: &mut Scope<'t>, hint: &mut Hint) -> bool {
-    let Some(ty) = type_of(x, case.line, scope) else {
+fn tell_levels<'t>(x: &'t Expr, case: &mut Case<'t>) -> bool {
+    let Some(ty) = case.type_of(x) else {
         return false;
     };
     let levels = levels_of(&ty);
     if levels <= MOST_LEVELS {
         return false;
     }
-    hint.say(b"a value here has a type of ");
-    hint.sentence.number(levels as u64);
-    hint.say(b" levels of tuples and sets; at most 32 are allowed");
+    let levels = case.digits(levels as u64);
+    let form = b"a value here has a type of $ levels of tuples and sets; at most 32 are allowed";
+    case.tell(form, levels.as_slice(), b"");
     true
 }
 

@@ -5,13 +5,10 @@ ghost use Rattle.std.specs.Prelude.{IfSome};
 use crate::case::Case;
 use crate::parts::tokens_of;
 use crate::scope::{Role, Scope};
-use crate::shown::put_type;
-use crate::site::use_of;
 use crate::types::tell_types;
 use added_names::{OpenPlace, declared};
 use da_infer::{clashing_line, declared_upto};
-use da_lang::{Tree, Ty};
-use da_lex::Token;
+use da_lang::Tree;
 use da_parse::{LooseTree, parse_loose};
 use da_values::{List, NoMemory};
 use std::alloc::Global;
@@ -55,13 +52,14 @@ pub fn tell_no_types(alloc: Global, text: &[u8], line: u32, hint: &mut Hint) {
         note_other_line(text, line, other, hint);
     }
     if let Ok(Some(tree)) = declared_upto(alloc, &loose, line.saturating_sub(1)) {
-        let case = Case {
-            alloc,
-            text,
-            tree: &tree,
-            line,
-        };
-        tell_on_line(case, hint);
+        if let Some(mut case) = Case::new(alloc, text, &tree, line, true) {
+            if tell_types(&mut case) {
+                hint.say(b"no types fit: with those that the lines before ask for, ");
+                hint.say(case.hint.sentence.as_slice());
+                hint.blame(case.hint.first, case.hint.length);
+            }
+            note_types(&case, hint);
+        }
     }
 }
 
@@ -75,57 +73,34 @@ fn note_other_line(text: &[u8], line: u32, other: u32, hint: &mut Hint) {
     hint.notes.number(u64::from(other));
     if let Some(found) = line_of(text, other) {
         hint.notes.put(b": ");
-        hint.notes.put(trimmed(found.bytes));
+        hint.notes.put(found.bytes.trim_ascii_start());
     }
     hint.note(b"");
 }
 
-// A line without the spaces in front.
-fn trimmed(line: &[u8]) -> &[u8] {
-    let spaces = line.iter().take_while(|byte| **byte == b' ').count();
-    let (_, rest) = line.split_at(spaces.min(line.len()));
-    rest
-}
-
-// What is wrong on the line with the types of the lines before, and the types of the names that stand on it.
-fn tell_on_line(case: Case<'_>, hint: &mut Hint) {
-    let mut scope = Scope::new(case.alloc, case.tree.messages.as_slice());
-    let Some(site) = use_of(case.tree, case.line, &mut scope) else {
-        return;
-    };
-    let mut told = Hint::new(case.alloc);
-    tell_types(case, site, &mut scope, &mut told);
-    if !told.sentence.is_empty() {
-        hint.say(b"no types fit: with those that the lines before ask for, ");
-        hint.say(told.sentence.as_slice());
-        hint.blame(told.first, told.length);
-    }
-    note_types(case, &scope, hint);
-}
-
 // The types of the variables and parameters that stand on the line, as far as the lines before ask for them.
-fn note_types(case: Case<'_>, scope: &Scope<'_>, hint: &mut Hint) {
+fn note_types(case: &Case<'_>, hint: &mut Hint) {
     let Some(tokens) = tokens_of(case.alloc, case.text) else {
         return;
     };
     let mut names = List::new(case.alloc);
     for token in tokens.list.as_slice() {
-        if token.line == case.line {
-            put_name(case.text, token, scope, &mut names);
+        let name = slice_at(case.text, token);
+        if token.line == case.line
+            && names.len() < MOST_NAMES
+            && is_declared(name, &case.scope)
+            && !names.as_slice().contains(&name)
+        {
+            let _ = names.push(name);
         }
     }
     for name in names.as_slice() {
-        if let Some(ty) = scope.type_of(name) {
-            note_type(name, &ty, hint);
+        if let Some(ty) = case.scope.type_of(name) {
+            let shown = case.shown(&ty);
+            hint.notes
+                .fill(b"before this line @ is $", name, shown.as_slice());
+            hint.note(b"");
         }
-    }
-}
-
-// Adds the name of a token, once, if it is that of a variable or a parameter.
-fn put_name<'t>(text: &'t [u8], token: &Token, scope: &Scope<'_>, names: &mut List<&'t [u8]>) {
-    let name = slice_at(text, token);
-    if names.len() < MOST_NAMES && is_declared(name, scope) && !is_among(name, names.as_slice()) {
-        let _ = names.push(name);
     }
 }
 
@@ -135,21 +110,4 @@ fn is_declared(name: &[u8], scope: &Scope<'_>) -> bool {
         Some(entry) => matches!(entry.role, Role::ClassVariable | Role::Parameter),
         None => false,
     }
-}
-
-fn is_among(name: &[u8], names: &[&[u8]]) -> bool {
-    for other in names {
-        if *other == name {
-            return true;
-        }
-    }
-    false
-}
-
-fn note_type(name: &[u8], ty: &Ty, hint: &mut Hint) {
-    hint.notes.put(b"before this line ");
-    hint.notes.quote(name);
-    hint.notes.put(b" is ");
-    put_type(ty, &mut hint.notes);
-    hint.note(b"");
 }

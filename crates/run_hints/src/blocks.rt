@@ -1,11 +1,12 @@
 //! Processes that are blocked in a join of traces, and what a person is told of each.
 ghost use Rattle.da_core.specs.Compiled.{IsCompiled};
 
-use crate::program::compiled_of;
 use crate::retrace::{Next, next_of};
 use crate::unmade::tell_unmade;
 use crate::unsent::{Wanted, tell_unsent};
+use crate::words::{fill, put_front};
 use da_core::Compiled;
+use da_front::read_program;
 use da_lang::Action;
 use da_values::{Buf, List};
 use sched_text::{read_trace, write_action};
@@ -13,9 +14,6 @@ use std::alloc::Global;
 use std::str;
 use text_hints::{Phrase, between};
 use trace_join::same_action;
-
-/// The bytes of a line that are shown at most.
-const SHOWN: usize = 160;
 
 /// A process that is blocked, and at which line of its trace.
 #[derive(Clone, Copy, Debug, PartialEq, Eq)]
@@ -49,7 +47,7 @@ pub fn explain_blocks(
     blocks: &[Blocked],
 ) -> List<Phrase> {
     let mut told = List::new(alloc);
-    if let Some(compiled) = compiled_of(alloc, program) {
+    if let Ok(compiled) = read_program(alloc, program) {
         if let Some(actions) = actions_of(alloc, traces) {
             let join = Join {
                 alloc,
@@ -152,27 +150,28 @@ fn tell_otherwise(
     told: &[Action],
     out: &mut Phrase,
 ) -> bool {
+    let process = u64::from(block.process);
     for (place, action) in told.iter().enumerate() {
         match left.get(place) {
-            None => {
-                out.put(b"the trace ends within this event: process ");
-                out.number(u64::from(block.process));
-                out.put(b" goes on with ");
-                put_action(alloc, action, out);
-                return true;
-            }
+            None => fill(
+                b"the trace ends within this event: process # goes on with ",
+                &[process],
+                out,
+            ),
             Some(given) => {
-                if !same_action(action, given) {
-                    out.put(b"process ");
-                    out.number(u64::from(block.process));
-                    out.put(b" does something else behind this: line ");
-                    out.number(block.line.saturating_add(place as u64));
-                    out.put(b" would be ");
-                    put_action(alloc, action, out);
-                    return true;
+                if same_action(action, given) {
+                    continue;
                 }
+                let line = block.line.saturating_add(place as u64);
+                fill(
+                    b"process # does something else behind this: line # would be ",
+                    &[process, line],
+                    out,
+                );
             }
         }
+        put_action(alloc, action, out);
+        return true;
     }
     false
 }
@@ -181,12 +180,11 @@ fn tell_otherwise(
 fn put_action(alloc: Global, action: &Action, out: &mut Phrase) {
     let mut line = List::new(alloc);
     let _ = write_action(action, &mut line);
-    let length = line.len().saturating_sub(1);
     out.put(b"`");
-    out.put(between(line.as_slice(), 0, length.min(SHOWN)));
-    if length > SHOWN {
-        out.put(b"..");
-    }
+    put_front(
+        between(line.as_slice(), 0, line.len().saturating_sub(1)),
+        out,
+    );
     out.put(b"`");
 }
 

@@ -3,20 +3,19 @@
 //! was; why a process is blocked in a join of traces, and why a line is none of a trace. No contract speaks of the words.
 #![tactic(auto)]
 
+mod allowed;
 mod blocks;
 mod faults;
 mod following;
 mod lines;
-mod marked;
-mod program;
+mod points;
+mod reached;
 mod retrace;
-mod run;
-mod state;
 mod stop;
 mod trace_lines;
 mod unmade;
 mod unsent;
-mod waits;
+mod words;
 
 pub use blocks::{Blocked, blocked_in, explain_blocks};
 pub use faults::{Fault, explain_fault};

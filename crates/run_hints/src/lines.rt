@@ -1,6 +1,7 @@
 //! Lines that are none of a schedule.
+use crate::words::{form_of, put_meant};
 use std::alloc::Global;
-use text_hints::{Nearest, Phrase};
+use text_hints::Phrase;
 
 /// The events, each with the numbers after its word.
 const EVENTS: [(&[u8], &[u8]); 7] = [
@@ -22,17 +23,18 @@ pub fn explain_line(alloc: Global, line: &[u8]) -> Phrase {
     let mut words = line.split(|byte| *byte == b' ');
     let word = words.next().unwrap_or(line);
     let count = words.count();
-    let Some(form) = form_of(word) else {
-        tell_word(alloc, word, &mut told);
+    let Some(form) = form_of(&EVENTS, word) else {
+        told.quote(word);
+        told.put(b" is the word of no event");
+        put_meant(alloc, &EVENTS, word, &mut told);
         return told;
     };
     if tell_number(line, &mut told) {
         return told;
     }
     if !takes(word, count) {
-        told.put(b"'");
-        told.put(word);
-        told.put(b"' has ");
+        told.enclose(word);
+        told.put(b" has ");
         told.count(count, b"number", b"numbers");
         told.put(b" behind it, and is written ");
         told.put(form);
@@ -68,30 +70,6 @@ fn has_two_spaces(line: &[u8]) -> bool {
         before = space;
     }
     false
-}
-
-// How an event of this word is written.
-fn form_of(word: &[u8]) -> Option<&'static [u8]> {
-    for event in &EVENTS {
-        if event.0 == word {
-            return Some(event.1);
-        }
-    }
-    None
-}
-
-fn tell_word(alloc: Global, word: &[u8], out: &mut Phrase) {
-    out.quote(word);
-    out.put(b" is the word of no event");
-    let mut nearest = Nearest::new(alloc, word);
-    for event in &EVENTS {
-        nearest.offer(event.0);
-    }
-    if let Some(found) = nearest.found() {
-        out.put(b": is ");
-        out.quote(found);
-        out.put(b" meant?");
-    }
 }
 
 // Whether so many numbers may stand after a word.

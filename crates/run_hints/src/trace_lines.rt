@@ -1,8 +1,9 @@
 //! Lines that are none of the trace of a process.
+use crate::words::{form_of, put_meant};
 use da_values::read_value;
 use std::alloc::Global;
 use std::str;
-use text_hints::{Nearest, Phrase};
+use text_hints::Phrase;
 
 /// The lines of a trace, each with what stands after its word.
 const LINES: [(&[u8], &[u8]); 6] = [
@@ -35,7 +36,7 @@ pub fn explain_trace_line(alloc: Global, line: &[u8], process: u16) -> Phrase {
     }
     let mut words = line.split(|byte| *byte == b' ');
     let word = words.next().unwrap_or(line);
-    let Some(form) = form_of(word) else {
+    let Some(form) = form_of(&LINES, word) else {
         tell_word(alloc, word, &mut told);
         return told;
     };
@@ -70,16 +71,6 @@ fn tell_ends(line: &[u8], out: &mut Phrase) -> bool {
     true
 }
 
-// How a line of this word is written.
-fn form_of(word: &[u8]) -> Option<&'static [u8]> {
-    for known in &LINES {
-        if known.0 == word {
-            return Some(known.1);
-        }
-    }
-    None
-}
-
 fn tell_word(alloc: Global, word: &[u8], out: &mut Phrase) {
     out.quote_front(word);
     if REPLAYED.iter().any(|known| *known == word) {
@@ -87,15 +78,7 @@ fn tell_word(alloc: Global, word: &[u8], out: &mut Phrase) {
         return;
     }
     out.put(b" is the word of no line of a trace");
-    let mut nearest = Nearest::new(alloc, word);
-    for known in &LINES {
-        nearest.offer(known.0);
-    }
-    if let Some(found) = nearest.found() {
-        out.put(b": is ");
-        out.quote(found);
-        out.put(b" meant?");
-    }
+    put_meant(alloc, &LINES, word, out);
 }
 
 // That the line is of another process, or of none.

@@ -1,5 +1,6 @@
 //! Messages for which a process waits in a join of traces.
 use crate::blocks::{Blocked, Join};
+use crate::words::fill;
 use da_lang::{Action, ChannelKind, same_value};
 use da_values::Value;
 use text_hints::Phrase;
@@ -14,22 +15,16 @@ pub struct Wanted<'t> {
 }
 
 impl Wanted<'_> {
-    // Whether an action sends this message.
-    fn is_sent_by(&self, action: &Action) -> bool {
-        match action {
-            Action::Sent { p, q, t, v } => {
-                *p == self.from && *q == self.to && *t == self.time && same_value(v, self.message)
-            }
-            _ => false,
-        }
+    // Whether a message of this way, time and value is this one.
+    fn is(&self, from: u16, to: u16, time: u64, message: &Value) -> bool {
+        from == self.from && to == self.to && time == self.time && same_value(message, self.message)
     }
 
-    // Whether an action takes this message.
-    fn is_got_by(&self, action: &Action) -> bool {
+    // Whether an action sends this message, or else whether it takes it.
+    fn is_told_by(&self, action: &Action, sent: bool) -> bool {
         match action {
-            Action::Got { q, p, t, v } => {
-                *p == self.from && *q == self.to && *t == self.time && same_value(v, self.message)
-            }
+            Action::Sent { p, q, t, v } => sent && self.is(*p, *q, *t, v),
+            Action::Got { q, p, t, v } => !sent && self.is(*p, *q, *t, v),
             _ => false,
         }
     }
@@ -43,69 +38,58 @@ pub fn tell_unsent(
     wanted: Wanted<'_>,
     out: &mut Phrase,
 ) {
-    out.put(b"process ");
-    out.number(u64::from(block.process));
-    out.put(b" waits for this message, ");
-    let Some(sent) = line_of_sending(join.trace(wanted.from), wanted) else {
-        put_sender(wanted, b"and process ", out);
-        out.put(b" has not sent it");
+    let sender = u64::from(wanted.from);
+    fill(
+        b"process # waits for this message, ",
+        &[u64::from(block.process)],
+        out,
+    );
+    let Some(sent) = line_of(join.trace(wanted.from), wanted, true) else {
+        fill(b"and process # has not sent it", &[sender], out);
         return;
     };
     let end = join.end_of(wanted.from);
     if sent >= end {
-        put_sender(wanted, b"which process ", out);
-        out.put(b" sends in line ");
-        out.number(sent);
-        out.put(b" of its trace, but it is blocked itself in line ");
-        out.number(end);
+        fill(
+            b"which process # sends in line # of its trace, but it is blocked itself in line #",
+            &[sender, sent, end],
+            out,
+        );
         return;
     }
-    if let Some(got) = line_of_taking(passed, wanted) {
-        out.put(b"which it has got in line ");
-        out.number(got);
-        put_sender(wanted, b", and process ", out);
-        out.put(b" has sent it once");
+    if let Some(got) = line_of(passed, wanted, false) {
+        fill(
+            b"which it has got in line #, and process # has sent it once",
+            &[got, sender],
+            out,
+        );
         return;
     }
-    tell_order(join, wanted, sent, out);
+    fill(
+        b"which process # sent in line # of its trace",
+        &[sender, sent],
+        out,
+    );
+    out.put(order_of(join.compiled.program().kind));
 }
 
-fn put_sender(wanted: Wanted<'_>, before: &[u8], out: &mut Phrase) {
-    out.put(before);
-    out.number(u64::from(wanted.from));
-}
-
-// That the message was sent, and is not the first one of its channel.
-fn tell_order(join: Join<'_>, wanted: Wanted<'_>, sent: u64, out: &mut Phrase) {
-    put_sender(wanted, b"which process ", out);
-    out.put(b" sent in line ");
-    out.number(sent);
-    out.put(b" of its trace");
-    out.put(match join.compiled.program().kind {
+// How a message that was sent is not the next one of its channel, by the kind of the channels.
+fn order_of(kind: ChannelKind) -> &'static [u8] {
+    match kind {
         ChannelKind::FifoReliable => {
-            b": the channels are fifo, and one that was sent before it has not been taken".as_slice()
+            b": the channels are fifo, and one that was sent before it has not been taken"
         }
         ChannelKind::FifoUnreliable => {
             b": the channels are fifo, and one that was sent behind it was taken before"
         }
         ChannelKind::UnorderedReliable | ChannelKind::UnorderedUnreliable => b"",
-    });
-}
-
-// The line of a trace that sends a message.
-fn line_of_sending(trace: &[Action], wanted: Wanted<'_>) -> Option<u64> {
-    for (place, action) in trace.iter().enumerate() {
-        if wanted.is_sent_by(action) {
-            return Some((place as u64).saturating_add(1));
-        }
     }
-    None
 }
 
-// The line of a trace that takes a message.
-fn line_of_taking(trace: &[Action], wanted: Wanted<'_>) -> Option<u64> {
+// The line of a trace that sends a message, or else the one that takes it.
+fn line_of(trace: &[Action], wanted: Wanted<'_>, sent: bool) -> Option<u64> {
     for (place, action) in trace.iter().enumerate() {
-        if wanted.is_got_by(action) {
+        if wanted.is_told_by(action, sent) {
             return Some((place as u64).saturating_add(1));
         }
     }

@@ -45,50 +45,45 @@ pub fn tell_grammar(alloc: Global, text: &[u8], hint: &mut Hint) {
 
 // Blames the token at the spot, or the place where it should stand.
 fn blame_spot(spot: Spot<'_>, hint: &mut Hint) {
-    if spot.is_end() {
-        hint.blame(spot.end_before(), 1);
-        return;
+    match spot.tokens.get(spot.place) {
+        Some(token) if !spot.is_end() => {
+            hint.blame(token.first as usize, (token.length as usize).max(1));
+        }
+        _ => hint.blame(spot.end_before(), 1),
     }
-    let Some(token) = spot.tokens.get(spot.place) else {
-        return;
-    };
-    let first = token.first as usize;
-    hint.blame(first, (token.length as usize).max(1));
 }
 
 // The sentence: what is expected, and what stands there.
 fn tell_stop(spot: Spot<'_>, marks: &[Mark], hint: &mut Hint) {
     if spot.tokens.is_empty() {
         hint.say(b"the text is empty: a program has classes and ends with 'def main():'");
-        return;
-    }
-    if spot.is_end() {
-        tell_end(spot, marks, hint);
-        return;
-    }
-    if spot.here(Mark::Indent) {
+    } else if spot.is_end() {
+        tell_end(marks, hint);
+    } else if spot.here(Mark::Indent) {
         hint.say(
             b"the indentation of this line is deeper than that of the line before, and no block begins here",
         );
-        return;
-    }
-    hint.say(b"expected ");
-    put_expected(marks, &mut hint.sentence);
-    if spot.here(Mark::Newline) {
-        hint.say(b", and the line ends here");
-    } else if spot.here(Mark::Dedent) {
-        hint.say(b", and the block ends before this line");
     } else {
-        hint.say(b", and here stands ");
-        if spot.here(Mark::Quoted) {
-            hint.say(b"the text ");
-        }
-        hint.quote(spot.bytes(spot.place));
+        hint.say(b"expected ");
+        put_expected(marks, &mut hint.sentence);
+        let (form, bytes) = match spot.mark(spot.place) {
+            Some(Mark::Newline) => (b", and the line ends here".as_slice(), b"".as_slice()),
+            Some(Mark::Dedent) => (
+                b", and the block ends before this line".as_slice(),
+                b"".as_slice(),
+            ),
+            Some(Mark::Quoted) => (
+                b", and here stands the text @".as_slice(),
+                spot.bytes(spot.place),
+            ),
+            _ => (b", and here stands @".as_slice(), spot.bytes(spot.place)),
+        };
+        hint.sentence.fill(form, bytes, b"");
     }
 }
 
 // The text ends too early.
-fn tell_end(spot: Spot<'_>, marks: &[Mark], hint: &mut Hint) {
+fn tell_end(marks: &[Mark], hint: &mut Hint) {
     hint.say(b"the end of the text comes too early: ");
     if has(marks, Mark::Def) && has(marks, Mark::Class) {
         hint.say(b"there is no 'def main():' with the processes");
@@ -103,29 +98,21 @@ fn tell_end(spot: Spot<'_>, marks: &[Mark], hint: &mut Hint) {
 
 // The innermost bracket that is open, where it could be closed here.
 fn tell_open(alloc: Global, spot: Spot<'_>, marks: &[Mark], hint: &mut Hint) {
-    if !(has(marks, Mark::CloseParen)
-        || has(marks, Mark::CloseBrace)
-        || has(marks, Mark::CloseBracket))
-    {
+    let closes = [Mark::CloseParen, Mark::CloseBrace, Mark::CloseBracket];
+    if !closes.iter().any(|mark| has(marks, *mark)) {
         return;
     }
     let before = spot.before();
-    let open = open_brackets(alloc, before);
-    let Some(last) = open.len().checked_sub(1) else {
-        return;
-    };
-    let Some(place) = open.get(last) else {
-        return;
-    };
-    put_bracket(before, *place, &mut hint.notes);
-    hint.note(b" is open here");
+    if let Some(place) = open_brackets(alloc, before).pop() {
+        put_bracket(before, place, &mut hint.notes);
+        hint.note(b" is open here");
+    }
 }
 
 // A bracket that is open after a text, and where it stands.
 fn put_bracket(before: &[u8], place: usize, out: &mut Phrase) {
-    out.put(b"the ");
-    out.quote(between(before, place, place.saturating_add(1)));
-    out.put(b" in column ");
+    let bracket = between(before, place, place.saturating_add(1));
+    out.fill(b"the @ in column ", bracket, b"");
     out.number(column_of(before, place) as u64);
     let line = line_number(before, place);
     if line != line_number(before, before.len()) {

@@ -14,29 +14,20 @@ pub fn line_of(text: &[u8], number: u32) -> Option<Line<'_>> {
     for (place, byte) in text.iter().enumerate() {
         if *byte == b'\n' {
             if count == number {
-                return Some(ended_line(text, first, place));
+                let whole = between(text, first, place);
+                let bytes = whole.strip_suffix(b"\r".as_slice()).unwrap_or(whole);
+                return Some(Line { first, bytes });
             }
             count = count.saturating_add(1);
             first = place.saturating_add(1);
         }
     }
+    let bytes = behind(text, first);
     if count == number {
-        Some(Line {
-            first,
-            bytes: behind(text, first),
-        })
+        Some(Line { first, bytes })
     } else {
         None
     }
-}
-
-// The line from one place up to its LF, without a carriage return before that.
-fn ended_line(text: &[u8], first: usize, end: usize) -> Line<'_> {
-    let bytes = match between(text, first, end) {
-        [whole @ .., b'\r'] => whole,
-        whole => whole,
-    };
-    Line { first, bytes }
 }
 
 /// The bytes from one place up to another, as far as there are such places.

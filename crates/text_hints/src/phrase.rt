@@ -51,6 +51,24 @@ impl Phrase {
         self.put(b"..");
     }
 
+    /// Adds a form, in which the first `@` or `$` stands for a part, and others for a second one: `@` in quotes, and `$` as it is.
+    pub fn fill(&mut self, form: &[u8], first: &[u8], second: &[u8]) {
+        let mut is_first = true;
+        for byte in form {
+            if *byte != b'@' && *byte != b'$' {
+                let _ = self.text.push(*byte);
+                continue;
+            }
+            let part = if is_first { first } else { second };
+            is_first = false;
+            if *byte == b'@' {
+                self.quote(part);
+            } else {
+                self.put(part);
+            }
+        }
+    }
+
     /// Adds a number.
     pub fn number(&mut self, number: u64) {
         let _ = write_number(number, &mut self.text);

@@ -9,39 +9,23 @@ pub fn tell_python(spot: Spot<'_>, marks: &[Mark], hint: &mut Hint) -> bool {
     if tell_augmented(spot, hint) {
         return true;
     }
-    match note_on(spot, marks) {
-        Some(note) => {
+    for note in [
+        on_first_word(spot),
+        on_outermost(spot, marks),
+        on_main(spot, marks),
+        on_header(spot, marks),
+        on_statement(spot, marks),
+        on_line(spot, marks),
+        on_query(spot, marks),
+        on_value(spot, marks),
+        on_operator(spot, marks),
+    ] {
+        if !note.is_empty() {
             hint.note(note);
-            true
+            return true;
         }
-        None => false,
     }
-}
-
-// The first note that fits.
-fn note_on(spot: Spot<'_>, marks: &[Mark]) -> Option<&'static [u8]> {
-    if let Some(note) = on_first_word(spot) {
-        return Some(note);
-    }
-    if let Some(note) = on_outermost(spot, marks) {
-        return Some(note);
-    }
-    if let Some(note) = on_main(spot, marks) {
-        return Some(note);
-    }
-    if let Some(note) = on_header(spot, marks) {
-        return Some(note);
-    }
-    if let Some(note) = on_statement(spot, marks) {
-        return Some(note);
-    }
-    if let Some(note) = on_query(spot, marks) {
-        return Some(note);
-    }
-    if let Some(note) = on_value(spot, marks) {
-        return Some(note);
-    }
-    on_operator(spot, marks)
+    false
 }
 
 // `x += 1`, `x++` and `x--`
@@ -52,359 +36,285 @@ fn tell_augmented(spot: Spot<'_>, hint: &mut Hint) -> bool {
     }
     let next = spot.place.saturating_add(1);
     let sign = spot.bytes(spot.place);
-    if matches!(sign, b"+" | b"-" | b"*" | b"//" | b"%") && spot.is(next, Mark::Assign) {
-        put_assigned(spot.back_bytes(1), sign, b"=", b" ..", hint);
+    let (first, second, value) = if matches!(sign, b"+" | b"-" | b"*" | b"//" | b"%")
+        && spot.is(next, Mark::Assign)
+    {
+        (sign, b"=".as_slice(), b"..".as_slice())
     } else if spot.here(Mark::Plus) && spot.is(next, Mark::Plus) {
-        put_assigned(spot.back_bytes(1), b"+", b"+", b" 1", hint);
+        (b"+".as_slice(), b"+".as_slice(), b"1".as_slice())
     } else if spot.here(Mark::Dashes) {
-        put_assigned(spot.back_bytes(1), b"-", b"-", b" 1", hint);
+        (b"-".as_slice(), b"-".as_slice(), b"1".as_slice())
     } else {
         return false;
-    }
+    };
+    let name = spot.back_bytes(1);
+    hint.notes.fill(b"there is no $$: write ", first, second);
+    hint.notes.fill(b"$ = $ ", name, name);
+    hint.notes.fill(b"$ $", first, value);
+    hint.note(b"");
     true
 }
 
-// How a variable is changed by a sign.
-fn put_assigned(name: &[u8], sign: &[u8], second: &[u8], value: &[u8], hint: &mut Hint) {
-    hint.notes.put(b"there is no ");
-    hint.notes.put(sign);
-    hint.notes.put(second);
-    hint.notes.put(b": write ");
-    hint.notes.put(name);
-    hint.notes.put(b" = ");
-    hint.notes.put(name);
-    hint.notes.put(b" ");
-    hint.notes.put(sign);
-    hint.note(value);
+// A statement that begins with a word of another language.
+fn on_first_word(spot: Spot<'_>) -> &'static [u8] {
+    let begin = spot.begin();
+    if !spot.is(begin, Mark::Name) || spot.place > begin.saturating_add(1) {
+        return b"";
+    }
+    match spot.bytes(begin) {
+        b"return" => {
+            b"there is no return: a method ends with its last line, and leaves what it works out in a variable of the class"
+        }
+        b"break" | b"continue" => {
+            b"a loop is not left before its end: use a condition, while not done and ..:"
+        }
+        b"import" => b"there are no imports",
+        b"print" => b"write output(..)",
+        b"global" | b"nonlocal" => b"a method sees the variables of its class without that",
+        b"assert" | b"raise" | b"try" | b"except" | b"with" => b"there are no exceptions",
+        b"let" | b"const" | b"int" => b"variables are declared in the class: var x: int",
+        b"wait" | b"sleep" => b"write await and a condition",
+        _ => b"",
+    }
 }
 
 // What stands outside of classes, and their headers.
-fn on_outermost(spot: Spot<'_>, marks: &[Mark]) -> Option<&'static [u8]> {
+fn on_outermost(spot: Spot<'_>, marks: &[Mark]) -> &'static [u8] {
     if has(marks, Mark::Extends) {
-        return Some(b"write class P extends process:");
+        b"write class P extends process:"
+    } else if spot.tokens.is_empty() && spot.text.contains(&b'\r') && !spot.text.contains(&b'\n') {
+        b"its lines end with a carriage return (CR) alone: the line end of a program is LF, or CR and LF"
+    } else if has(marks, Mark::Class) && has(marks, Mark::Def) && !spot.is_end() {
+        b"outside of classes stand channel, message, class and def main(): alone; statements go into the methods of a class"
+    } else if spot.back(1, Mark::Def) && has(marks, Mark::Main) && !has(marks, Mark::Run) {
+        b"outside of classes only main is defined; a method is indented within its class"
+    } else if has(marks, Mark::Var) && has(marks, Mark::Receive) {
+        on_member(spot)
+    } else {
+        b""
     }
-    if spot.tokens.is_empty() && spot.text.contains(&b'\r') && !spot.text.contains(&b'\n') {
-        return Some(
-            b"its lines end with a carriage return (CR) alone: the line end of a program is LF, or CR and LF",
-        );
-    }
-    if has(marks, Mark::Class) && has(marks, Mark::Def) && !spot.is_end() {
-        return Some(
-            b"outside of classes stand channel, message, class and def main(): alone; statements go into the methods of a class",
-        );
-    }
-    if spot.back(1, Mark::Def) && has(marks, Mark::Main) && !has(marks, Mark::Run) {
-        return Some(
-            b"outside of classes only main is defined; a method is indented within its class",
-        );
-    }
-    if has(marks, Mark::Var) && has(marks, Mark::Receive) {
-        return on_member(spot);
-    }
-    None
 }
 
 // What stands in a class, outside of methods.
-fn on_member(spot: Spot<'_>) -> Option<&'static [u8]> {
+fn on_member(spot: Spot<'_>) -> &'static [u8] {
     let next = spot.place.saturating_add(1);
     if spot.here(Mark::Name) && (spot.is(next, Mark::Assign) || spot.is(next, Mark::Colon)) {
-        return Some(
-            b"a variable of the class is declared so: var x: int; it begins as 0, and setup or run sets it",
-        );
+        b"a variable of the class is declared so: var x: int; it begins as 0, and setup or run sets it"
+    } else if spot.is_end() || spot.here(Mark::Indent) || spot.here(Mark::Dedent) {
+        b""
+    } else {
+        b"statements stand in def setup(..):, def run():, in methods and in handlers (receive ..:)"
     }
-    if spot.is_end() || spot.here(Mark::Indent) || spot.here(Mark::Dedent) {
-        return None;
-    }
-    Some(
-        b"statements stand in def setup(..):, def run():, in methods and in handlers (receive ..:)",
-    )
 }
 
 // The lines of `main`.
-fn on_main(spot: Spot<'_>, marks: &[Mark]) -> Option<&'static [u8]> {
-    let begin = spot.begin();
+fn on_main(spot: Spot<'_>, marks: &[Mark]) -> &'static [u8] {
     let is_call = spot.here(Mark::OpenParen) && spot.back(1, Mark::Name) && !has(marks, Mark::Dot);
-    if has(marks, Mark::Assign) && is_call && spot.is_name(begin, b"start") {
-        return Some(b"there is no start: a process starts by an event of the schedule, as move 1");
-    }
-    if has(marks, Mark::New) {
-        return Some(b"main makes a process so: a = new(P); or several: a = new(P, 3)");
-    }
     let begins_line = has(marks, Mark::Setup) && has(marks, Mark::Name) && !has(marks, Mark::Run);
-    if begins_line || (is_call && has(marks, Mark::Assign)) {
-        if spot.is_end() || spot.here(Mark::Indent) {
-            return None;
-        }
-        return Some(b"main has two kinds of lines: a = new(P) and setup(a, ..)");
+    if has(marks, Mark::Assign) && is_call && spot.is_name(spot.begin(), b"start") {
+        b"there is no start: a process starts by an event of the schedule, as move 1"
+    } else if has(marks, Mark::New) {
+        b"main makes a process so: a = new(P); or several: a = new(P, 3)"
+    } else if (begins_line || (is_call && has(marks, Mark::Assign)))
+        && !spot.is_end()
+        && !spot.here(Mark::Indent)
+    {
+        b"main has two kinds of lines: a = new(P) and setup(a, ..)"
+    } else {
+        b""
     }
-    None
 }
 
 // The header of a method, of a handler or of a class.
-fn on_header(spot: Spot<'_>, marks: &[Mark]) -> Option<&'static [u8]> {
+fn on_header(spot: Spot<'_>, marks: &[Mark]) -> &'static [u8] {
     let begin = spot.begin();
     if spot.is(begin, Mark::Def) {
-        return on_method(spot, marks, begin.saturating_add(1));
+        on_method(spot, marks, begin.saturating_add(1))
+    } else if spot.is(begin, Mark::Var) && spot.here(Mark::Assign) {
+        b"var x: int declares x, which begins as 0; setup or run gives it another value"
+    } else if spot.is(begin, Mark::Var) && has(marks, Mark::Int) {
+        b"types are written int, bool, str, proc, (int, str), set[int]"
+    } else if spot.is(begin, Mark::Message) && (spot.here(Mark::Colon) || spot.here(Mark::Name)) {
+        b"the parts of a message have types and no names: message ping(int)"
+    } else {
+        b""
     }
-    if spot.is(begin, Mark::Var) {
-        return on_variable(spot, marks);
-    }
-    if spot.is(begin, Mark::Message) && (spot.here(Mark::Colon) || spot.here(Mark::Name)) {
-        return Some(b"the parts of a message have types and no names: message ping(int)");
-    }
-    None
 }
 
 // The header of a method, whose name stands at this place.
-fn on_method(spot: Spot<'_>, marks: &[Mark], name: usize) -> Option<&'static [u8]> {
+fn on_method(spot: Spot<'_>, marks: &[Mark], name: usize) -> &'static [u8] {
     let bare = spot.is(name, Mark::Run) || spot.is(name, Mark::Main);
-    if bare && spot.back(1, Mark::OpenParen) {
-        return Some(b"run and main have no parameter, not even self: write def run():");
-    }
-    if spot.here(Mark::SelfWord) {
-        return Some(b"there is no parameter self: a method sees the variables of its class");
-    }
     let ends = spot.here(Mark::Comma) || spot.here(Mark::CloseParen);
-    if ends && spot.back(1, Mark::Name) && has(marks, Mark::Colon) {
-        return Some(b"each parameter has a type: def f(x: int, p: proc):");
+    if bare && spot.back(1, Mark::OpenParen) {
+        b"run and main have no parameter, not even self: write def run():"
+    } else if spot.here(Mark::SelfWord) {
+        b"there is no parameter self: a method sees the variables of its class"
+    } else if ends && spot.back(1, Mark::Name) && has(marks, Mark::Colon) {
+        b"each parameter has a type: def f(x: int, p: proc):"
+    } else if spot.here(Mark::Assign) {
+        b"parameters have no defaults"
+    } else if spot.here(Mark::Minus) {
+        b"a method has no result: it leaves what it works out in a variable of the class"
+    } else {
+        on_one_line(spot, marks)
     }
-    if spot.here(Mark::Assign) {
-        return Some(b"parameters have no defaults");
-    }
-    if spot.here(Mark::Minus) {
-        return Some(
-            b"a method has no result: it leaves what it works out in a variable of the class",
-        );
-    }
-    on_one_line(spot, marks)
 }
 
 // A block on the line of its header.
-fn on_one_line(spot: Spot<'_>, marks: &[Mark]) -> Option<&'static [u8]> {
+fn on_one_line(spot: Spot<'_>, marks: &[Mark]) -> &'static [u8] {
     if spot.back(1, Mark::Colon) && has(marks, Mark::Newline) {
-        return Some(b"a block stands on lines of its own, indented by four spaces");
-    }
-    None
-}
-
-// `var`
-fn on_variable(spot: Spot<'_>, marks: &[Mark]) -> Option<&'static [u8]> {
-    if spot.here(Mark::Assign) {
-        return Some(
-            b"var x: int declares x, which begins as 0; setup or run gives it another value",
-        );
-    }
-    if has(marks, Mark::Int) {
-        return Some(b"types are written int, bool, str, proc, (int, str), set[int]");
-    }
-    None
-}
-
-// A statement that begins with a word of another language.
-fn on_first_word(spot: Spot<'_>) -> Option<&'static [u8]> {
-    let begin = spot.begin();
-    if !spot.is(begin, Mark::Name) || spot.place > begin.saturating_add(1) {
-        return None;
-    }
-    match spot.bytes(begin) {
-        b"return" => Some(
-            b"there is no return: a method ends with its last line, and leaves what it works out in a variable of the class",
-        ),
-        b"break" | b"continue" => Some(
-            b"a loop is not left before its end: use a condition, while not done and ..:",
-        ),
-        b"import" => Some(b"there are no imports"),
-        b"print" => Some(b"write output(..)"),
-        b"global" | b"nonlocal" => Some(b"a method sees the variables of its class without that"),
-        b"assert" | b"raise" | b"try" | b"except" | b"with" => Some(b"there are no exceptions"),
-        b"let" | b"const" | b"int" => Some(b"variables are declared in the class: var x: int"),
-        b"wait" | b"sleep" => Some(b"write await and a condition"),
-        _ => None,
+        b"a block stands on lines of its own, indented by four spaces"
+    } else {
+        b""
     }
 }
 
 // What stands where a statement begins, or goes on.
-fn on_statement(spot: Spot<'_>, marks: &[Mark]) -> Option<&'static [u8]> {
+fn on_statement(spot: Spot<'_>, marks: &[Mark]) -> &'static [u8] {
     let next = spot.place.saturating_add(1);
     let statement = has(marks, Mark::Send) && has(marks, Mark::Await);
     if (spot.here(Mark::SelfWord) && spot.is(next, Mark::Dot))
         || (spot.here(Mark::Dot) && spot.back(1, Mark::SelfWord))
     {
-        return Some(b"a variable of the class is named without self: x, declared as var x: int");
+        b"a variable of the class is named without self: x, declared as var x: int"
+    } else if spot.here(Mark::Indent) {
+        b"a block begins only below a line that ends with ':'"
+    } else if statement && spot.here(Mark::Quoted) {
+        b"a remark begins with #"
+    } else if statement && (spot.here(Mark::Else) || spot.here(Mark::Elif)) {
+        b"no if stands before it with this indentation"
+    } else if spot.here(Mark::If) && spot.back(1, Mark::Else) {
+        b"write elif"
+    } else if has(marks, Mark::Add) {
+        b"x.add(e) and x.del(e) put an element into a set and take it out; there are no other methods of values"
+    } else {
+        b""
     }
-    if spot.here(Mark::Indent) {
-        return Some(b"a block begins only below a line that ends with ':'");
-    }
-    if statement && spot.here(Mark::Quoted) {
-        return Some(b"a remark begins with #");
-    }
-    if statement && (spot.here(Mark::Else) || spot.here(Mark::Elif)) {
-        return Some(b"no if stands before it with this indentation");
-    }
-    if spot.here(Mark::If) && spot.back(1, Mark::Else) {
-        return Some(b"write elif");
-    }
-    if has(marks, Mark::Add) {
-        return Some(
-            b"x.add(e) and x.del(e) put an element into a set and take it out; there are no other methods of values",
-        );
-    }
-    if spot.is(spot.begin(), Mark::Send) {
-        return on_send(spot, marks);
-    }
-    on_loop(spot, marks)
 }
 
-// `send`
-fn on_send(spot: Spot<'_>, marks: &[Mark]) -> Option<&'static [u8]> {
-    if spot.here(Mark::To) || has(marks, Mark::To) {
-        return Some(b"write send ('ping', 5) to p");
-    }
-    None
-}
-
-// `for`, and blocks on one line.
-fn on_loop(spot: Spot<'_>, marks: &[Mark]) -> Option<&'static [u8]> {
-    if (spot.here(Mark::OpenParen) && spot.back(1, Mark::For))
-        || (spot.here(Mark::Comma) && spot.back(2, Mark::For))
-    {
-        return Some(
-            b"for takes one name; the pattern of a query takes a tuple apart: if some (k, p) in q:",
-        );
-    }
+// `send`, `for`, conditions, and blocks on one line.
+fn on_line(spot: Spot<'_>, marks: &[Mark]) -> &'static [u8] {
     let begin = spot.begin();
+    if spot.is(begin, Mark::Send) {
+        return if spot.here(Mark::To) || has(marks, Mark::To) {
+            b"write send ('ping', 5) to p"
+        } else {
+            b""
+        };
+    }
     let asks = spot.is(begin, Mark::If)
         || spot.is(begin, Mark::Elif)
         || spot.is(begin, Mark::While)
         || spot.is(begin, Mark::Await);
-    if asks && spot.here(Mark::Assign) {
-        return Some(b"= gives a variable a value; == compares");
+    if (spot.here(Mark::OpenParen) && spot.back(1, Mark::For))
+        || (spot.here(Mark::Comma) && spot.back(2, Mark::For))
+    {
+        b"for takes one name; the pattern of a query takes a tuple apart: if some (k, p) in q:"
+    } else if asks && spot.here(Mark::Assign) {
+        b"= gives a variable a value; == compares"
+    } else {
+        on_one_line(spot, marks)
     }
-    on_one_line(spot, marks)
 }
 
+/// What a query goes through.
+const SOURCES: &[u8] =
+    b"a query goes through received, sent or a variable: put the set into a variable first";
+
 // Queries.
-fn on_query(spot: Spot<'_>, marks: &[Mark]) -> Option<&'static [u8]> {
+fn on_query(spot: Spot<'_>, marks: &[Mark]) -> &'static [u8] {
+    let joins = spot.here(Mark::And) || spot.here(Mark::Or);
+    let closes = spot.here(Mark::CloseParen);
     if spot.here(Mark::Some) || spot.here(Mark::Each) {
-        return Some(b"put the query in parentheses: (some x in s)");
+        b"put the query in parentheses: (some x in s)"
+    } else if has(marks, Mark::Received) && has(marks, Mark::Sent) {
+        SOURCES
+    } else if spot.back(2, Mark::In) && has(marks, Mark::Bar) && joins {
+        b"the condition of a query stands behind |: some x in s | ..; or put it in parentheses: (some x in s) and .."
+    } else if spot.back(2, Mark::In) && has(marks, Mark::Bar) {
+        SOURCES
+    } else if spot.here(Mark::For) {
+        b"the set of all t is written {t: x in s}"
+    } else if closes && (spot.is_inside(Mark::Min) || spot.is_inside(Mark::Max)) {
+        b"min and max have a second part, the answer for the empty set: max(s, 0)"
+    } else if closes && spot.is_inside(Mark::Range) {
+        b"range has two parts: range(0, n) has the numbers from 0 up to n - 1"
+    } else if has(marks, Mark::In) && !has(marks, Mark::Plus) && spot.is_inside_braces() {
+        b"there are no dictionaries: {(k, v), ..} is a set of pairs, and {t: x in s} the set of all t"
+    } else {
+        b""
     }
-    if has(marks, Mark::Received) && has(marks, Mark::Sent) {
-        return Some(
-            b"a query goes through received, sent or a variable: put the set into a variable first",
-        );
-    }
-    if spot.back(2, Mark::In) && has(marks, Mark::Bar) {
-        if spot.here(Mark::And) || spot.here(Mark::Or) {
-            return Some(
-                b"the condition of a query stands behind |: some x in s | ..; or put it in parentheses: (some x in s) and ..",
-            );
-        }
-        return Some(
-            b"a query goes through received, sent or a variable: put the set into a variable first",
-        );
-    }
-    if spot.here(Mark::For) {
-        return Some(b"the set of all t is written {t: x in s}");
-    }
-    if spot.here(Mark::CloseParen) && (spot.is_inside(Mark::Min) || spot.is_inside(Mark::Max)) {
-        return Some(b"min and max have a second part, the answer for the empty set: max(s, 0)");
-    }
-    if spot.here(Mark::CloseParen) && spot.is_inside(Mark::Range) {
-        return Some(b"range has two parts: range(0, n) has the numbers from 0 up to n - 1");
-    }
-    if has(marks, Mark::In) && !has(marks, Mark::Plus) && spot.is_inside_braces() {
-        return Some(
-            b"there are no dictionaries: {(k, v), ..} is a set of pairs, and {t: x in s} the set of all t",
-        );
-    }
-    None
 }
 
 // Values.
-fn on_value(spot: Spot<'_>, marks: &[Mark]) -> Option<&'static [u8]> {
-    let wants_value = has(marks, Mark::OpenBrace);
-    if spot.here(Mark::OpenBracket) {
-        return if wants_value {
-            Some(b"there are no lists: {1, 2} is a set, and (1, 2) a tuple")
-        } else {
-            Some(b"nothing is taken by an index: the pattern of a query takes a tuple apart")
-        };
+fn on_value(spot: Spot<'_>, marks: &[Mark]) -> &'static [u8] {
+    let wants = has(marks, Mark::OpenBrace);
+    let closes = wants && spot.here(Mark::CloseParen);
+    if wants && spot.here(Mark::OpenBracket) {
+        b"there are no lists: {1, 2} is a set, and (1, 2) a tuple"
+    } else if spot.here(Mark::OpenBracket) {
+        b"nothing is taken by an index: the pattern of a query takes a tuple apart"
+    } else if spot.here(Mark::OpenParen) && spot.back(1, Mark::Name) {
+        on_call(spot.back_bytes(1))
+    } else if wants && spot.here(Mark::Set) {
+        b"the empty set is written {}"
+    } else if wants && (spot.here(Mark::Int) || spot.here(Mark::Str) || spot.here(Mark::Bool)) {
+        b"a value is not turned into one of another type"
+    } else if closes && spot.back(1, Mark::OpenParen) {
+        b"a tuple has one part at least"
+    } else if closes && spot.back(1, Mark::Comma) {
+        b"a comma stands before ')' only in a tuple of one part: (1,)"
+    } else if spot.here(Mark::Dot) && spot.back(1, Mark::Number) {
+        b"there are no floating-point numbers"
+    } else if spot.here(Mark::Dot) {
+        b"values have no attributes and no methods"
+    } else {
+        b""
     }
-    if spot.here(Mark::OpenParen) && spot.back(1, Mark::Name) {
-        return on_call(spot.back_bytes(1));
-    }
-    if wants_value && spot.here(Mark::Set) {
-        return Some(b"the empty set is written {}");
-    }
-    if wants_value && (spot.here(Mark::Int) || spot.here(Mark::Str) || spot.here(Mark::Bool)) {
-        return Some(b"a value is not turned into one of another type");
-    }
-    if wants_value && spot.here(Mark::CloseParen) && spot.back(1, Mark::OpenParen) {
-        return Some(b"a tuple has one part at least");
-    }
-    if wants_value && spot.here(Mark::CloseParen) && spot.back(1, Mark::Comma) {
-        return Some(b"a comma stands before ')' only in a tuple of one part: (1,)");
-    }
-    if spot.here(Mark::Dot) && spot.back(1, Mark::Number) {
-        return Some(b"there are no floating-point numbers");
-    }
-    if spot.here(Mark::Dot) {
-        return Some(b"values have no attributes and no methods");
-    }
-    None
 }
 
 // A call inside an expression.
-fn on_call(name: &[u8]) -> Option<&'static [u8]> {
+fn on_call(name: &[u8]) -> &'static [u8] {
     match name {
-        b"len" => Some(b"the number of elements of a set is count(s)"),
-        b"set" | b"list" | b"dict" => Some(b"{} is the empty set"),
-        b"abs" => Some(b"there is no abs: compare with 0"),
-        b"any" | b"all" => Some(b"write some x in s | .. or each x in s | .."),
-        b"print" => Some(b"write output(..)"),
-        _ => Some(
-            b"a call stands on a line of its own, and its method leaves what it works out in a variable",
-        ),
+        b"len" => b"the number of elements of a set is count(s)",
+        b"set" | b"list" | b"dict" => b"{} is the empty set",
+        b"abs" => b"there is no abs: compare with 0",
+        b"any" | b"all" => b"write some x in s | .. or each x in s | ..",
+        b"print" => b"write output(..)",
+        _ => {
+            b"a call stands on a line of its own, and its method leaves what it works out in a variable"
+        }
     }
 }
 
 // Signs between operands.
-fn on_operator(spot: Spot<'_>, marks: &[Mark]) -> Option<&'static [u8]> {
-    if spot.here(Mark::Greater) && spot.back(1, Mark::Less) {
-        return Some(b"unequal is written !=");
-    }
-    if spot.here(Mark::Star) && spot.back(1, Mark::Star) {
-        return Some(b"there are no powers");
-    }
+fn on_operator(spot: Spot<'_>, marks: &[Mark]) -> &'static [u8] {
     let next = spot.place.saturating_add(1);
-    if spot.here(Mark::Bar) && (spot.back(1, Mark::Bar) || spot.is(next, Mark::Bar)) {
-        return Some(b"write or");
+    if spot.here(Mark::Greater) && spot.back(1, Mark::Less) {
+        b"unequal is written !="
+    } else if spot.here(Mark::Star) && spot.back(1, Mark::Star) {
+        b"there are no powers"
+    } else if spot.here(Mark::Bar) && (spot.back(1, Mark::Bar) || spot.is(next, Mark::Bar)) {
+        b"write or"
+    } else if !has(marks, Mark::And) {
+        b""
+    } else if is_compared(spot) {
+        b"a comparison has one sign: write a < b and b < c"
+    } else if spot.here(Mark::Not) {
+        b"write not (x in s)"
+    } else if spot.here(Mark::If) {
+        b"there is no value with an if inside: write an if with lines of its own"
+    } else if spot.here(Mark::Dashes) {
+        b"-- begins a label: part the two signs by a space"
+    } else if spot.here(Mark::Assign) {
+        b"= gives a variable a value; == compares"
+    } else if spot.is_name(spot.place, b"is") {
+        b"write == or !="
+    } else if spot.here(Mark::Quoted) && spot.back(1, Mark::Name) {
+        b"a text has no letter before its quote, and no values inside"
+    } else {
+        b""
     }
-    if !has(marks, Mark::And) {
-        return None;
-    }
-    if is_compared(spot) {
-        return Some(b"a comparison has one sign: write a < b and b < c");
-    }
-    if spot.here(Mark::Not) {
-        return Some(b"write not (x in s)");
-    }
-    if spot.here(Mark::If) {
-        return Some(b"there is no value with an if inside: write an if with lines of its own");
-    }
-    if spot.here(Mark::Dashes) {
-        return Some(b"-- begins a label: part the two signs by a space");
-    }
-    if spot.here(Mark::Assign) {
-        return Some(b"= gives a variable a value; == compares");
-    }
-    if spot.here(Mark::Name) && spot.bytes(spot.place) == b"is".as_slice() {
-        return Some(b"write == or !=");
-    }
-    if spot.here(Mark::Quoted) && spot.back(1, Mark::Name) {
-        return Some(b"a text has no letter before its quote, and no values inside");
-    }
-    None
 }
 
 // Whether a further sign of a comparison stands at the spot.

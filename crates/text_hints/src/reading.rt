@@ -18,25 +18,15 @@ pub struct StopPlace {
     pub deep: bool,
 }
 
-/// What the reader answers about numbered tokens.
-#[derive(Clone, Copy, Debug)]
-enum Answer {
-    /// It reads them all, or memory was refused.
-    Nothing,
-    /// It stops at the token of this number, and whether it does so since too much is open.
-    At(u32, bool),
-}
-
-fn ask(alloc: Global, tokens: &Tokens<'_>) -> Answer {
-    match parse(alloc, tokens) {
-        Ok(tree) => {
-            drop(tree);
-            Answer::Nothing
-        }
-        Err(ParseFault::Syntax { line }) => Answer::At(line, false),
-        Err(ParseFault::Deep { line }) => Answer::At(line, true),
-        Err(ParseFault::Memory) => Answer::Nothing,
-    }
+// Where the reader stops in numbered tokens, or `None` where it reads them all or memory is refused.
+fn ask(alloc: Global, tokens: &Tokens<'_>) -> Option<StopPlace> {
+    let (line, deep) = match parse(alloc, tokens) {
+        Err(ParseFault::Syntax { line }) => (line, false),
+        Err(ParseFault::Deep { line }) => (line, true),
+        _ => return None,
+    };
+    let place = (line as usize).saturating_sub(1);
+    Some(StopPlace { place, deep })
 }
 
 /// A number as one of a line.
@@ -48,44 +38,40 @@ fn short(number: usize) -> u32 {
 fn with_spellings(alloc: Global, text: &[u8]) -> Option<Buf> {
     let mut whole = List::new(alloc);
     whole.append(text).ok()?;
-    whole.append(b"\n").ok()?;
     for entry in &SPELLINGS {
-        whole.append(entry.0).ok()?;
         whole.append(b" ").ok()?;
+        whole.append(entry.0).ok()?;
     }
     Some(whole)
 }
 
-// A token of this kind, whose spelling stands after the text. Its number is for its place.
-fn token_of(mark: Mark, behind: usize, number: usize) -> Token {
-    let mut first = behind.saturating_add(1);
+// Adds a token of this kind, whose spelling stands after a text of so many bytes.
+fn push_mark(mark: Mark, length: usize, list: &mut List<Token>) -> Option<()> {
+    let mut first = length;
     let mut spelling = b"".as_slice();
     for entry in &SPELLINGS {
+        first = first.saturating_add(1);
         if entry.1 == mark {
             spelling = entry.0;
             break;
         }
-        first = first.saturating_add(entry.0.len()).saturating_add(1);
+        first = first.saturating_add(entry.0.len());
     }
-    Token {
+    let token = Token {
         kind: kind_of(mark, spelling),
         first: short(first),
         length: short(spelling.len()),
-        line: short(number),
-    }
+        line: 0,
+    };
+    push_all(&[token], list)
 }
 
 // Adds tokens, each with the number of its place.
-fn add_numbered(tokens: &[Token], list: &mut List<Token>) -> Option<()> {
+fn push_all(tokens: &[Token], list: &mut List<Token>) -> Option<()> {
     for token in tokens {
-        let number = list.len().saturating_add(1);
-        list.push(Token {
-            kind: token.kind,
-            first: token.first,
-            length: token.length,
-            line: short(number),
-        })
-        .ok()?;
+        let mut token = *token;
+        token.line = short(list.len().saturating_add(1));
+        list.push(token).ok()?;
     }
     Some(())
 }
@@ -94,73 +80,54 @@ fn add_numbered(tokens: &[Token], list: &mut List<Token>) -> Option<()> {
 pub fn stop_in(alloc: Global, text: &[u8], tokens: &[Token]) -> Option<StopPlace> {
     let whole = with_spellings(alloc, text)?;
     let mut list = List::new(alloc);
-    add_numbered(tokens, &mut list)?;
-    let number = tokens.len().saturating_add(1);
-    list.push(token_of(Mark::Channel, text.len(), number)).ok()?;
-    let asked = Tokens {
-        text: whole.as_slice(),
-        list,
-    };
-    match ask(alloc, &asked) {
-        Answer::Nothing => None,
-        Answer::At(number, deep) => Some(StopPlace {
-            place: (number as usize).saturating_sub(1),
-            deep,
-        }),
-    }
+    push_all(tokens, &mut list)?;
+    push_mark(Mark::Channel, text.len(), &mut list)?;
+    let text = whole.as_slice();
+    ask(alloc, &Tokens { text, list })
 }
 
 /// The kinds of tokens with which the reader goes on after these, which it reads without a stop.
 pub fn next_marks(alloc: Global, text: &[u8], front: &[Token]) -> Option<List<Mark>> {
     let whole = with_spellings(alloc, text)?;
     let mut list = List::new(alloc);
-    put_front(text, front, &mut list)?;
+    push_front(text, front, &mut list)?;
+    let place = list.len();
     let mut asked = Tokens {
         text: whole.as_slice(),
         list,
     };
     let mut found = List::new(alloc);
     for entry in &SPELLINGS {
-        if goes_on(alloc, &mut asked, entry.1, text.len())? {
+        push_mark(entry.1, text.len(), &mut asked.list)?;
+        push_mark(Mark::Channel, text.len(), &mut asked.list)?;
+        let goes = match ask(alloc, &asked) {
+            None => true,
+            Some(stop) => stop.deep || stop.place > place,
+        };
+        asked.list.truncate(place);
+        if goes {
             found.push(entry.1).ok()?;
         }
     }
     Some(found)
 }
 
-// Whether the reader goes on with a token of this kind after the tokens, which stay as they are.
-fn goes_on(alloc: Global, asked: &mut Tokens<'_>, mark: Mark, behind: usize) -> Option<bool> {
-    let count = asked.list.len();
-    let number = count.saturating_add(1);
-    asked.list.push(token_of(mark, behind, number)).ok()?;
-    let last = number.saturating_add(1);
-    asked.list.push(token_of(Mark::Channel, behind, last)).ok()?;
-    let goes = match ask(alloc, asked) {
-        Answer::Nothing => true,
-        Answer::At(stop, deep) => deep || stop > short(number),
-    };
-    asked.list.truncate(count);
-    Some(goes)
-}
-
 // Adds the tokens, or what is the same for what comes next: a message, and those of the last thing at the outermost level.
-fn put_front(text: &[u8], front: &[Token], list: &mut List<Token>) -> Option<()> {
+fn push_front(text: &[u8], front: &[Token], list: &mut List<Token>) -> Option<()> {
     let first = last_outermost(text, front);
-    if first == 0 {
-        return add_numbered(front, list);
-    }
-    for mark in [
-        Mark::Message,
-        Mark::Name,
-        Mark::OpenParen,
-        Mark::CloseParen,
-        Mark::Newline,
-    ] {
-        let number = list.len().saturating_add(1);
-        list.push(token_of(mark, text.len(), number)).ok()?;
+    if first != 0 {
+        for mark in [
+            Mark::Message,
+            Mark::Name,
+            Mark::OpenParen,
+            Mark::CloseParen,
+            Mark::Newline,
+        ] {
+            push_mark(mark, text.len(), list)?;
+        }
     }
     let (_, rest) = front.split_at(first.min(front.len()));
-    add_numbered(rest, list)
+    push_all(rest, list)
 }
 
 // The place of the first token of the last message, class or `main`.
@@ -170,14 +137,14 @@ fn last_outermost(text: &[u8], front: &[Token]) -> usize {
     let mut last = 0usize;
     for (place, token) in front.iter().enumerate() {
         let mark = mark_at(text, token);
-        if fresh && depth == 0 && mark != Mark::Dedent && mark != Mark::Indent {
-            last = place;
-        }
-        if mark == Mark::Indent {
-            depth = depth.saturating_add(1);
-        }
-        if mark == Mark::Dedent {
-            depth = depth.saturating_sub(1);
+        match mark {
+            Mark::Indent => depth = depth.saturating_add(1),
+            Mark::Dedent => depth = depth.saturating_sub(1),
+            _ => {
+                if fresh && depth == 0 {
+                    last = place;
+                }
+            }
         }
         fresh = mark == Mark::Newline || mark == Mark::Dedent || (fresh && mark == Mark::Indent);
     }

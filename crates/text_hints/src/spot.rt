@@ -15,16 +15,12 @@ pub struct Spot<'t> {
 impl<'t> Spot<'t> {
     /// The mark of the token at a place, or `None` where there is none.
     pub fn mark(&self, place: usize) -> Option<Mark> {
-        let token = self.tokens.get(place)?;
-        Some(mark_at(self.text, token))
+        Some(mark_at(self.text, self.tokens.get(place)?))
     }
 
     /// Whether the token at a place has this mark.
     pub fn is(&self, place: usize, mark: Mark) -> bool {
-        match self.mark(place) {
-            Some(found) => found == mark,
-            None => false,
-        }
+        self.mark(place) == Some(mark)
     }
 
     /// Whether the token at the spot has this mark.
@@ -34,10 +30,7 @@ impl<'t> Spot<'t> {
 
     /// Whether the token so many before the spot has this mark.
     pub fn back(&self, count: usize, mark: Mark) -> bool {
-        match self.place.checked_sub(count) {
-            Some(place) => self.is(place, mark),
-            None => false,
-        }
+        count <= self.place && self.is(self.place - count, mark)
     }
 
     /// The bytes of the token so many before the spot, or none.
@@ -61,28 +54,28 @@ impl<'t> Spot<'t> {
         self.is(place, Mark::Name) && self.bytes(place) == name
     }
 
-    /// The place of the first token of the line of tokens that a place is on.
+    // The tokens before the spot.
+    fn front(&self) -> &'t [Token] {
+        let (front, _) = self.tokens.split_at(self.place.min(self.tokens.len()));
+        front
+    }
+
+    /// The place of the first token of the line of tokens that the spot is on.
     pub fn begin(&self) -> usize {
         let mut begin = 0usize;
-        for (place, token) in self.tokens.iter().enumerate() {
-            if place >= self.place {
-                return begin;
-            }
-            let mark = mark_at(self.text, token);
-            if mark == Mark::Newline || mark == Mark::Indent || mark == Mark::Dedent {
-                begin = place.saturating_add(1);
+        for (place, token) in self.front().iter().enumerate() {
+            match mark_at(self.text, token) {
+                Mark::Newline | Mark::Indent | Mark::Dedent => begin = place.saturating_add(1),
+                _ => {}
             }
         }
         begin
     }
 
-    /// The place of the token that opened the innermost bracket which is open at the spot.
-    pub fn opener(&self) -> Option<usize> {
+    // The place of the token that opened the innermost bracket which is open at the spot.
+    fn opener(&self) -> Option<usize> {
         let mut depth = 0usize;
-        for (back, token) in self.tokens.iter().enumerate().rev() {
-            if back >= self.place {
-                continue;
-            }
+        for (back, token) in self.front().iter().enumerate().rev() {
             match mark_at(self.text, token) {
                 Mark::CloseParen | Mark::CloseBrace | Mark::CloseBracket => {
                     depth = depth.saturating_add(1);
@@ -102,10 +95,7 @@ impl<'t> Spot<'t> {
     /// Whether the innermost bracket that is open at the spot stands after a token of this mark.
     pub fn is_inside(&self, mark: Mark) -> bool {
         match self.opener() {
-            Some(place) => match place.checked_sub(1) {
-                Some(before) => self.is(before, mark),
-                None => false,
-            },
+            Some(place) => place != 0 && self.is(place - 1, mark),
             None => false,
         }
     }
@@ -126,8 +116,7 @@ impl<'t> Spot<'t> {
 
     /// The place in the text after the last token before the spot that has bytes.
     pub fn end_before(&self) -> usize {
-        let (front, _) = self.tokens.split_at(self.place.min(self.tokens.len()));
-        match front.iter().rev().find(|token| token.length != 0) {
+        match self.front().iter().rev().find(|token| token.length != 0) {
             Some(token) => (token.first as usize).saturating_add(token.length as usize),
             None => 0,
         }

@@ -5,7 +5,7 @@ use crate::hint::Hint;
 use crate::lines::{Line, between, line_of};
 use crate::phrase::Phrase;
 use crate::pieces::{Bad, bad_piece};
-use da_lex::{Token, TokenKind, lex};
+use da_lex::{TokenKind, lex};
 use da_values::{LexKind, List};
 use std::alloc::Global;
 
@@ -37,22 +37,12 @@ fn tell_piece(text: &[u8], line: Line<'_>, hint: &mut Hint) {
 fn tell_spelling(text: &[u8], place: usize, bad: Bad, hint: &mut Hint) {
     hint.blame(place, bad.length);
     let bytes = between(text, place, place.saturating_add(bad.length));
-    match bytes {
-        [b'0', ..] => {
-            hint.say(b"an integer has no 0 in front: ");
-            hint.quote(bytes);
-        }
-        [b'1'..=b'9', ..] => {
-            hint.quote(bytes);
-            hint.say(b" is more than the greatest integer, 9223372036854775807");
-        }
-        _ => {
-            hint.say(b"no token begins with ");
-            hint.say(bytes);
-            hint.say(b": ");
-            hint.say(cure_of(bytes));
-        }
-    }
+    let form = match bytes {
+        [b'0', ..] => b"an integer has no 0 in front: @".as_slice(),
+        [b'1'..=b'9', ..] => b"@ is more than the greatest integer, 9223372036854775807",
+        _ => b"no token begins with $: $",
+    };
+    hint.sentence.fill(form, bytes, cure_of(bytes));
 }
 
 // What is written in the place of a character.
@@ -91,7 +81,7 @@ fn put_levels(levels: &[usize], out: &mut Phrase) {
     }
 }
 
-// The levels of the blocks that are open after a text, but for 0.
+// The levels of the blocks that are open after a text, but for 0. What closes at the end of the text stands for no line.
 fn levels_before(alloc: Global, text: &[u8]) -> List<usize> {
     let mut levels = List::new(alloc);
     if text.len() > 1_048_576 {
@@ -101,23 +91,14 @@ fn levels_before(alloc: Global, text: &[u8]) -> List<usize> {
         return levels;
     };
     for token in tokens.list.as_slice() {
-        follow_level(text, token, &mut levels);
-    }
-    levels
-}
-
-// A token opens or closes a level. Those that close at the end of the text stand for no line.
-fn follow_level(text: &[u8], token: &Token, levels: &mut List<usize>) {
-    let first = token.first as usize;
-    match token.kind {
-        TokenKind::Indent => {
+        let first = token.first as usize;
+        if token.kind == TokenKind::Indent {
             let _ = levels.push(spaces_before(text, first));
-        }
-        TokenKind::Dedent if first < text.len() => {
+        } else if token.kind == TokenKind::Dedent && first < text.len() {
             let _ = levels.pop();
         }
-        _ => {}
     }
+    levels
 }
 
 // How many spaces stand directly before a place.
@@ -135,12 +116,12 @@ fn tell_unclosed(alloc: Global, text: &[u8], line: Line<'_>, hint: &mut Hint) {
         return;
     }
     let open = open_brackets(alloc, text);
-    let Some(place) = open.get(0) else {
+    let Some(place) = open.get(0).copied() else {
         return;
     };
-    hint.blame(*place, 1);
-    hint.say(b"this ");
-    hint.quote(between(text, *place, place.saturating_add(1)));
-    hint.say(b" is not closed: it is open to the end of the text");
+    hint.blame(place, 1);
+    let form = b"this @ is not closed: it is open to the end of the text";
+    let bracket = between(text, place, place.saturating_add(1));
+    hint.sentence.fill(form, bracket, b"");
     hint.note(b"while a bracket is open, the line ends and the indentation below it do not count");
 }
