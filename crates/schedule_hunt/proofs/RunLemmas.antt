@@ -1,6 +1,6 @@
 -- Runs in code, event by event.
 use Rattle.std.proofs.Common.{◌≡◌, refl, sym, ◌∙◌, ap, subst, ℕ, suc, ◌+◌, ◌-◌, ◌<◌, ◌≤◌, List, [], ◌∷◌, ◌++◌, drop, length, add-one, append-nil, append_assoc, arith, get_or, Bool, true, false, length-append}
-use Rattle.std.specs.Prelude.{Option, Some, None, ◌↔◌, IsSome, IsTrue, is_some, slice_get}
+use Rattle.std.specs.Prelude.{Option, Some, None, Result, Ok, Err, ◌↔◌, IfOk, IsSome, IsTrue, is_some, slice_get}
 use Rattle.std.proofs.Math.Seq.{drop-cons}
 use Rattle.std.proofs.lemmas.Bool.{false≢true}
 use Rattle.std.proofs.lemmas.List.{drop_all}
@@ -22,7 +22,7 @@ use Rattle.schedule_hunt.specs.Hunt.{IsShownBy, generated}
 use Rattle.schedule_hunt.specs.Runs.{HasRun, IsExecuted, IsPicked, IsRunOf, IsTrial, StandsAfter, WasPicked}
 use Rattle.schedule_hunt.specs.declared.what.What.TheVariants.{Stuck}
 use Rattle.schedule_hunt.specs.Shown.{HasEnded, IsStuck, Shows}
-use Rattle.schedule_hunt.specs.ShownSteps.{HasUnended}
+use Rattle.schedule_hunt.specs.ShownSteps.{HasUnended, IsAtRest}
 
 -- GIVEN EVENTS
 
@@ -200,33 +200,34 @@ not_refused step old new false some is done = false≢true (sym (ap is_some done
 
 -- WHAT IS SHOWN
 
-pub shown_stuck : (program : Program) (what : What) (run : Run) (count : ℕ) (actions : List Action) (r : Bool) → what ≡ Stuck → count ≡ length program.procs → actions ≡ run.actions → program_of run.system ≡ program
-    → ((s : SystemState) → Stands run.system s → IsTrue r ↔ (choices (program_of run.system) s ≡ []) × HasUnended count actions)
-    → (source : SrcRun) → StandsAfter program source run → IsTrue r ↔ Shows program what source
-shown_stuck program what run count actions r is counted told_is same told source behind = subst (λ w. IsTrue r ↔ Shows program w source) (sym is) (to, from)
+stuck_by : (program : Program) (run : Run) (actions : List Action) (b : Bool) → actions ≡ run.actions
+    → ((s : SystemState) → Stands run.system s → IsTrue b ↔ IsAtRest program s × HasUnended (length program.procs) actions)
+    → (source : SrcRun) → StandsAfter program source run → IsTrue b ↔ IsStuck program source
+stuck_by program run actions b told_is told source behind = (to, from)
   where
-    both : IsTrue r ↔ (choices (program_of run.system) source.state ≡ []) × HasUnended count actions
+    both : IsTrue b ↔ IsAtRest program source.state × HasUnended (length program.procs) actions
     both = told source.state behind.stands
 
-    to : IsTrue r → IsStuck program source
-    to yes_stuck =
-        let (none, (p, among, unended)) = both.0 yes_stuck in
+    to : IsTrue b → IsStuck program source
+    to is =
+        let (none, (p, among, unended)) = both.0 is in
         record {
-          none = subst (λ q. choices q source.state ≡ []) same none;
+          none = none;
           process = p;
-          there = (among.0, subst (λ n. p ≤ n) counted among.1);
+          there = among;
           unended = λ ended. unended (subst (HasEnded p) (sym (told_is ∙ behind.actions)) ended);
         }
 
-    from : IsStuck program source → IsTrue r
-    from stuck = both.1 (
-      subst (λ q. choices q source.state ≡ []) (sym same) stuck.none,
-      (
-        stuck.process,
-        (stuck.there.0, subst (λ n. stuck.process ≤ n) (sym counted) stuck.there.1),
-        λ ended. stuck.unended (subst (HasEnded stuck.process) (told_is ∙ behind.actions) ended),
-      ),
-    )
+    from : IsStuck program source → IsTrue b
+    from stuck = both.1 (stuck.none, (stuck.process, stuck.there, λ ended. stuck.unended (subst (HasEnded stuck.process) (told_is ∙ behind.actions) ended)))
+
+pub shown_stuck : {E : Type 0} (program : Program) (what : What) (run : Run) (actions : List Action) (r : Result Bool E) → what ≡ Stuck → actions ≡ run.actions → program_of run.system ≡ program
+    → IfOk r (λ stuck. (s : SystemState) → Stands run.system s → IsTrue stuck ↔ IsAtRest (program_of run.system) s × HasUnended (length (program_of run.system).procs) actions)
+    → IfOk r (λ shown. (source : SrcRun) → StandsAfter program source run → IsTrue shown ↔ Shows program what source)
+shown_stuck program what run actions (Ok b) is told_is same told = λ source behind.
+    subst (λ w. IsTrue b ↔ Shows program w source) (sym is)
+    (stuck_by program run actions b told_is (λ s stands. subst (λ q. IsTrue b ↔ IsAtRest q s × HasUnended (length q.procs) actions) same (told s stands)) source behind)
+shown_stuck program what run actions (Err fault) is told_is same told = told
 
 pub shown_by_run : (program : Program) (what : What) (events : List Event) (run : Run) (r : Bool) → HasRun program events run
     → ((source : SrcRun) → StandsAfter program source run → IsTrue r ↔ Shows program what source) → IsTrue r ↔ IsShownBy program what events

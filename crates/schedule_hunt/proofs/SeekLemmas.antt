@@ -6,7 +6,7 @@ use Rattle.da_lang.specs.declared.event.Event.{Event}
 use Rattle.da_lang.specs.declared.program.Program.{Program}
 use Rattle.da_outside.specs.Outside.{Appends, AppendsPrefix}
 use Rattle.schedule_hunt.specs.declared.what.What.{What}
-use Rattle.schedule_hunt.specs.Hunt.{HasBegun, IsLeast, IsPart, IsReply, IsShort, IsShownBy, IsTextOf, ShowsNone, generated, found_text}
+use Rattle.schedule_hunt.specs.Hunt.{HasBegun, IsFoundUnspelled, IsLeast, IsReply, IsShownBy, IsTextOf, IsUnspelled, ShowsNone, generated}
 use Rattle.schedule_hunt.specs.Seeking.{IsReplyOf, IsSought}
 
 module _ (program : Program) (what : What) (most start count : ℕ) where
@@ -40,6 +40,9 @@ module _ (program : Program) (what : What) (most start count : ℕ) where
 
   pub found_reply : (events : List Event) (text : List ℕ) → IsSought program what most start count (Some events) → IsTextOf program what events text → IsReplyOf program what most start count true text
   found_reply events text (number, least, is) told = record { number = number; least = least; told = subst (λ whole. IsTextOf program what whole text) is told }
+
+  pub unspelled_reply : (events : List Event) → IsSought program what most start count (Some events) → IsUnspelled program what events → IsFoundUnspelled program what most start count
+  unspelled_reply events (number, least, is) unspelled = record { number = number; least = least; unspelled = subst (IsUnspelled program what) is unspelled }
 
   -- WHAT IS WRITTEN OF A TEXT THAT ANSWERS
 

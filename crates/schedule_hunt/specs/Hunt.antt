@@ -1,5 +1,5 @@
 -- Which schedule is found, how short it is made, and what is written of it.
-use Rattle.std.specs.Prelude.{◌≡◌, ℕ, ◌+◌, ◌<◌, ◌≤◌, ◌==◌, ◌⊎◌, not, List, [], ◌∷◌, ◌++◌, codes, decimal, length, Option, None}
+use Rattle.std.specs.Prelude.{◌≡◌, ℕ, ◌+◌, ◌<◌, ◌≤◌, ◌==◌, ◌⊎◌, not, List, [], ◌∷◌, ◌++◌, codes, decimal, length, Option, Some, None}
 use Rattle.std.specs.List.{filter, flat_map, remove}
 use Rattle.da_lang.specs.declared.event.Event.{Event}
 use Rattle.da_lang.specs.declared.program.Program.{Program}
@@ -7,6 +7,7 @@ use Rattle.da_outside.specs.Outside.{Appends, AppendsPrefix}
 use Rattle.da_system.specs.SourceRun.{src_run}
 use Rattle.da_system.specs.StressRun.{stress_run}
 use Rattle.sched_text.specs.EventText.{event_line}
+use Rattle.sched_text.specs.ScheduleText.{SpellsSchedule}
 use Rattle.schedule_hunt.specs.declared.what.What.{What}
 use Rattle.schedule_hunt.specs.Shown.{Shows}
 
@@ -55,19 +56,38 @@ remark_line words = codes "# " ++ filter (λ byte. not (byte == 10)) words ++ co
 abbrev pub found_text : List Event → List ℕ → List ℕ
 found_text events words = flat_map event_line events ++ remark_line words
 
--- a text of a schedule that is made short
+-- a text of the events that is a schedule of exactly them; or none, where even with an empty remark it would be no schedule
+abbrev pub IsTold : List Event → Option (List ℕ) → Type 0
+IsTold events (Some text) = (words : List ℕ) × (text ≡ found_text events words) × SpellsSchedule text events
+IsTold events None = SpellsSchedule (found_text events []) events → ⊥
+
+-- a text of a schedule that is made short, which is a schedule itself
 pub record IsTextOf (program : Program) (what : What) (whole : List Event) (text : List ℕ) : Type 0 where
   pub events : List Event
   pub part : IsPart events whole
   pub short : IsShort program what events
   pub words : List ℕ
   pub text_is : text ≡ found_text events words
+  pub spells : SpellsSchedule text events
+
+-- a schedule that is made short, of which there is no such text
+pub record IsUnspelled (program : Program) (what : What) (whole : List Event) : Type 0 where
+  pub events : List Event
+  pub part : IsPart events whole
+  pub short : IsShort program what events
+  pub never : SpellsSchedule (found_text events []) events → ⊥
 
 -- the text of the schedule of the least number that shows it
 pub record IsFound (program : Program) (what : What) (most start count : ℕ) (text : List ℕ) : Type 0 where
   pub number : ℕ
   pub least : IsLeast program what most start count number
   pub told : IsTextOf program what (generated program most number) text
+
+-- the schedule of the least number that shows it has no such text
+pub record IsFoundUnspelled (program : Program) (what : What) (most start count : ℕ) : Type 0 where
+  pub number : ℕ
+  pub least : IsLeast program what most start count number
+  pub unspelled : IsUnspelled program what (generated program most number)
 
 -- the line that says that none of so many shows it
 abbrev pub none_line : ℕ → List ℕ

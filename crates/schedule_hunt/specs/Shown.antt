@@ -1,5 +1,5 @@
 -- What a run shows, by its actions and the state after it.
-use Rattle.std.specs.Prelude.{◌≡◌, ℕ, ◌<◌, ◌⊎◌, true, List, [], ◌∷◌, count_by}
+use Rattle.std.specs.Prelude.{◌≡◌, ℕ, ◌<◌, ◌⊎◌, Bool, true, false, List, [], ◌∷◌, None, IsTrue, count_by}
 use Rattle.std.specs.List.{list_any}
 use Rattle.da_values.specs.declared.val.Val.{Val, out-Val}
 use Rattle.da_values.specs.declared.val.Val.TheOpen.{Val-F, Tuple}
@@ -7,11 +7,13 @@ use Rattle.da_values.specs.declared.value.Value.{Value}
 use Rattle.da_values.specs.Value.{val_of}
 use Rattle.da_lang.specs.declared.event.Action.{Action}
 use Rattle.da_lang.specs.declared.event.Action.TheVariants.{Out, End}
+use Rattle.da_lang.specs.declared.event.Event.{Event}
+use Rattle.da_lang.specs.declared.event.Event.TheVariants as event
 use Rattle.da_lang.specs.declared.program.Program.{Program}
 use Rattle.da_lang.specs.Shaped.{IsProcess}
-use Rattle.da_system.specs.Choices.{choices}
 use Rattle.da_system.specs.SourceRun.{SrcRun}
 use Rattle.da_system.specs.StressRun.{is_fault, is_out}
+use Rattle.da_system.specs.SystemStep.{sys_step}
 use Rattle.schedule_hunt.specs.declared.what.What.{What}
 use Rattle.schedule_hunt.specs.declared.what.What.TheVariants.{Fault, Stuck, Overlap, Differ, More}
 
@@ -71,9 +73,17 @@ pub record OutputsDiffer (actions : List Action) : Type 0 where
 abbrev pub HasEnded : ℕ → List Action → Type 0
 HasEnded p actions = AnyOf (λ a. a ≡ End p) actions
 
--- no event may be picked after the run, and a process has not ended
+-- a move, a timeout or a delivery: by such an event a run goes on
+abbrev pub goes_on : Event → Bool
+goes_on (event.Move p) = true
+goes_on (event.Take p k) = true
+goes_on (event.Timeout p) = true
+goes_on (event.Deliver p q i) = true
+goes_on _ = false
+
+-- no move, no timeout and no delivery is allowed after the run, whatever the process and the message; and a process has not ended
 pub record IsStuck (program : Program) (run : SrcRun) : Type 0 where
-  pub none : choices program run.state ≡ []
+  pub none : (e : Event) → IsTrue (goes_on e) → sys_step program run.state e ≡ None
   pub process : ℕ
   pub there : IsProcess program process
   pub unended : HasEnded process run.actions → ⊥

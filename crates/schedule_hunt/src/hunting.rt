@@ -1,8 +1,8 @@
 //! The hunt among generated schedules.
 ghost use Rattle.da_core.specs.Compiled.{IsCompiled, program_of};
 ghost use Rattle.da_outside.specs.Outside.{Appends, HasCause};
-ghost use Rattle.schedule_hunt.specs.Hunt.{HasBegun, IsFound, IsShownBy, IsTextOf, ShowsNone, none_line};
-ghost use Rattle.schedule_hunt.specs.Seeking.{IsReplyOf, IsSought};
+ghost use Rattle.schedule_hunt.specs.Hunt.{HasBegun, IsFound, IsFoundUnspelled, IsShownBy, ShowsNone, none_line};
+ghost use Rattle.schedule_hunt.specs.Seeking.{Answers, IsShortText, IsSought};
 ghost use Rattle.std.specs.Prelude.{ℕ, ◌≡◌, ◌+◌, ◌<◌, ◌^◌, List as Seq, IfOk};
 
 use crate::runs::try_number;
@@ -22,6 +22,9 @@ pub enum HuntOutcome {
     Found,
     /// None of the tried ones shows what was looked for.
     None,
+    /// A schedule was found whose lines no schedule can have: they have more than 16,777,216 bytes even with an empty remark,
+    /// or a number of more than nine digits. Nothing was written.
+    Unspelled,
     /// The sink failed.
     WriteFault,
     /// Memory was refused.
@@ -36,8 +39,9 @@ pub trait Progress {
 
 /// Tries the schedules of at most `most` events that are generated from `count` numbers, `start` and those after it, until
 /// one shows `what`. Of this one it leaves out events until none can be left out alone, and writes the lines of those that
-/// are left, and a remark that says by which actions they show it. Where no schedule shows it, it writes how many were
-/// tried. `progress` is told after each try that shows nothing.
+/// are left, and a remark that says by which actions they show it. So what is written is a schedule; where it would be too
+/// long with the remark, that is empty. Where no schedule shows it, it writes how many were tried. `progress` is told after
+/// each try that shows nothing.
 pub fn hunt<K: Sink, P: Progress>(
     alloc: Global,
     compiled: &Compiled,
@@ -52,9 +56,13 @@ pub fn hunt<K: Sink, P: Progress>(
     requires numbers { start + count < 2 ^ 64 }
 
     // The sink gained the lines of some events of the schedule of the least number that shows it. They are allowed and show
-    // it, and without any one of them they stop or do not. A remark follows.
+    // it, and without any one of them they stop or do not. A remark follows. The text is a schedule of exactly these events.
     ensures found { result ≡ HuntOutcome.Found → (text : Seq ℕ) × IsFound (program_of compiled.now) what.now most start count text
         × Appends (K.taken sink.old) (K.taken sink.new) text }
+
+    // It is `Unspelled` only where such events have no text that is a schedule, even with an empty remark. Nothing was written.
+    ensures unspelled { result ≡ HuntOutcome.Unspelled → IsFoundUnspelled (program_of compiled.now) what.now most start count
+        × (K.taken sink.new ≡ K.taken sink.old) }
 
     // None of the schedules shows it, and the sink gained the line that says so.
     ensures none { result ≡ HuntOutcome.None → ShowsNone (program_of compiled.now) what.now most start count
@@ -66,8 +74,11 @@ pub fn hunt<K: Sink, P: Progress>(
     // `WriteFault` has its cause.
     ensures write { HasCause (K.faults sink.old) (K.faults sink.new) (result ≡ HuntOutcome.WriteFault) }
 {
-    let Ok(reply) = reply_to(alloc, compiled, start, count, most, what, progress) else {
+    let Ok(answer) = reply_to(alloc, compiled, start, count, most, what, progress) else {
         return HuntOutcome::Memory;
+    };
+    let Some(reply) = answer else {
+        return HuntOutcome::Unspelled;
     };
     match write_all(sink, reply.text.as_slice()) {
         Ok(()) => {
@@ -89,7 +100,7 @@ struct Reply {
     text: Buf,
 }
 
-// Tries the schedules, and makes the text that answers.
+// Tries the schedules, and makes the text that answers; `None` where a schedule was found that has no text.
 fn reply_to<P: Progress>(
     alloc: Global,
     compiled: &Compiled,
@@ -98,23 +109,23 @@ fn reply_to<P: Progress>(
     most: u64,
     what: &What,
     progress: &mut P,
-) -> Result<Reply, NoMemory>
+) -> Result<Option<Reply>, NoMemory>
     requires compiled { IsCompiled compiled.now }
     requires numbers { start + count < 2 ^ 64 }
-    ensures { IfOk result (λ reply.
-        IsReplyOf (program_of compiled.now) what.now most start count reply.found reply.text) }
+    ensures { IfOk result (Answers (program_of compiled.now) what.now most start count) }
 {
     let sought = seek(alloc, compiled, start, count, most, what, progress)?;
-    match sought {
-        Some(events) => Ok(Reply {
-            found: true,
-            text: short_text(alloc, compiled, events, what)?,
-        }),
-        None => Ok(Reply {
+    let Some(events) = sought else {
+        return Ok(Some(Reply {
             found: false,
             text: none_text(alloc, count)?,
-        }),
-    }
+        }));
+    };
+    let short = short_text(alloc, compiled, events, what)?;
+    let Some(text) = short else {
+        return Ok(None);
+    };
+    Ok(Some(Reply { found: true, text }))
 }
 
 // The first schedule that shows this, of those that are generated from so many numbers.
@@ -141,18 +152,19 @@ fn seek<P: Progress>(
     Ok(None)
 }
 
-// The text of a schedule that shows this, made short.
+// The text of a schedule that shows this, made short, if it has one.
 fn short_text(
     alloc: Global,
     compiled: &Compiled,
     events: List<Event>,
     what: &What,
-) -> Result<Buf, NoMemory>
+) -> Result<Option<Buf>, NoMemory>
     requires compiled { IsCompiled compiled.now }
     requires shown { IsShownBy (program_of compiled.now) what.now events }
-    ensures { IfOk result (IsTextOf (program_of compiled.now) what.now events) }
+    ensures { IfOk result (IsShortText (program_of compiled.now) what.now events) }
 {
     let mut short = events;
     shorten(alloc, compiled, &mut short, what)?;
-    found_text(alloc, compiled, short.as_slice(), what)
+    let left = short.as_slice();
+    found_text(alloc, compiled, left, what)
 }

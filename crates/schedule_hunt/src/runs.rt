@@ -1,14 +1,14 @@
 //! Runs of schedules, those that are given and those that numbers generate.
 ghost use Rattle.da_core.specs.Compiled.{IsCompiled, program_of as compiled_program};
-ghost use Rattle.da_system.specs.Choices.{choices};
 ghost use Rattle.da_system.specs.SourceRun.{SrcRun};
-ghost use Rattle.da_system.specs.State.{IsReady, Stands, Whichever, program_of};
+ghost use Rattle.da_system.specs.State.{IsReady, Stands, Whichever, is_spent, program_of};
 ghost use Rattle.da_system.specs.SystemStep.{start as start_def, sys_step};
 ghost use Rattle.schedule_hunt.specs.Hunt.{IsShownBy, generated};
 ghost use Rattle.schedule_hunt.specs.Runs.{IsExecuted, IsPicked, IsRunOf, IsTrial, StandsAfter};
-ghost use Rattle.schedule_hunt.specs.Shown.{Shows};
-ghost use Rattle.schedule_hunt.specs.ShownSteps.{HasUnended};
-ghost use Rattle.std.specs.Prelude.{◌≡◌, ◌↔◌, [], IfOk, IsTrue, MatchOption};
+ghost use Rattle.schedule_hunt.specs.Shown.{Shows, goes_on};
+ghost use Rattle.schedule_hunt.specs.ShownSteps.{HasUnended, IsAtRest, IsIdle};
+ghost use Rattle.std.specs.List.{All};
+ghost use Rattle.std.specs.Prelude.{◌≡◌, ◌↔◌, [], IfOk, IsTrue, MatchOption, false, length, not};
 
 use crate::shown::{has_ended, has_fault, has_more, outputs_differ, overlaps};
 use crate::what::What;
@@ -17,6 +17,7 @@ use da_lang::{Action, Event};
 use da_system::{StepFault, System};
 use da_values::{List, NoMemory};
 use replay_run::{next_number, place_in};
+use schedule_walk::allowed_events;
 use std::alloc::Global;
 
 /// The system after a run that was not stopped, and all actions of the run.
@@ -45,10 +46,11 @@ pub(crate) fn is_shown(
         IsTrue shown ↔ IsShownBy (compiled_program compiled.now) what.now events.now) }
 {
     let found = run_events(alloc, compiled, events)?;
-    match found {
-        Some(run) => Ok(shows(compiled, what, &run)),
-        None => Ok(false),
-    }
+    let Some(run) = found else {
+        return Ok(false);
+    };
+    let shown = shows(alloc, compiled, what, &run)?;
+    Ok(shown)
 }
 
 /// The schedule of at most `most` events that is generated from a number, where its run shows this.
@@ -66,7 +68,8 @@ pub(crate) fn try_number(
         × IsShownBy (compiled_program compiled.now) what.now events)) }
 {
     let trial = generate(alloc, compiled, number, most)?;
-    if shows(compiled, what, &trial.run) {
+    let shown = shows(alloc, compiled, what, &trial.run)?;
+    if shown {
         Ok(Some(trial.events))
     } else {
         Ok(None)
@@ -166,26 +169,82 @@ fn pick_next(trial: &mut Trial<'_>, last: u64) -> Result<Option<u64>, NoMemory>
 }
 
 // Whether a run shows this.
-fn shows(compiled: &Compiled, what: &What, run: &Run<'_>) -> bool
-    requires { program_of run.now.system ≡ compiled_program compiled.now }
-    ensures { (source : SrcRun) → StandsAfter (compiled_program compiled.now) source run.now
-        → IsTrue result ↔ Shows (compiled_program compiled.now) what.now source }
+fn shows(alloc: Global, compiled: &Compiled, what: &What, run: &Run<'_>) -> Result<bool, NoMemory>
+    requires compiled { IsCompiled compiled.now }
+    requires program { program_of run.now.system ≡ compiled_program compiled.now }
+    requires ready { IsReady run.now.system }
+    requires unspent { is_spent run.now.system ≡ false }
+    ensures { IfOk result (λ shown. (source : SrcRun) → StandsAfter (compiled_program compiled.now) source run.now
+        → IsTrue shown ↔ Shows (compiled_program compiled.now) what.now source) }
 {
     let actions = run.actions.as_slice();
     match what {
-        What::Fault => has_fault(actions),
-        What::Stuck => is_stuck(&run.system, compiled.program().procs.len(), actions),
-        What::Overlap { enter, leave } => overlaps(enter, leave, actions),
-        What::Differ => outputs_differ(actions),
-        What::More(k) => has_more(*k, actions),
+        What::Fault => Ok(has_fault(actions)),
+        What::Stuck => is_stuck(alloc, &run.system, compiled, actions),
+        What::Overlap { enter, leave } => Ok(overlaps(enter, leave, actions)),
+        What::Differ => Ok(outputs_differ(actions)),
+        What::More(k) => Ok(has_more(*k, actions)),
     }
 }
 
-// Whether no event may be picked, and one of so many processes has not ended.
-fn is_stuck(system: &System<'_>, count: usize, actions: &[Action]) -> bool
-    ensures { Whichever system.now (λ s. IsTrue result ↔ (choices (program_of system.now) s ≡ []) × HasUnended count actions.now) }
+// Whether no move, no timeout and no delivery is allowed, and one of the processes has not ended.
+fn is_stuck(
+    alloc: Global,
+    system: &System<'_>,
+    compiled: &Compiled,
+    actions: &[Action],
+) -> Result<bool, NoMemory>
+    requires compiled { IsCompiled compiled.now }
+    requires program { program_of system.now ≡ compiled_program compiled.now }
+    requires ready { IsReady system.now }
+    requires unspent { is_spent system.now ≡ false }
+    ensures { IfOk result (λ stuck. Whichever system.now (λ s. IsTrue stuck
+        ↔ IsAtRest (program_of system.now) s × HasUnended (length (program_of system.now).procs) actions.now)) }
 {
-    system.choices() == 0 && has_unended(count, actions)
+    let count = compiled.program().procs.len();
+    if !has_unended(count, actions) {
+        return Ok(false);
+    }
+    is_at_rest(alloc, system, compiled)
+}
+
+// Whether no move, no timeout and no delivery is allowed.
+fn is_at_rest(alloc: Global, system: &System<'_>, compiled: &Compiled) -> Result<bool, NoMemory>
+    requires compiled { IsCompiled compiled.now }
+    requires program { program_of system.now ≡ compiled_program compiled.now }
+    requires ready { IsReady system.now }
+    requires unspent { is_spent system.now ≡ false }
+    ensures { IfOk result (λ rests. Whichever system.now (λ s. IsTrue rests ↔ IsAtRest (program_of system.now) s)) }
+{
+    let choices = system.choices();
+    if choices > 0 {
+        return Ok(false);
+    }
+    let processes = compiled.program().procs.len() as u32;
+    let events = allowed_events(alloc, system, processes)?;
+    Ok(none_goes_on(events.as_slice()))
+}
+
+// Whether none of some events is a move, a timeout or a delivery.
+fn none_goes_on(events: &[Event]) -> bool
+    ensures { IsTrue result ↔ All IsIdle events.now }
+{
+    for event in events {
+        if !is_idle(event) {
+            return false;
+        }
+    }
+    true
+}
+
+// Whether an event is no move, no timeout and no delivery.
+fn is_idle(event: &Event) -> bool
+    ensures { result ≡ not (goes_on event.now) }
+{
+    !matches!(
+        event,
+        Event::Move { .. } | Event::Take { .. } | Event::Timeout { .. } | Event::Deliver { .. }
+    )
 }
 
 // Whether one of so many processes has not ended.

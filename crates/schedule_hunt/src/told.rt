@@ -1,32 +1,60 @@
 //! The texts that answer.
 ghost use Rattle.da_core.specs.Compiled.{IsCompiled};
-ghost use Rattle.sched_text.specs.EventText.{event_line};
-ghost use Rattle.schedule_hunt.specs.Hunt.{found_text as found_def, none_line, remark_line};
-ghost use Rattle.std.specs.List.{filter, flat_map};
-ghost use Rattle.std.specs.Prelude.{ℕ, ◌≡◌, ◌++◌, ◌==◌, List as Seq, IfOk, OnOk, not};
+ghost use Rattle.sched_text.specs.EventText.{HasNames, event_line};
+ghost use Rattle.schedule_hunt.specs.Hunt.{IsTold, found_text as found_def, none_line, remark_line};
+ghost use Rattle.std.specs.List.{All, filter, flat_map};
+ghost use Rattle.std.specs.Prelude.{◌≡◌, ◌++◌, ◌==◌, IfOk, OnOk, not};
 
 use crate::remark::words_of;
 use crate::what::What;
 use da_core::Compiled;
 use da_lang::Event;
 use da_values::{Buf, List, NoMemory, write_number};
-use sched_text::write_event;
+use sched_text::{SCHEDULE_LIMIT, write_event};
+use schedule_walk::all_named;
 use std::alloc::Global;
 
-/// The lines of events that show this, and the remark that says how.
+/// The lines of events that show this, and the remark that says how. Where they would be too long, the remark is empty; `None`
+/// where they would be no schedule even so.
 pub(crate) fn found_text(
     alloc: Global,
     compiled: &Compiled,
     events: &[Event],
     what: &What,
-) -> Result<Buf, NoMemory>
+) -> Result<Option<Buf>, NoMemory>
     requires { IsCompiled compiled.now }
-    ensures { IfOk result (λ text. (words : Seq ℕ) × (text ≡ found_def events.now words)) }
+    ensures { IfOk result (IsTold events.now) }
 {
+    if !all_named(events) {
+        return Ok(None);
+    }
     let words = words_of(alloc, compiled, events, what)?;
+    let text = with_words(alloc, events, words.as_slice())?;
+    if text.len() <= SCHEDULE_LIMIT {
+        return Ok(Some(text));
+    }
+    bare_text(alloc, events)
+}
+
+// The lines of events and an empty remark, if they are a schedule.
+fn bare_text(alloc: Global, events: &[Event]) -> Result<Option<Buf>, NoMemory>
+    requires { All HasNames events.now }
+    ensures { IfOk result (IsTold events.now) }
+{
+    let text = with_words(alloc, events, &[])?;
+    if text.len() > SCHEDULE_LIMIT {
+        return Ok(None);
+    }
+    Ok(Some(text))
+}
+
+// The lines of events and a remark.
+fn with_words(alloc: Global, events: &[Event], words: &[u8]) -> Result<Buf, NoMemory>
+    ensures { IfOk result (λ text. text ≡ found_def events.now words.now) }
+{
     let mut text = List::new(alloc);
     put_events(events, &mut text)?;
-    put_remark(words.as_slice(), &mut text)?;
+    put_remark(words, &mut text)?;
     Ok(text)
 }
 

@@ -6,8 +6,8 @@ use da_values::Value;
 pub enum What {
     /// A fault ends a process.
     Fault,
-    /// After the run no event may be picked, and some process has not used up its statements. A process that a fault
-    /// has ended has not.
+    /// After the run no move, no timeout and no delivery is allowed, and some process has not used up its statements. A process
+    /// that a fault has ended has not. What losses and repetitions would allow does not count.
     Stuck,
     /// A process puts out `enter` while another one has put out `enter` and not `leave` since. An output counts as one of
     /// them where it is that value, or a tuple whose first part is.

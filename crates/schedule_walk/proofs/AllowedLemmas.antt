@@ -89,15 +89,15 @@ abbrev NoMoves : List Event → Type 0
 NoMoves = AllByRecursion (λ e. is_move e ≡ false)
 
 module _ (P : Event → Type 0) where
-  all_append : (xs ys : List Event) → AllByRecursion P xs → AllByRecursion P ys → AllByRecursion P (xs ++ ys)
+  pub all_append : (xs ys : List Event) → AllByRecursion P xs → AllByRecursion P ys → AllByRecursion P (xs ++ ys)
   all_append [] ys one other = other
   all_append (x ∷ xs) ys one other = (one.0, all_append xs ys one.1 other)
 
-  all_flat : (f : ℕ → List Event) → ((n : ℕ) → AllByRecursion P (f n)) → (ns : List ℕ) → AllByRecursion P (flat_map f ns)
+  pub all_flat : (f : ℕ → List Event) → ((n : ℕ) → AllByRecursion P (f n)) → (ns : List ℕ) → AllByRecursion P (flat_map f ns)
   all_flat f each [] = tt
   all_flat f each (n ∷ ns) = all_append (f n) (flat_map f ns) (each n) (all_flat f each ns)
 
-  all_map : (f : ℕ → Event) → ((n : ℕ) → P (f n)) → (ns : List ℕ) → AllByRecursion P (map f ns)
+  pub all_map : (f : ℕ → Event) → ((n : ℕ) → P (f n)) → (ns : List ℕ) → AllByRecursion P (map f ns)
   all_map f each [] = tt
   all_map f each (n ∷ ns) = (each n, all_map f each ns)
 
@@ -115,7 +115,7 @@ moves_are s =
     (λ p. all_append (λ e. is_move e ≡ true) (event.Move p ∷ map (event.Take p) (numbers_to (alternatives_at (at_number s.worlds p)))) (event.Timeout p ∷ [])
     (refl, all_map (λ e. is_move e ≡ true) (event.Take p) (λ k. refl) (numbers_to (alternatives_at (at_number s.worlds p)))) (refl, tt)) (processes s)
 
-deliveries_are_not : (s : SystemState) → NoMoves (flat_map (deliveries_from s) (processes s))
+pub deliveries_are_not : (s : SystemState) → NoMoves (flat_map (deliveries_from s) (processes s))
 deliveries_are_not s =
     all_flat (λ e. is_move e ≡ false) (deliveries_from s) (λ p. all_flat (λ e. is_move e ≡ false) (deliveries_to p) (λ q. all_map (λ e. is_move e ≡ false) (event.Deliver p q) (λ i. refl) (numbers_to 4)) (processes s)) (processes s)
 

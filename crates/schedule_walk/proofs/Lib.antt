@@ -1,4 +1,6 @@
+pub mod AllowedLaws
 pub mod AllowedLemmas
 pub mod NameLemmas
 pub mod NextLemmas
+pub mod SpelledLaws
 pub mod WalkLemmas

@@ -1,14 +1,16 @@
 -- All events that are allowed in a state but for `show` and `stat`, in their order: the moves and timeouts, and then what may be
 -- done with the messages in flight.
-use Rattle.std.specs.Prelude.{ℕ, Bool, true, false, List, ◌++◌, length, map}
+use Rattle.std.specs.Prelude.{◌≡◌, ◌↔◌, ℕ, Bool, true, false, List, ◌++◌, length, map, IsSome}
 use Rattle.std.specs.List.{filter, flat_map}
 use Rattle.da_core.specs.Told.{numbers_to}
+use Rattle.da_values.specs.Sets.{Has}
 use Rattle.da_lang.specs.declared.event.Event.{Event}
 use Rattle.da_lang.specs.declared.event.Event.TheVariants as event
 use Rattle.da_lang.specs.declared.program.Program.{Program}
 use Rattle.da_system.specs.Channels.{channel}
 use Rattle.da_system.specs.Choices.{is_allowed, moves_of, processes}
-use Rattle.da_system.specs.SystemStep.{SystemState}
+use Rattle.da_system.specs.SystemStep.{SystemState, sys_step}
+use Rattle.trace_join.specs.Joins.{IsPlain}
 use Rattle.schedule_walk.specs.declared.allowed.Deed.{Deed}
 use Rattle.schedule_walk.specs.declared.allowed.Deed.TheVariants.{Deliver, Lose, Repeat}
 
@@ -37,6 +39,12 @@ candidates s = moves s ++ deeds Deliver s ++ deeds Lose s ++ deeds Repeat s
 
 abbrev pub allowed : Program → SystemState → List Event
 allowed program s = filter (is_allowed program s) (candidates s)
+
+-- THE LIST IS ALL THERE IS: these are the events that are allowed in a state, in their order; and whatever event is no `show` or
+-- `stat` is among them exactly where it has a step
+pub record ListsAllowed (program : Program) (s : SystemState) (events : List Event) : Type 0 where
+  pub are : events ≡ allowed program s
+  pub all : (e : Event) → Has events e ↔ (IsPlain e × IsSome (sys_step program s e))
 
 -- whether an event is a move or a timeout
 abbrev pub is_move : Event → Bool

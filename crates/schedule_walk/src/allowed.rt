@@ -1,9 +1,9 @@
 //! The events that are allowed in the state of a system.
 ghost use Rattle.da_system.specs.Choices.{is_allowed};
-ghost use Rattle.da_system.specs.State.{IsReady, Whichever, program_of};
-ghost use Rattle.schedule_walk.specs.Allowed.{allowed, deed_event, deeds, deeds_from, deeds_to, is_move as is_move_def, moves};
+ghost use Rattle.da_system.specs.State.{IsReady, Whichever, is_spent, program_of};
+ghost use Rattle.schedule_walk.specs.Allowed.{ListsAllowed, allowed, deed_event, deeds, deeds_from, deeds_to, is_move as is_move_def, moves};
 ghost use Rattle.std.specs.List.{filter};
-ghost use Rattle.std.specs.Prelude.{◌≡◌, ◌++◌, ◌∷◌, [], IfOk, OnOk, length};
+ghost use Rattle.std.specs.Prelude.{◌≡◌, ◌++◌, ◌∷◌, [], IfOk, OnOk, false, length};
 
 use da_lang::Event;
 use da_system::System;
@@ -42,6 +42,19 @@ pub fn allowed_events(
     system: &System,
     processes: u32,
 ) -> Result<List<Event>, NoMemory>
+    requires ready { IsReady system.now }
+    requires unspent { is_spent system.now ≡ false }
+    requires count { processes ≡ length (program_of system.now).procs }
+
+    // In each state that the system stands for: the list has each event that has a step there, but for `show` and `stat`, and
+    // no other one.
+    ensures { IfOk result (λ events. Whichever system.now (λ s. ListsAllowed (program_of system.now) s events)) }
+{
+    collect(alloc, system, processes)
+}
+
+// The moves, the deliveries, the losses and the repetitions, one kind after the other.
+fn collect(alloc: Global, system: &System, processes: u32) -> Result<List<Event>, NoMemory>
     requires ready { IsReady system.now }
     requires count { processes ≡ length (program_of system.now).procs }
     ensures { IfOk result (λ events. Whichever system.now (λ s. events ≡ allowed (program_of system.now) s)) }

@@ -1,17 +1,19 @@
 //! The events that are allowed after a schedule.
 ghost use Rattle.da_core.specs.Compiled.{IsCompiled, program_of as compiled_program};
 ghost use Rattle.da_lang.specs.declared.event.Action.TheVariants as action;
+ghost use Rattle.da_lang.specs.declared.event.Event.{Event as EventOf};
 ghost use Rattle.da_outside.specs.Outside.{HasCause};
-ghost use Rattle.da_system.specs.State.{IsReady, Stands, Whichever, program_of};
+ghost use Rattle.da_system.specs.State.{IsReady, Stands, Whichever, is_spent, program_of};
 ghost use Rattle.da_system.specs.SystemStep.{start};
-ghost use Rattle.replay_run.specs.Replay.{HasEnded, IsTried};
+ghost use Rattle.replay_run.specs.Replay.{HasEnded as HasEndedIn, IsTried};
 ghost use Rattle.sched_text.specs.ActionText.{action_line};
-ghost use Rattle.schedule_walk.specs.Allowed.{allowed};
-ghost use Rattle.schedule_walk.specs.Next.{AreRemarked, HasAnswered, HasCome, HasSaid, NextReply};
-ghost use Rattle.std.specs.Prelude.{◌≡◌, None, IfOk, length};
+ghost use Rattle.schedule_walk.specs.Allowed.{ListsAllowed};
+ghost use Rattle.schedule_walk.specs.Next.{HasAnswered, HasCome, HasEnded, HasSaid, IsListing, NextReply};
+ghost use Rattle.std.specs.Prelude.{◌≡◌, List as Seq, None, IfOk, false};
 
 use crate::allowed::allowed_events;
-use crate::remarked::with_remarks;
+use crate::outcome::NextOutcome;
+use crate::remarked::listing;
 use da_core::Compiled;
 use da_lang::{Action, Event};
 use da_outside::{Sink, Trouble, write_all};
@@ -21,36 +23,36 @@ use replay_run::Outcome;
 use run_hints::explain_events;
 use sched_text::write_action;
 use std::alloc::Global;
+use text_hints::Phrase;
 
 /// Runs the events from the opening of a program, and writes the events that are allowed after them, each on a line, followed
-/// by a remark that says in words what it is. Where one of the events is not allowed, only the line is written that says which.
-/// `text` is the text of the program, for the remarks.
+/// by a remark that says in words what it is. So what is written is a schedule of these events; where it would be too long with
+/// the remarks, they are empty. Where one of the events is not allowed, only the line is written that says which.
 pub fn next<K: Sink>(
     alloc: Global,
     compiled: &Compiled,
-    text: &[u8],
     events: &[Event],
     sink: &mut K,
-) -> Outcome
+) -> NextOutcome
     requires { IsCompiled compiled.now }
     ensures replies { HasAnswered (NextReply (compiled_program compiled.now) events.now) result (K.taken sink.old) (K.taken sink.new) }
 
     // `WriteFault` has its cause.
-    ensures write { HasCause (K.faults sink.old) (K.faults sink.new) (result ≡ Outcome.WriteFault) }
+    ensures write { HasCause (K.faults sink.old) (K.faults sink.new) (result ≡ NextOutcome.WriteFault) }
 {
     let Ok(mut system) = System::new(alloc, compiled) else {
-        return Outcome::Memory;
+        return NextOutcome::Memory;
     };
-    match answer_to(alloc, &mut system, compiled, text, events) {
+    match answer_to(alloc, &mut system, compiled, events) {
         Ok(answer) => say(answer.lines.as_slice(), answer.outcome, sink),
-        Err(_) => Outcome::Memory,
+        Err(_) => NextOutcome::Memory,
     }
 }
 
 /// How the run of a schedule ended, and what is answered to it.
 #[derive(Debug, Drop)]
 struct Answer {
-    outcome: Outcome,
+    outcome: NextOutcome,
     lines: Buf,
 }
 
@@ -59,7 +61,6 @@ fn answer_to(
     alloc: Global,
     system: &mut System,
     compiled: &Compiled,
-    text: &[u8],
     events: &[Event],
 ) -> Result<Answer, NoMemory>
     requires ready { IsReady system.old }
@@ -69,12 +70,9 @@ fn answer_to(
     ensures { IfOk result (λ answer. NextReply (compiled_program compiled.now) events.now answer.outcome answer.lines) }
 {
     match run(alloc, system, events) {
-        Outcome::Done => Ok(Answer {
-            outcome: Outcome::Done,
-            lines: list_allowed(alloc, system, compiled, text, events)?,
-        }),
+        Outcome::Done => list_allowed(alloc, system, compiled),
         Outcome::Forbidden(i) => Ok(Answer {
-            outcome: Outcome::Forbidden(i),
+            outcome: NextOutcome::Forbidden(i),
             lines: stop_line(alloc, i)?,
         }),
         Outcome::WriteFault | Outcome::Memory => Err(NoMemory),
@@ -84,7 +82,7 @@ fn answer_to(
 // Carries out the events up to the first that is not allowed.
 fn run(alloc: Global, system: &mut System, events: &[Event]) -> Outcome
     requires { IsReady system.old }
-    ensures ran { HasEnded result → Whichever system.old (λ s. HasCome (program_of system.old) s events.now result system.new) }
+    ensures ran { HasEndedIn result → Whichever system.old (λ s. HasCome (program_of system.old) s events.now result system.new) }
     ensures ready { IsReady system.new }
     ensures program { program_of system.new ≡ program_of system.old }
 {
@@ -113,23 +111,37 @@ fn execute(alloc: Global, system: &mut System, event: &Event) -> Result<bool, No
     }
 }
 
-// The lines of the events that are allowed in the state of a system, which these events have led to.
-fn list_allowed(
-    alloc: Global,
-    system: &System,
-    compiled: &Compiled,
-    text: &[u8],
-    events: &[Event],
-) -> Result<Buf, NoMemory>
+// What is told of the events that are allowed in the state of a system.
+fn list_allowed(alloc: Global, system: &System, compiled: &Compiled) -> Result<Answer, NoMemory>
     requires ready { IsReady system.now }
+    requires unspent { is_spent system.now ≡ false }
     requires program { program_of system.now ≡ compiled_program compiled.now }
     requires compiled { IsCompiled compiled.now }
-    ensures { IfOk result (λ lines. Whichever system.now (λ s. AreRemarked (allowed (program_of system.now) s) lines)) }
+    ensures { IfOk result (λ answer. (list : Seq EventOf) × Whichever system.now (λ s. ListsAllowed (program_of system.now) s list)
+        × IsListing list answer.outcome answer.lines) }
 {
     let processes = compiled.program().procs.len() as u32;
     let list = allowed_events(alloc, system, processes)?;
-    let remarks = explain_events(alloc, text, events, list.as_slice());
-    with_remarks(alloc, list.as_slice(), remarks.as_slice())
+    let listed = list.as_slice();
+    let remarks = explain_events(alloc, compiled, system, listed);
+    answer_with(alloc, listed, remarks.as_slice())
+}
+
+// What is told of these events.
+fn answer_with(alloc: Global, list: &[Event], remarks: &[Phrase]) -> Result<Answer, NoMemory>
+    ensures { IfOk result (λ answer. IsListing list.now answer.outcome answer.lines) }
+{
+    let found = listing(alloc, list, remarks)?;
+    match found {
+        Some(lines) => Ok(Answer {
+            outcome: NextOutcome::Done,
+            lines,
+        }),
+        None => Ok(Answer {
+            outcome: NextOutcome::Unspelled,
+            lines: List::new(alloc),
+        }),
+    }
 }
 
 // The line that the run stops at this event.
@@ -142,14 +154,14 @@ fn stop_line(alloc: Global, i: u64) -> Result<Buf, NoMemory>
 }
 
 // Writes the lines, with which the call ends so.
-fn say<K: Sink>(lines: &[u8], outcome: Outcome, sink: &mut K) -> Outcome
+fn say<K: Sink>(lines: &[u8], outcome: NextOutcome, sink: &mut K) -> NextOutcome
     requires { HasEnded outcome }
     ensures said { HasSaid outcome lines.now result (K.taken sink.old) (K.taken sink.new) }
-    ensures write { HasCause (K.faults sink.old) (K.faults sink.new) (result ≡ Outcome.WriteFault) }
+    ensures write { HasCause (K.faults sink.old) (K.faults sink.new) (result ≡ NextOutcome.WriteFault) }
 {
     match write_all(sink, lines) {
         Ok(()) => outcome,
-        Err(Trouble::Failed) => Outcome::WriteFault,
-        Err(Trouble::Memory) => Outcome::Memory,
+        Err(Trouble::Failed) => NextOutcome::WriteFault,
+        Err(Trouble::Memory) => NextOutcome::Memory,
     }
 }

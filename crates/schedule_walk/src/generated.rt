@@ -5,7 +5,7 @@ ghost use Rattle.replay_run.specs.Replay.{HasEnded, run_on};
 ghost use Rattle.replay_run.specs.Stress.{picked_on};
 ghost use Rattle.sched_text.specs.ScheduleText.{SpellsSchedule};
 ghost use Rattle.schedule_walk.specs.Walk.{ArePicked, HasWalked, IsNext, walk_text};
-ghost use Rattle.std.specs.Prelude.{◌≡◌, ◌≤◌, None, true, IfOk, OnErr, length};
+ghost use Rattle.std.specs.Prelude.{◌≡◌, ◌≤◌, None, false, IfOk, length};
 
 use crate::naming::schedule_of;
 use da_lang::Event;
@@ -25,7 +25,8 @@ pub fn walk<K: Sink>(
     n: u64,
     sink: &mut K,
 ) -> Outcome
-    requires { IsReady system.old }
+    requires ready { IsReady system.old }
+    requires unspent { is_spent system.old ≡ false }
 
     // From each state that the system stands for: the sink gained the lines of exactly the events that are picked, and the
     // system stands where they lead.
@@ -66,7 +67,8 @@ pub fn pick_events(
     start: u64,
     n: u64,
 ) -> Result<List<Event>, NoMemory>
-    requires { IsReady system.old }
+    requires ready { IsReady system.old }
+    requires unspent { is_spent system.old ≡ false }
     ensures events { IfOk result (λ events. Whichever system.old (λ s. ArePicked (program_of system.old) s start n events system.new)) }
     ensures ready { IsReady system.new }
     ensures program { program_of system.new ≡ program_of system.old }

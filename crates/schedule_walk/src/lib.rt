@@ -5,9 +5,11 @@ mod allowed;
 mod following;
 mod generated;
 mod naming;
+mod outcome;
 mod remarked;
 
 pub use allowed::allowed_events;
 pub use following::next;
 pub use generated::{pick_events, walk};
-pub use naming::schedule_of;
+pub use naming::{all_named, schedule_of};
+pub use outcome::NextOutcome;

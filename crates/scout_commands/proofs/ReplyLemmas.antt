@@ -3,7 +3,7 @@ use Rattle.std.proofs.Common.{◌≡◌, refl, sym, ◌∙◌, ap, subst, ℕ, �
 use Rattle.std.specs.Prelude.{Option, Some, None}
 use Rattle.std.specs.Str.Lines.{lines}
 use Rattle.da_commands.specs.Lines.{badline_text}
-use Rattle.da_commands.specs.Verdict.{Accepts}
+use Rattle.da_front.specs.Verdict.{Accepts}
 use Rattle.da_lang.specs.declared.event.Event.{Event}
 use Rattle.da_lang.specs.declared.program.Program.{Program}
 use Rattle.da_outside.specs.Outside.{Appends, AppendsPrefix}
@@ -17,14 +17,16 @@ use Rattle.sched_text.specs.ScheduleText.{SpellsSchedule}
 use Rattle.schedule_hunt.specs.declared.hunting.HuntOutcome.{HuntOutcome}
 use Rattle.schedule_hunt.specs.declared.hunting.HuntOutcome.TheVariants as hunt
 use Rattle.schedule_hunt.specs.declared.what.What.{What}
-use Rattle.schedule_hunt.specs.Hunt.{HasBegun, IsFound, IsReply, ShowsNone, none_line}
+use Rattle.schedule_hunt.specs.Hunt.{HasBegun, IsFound, IsFoundUnspelled, IsReply, ShowsNone, none_line}
+use Rattle.schedule_walk.specs.declared.outcome.NextOutcome.{NextOutcome}
+use Rattle.schedule_walk.specs.declared.outcome.NextOutcome.TheVariants as next
 use Rattle.schedule_walk.specs.Next as after
 use Rattle.schedule_walk.specs.Walk.{HasWalked, walk_text}
 use Rattle.scout_commands.specs.declared.status.Status.{Status}
-use Rattle.scout_commands.specs.declared.status.Status.TheVariants.{BadLine, Done, Found, Memory, WriteFault}
+use Rattle.scout_commands.specs.declared.status.Status.TheVariants.{BadLine, Done, Found, Memory, Unspelled, WriteFault}
 use Rattle.scout_commands.specs.declared.words.Search.TheVariants.{Walk, Hunt}
-use Rattle.scout_commands.specs.Endings.{status_of_hunt, status_of_run}
-use Rattle.scout_commands.specs.Replies.{DrawDue, DrawReply, NextReply, SearchReply, answered, bad_trace, drawn, found, none, walked}
+use Rattle.scout_commands.specs.Endings.{status_of_hunt, status_of_next, status_of_run}
+use Rattle.scout_commands.specs.Replies.{DrawReply, NextReply, SearchReply, answered, bad_trace, drawn, found, none, unspelled, walked}
 use Rattle.scout_commands.specs.Told.{Answers, HasReplied, HasSaid, IsAnswer, IsCut, begun, nothing, unread, whole}
 use Rattle.trace_page.specs.declared.outcome.DrawOutcome.{DrawOutcome}
 use Rattle.trace_page.specs.declared.outcome.DrawOutcome.TheVariants as draw
@@ -47,22 +49,29 @@ said_answers Reply status bytes result before after reply said = said_as Reply _
 pub memory_replied : (Reply : Status → List ℕ → Type 0) (Due : List ℕ → Type 0) (x : Option (List ℕ)) → HasReplied Reply Due Memory x x
 memory_replied Reply Due x = nothing tt refl
 
--- A RUN
-ended_answer : (how : Outcome) → HasEnded how → IsAnswer (status_of_run how)
-ended_answer run.Done ended = tt
-ended_answer (run.Forbidden i) ended = tt
-ended_answer run.WriteFault ended = ended
-ended_answer run.Memory ended = ended
+-- AN ANSWER
 
-cut_short : (how : Outcome) → (HasEnded how → ⊥) → IsCut (status_of_run how)
-cut_short run.Done never = never tt
-cut_short (run.Forbidden i) never = never tt
-cut_short run.WriteFault never = tt
-cut_short run.Memory never = tt
+ended_answer : (how : NextOutcome) → after.HasEnded how → IsAnswer (status_of_next how)
+ended_answer next.Done ended = tt
+ended_answer (next.Forbidden i) ended = tt
+ended_answer next.Unspelled ended = tt
+ended_answer next.WriteFault ended = ended
+ended_answer next.Memory ended = ended
+
+cut_short : (how : NextOutcome) → (after.HasEnded how → ⊥) → IsCut (status_of_next how)
+cut_short next.Done never = never tt
+cut_short (next.Forbidden i) never = never tt
+cut_short next.Unspelled never = never tt
+cut_short next.WriteFault never = tt
+cut_short next.Memory never = tt
 
 none_more : (before after : Option (List ℕ)) → Appends before after [] → after ≡ before
 none_more None after gained = gained
 none_more (Some told) after gained = gained ∙ ap Some (append-nil told)
+
+gains_none : (before after : Option (List ℕ)) → after ≡ before → Appends before after []
+gains_none None after same = same
+gains_none (Some told) after same = same ∙ ap Some (sym (append-nil told))
 
 -- A WALK
 module _ (t : List ℕ) (program p : Program) (opened : System) (same : p ≡ program) (stands : Stands opened (start program)) (accepts : Accepts t program) (first most : ℕ) (left : System) (before after : Option (List ℕ)) where
@@ -85,11 +94,11 @@ module _ (t : List ℕ) (program p : Program) (opened : System) (same : p ≡ pr
       of run.Memory ran done = begun tt _ (Done, reply) begins
 
 -- THE EVENTS AFTER A SCHEDULE
-pub next_replied : (t s : List ℕ) (program : Program) (events : List Event) (how : Outcome) (before now : Option (List ℕ)) → Accepts t program → SpellsSchedule s events
-    → after.HasAnswered (after.NextReply program events) how before now → Answers (NextReply t s) (status_of_run how) before now
+pub next_replied : (t s : List ℕ) (program : Program) (events : List Event) (how : NextOutcome) (before now : Option (List ℕ)) → Accepts t program → SpellsSchedule s events
+    → after.HasAnswered (after.NextReply program events) how before now → Answers (NextReply t s) (status_of_next how) before now
 next_replied t s program events how before now accepts spells (after.whole ended bytes reply gained) = whole (ended_answer how ended) bytes (answered program events how bytes accepts spells reply) gained
 next_replied t s program events how before now accepts spells (after.begun cut said bytes reply front) =
-    begun (cut_short how cut) bytes (status_of_run said, answered program events said bytes accepts spells reply) front
+    begun (cut_short how cut) bytes (status_of_next said, answered program events said bytes accepts spells reply) front
 next_replied t s program events how before now accepts spells (after.nothing cut gained) = nothing (cut_short how cut) (none_more before now gained)
 
 -- A HUNT
@@ -106,35 +115,40 @@ module _ (t : List ℕ) (program : Program) (what : What) (first count most : �
   cut_hunt status cut (inr (bytes, reply, front)) = begun cut bytes (due bytes reply) front
 
   pub hunt_replied : (how : HuntOutcome) → (how ≡ hunt.Found → (bytes : List ℕ) × IsFound program what most first count bytes × Appends before after bytes)
-      → (how ≡ hunt.None → ShowsNone program what most first count × Appends before after (none_line count)) → HasBegun program what most first count before after → Hunted how
-  hunt_replied hunt.Found finds lacks begins = let (bytes, is, gained) = finds refl in whole tt bytes (found first count most what program bytes accepts is) gained
-  hunt_replied hunt.None finds lacks begins = let (shows, gained) = lacks refl in whole tt (none_line count) (none first count most what program accepts shows) gained
-  hunt_replied hunt.WriteFault finds lacks begins = cut_hunt WriteFault tt begins
-  hunt_replied hunt.Memory finds lacks begins = cut_hunt Memory tt begins
+      → (how ≡ hunt.None → ShowsNone program what most first count × Appends before after (none_line count)) → (how ≡ hunt.Unspelled → IsFoundUnspelled program what most first count × (after ≡ before)) → HasBegun program what most first count before after → Hunted how
+  hunt_replied hunt.Found finds lacks fails begins = let (bytes, is, gained) = finds refl in whole tt bytes (found first count most what program bytes accepts is) gained
+  hunt_replied hunt.None finds lacks fails begins = let (shows, gained) = lacks refl in whole tt (none_line count) (none first count most what program accepts shows) gained
+  hunt_replied hunt.Unspelled finds lacks fails begins = let (is, same) = fails refl in whole tt [] (unspelled first count most what program accepts is) (gains_none before after same)
+  hunt_replied hunt.WriteFault finds lacks fails begins = cut_hunt WriteFault tt begins
+  hunt_replied hunt.Memory finds lacks fails begins = cut_hunt Memory tt begins
 
 -- A DRAWING
-module _ (text t : List ℕ) (same : text ≡ t) (how : DrawOutcome) (before after : Option (List ℕ)) (says : SaysOf text how) (has : HasDrawn (lines text) how before after) where
+module _ (text t : List ℕ) (same : text ≡ t) (how : DrawOutcome) (before after : Option (List ℕ)) (says : SaysOf text how) (has : HasDrawn text how before after) where
   abbrev Drew : Status → Type 0
-  Drew status = HasReplied (DrawReply t) (DrawDue t) status before after
+  Drew status = Answers (DrawReply t) status before after
 
   pub draw_done : how ≡ draw.Done → Drew Done
   draw_done is =
       let trace : IsTrace text = subst (SaysOf text) is says in
-      let (page, paged, gained) : (page : List ℕ) × IsPage (lines text) page × Appends before after page = subst (λ o. HasDrawn (lines text) o before after) is has in
+      let (page, paged, gained) : (page : List ℕ) × IsPage (lines text) page × Appends before after page = subst (λ o. HasDrawn text o before after) is has in
       whole tt page (drawn page (subst IsTrace same trace) (subst (λ x. IsPage (lines x) page) same paged)) gained
 
-  begun_page : (status : Status) → IsCut status → (page : List ℕ) × IsPage (lines text) page × AppendsPrefix before after page → Drew status
-  begun_page status cut (page, paged, front) = begun cut page (inr (subst (λ x. IsPage (lines x) page) same paged)) front
+  begun_page : (status : Status) → IsCut status → IsTrace text × (page : List ℕ) × IsPage (lines text) page × AppendsPrefix before after page → Drew status
+  begun_page status cut (trace, page, paged, front) = begun cut page (Done, drawn page (subst IsTrace same trace) (subst (λ x. IsPage (lines x) page) same paged)) front
 
   pub draw_unwritten : how ≡ draw.WriteFault → Drew WriteFault
-  draw_unwritten is = begun_page WriteFault tt (subst (λ o. HasDrawn (lines text) o before after) is has)
+  draw_unwritten is = begun_page WriteFault tt (subst (λ o. HasDrawn text o before after) is has)
+
+  refused : (after ≡ before) ⊎ (IsTrace text × (page : List ℕ) × IsPage (lines text) page × AppendsPrefix before after page) → Drew Memory
+  refused (inl unwritten) = nothing tt unwritten
+  refused (inr page) = begun_page Memory tt page
 
   pub draw_without : how ≡ draw.Memory → Drew Memory
-  draw_without is = begun_page Memory tt (subst (λ o. HasDrawn (lines text) o before after) is has)
+  draw_without is = refused (subst (λ o. HasDrawn text o before after) is has)
 
   -- a bad trace; nothing was written before it is refused
   pub draw_bad : (line : ℕ) → how ≡ draw.BadLine line → (after ≡ before) × IsBadTrace t line
   draw_bad line is =
       let bad : IsBadTrace text line = subst (SaysOf text) is says in
-      let none : after ≡ before = subst (λ o. HasDrawn (lines text) o before after) is has in
-      (none, subst (λ x. IsBadTrace x line) same bad)
+      let unwritten : after ≡ before = subst (λ o. HasDrawn text o before after) is has in
+      (unwritten, subst (λ x. IsBadTrace x line) same bad)

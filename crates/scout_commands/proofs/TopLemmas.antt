@@ -2,14 +2,14 @@
 use Rattle.std.proofs.Common.{◌≡◌, refl, sym, ◌∙◌, ap, subst, ℕ, ◌+◌, ◌^◌, ◌<◌, ◌≤◌, inl, inr, List, arith, codes}
 use Rattle.std.specs.Prelude.{Option, Some, None}
 use Rattle.da_commands.specs.Told.{OfTold}
-use Rattle.replay_run.specs.declared.outcome.Outcome.{Outcome}
-use Rattle.replay_run.specs.declared.outcome.Outcome.TheVariants as run
+use Rattle.schedule_walk.specs.declared.outcome.NextOutcome.{NextOutcome}
+use Rattle.schedule_walk.specs.declared.outcome.NextOutcome.TheVariants as next
 use Rattle.schedule_walk.specs.Next as after
 use Rattle.scout_commands.specs.declared.status.Status.{Status}
-use Rattle.scout_commands.specs.declared.status.Status.TheVariants.{BadLine, Done, Forbidden, Found, Memory, ReadFault, Refused, Words, WriteFault}
+use Rattle.scout_commands.specs.declared.status.Status.TheVariants.{BadLine, Done, Forbidden, Found, Memory, ReadFault, Refused, Unspelled, Words, WriteFault}
 use Rattle.scout_commands.specs.declared.words.Search.{Search}
 use Rattle.scout_commands.specs.declared.words.Search.TheVariants.{Walk, Hunt}
-use Rattle.scout_commands.specs.Endings.{status_of_run}
+use Rattle.scout_commands.specs.Endings.{status_of_next}
 use Rattle.scout_commands.specs.Replies.{DrawReply, HasAnswered, NextReply, SearchReply}
 use Rattle.scout_commands.specs.Replies as reply
 use Rattle.scout_commands.specs.Told.{Answers, HasReplied, IsCut, begun, nothing, unread, whole}
@@ -27,18 +27,20 @@ search_words : (t : List ℕ) (search : Search) (status : Status) (bytes : List 
 search_words t _ _ _ (reply.declined search kind line refuses) is = let clash : Refused kind line ≡ Words = is in cc
 search_words t _ _ _ (reply.walked first most program accepts) is = let clash : Done ≡ Words = is in cc
 search_words t _ _ _ (reply.found first count most what program bytes accepts found) is = let clash : Found ≡ Words = is in cc
+search_words t _ _ _ (reply.unspelled first count most what program accepts is_unspelled) is = let clash : Unspelled ≡ Words = is in cc
 search_words t _ _ _ (reply.none first count most what program accepts shows) is = let clash : Done ≡ Words = is in cc
 
-run_words : (how : Outcome) → status_of_run how ≡ Words → ⊥
-run_words run.Done is = let clash : Done ≡ Words = is in cc
-run_words (run.Forbidden i) is = let clash : Forbidden i ≡ Words = is in cc
-run_words run.WriteFault is = let clash : WriteFault ≡ Words = is in cc
-run_words run.Memory is = let clash : Memory ≡ Words = is in cc
+answer_words : (how : NextOutcome) → status_of_next how ≡ Words → ⊥
+answer_words next.Done is = let clash : Done ≡ Words = is in cc
+answer_words (next.Forbidden i) is = let clash : Forbidden i ≡ Words = is in cc
+answer_words next.Unspelled is = let clash : Unspelled ≡ Words = is in cc
+answer_words next.WriteFault is = let clash : WriteFault ≡ Words = is in cc
+answer_words next.Memory is = let clash : Memory ≡ Words = is in cc
 
 next_words : (t s : List ℕ) (status : Status) (bytes : List ℕ) → NextReply t s status bytes → status ≡ Words → ⊥
 next_words t s _ _ (NextReply.declined kind line refuses) is = let clash : Refused kind line ≡ Words = is in cc
 next_words t s _ _ (NextReply.bad_schedule program line accepts bad) is = let clash : BadLine line ≡ Words = is in cc
-next_words t s _ _ (NextReply.answered program events how bytes accepts spells said) is = run_words how is
+next_words t s _ _ (NextReply.answered program events how bytes accepts spells said) is = answer_words how is
 
 draw_words : (t : List ℕ) (status : Status) (bytes : List ℕ) → DrawReply t status bytes → status ≡ Words → ⊥
 draw_words t _ _ (DrawReply.bad_trace line bad) is = let clash : BadLine line ≡ Words = is in cc

@@ -1,27 +1,27 @@
 -- What the program answers to the texts of its files.
-use Rattle.std.specs.Prelude.{◌≡◌, ℕ, ◌⊎◌, List, codes, Option}
+use Rattle.std.specs.Prelude.{◌≡◌, ℕ, ◌⊎◌, List, [], codes, Option}
 use Rattle.std.specs.Str.Lines.{lines}
-use Rattle.da_commands.specs.declared.status.RefusedKind.{RefusedKind}
+use Rattle.da_front.specs.declared.refusal.RefusedKind.{RefusedKind}
 use Rattle.da_commands.specs.Lines.{badline_text, refused_text}
 use Rattle.da_commands.specs.Replies.{MayRead}
 use Rattle.da_commands.specs.Told.{OfTold}
-use Rattle.da_commands.specs.Verdict.{Accepts, Refuses}
+use Rattle.da_front.specs.Verdict.{Accepts, Refuses}
 use Rattle.da_lang.specs.declared.event.Event.{Event}
 use Rattle.da_lang.specs.declared.program.Program.{Program}
 use Rattle.da_outside.specs.Outside.{Rose}
 use Rattle.da_system.specs.SystemStep as system
-use Rattle.replay_run.specs.declared.outcome.Outcome.{Outcome}
 use Rattle.sched_text.specs.ScheduleText.{IsBadSchedule, SpellsSchedule}
 use Rattle.schedule_hunt.specs.declared.what.What.{What}
-use Rattle.schedule_hunt.specs.Hunt.{IsFound, ShowsNone, none_line}
+use Rattle.schedule_hunt.specs.Hunt.{IsFound, IsFoundUnspelled, ShowsNone, none_line}
+use Rattle.schedule_walk.specs.declared.outcome.NextOutcome.{NextOutcome}
 use Rattle.schedule_walk.specs.Next as after
 use Rattle.schedule_walk.specs.Walk.{walk_text}
 use Rattle.scout_commands.specs.declared.status.Status.{Status}
-use Rattle.scout_commands.specs.declared.status.Status.TheVariants.{BadLine, Done, Found, Memory, ReadFault, Refused, Words}
+use Rattle.scout_commands.specs.declared.status.Status.TheVariants.{BadLine, Done, Found, Memory, ReadFault, Refused, Unspelled, Words}
 use Rattle.scout_commands.specs.declared.words.Search.{Search}
 use Rattle.scout_commands.specs.declared.words.Search.TheVariants.{Walk, Hunt}
-use Rattle.scout_commands.specs.Endings.{status_of_run}
-use Rattle.scout_commands.specs.Told.{Answers, HasReplied, IsSaid}
+use Rattle.scout_commands.specs.Endings.{status_of_next}
+use Rattle.scout_commands.specs.Told.{Answers, IsSaid}
 use Rattle.scout_commands.specs.Words.{IsDraw, IsNext, IsOther, IsSearch}
 use Rattle.trace_page.specs.PageText.{IsPage}
 use Rattle.trace_page.specs.TraceText.{IsBadTrace, IsTrace}
@@ -32,6 +32,8 @@ pub data SearchReply (text : List ℕ) : Search → Status → List ℕ → Type
   walked : (start most : ℕ) (program : Program) → Accepts text program → SearchReply text (Walk start most) Done (walk_text program (system.start program) start most)
   found : (start count most : ℕ) (what : What) (program : Program) (bytes : List ℕ) → Accepts text program → IsFound program what most start count bytes
       → SearchReply text (Hunt start count most what) Found bytes
+  unspelled : (start count most : ℕ) (what : What) (program : Program) → Accepts text program → IsFoundUnspelled program what most start count
+      → SearchReply text (Hunt start count most what) Unspelled []
   none : (start count most : ℕ) (what : What) (program : Program) → Accepts text program → ShowsNone program what most start count
       → SearchReply text (Hunt start count most what) Done (none_line count)
 
@@ -39,23 +41,19 @@ pub data SearchReply (text : List ℕ) : Search → Status → List ℕ → Type
 pub data NextReply (program_text schedule_text : List ℕ) : Status → List ℕ → Type 0 where
   declined : (kind : RefusedKind) (line : ℕ) → Refuses program_text kind line → NextReply program_text schedule_text (Refused kind line) (refused_text kind line)
   bad_schedule : (program : Program) (line : ℕ) → Accepts program_text program → IsBadSchedule schedule_text line → NextReply program_text schedule_text (BadLine line) (badline_text line)
-  answered : (program : Program) (events : List Event) (how : Outcome) (bytes : List ℕ) → Accepts program_text program → SpellsSchedule schedule_text events → after.NextReply program events how bytes
-      → NextReply program_text schedule_text (status_of_run how) bytes
+  answered : (program : Program) (events : List Event) (how : NextOutcome) (bytes : List ℕ) → Accepts program_text program → SpellsSchedule schedule_text events → after.NextReply program events how bytes
+      → NextReply program_text schedule_text (status_of_next how) bytes
 
 -- those with which a trace is answered
 pub data DrawReply (text : List ℕ) : Status → List ℕ → Type 0 where
   bad_trace : (line : ℕ) → IsBadTrace text line → DrawReply text (BadLine line) (badline_text line)
   drawn : (page : List ℕ) → IsTrace text → IsPage (lines text) page → DrawReply text Done page
 
--- what is begun where a drawing is cut short: an answer, or a page of the lines
-abbrev pub DrawDue : List ℕ → List ℕ → Type 0
-DrawDue text bytes = ((status : Status) × DrawReply text status bytes) ⊎ IsPage (lines text) bytes
-
 -- What the program answers to its words, over the files that are told. The last is want of memory at reading the words.
 pub data HasAnswered (words : List (List ℕ)) (told : List ℕ → Option (List ℕ)) (status : Status) (before after : Option (List ℕ)) : Type 0 where
   searched : (search : Search) (p : List ℕ) → IsSearch words search p → OfTold (told p) (λ t. Answers (SearchReply t search) status before after) → HasAnswered words told status before after
   followed : (p q : List ℕ) → IsNext words p q → OfTold (told p) (λ t. OfTold (told q) (λ s. Answers (NextReply t s) status before after)) → HasAnswered words told status before after
-  drew : (p : List ℕ) → IsDraw words p → OfTold (told p) (λ t. HasReplied (DrawReply t) (DrawDue t) status before after) → HasAnswered words told status before after
+  drew : (p : List ℕ) → IsDraw words p → OfTold (told p) (λ t. Answers (DrawReply t) status before after) → HasAnswered words told status before after
   other : IsOther words → Answers (IsSaid Words (codes "words\n")) status before after → HasAnswered words told status before after
   stopped : status ≡ Memory → after ≡ before → HasAnswered words told status before after
 

@@ -1,8 +1,8 @@
 //! The command `draw`.
 ghost use Rattle.da_commands.specs.Told.{OfTold};
 ghost use Rattle.da_outside.specs.Outside.{HasCause, Rose};
-ghost use Rattle.scout_commands.specs.Replies.{DrawDue, DrawReply};
-ghost use Rattle.scout_commands.specs.Told.{HasReplied};
+ghost use Rattle.scout_commands.specs.Replies.{DrawReply};
+ghost use Rattle.scout_commands.specs.Told.{Answers};
 ghost use Rattle.std.specs.Prelude.{ℕ, ◌≡◌, ◌+◌, ◌<◌, ◌≤◌, List, take};
 
 use crate::endings::refuse_line;
@@ -19,7 +19,7 @@ pub fn draw_trace<F: Files, K: Sink>(
     out: &mut K,
 ) -> Status
     ensures replies { OfTold (F.told files.old trace.now)
-        (λ t. HasReplied (DrawReply t) (DrawDue t) result (K.taken out.old) (K.taken out.new)) }
+        (λ t. Answers (DrawReply t) result (K.taken out.old) (K.taken out.new)) }
     ensures read { result ≡ Status.ReadFault → Rose (F.faults files.old trace.now) (F.faults files.new trace.now) }
     ensures unread { result ≡ Status.ReadFault → K.taken out.new ≡ K.taken out.old }
     ensures told { (x : List ℕ) → F.told files.new x ≡ F.told files.old x }
@@ -37,7 +37,7 @@ pub fn draw_trace<F: Files, K: Sink>(
 // Refuses the trace, or draws it.
 fn answer_trace<K: Sink>(alloc: Global, text: &[u8], out: &mut K) -> Status
     ensures replies { (t : List ℕ) → text.now ≡ take (TRACE_LIMIT + 1) t
-        → HasReplied (DrawReply t) (DrawDue t) result (K.taken out.old) (K.taken out.new) }
+        → Answers (DrawReply t) result (K.taken out.old) (K.taken out.new) }
     ensures read { result ≡ Status.ReadFault → ⊥ }
     ensures write { HasCause (K.faults out.old) (K.faults out.new) (result ≡ Status.WriteFault) }
 {

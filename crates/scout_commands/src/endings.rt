@@ -1,15 +1,17 @@
 //! The lines that end a call, and the statuses of calls whose parts ended so.
 ghost use Rattle.da_commands.specs.Lines.{badline_text, refused_text};
 ghost use Rattle.da_outside.specs.Outside.{HasCause};
-ghost use Rattle.scout_commands.specs.Endings.{status_of_hunt as status_of_hunt_def, status_of_run as status_of_run_def};
+ghost use Rattle.scout_commands.specs.Endings.{status_of_hunt as status_of_hunt_def, status_of_next as status_of_next_def, status_of_run as status_of_run_def};
 ghost use Rattle.scout_commands.specs.Told.{HasSaid, IsAnswer};
 ghost use Rattle.std.specs.Prelude.{◌≡◌};
 
 use crate::status::Status;
-use da_commands::{RefusedKind, bad_line, refused_line};
+use da_commands::{bad_line, refused_line};
+use da_front::RefusedKind;
 use da_outside::{Sink, Trouble, write_all};
 use replay_run::Outcome;
 use schedule_hunt::HuntOutcome;
+use schedule_walk::NextOutcome;
 use std::alloc::Global;
 
 /// The status of a call whose run ended so.
@@ -24,6 +26,19 @@ pub fn status_of_run(outcome: Outcome) -> Status
     }
 }
 
+/// The status of a call whose question was answered so.
+pub fn status_of_next(outcome: NextOutcome) -> Status
+    ensures { result ≡ status_of_next_def outcome }
+{
+    match outcome {
+        NextOutcome::Done => Status::Done,
+        NextOutcome::Forbidden(event) => Status::Forbidden { event },
+        NextOutcome::Unspelled => Status::Unspelled,
+        NextOutcome::WriteFault => Status::WriteFault,
+        NextOutcome::Memory => Status::Memory,
+    }
+}
+
 /// The status of a call whose hunt ended so.
 pub fn status_of_hunt(outcome: HuntOutcome) -> Status
     ensures { result ≡ status_of_hunt_def outcome }
@@ -31,6 +46,7 @@ pub fn status_of_hunt(outcome: HuntOutcome) -> Status
     match outcome {
         HuntOutcome::Found => Status::Found,
         HuntOutcome::None => Status::Done,
+        HuntOutcome::Unspelled => Status::Unspelled,
         HuntOutcome::WriteFault => Status::WriteFault,
         HuntOutcome::Memory => Status::Memory,
     }

@@ -1,18 +1,18 @@
 //! The command `next`.
 ghost use Rattle.da_core.specs.Compiled.{IsCompiled, program_of};
-ghost use Rattle.da_commands.specs.Replies.{IsRefused, MayRead};
+ghost use Rattle.da_commands.specs.Replies.{MayRead};
 ghost use Rattle.da_commands.specs.Told.{OfTold};
-ghost use Rattle.da_commands.specs.Verdict.{Accepts};
+ghost use Rattle.da_front.specs.Verdict.{Accepts, IsRefused};
 ghost use Rattle.da_outside.specs.Outside.{HasCause, Rose};
 ghost use Rattle.sched_text.specs.ScheduleText.{SpellsSchedule};
 ghost use Rattle.scout_commands.specs.Replies.{NextReply};
 ghost use Rattle.scout_commands.specs.Told.{Answers};
 ghost use Rattle.std.specs.Prelude.{ℕ, ◌≡◌, ◌⊎◌, ◌+◌, ◌<◌, ◌≤◌, List, take};
 
-use crate::endings::{refuse, refuse_line, status_of_run};
+use crate::endings::{refuse, refuse_line, status_of_next};
 use crate::status::Status;
-use da_commands::{PROGRAM_LIMIT, ProgramFault, RefusedKind, read_program};
 use da_core::Compiled;
+use da_front::{PROGRAM_LIMIT, ProgramFault, read_program};
 use da_lang::Event;
 use da_outside::{Files, Sink, Trouble, read_all};
 use sched_text::{SCHEDULE_LIMIT, SchedFault, read_schedule};
@@ -63,16 +63,13 @@ fn answer_program<F: Files, K: Sink>(
     ensures rises { (x : List ℕ) → F.faults files.old x < F.faults files.new x → result ≡ Status.ReadFault }
     ensures write { HasCause (K.faults out.old) (K.faults out.new) (result ≡ Status.WriteFault) }
 {
-    if text.len() > PROGRAM_LIMIT {
-        return refuse(alloc, out, RefusedKind::Size, 0);
-    }
     let compiled = match read_program(alloc, text) {
         Ok(compiled) => compiled,
         Err(ProgramFault::Refused { kind, line }) => return refuse(alloc, out, kind, line),
         Err(ProgramFault::Memory) => return Status::Memory,
     };
     match read_all(alloc, files, name, SCHEDULE_LIMIT) {
-        Ok(schedule) => answer_schedule(alloc, &compiled, text, schedule.as_slice(), out),
+        Ok(schedule) => answer_schedule(alloc, &compiled, schedule.as_slice(), out),
         Err(Trouble::Failed) => Status::ReadFault,
         Err(Trouble::Memory) => Status::Memory,
     }
@@ -82,7 +79,6 @@ fn answer_program<F: Files, K: Sink>(
 fn answer_schedule<K: Sink>(
     alloc: Global,
     compiled: &Compiled,
-    text: &[u8],
     schedule: &[u8],
     out: &mut K,
 ) -> Status
@@ -93,7 +89,7 @@ fn answer_schedule<K: Sink>(
     ensures write { HasCause (K.faults out.old) (K.faults out.new) (result ≡ Status.WriteFault) }
 {
     match read_schedule(alloc, schedule) {
-        Ok(events) => answer_events(alloc, compiled, text, events.as_slice(), out),
+        Ok(events) => answer_events(alloc, compiled, events.as_slice(), out),
         Err(SchedFault::BadLine(line)) => refuse_line(alloc, out, line),
         Err(SchedFault::Memory) => Status::Memory,
     }
@@ -103,7 +99,6 @@ fn answer_schedule<K: Sink>(
 fn answer_events<K: Sink>(
     alloc: Global,
     compiled: &Compiled,
-    text: &[u8],
     events: &[Event],
     out: &mut K,
 ) -> Status
@@ -113,5 +108,5 @@ fn answer_events<K: Sink>(
     ensures read { result ≡ Status.ReadFault → ⊥ }
     ensures write { HasCause (K.faults out.old) (K.faults out.new) (result ≡ Status.WriteFault) }
 {
-    status_of_run(next(alloc, compiled, text, events, out))
+    status_of_next(next(alloc, compiled, events, out))
 }

@@ -1,7 +1,7 @@
 //! The commands `walk` and `hunt`.
 ghost use Rattle.da_core.specs.Compiled.{IsCompiled, program_of};
 ghost use Rattle.da_commands.specs.Told.{OfTold};
-ghost use Rattle.da_commands.specs.Verdict.{Accepts};
+ghost use Rattle.da_front.specs.Verdict.{Accepts};
 ghost use Rattle.da_outside.specs.Outside.{HasCause, Rose};
 ghost use Rattle.scout_commands.specs.Replies.{SearchReply};
 ghost use Rattle.scout_commands.specs.declared.words.Search.TheVariants as kind;
@@ -12,8 +12,8 @@ ghost use Rattle.std.specs.Prelude.{ℕ, ◌≡◌, ◌+◌, ◌<◌, ◌≤◌,
 use crate::endings::{refuse, status_of_hunt, status_of_run};
 use crate::status::Status;
 use crate::words::Search;
-use da_commands::{PROGRAM_LIMIT, ProgramFault, RefusedKind, read_program};
 use da_core::Compiled;
+use da_front::{PROGRAM_LIMIT, ProgramFault, read_program};
 use da_outside::{Files, Sink, Trouble, read_all};
 use da_system::System;
 use schedule_hunt::{Progress, What, hunt};
@@ -60,9 +60,6 @@ fn answer_text<K: Sink, P: Progress>(
     ensures read { result ≡ Status.ReadFault → ⊥ }
     ensures write { HasCause (K.faults out.old) (K.faults out.new) (result ≡ Status.WriteFault) }
 {
-    if text.len() > PROGRAM_LIMIT {
-        return refuse(alloc, out, RefusedKind::Size, 0);
-    }
     match read_program(alloc, text) {
         Ok(compiled) => answer_search(alloc, search, &compiled, out, progress),
         Err(ProgramFault::Refused { kind, line }) => refuse(alloc, out, kind, line),

@@ -1,6 +1,7 @@
 //! How a call ends.
 
-use da_commands::RefusedKind;
+use da_commands::Ending;
+use da_front::RefusedKind;
 
 /// How a call of the program ends.
 #[derive(Clone, Copy, Debug, PartialEq, Eq)]
@@ -23,16 +24,17 @@ pub enum Status {
     Memory,
     /// A hunt found a schedule.
     Found,
+    /// The answer has events whose lines are no schedule: they are too many, or one has a number that no schedule can name.
+    /// Nothing was written.
+    Unspelled,
 }
 
-impl Status {
-    ghost use Rattle.scout_commands.specs.ExitCode.{code_of};
-    ghost use Rattle.std.specs.Prelude.{◌≡◌};
+impl Ending for Status {
+    ghost use Rattle.scout_commands.specs.ExitCode.{code_of as code_def};
 
-    /// The exit status of the process.
-    pub fn code(&self) -> u8
-        ensures { result ≡ code_of self.now }
-    {
+    ghost code_of = { code_def };
+
+    fn code(&self) -> u8 {
         match self {
             Status::Done => 0,
             Status::Refused { .. } => 1,
@@ -43,6 +45,7 @@ impl Status {
             Status::WriteFault => 6,
             Status::Memory => 7,
             Status::Found => 10,
+            Status::Unspelled => 16,
         }
     }
 }

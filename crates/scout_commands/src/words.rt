@@ -3,7 +3,7 @@ ghost use Rattle.scout_commands.specs.Words.{FindsValue, FindsWhat, IsAsked};
 ghost use Rattle.std.specs.Prelude.{◌≡◌, ◌∷◌, [], IfOk, map};
 ghost use Rattle.std.specs.String.{string_bytes};
 
-use da_commands::number_between;
+use da_commands::{LAST_START, MOST_EVENTS, number_between};
 use da_values::{NoMemory, Value, ValueFault, read_value};
 use schedule_hunt::What;
 use std::alloc::Global;
@@ -46,12 +46,7 @@ pub struct Names<'a> {
     pub schedule: &'a str,
 }
 
-/// The greatest number with which a generated schedule begins.
-const LAST_START: u64 = 281_474_976_710_655;
-
-/// The most events of a generated schedule, and the most schedules of a hunt.
-const MOST_EVENTS: u64 = 1_000_000;
-
+/// The most schedules of a hunt.
 const MOST_SCHEDULES: u64 = 1_000_000;
 
 /// The most outputs that a schedule may be looked for to have more of.

@@ -1,13 +1,12 @@
 -- Pieces and lines, one after the other.
-use Rattle.std.proofs.Common.{◌≡◌, refl, sym, ◌∙◌, ap, ℕ, ◌+◌, ◌<◌, List, [], ◌∷◌, ◌++◌, length, take, arith, append_assoc, append-nil}
+use Rattle.std.proofs.Common.{◌≡◌, sym, ◌∙◌, ap, ℕ, ◌+◌, ◌<◌, List, [], ◌∷◌, ◌++◌, length, take, arith, append_assoc, append-nil}
 use Rattle.std.proofs.lemmas.Grind.{flat_map-append}
 use Rattle.std.proofs.lemmas.List.{length-map, length-take-le, map-append, take_more}
 use Rattle.std.specs.List.{enumerate_from, flat_map}
-use Rattle.std.specs.Prelude.{Option, Some, None, Result, Ok, Err, OnOk, codes, slice_index_or}
-use Rattle.da_outside.specs.Outside.{AppendsPrefix}
+use Rattle.std.specs.Prelude.{Result, Ok, Err, OnOk, slice_index_or}
 use Rattle.da_values.specs.declared.list.NoMemory.{NoMemory}
 use Rattle.trace_page.specs.declared.step.Step.{Step}
-use Rattle.trace_page.specs.PageText.{Draws, IsPage, item_text, piece_text, pieces_text}
+use Rattle.trace_page.specs.PageText.{Draws, item_text, piece_text, pieces_text}
 use Rattle.trace_page.specs.Steps.{lines_of}
 
 pub draws_on : (a b c : List ℕ) → Draws a b → Draws b c → Draws a c
@@ -41,12 +40,3 @@ items_more steps place d out old new inside was is =
     let counted : length (take place steps) ≡ place = length-take-le place steps (omega (arith, inside)) in
     is ∙ ap (λ x. x ++ item_text (place + 1, step.line.now)) was ∙ append_assoc out (items (take place steps)) (item_text (place + 1, step.line.now))
     ∙ ap (λ x. out ++ x) (ap (λ n. items (take place steps) ++ item_text (n + 1, step.line.now)) (sym counted) ∙ sym (items_last (take place steps) step) ∙ ap items (sym (take_more steps place d inside)))
-
--- some page of these lines
-pub any_page : (all : List (List ℕ)) → (page : List ℕ) × IsPage all page
-any_page all = (flat_map item_text (enumerate_from 1 all) ++ codes "</ol>\n</body>\n</html>\n", record { diagram = []; is = refl })
-
--- nothing was written: no more than a prefix of any text
-pub none_written : (told : Option (List ℕ)) (text : List ℕ) → AppendsPrefix told told text
-none_written None text = (0, refl)
-none_written (Some bytes) text = (0, ap Some (sym (append-nil bytes)))

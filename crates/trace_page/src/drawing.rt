@@ -1,7 +1,6 @@
 //! The page of a trace, to a sink.
 ghost use Rattle.da_outside.specs.Outside.{HasCause};
 ghost use Rattle.std.specs.Prelude.{ℕ, ◌≡◌, ◌⊎◌};
-ghost use Rattle.std.specs.Str.Lines.{lines};
 ghost use Rattle.trace_page.specs.Outcome.{HasDrawn, SaysOf};
 ghost use Rattle.trace_page.specs.TraceText.{IsBadTrace};
 
@@ -21,8 +20,8 @@ pub fn draw<K: Sink>(alloc: Global, text: &[u8], sink: &mut K) -> DrawOutcome
     ensures says { SaysOf text.now result }
     ensures only_bad { (n : ℕ) → IsBadTrace text.now n → (result ≡ DrawOutcome.BadLine n) ⊎ (result ≡ DrawOutcome.Memory) }
 
-    // The sink gained a page of the lines; at a bad trace nothing, and after a trouble a prefix of such a page.
-    ensures drawn { HasDrawn (lines text.now) result (K.taken sink.old) (K.taken sink.new) }
+    // The sink gained a page of the lines; of a bad trace nothing, and after a trouble a prefix of the page of a trace, or nothing.
+    ensures drawn { HasDrawn text.now result (K.taken sink.old) (K.taken sink.new) }
 
     // `WriteFault` has its cause.
     ensures write { HasCause (K.faults sink.old) (K.faults sink.new) (result ≡ DrawOutcome.WriteFault) }

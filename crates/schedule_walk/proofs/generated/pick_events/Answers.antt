@@ -3,7 +3,7 @@ use Rattle.schedule_walk.proofs.WalkLemmas.{CameBy, came_first, came_on, comes_e
 use Rattle.schedule_walk.proofs.generated.pick_events.Goals as goal
 
 pub loop-turn-init : goal.loop-turn-init
-loop-turn-init c = record { ready = c.requires; program = refl; came = λ s stands. subst (CameBy _ s _ _ 0 _ _) (sym c.new-events.ensures) (came_first _ s _ _ _ stands) }
+loop-turn-init c = record { ready = c.requires.ready; program = refl; came = λ s stands. subst (CameBy _ s _ _ 0 _ _) (sym c.new-events.ensures) (came_first _ s _ _ _ stands) }
 
 pub returns-in_default-clause-events : goal.returns-in_default-clause-events
 returns-in_default-clause-events c = λ s stands.

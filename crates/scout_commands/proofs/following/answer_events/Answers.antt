@@ -7,5 +7,5 @@ use Rattle.scout_commands.proofs.following.answer_events.Goals as goal
 
 pub returns-clause-replies : goal.returns-clause-replies
 returns-clause-replies g c = λ t s accepts spells.
-    subst (λ x. Answers (NextReply t s) x (g.K.Sink.taken c.args.out.now) (g.K.Sink.taken c.next.new.sink)) (sym c.status_of_run.ensures)
+    subst (λ x. Answers (NextReply t s) x (g.K.Sink.taken c.args.out.now) (g.K.Sink.taken c.next.new.sink)) (sym c.status_of_next.ensures)
     (next_replied t s (program_of c.args.compiled.now) c.args.events.now c.next.result _ _ accepts spells c.next.ensures.replies)

@@ -1,11 +1,9 @@
 use Rattle.std.proofs.Common.{◌∙◌, ℕ}
 use Rattle.da_core.specs.Compiled.{program_of}
-use Rattle.da_commands.specs.declared.status.RefusedKind.TheVariants.{Size}
 use Rattle.da_commands.specs.Lines.{refused_text}
-use Rattle.da_commands.specs.Verdict.{program_limit, too_long}
 use Rattle.da_commands.proofs.ReplyLemmas.{read_within, refuses_within}
-use Rattle.da_commands.proofs.ToldLemmas.{of_any, of_read, take_beyond}
-use Rattle.da_commands.proofs.VerdictLemmas.{not_refused}
+use Rattle.da_commands.proofs.ToldLemmas.{of_any, of_read}
+use Rattle.da_front.proofs.VerdictLemmas.{not_refused}
 use Rattle.sched_text.specs.ScheduleText.{schedule_limit}
 use Rattle.scout_commands.specs.declared.status.Status.TheVariants.{Refused}
 use Rattle.scout_commands.specs.Replies.{NextReply}
@@ -13,22 +11,18 @@ use Rattle.scout_commands.specs.Told.{Answers}
 use Rattle.scout_commands.proofs.ReplyLemmas.{said_answers}
 use Rattle.scout_commands.proofs.following.answer_program.Goals as goal
 
-pub returns-then-text-gt-PROGRAM_LIMIT-clause-replies : goal.returns-then-text-gt-PROGRAM_LIMIT-clause-replies
-returns-then-text-gt-PROGRAM_LIMIT-clause-replies g c = λ t is.
-    of_any _ _ (λ s. said_answers (NextReply t s) (Refused Size 0) (refused_text Size 0) _ _ _ (NextReply.declined Size 0 (too_long (take_beyond program_limit _ t is c.if-text-gt-PROGRAM_LIMIT.true))) c.refuse.ensures.said)
-
 pub returns-in-Err-Refused-clause-replies : goal.returns-in-Err-Refused-clause-replies
 returns-in-Err-Refused-clause-replies g c = λ t is.
     let kind = c.in-Err-Refused.kind in
     let line = c.in-Err-Refused.line in
     of_any _ _ (λ s. said_answers (NextReply t s) (Refused kind line) (refused_text kind line) _ _ _
-    (NextReply.declined kind line (refuses_within _ t _ _ _ is c.if-text-gt-PROGRAM_LIMIT.false c.in-Err-Refused.field-0-is c.in-Err-Refused.ensures.refused)) c.refuse-in-Err-Refused.ensures.said)
+    (NextReply.declined kind line (refuses_within _ t _ _ _ is c.in-Err-Refused.field-0-is c.in-Err-Refused.ensures.refused)) c.refuse.ensures.said)
 
 pub returns-in-Ok-read_all-clause-replies : goal.returns-in-Ok-read_all-clause-replies
 returns-in-Ok-read_all-clause-replies g c = λ t is.
-    let accepts = read_within _ t _ is c.if-text-gt-PROGRAM_LIMIT.false c.in-Ok.ensures.read in
+    let accepts = read_within _ t _ is c.in-Ok.ensures.read in
     of_read (g.F.Files.told c.args.files.now c.args.name.now) (λ s. Answers (NextReply t s) c.answer_schedule.result (g.K.Sink.taken c.args.out.now) (g.K.Sink.taken c.answer_schedule.new.out)) schedule_limit c.in-Ok-read_all.schedule c.in-Ok-read_all.ensures.whole
     (λ s read. c.answer_schedule.ensures.replies t s accepts (c.as_slice.ensures ∙ read))
 
 pub returns-in-Err-Failed-clause-refused : goal.returns-in-Err-Failed-clause-refused
-returns-in-Err-Failed-clause-refused g c = λ t is failed. not_refused t (program_of c.in-Ok.compiled) (read_within _ t _ is c.if-text-gt-PROGRAM_LIMIT.false c.in-Ok.ensures.read)
+returns-in-Err-Failed-clause-refused g c = λ t is failed. not_refused t (program_of c.in-Ok.compiled) (read_within _ t _ is c.in-Ok.ensures.read)

@@ -1,7 +1,7 @@
 use Rattle.std.proofs.Common.{inr, ◌∙◌, subst, List, ℕ}
 use Rattle.std.specs.Prelude.{Option}
 use Rattle.da_commands.specs.Told.{OfTold}
-use Rattle.da_commands.specs.Verdict.{program_limit}
+use Rattle.da_front.specs.Verdict.{program_limit}
 use Rattle.da_commands.proofs.ReplyLemmas.{may_read, rose_later}
 use Rattle.da_commands.proofs.ToldLemmas.{of_read}
 use Rattle.scout_commands.specs.Replies.{NextReply}

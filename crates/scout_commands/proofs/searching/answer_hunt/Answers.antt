@@ -9,4 +9,4 @@ use Rattle.scout_commands.proofs.searching.answer_hunt.Goals as goal
 pub returns-clause-replies : goal.returns-clause-replies
 returns-clause-replies g c = λ t accepts.
     subst (λ s. Answers (SearchReply t (Hunt c.args.start c.args.count c.args.most c.args.what.now)) s (g.K.Sink.taken c.args.out.now) (g.K.Sink.taken c.hunt.new.sink)) (sym c.status_of_hunt.ensures)
-    (hunt_replied t (program_of c.args.compiled.now) c.args.what.now c.args.start c.args.count c.args.most _ _ accepts c.hunt.result c.hunt.ensures.found c.hunt.ensures.none c.hunt.ensures.prefix)
+    (hunt_replied t (program_of c.args.compiled.now) c.args.what.now c.args.start c.args.count c.args.most _ _ accepts c.hunt.result c.hunt.ensures.found c.hunt.ensures.none c.hunt.ensures.unspelled c.hunt.ensures.prefix)

@@ -1,24 +1,17 @@
 use Rattle.da_core.specs.Compiled.{program_of}
-use Rattle.da_commands.specs.declared.status.RefusedKind.TheVariants.{Size}
 use Rattle.da_commands.specs.Lines.{refused_text}
-use Rattle.da_commands.specs.Verdict.{program_limit, too_long}
 use Rattle.da_commands.proofs.ReplyLemmas.{read_within, refuses_within}
-use Rattle.da_commands.proofs.ToldLemmas.{take_beyond}
 use Rattle.scout_commands.specs.declared.status.Status.TheVariants.{Refused}
 use Rattle.scout_commands.specs.Replies.{SearchReply}
 use Rattle.scout_commands.proofs.ReplyLemmas.{said_answers}
 use Rattle.scout_commands.proofs.searching.answer_text.Goals as goal
-
-pub returns-then-text-gt-PROGRAM_LIMIT-clause-replies : goal.returns-then-text-gt-PROGRAM_LIMIT-clause-replies
-returns-then-text-gt-PROGRAM_LIMIT-clause-replies g c = λ t is.
-    said_answers (SearchReply t c.args.search.now) (Refused Size 0) (refused_text Size 0) _ _ _ (SearchReply.declined c.args.search.now Size 0 (too_long (take_beyond program_limit _ t is c.if-text-gt-PROGRAM_LIMIT.true))) c.refuse.ensures.said
 
 pub returns-in-Err-Refused-clause-replies : goal.returns-in-Err-Refused-clause-replies
 returns-in-Err-Refused-clause-replies g c = λ t is.
     let kind = c.in-Err-Refused.kind in
     let line = c.in-Err-Refused.line in
     said_answers (SearchReply t c.args.search.now) (Refused kind line) (refused_text kind line) _ _ _
-    (SearchReply.declined c.args.search.now kind line (refuses_within _ t _ _ _ is c.if-text-gt-PROGRAM_LIMIT.false c.in-Err-Refused.field-0-is c.in-Err-Refused.ensures.refused)) c.refuse-in-Err-Refused.ensures.said
+    (SearchReply.declined c.args.search.now kind line (refuses_within _ t _ _ _ is c.in-Err-Refused.field-0-is c.in-Err-Refused.ensures.refused)) c.refuse.ensures.said
 
 pub returns-in-Ok-clause-replies : goal.returns-in-Ok-clause-replies
-returns-in-Ok-clause-replies g c = λ t is. c.answer_search.ensures.replies t (read_within c.args.text.now t (program_of c.in-Ok.compiled) is c.if-text-gt-PROGRAM_LIMIT.false c.in-Ok.ensures.read)
+returns-in-Ok-clause-replies g c = λ t is. c.answer_search.ensures.replies t (read_within c.args.text.now t (program_of c.in-Ok.compiled) is c.in-Ok.ensures.read)

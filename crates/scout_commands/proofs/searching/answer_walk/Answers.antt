@@ -6,6 +6,9 @@ use Rattle.scout_commands.specs.Told.{Answers}
 use Rattle.scout_commands.proofs.ReplyLemmas.{walk_replied}
 use Rattle.scout_commands.proofs.searching.answer_walk.Goals as goal
 
+pub walk-requires : goal.walk-requires
+walk-requires g c = record { ready = c.in-Ok.ensures.ready; unspent = c.in-Ok.ensures.start.unspent }
+
 pub returns-clause-replies : goal.returns-clause-replies
 returns-clause-replies g c = λ t accepts.
     subst (λ s. Answers (SearchReply t (Walk c.args.start c.args.most)) s (g.K.Sink.taken c.args.out.now) (g.K.Sink.taken c.walk.new.sink)) (sym c.status_of_run.ensures)

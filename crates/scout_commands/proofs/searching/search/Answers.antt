@@ -1,5 +1,5 @@
 use Rattle.std.proofs.Common.{◌∙◌}
-use Rattle.da_commands.specs.Verdict.{program_limit}
+use Rattle.da_front.specs.Verdict.{program_limit}
 use Rattle.da_commands.proofs.ToldLemmas.{of_any, of_read}
 use Rattle.scout_commands.specs.Replies.{SearchReply}
 use Rattle.scout_commands.specs.Told.{Answers, nothing, unread}

@@ -1,0 +1,17 @@
+use Rattle.std.proofs.Common.{◌≤◌, ◌∙◌, subst, sym}
+use Rattle.std.proofs.lemmas.Bool.{false≢true}
+use Rattle.sched_text.specs.ScheduleText.{schedule_limit}
+use Rattle.schedule_walk.proofs.SpelledLaws.{remarked_spells, unnamed}
+use Rattle.schedule_walk.proofs.remarked.listing.Goals as goal
+
+pub returns-then-not-all_named : goal.returns-then-not-all_named
+returns-then-not-all_named c = unnamed _ _ (λ all. false≢true (sym c.if-not-all_named.true ∙ c.all_named.ensures.1 all))
+
+pub returns-then-len-le-SCHEDULE_LIMIT : goal.returns-then-len-le-SCHEDULE_LIMIT
+returns-then-len-le-SCHEDULE_LIMIT c = (
+  c.in_ok-text.ensures,
+  remarked_spells _ _ c.in_ok-text.ensures (c.all_named.ensures.0 c.if-not-all_named.false) (subst (λ n. n ≤ schedule_limit) c.len.ensures c.if-len-le-SCHEDULE_LIMIT.true),
+)
+
+pub bare_listing-requires : goal.bare_listing-requires
+bare_listing-requires c = c.all_named.ensures.0 c.if-not-all_named.false

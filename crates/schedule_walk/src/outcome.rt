@@ -1,0 +1,17 @@
+//! How an answer ends.
+
+/// How the question which events are allowed after a schedule was answered.
+#[derive(Clone, Copy, Debug, PartialEq, Eq)]
+pub enum NextOutcome {
+    /// The events that are allowed were written.
+    Done,
+    /// The event of this number is not allowed. Events are numbered from 1.
+    Forbidden(u64),
+    /// No schedule has all events that are allowed: their lines have more than 16,777,216 bytes even with empty remarks, or
+    /// one has a number of more than nine digits. Nothing was written.
+    Unspelled,
+    /// The sink failed.
+    WriteFault,
+    /// Memory was refused.
+    Memory,
+}
