@@ -2,16 +2,14 @@
 //! show something, and pages of traces.
 #![tactic(auto)]
 
-mod exit;
 mod progress;
 mod report;
 
+use da_commands::{NoWords, exit_code, words_of_call};
 use da_outside::{RealFiles, RealSink};
-use exit::{NoWords, exit_code};
 use progress::Line;
 use report::report;
 use scout_commands::{Status, scout};
-use std::env;
 use std::io::IsTerminal;
 use std::process::ExitCode;
 
@@ -36,14 +34,4 @@ fn main(rt: HostRuntime) -> ExitCode {
         report(&rt, words.as_slice(), status);
         status
     })
-}
-
-// The words after the name of the program.
-fn words_of_call(rt: &HostRuntime) -> Result<Vec<String>, NoWords> {
-    let args = env::args(rt).map_err(|_| NoWords::Refused)?;
-    let mut words = Vec::new(rt.alloc());
-    for word in args.skip(1) {
-        words.push(word).map_err(|_| NoWords::Memory)?;
-    }
-    Ok(words)
 }

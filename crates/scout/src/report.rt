@@ -1,9 +1,10 @@
 //! What a person is told on standard error: why the work was not done, in a line or two. What cannot be told is left out: the
 //! exit status says how the call ended.
-use da_commands::RefusedKind;
+use da_commands::tell_unread;
+use da_front::RefusedKind;
 use scout_commands::{Command, Names, Status, command_of};
 use std::io::Eprint;
-use std::{fs, io, rt};
+use std::{io, rt};
 
 const USAGE: &str = "\
 usage:
@@ -122,28 +123,14 @@ fn tell_common<R: Eprint>(rt: &R, status: Status) -> io::Result<()> {
         Status::ReadFault => eprintln!(rt; "dalgo: a read failed"),
         Status::WriteFault => eprintln!(rt; "dalgo: standard output cannot be written"),
         Status::Memory => eprintln!(rt; "dalgo: out of memory"),
+        Status::Unspelled => {
+            eprintln!(rt;
+                "dalgo: the events of the answer are no schedule that 'dalgo replay' reads"
+            )?;
+            eprintln!(rt;
+                "a schedule has at most 16777216 bytes, and numbers of at most nine digits"
+            )
+        }
         _ => Ok(()),
-    }
-}
-
-// Why a file cannot be read, if the system says so once more. Whether it did.
-fn tell_unread<R: rt::Files + AllocGlobal + Eprint>(rt: &R, name: &str) -> io::Result<bool> {
-    match fs::metadata(rt, name) {
-        Ok(found) if found.is_dir() => {
-            eprintln!(rt; "{name}: this is a directory")?;
-            Ok(true)
-        }
-        Ok(found) if !found.is_file() => Ok(false),
-        Ok(_) => match fs::open(rt, name) {
-            Ok(_) => Ok(false),
-            Err(why) => {
-                eprintln!(rt; "{name}: {why}")?;
-                Ok(true)
-            }
-        },
-        Err(why) => {
-            eprintln!(rt; "{name}: {why}")?;
-            Ok(true)
-        }
     }
 }
