@@ -12,13 +12,13 @@ use std::alloc::Global;
 use std::net::Net;
 use udp_link::UdpLink;
 
-/// The files `p` and `s`, the files `1`, `2` and so on, and the datagrams that a link gives, one on a line.
+/// The files `p` and `s`, the files `1`, `2` and so on, and the answers of a link where a call does not say them.
 #[derive(Clone, Copy)]
 pub struct Texts<'a> {
     pub program: &'a [u8],
     pub schedule: &'a [u8],
     pub traces: &'a str,
-    pub datagrams: &'a str,
+    pub answers: &'a str,
 }
 
 // How many bytes the sink takes a call, and which read, which write, which call of the link and which call of the spawner fails;
@@ -41,10 +41,10 @@ struct Outside {
     children: ScriptSpawner,
 }
 
-/// How a call `KIND OPTIONS | WORDS` ends, and what it writes. The options are `width=16`, `read=0`, `write=0`, `link=0` and
-/// `child=0`, where no others are there. After `length` only the number of bytes is told. After `link` the link answers by
-/// the datagrams, or, where there are none, by one that is none of a message, and its entries are told. After `gifts` it does so
-/// too, and all bytes that it was given are told. After `launch` the first child writes the line `end 1` and ends with status 0,
+/// How a call `KIND OPTIONS | WORDS | ANSWERS` ends, and what it writes. The options are `width=16`, `read=0`, `write=0`,
+/// `link=0` and `child=0`, where no others are there. The answers of the link have `; ` between them, and are `nothing` or the
+/// bytes of a datagram. After `length` only the number of bytes is told. After `link` the entries of the link are told, and
+/// after `gifts` all bytes that it was given. After `launch` the first child writes the line `end 1` and ends with status 0,
 /// the second writes nothing and ends with 9, and the calls of the spawner are told. After `next` it is told whether the next
 /// read of the schedule fails, and after `udp` the call is over UDP.
 pub fn call_reply<R: Net + AllocGlobal>(
@@ -56,8 +56,9 @@ pub fn call_reply<R: Net + AllocGlobal>(
     let alloc = rt.alloc();
     let (head, words) = call.split_once('|').unwrap_or((call, ""));
     let (kind, options) = head.split_once(' ').unwrap_or((head, ""));
+    let (words, answers) = words.split_once(" | ").unwrap_or((words, texts.answers));
     let words = words_of(alloc, words)?;
-    let mut outside = outside_of(alloc, texts, setting_of(options)?)?;
+    let mut outside = outside_of(alloc, texts, answers, setting_of(options)?)?;
     if kind == "udp" {
         let status = over_udp(rt, words.as_slice(), &mut outside);
         return tell(alloc, status, outside.sink.bytes(), out);
@@ -109,27 +110,39 @@ fn script_of(alloc: Global, call: u64) -> Result<List<u64>, NoMemory> {
     Ok(script)
 }
 
-fn outside_of(alloc: Global, texts: Texts<'_>, setting: Setting) -> Result<Outside, NoMemory> {
+fn outside_of(
+    alloc: Global,
+    texts: Texts<'_>,
+    answers: &str,
+    setting: Setting,
+) -> Result<Outside, NoMemory> {
     Ok(Outside {
         files: files_of(alloc, texts, setting.read)?,
         sink: MemSink::new(alloc, setting.width, script_of(alloc, setting.write)?),
-        link: ArqLink::new(alloc, link_of(alloc, texts.datagrams, setting.link)?),
+        link: ArqLink::new(alloc, link_of(alloc, answers, setting.link)?),
         children: children_of(alloc, setting.child)?,
     })
 }
 
-fn link_of(alloc: Global, datagrams: &str, fails: u64) -> Result<ScriptLink, NoMemory> {
+fn link_of(alloc: Global, answers: &str, fails: u64) -> Result<ScriptLink, NoMemory> {
     let mut link = ScriptLink::new(alloc, script_of(alloc, fails)?);
-    if datagrams.is_empty() {
-        link.add(LinkAnswer::Datagram(copy_bytes(alloc, b"DA")?))?;
-    }
-    for line in datagrams.lines() {
-        let bytes = bytes_of(alloc, line)?;
-        if bytes.len() <= DATAGRAM_MAX {
-            link.add(LinkAnswer::Datagram(bytes))?;
+    for answer in answers.split("; ") {
+        if answer == "nothing" {
+            link.add(LinkAnswer::Nothing)?;
+        } else {
+            add_datagram(alloc, answer, &mut link)?;
         }
     }
     Ok(link)
+}
+
+// Adds a datagram, unless it is longer than one may be.
+fn add_datagram(alloc: Global, text: &str, link: &mut ScriptLink) -> Result<(), NoMemory> {
+    let bytes = bytes_of(alloc, text)?;
+    if bytes.len() > DATAGRAM_MAX {
+        return Ok(());
+    }
+    link.add(LinkAnswer::Datagram(bytes))
 }
 
 fn children_of(alloc: Global, fails: u64) -> Result<ScriptSpawner, NoMemory> {

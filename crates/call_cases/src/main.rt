@@ -15,9 +15,9 @@ use std::{fs, rt};
 use texts::bytes_of;
 
 /// The files of calls, in the order of the answers.
-const FILES: [&str; 11] = [
+const FILES: [&str; 15] = [
     "replays", "words", "faults", "links", "launches", "joins", "objects", "long", "many", "infer",
-    "untyped",
+    "untyped", "nodes", "timeouts", "packets", "held",
 ];
 
 /// How many calls there were, and how many of them differ.
@@ -35,8 +35,9 @@ fn main(rt: HostRuntime) -> anyhow::Result<()> {
 }
 
 // Tries the calls of a file. After `=== program` stands the text of the file `p`, after `=== schedule` that of `s`, after each
-// `=== trace` that of `1`, of `2` and so on, after `=== datagrams` what a link gives, one datagram on a line, and after `=== calls` each line `CALL ==> WANTED` is one over
-// these; other lines are remarks. The end of the last line of a text does not belong to it.
+// `=== trace` that of `1`, of `2` and so on, after `=== answers` what a link answers where a call does not say it, and after
+// `=== calls` each line `CALL ==> WANTED` is one over these; other lines are remarks. The end of the last line of a text does
+// not belong to it.
 fn answer_file<R: rt::Files + Net + Print + AllocGlobal>(rt: &R, name: &str) -> anyhow::Result<()> {
     let path = format!(in rt.alloc(); "{name}.txt")?;
     let text = fs::read_to_string(rt, path.as_str()).context(format_args!("reading {path}"))?;
@@ -60,7 +61,7 @@ fn try_section<R: Net + Print + AllocGlobal>(
     tally: &mut Tally,
 ) -> anyhow::Result<()> {
     let (texts, calls) = section.split_once("=== calls\n").unwrap_or((section, ""));
-    let (texts, datagrams) = texts.split_once("=== datagrams\n").unwrap_or((texts, ""));
+    let (texts, answers) = texts.split_once("=== answers\n").unwrap_or((texts, "DA"));
     let (texts, traces) = texts.split_once("=== trace\n").unwrap_or((texts, ""));
     let (program, schedule) = texts.split_once("=== schedule\n").unwrap_or((texts, ""));
     let program = bytes_of(rt.alloc(), program.strip_suffix('\n').unwrap_or(program))?;
@@ -69,7 +70,7 @@ fn try_section<R: Net + Print + AllocGlobal>(
         program: program.as_slice(),
         schedule: schedule.as_slice(),
         traces,
-        datagrams,
+        answers: answers.strip_suffix('\n').unwrap_or(answers),
     };
     for line in calls.lines() {
         try_line(rt, name, texts, line, tally)?;

@@ -6,10 +6,7 @@ use da_types::Typed;
 /// The code of each class: where its processes start and its handlers are entered, its yield points, its instructions.
 pub fn tell_code<R: Print + AllocGlobal>(rt: &R, typed: &Typed) -> anyhow::Result<()> {
     for class in 0..typed.program().classes.len() {
-        match generate(rt.alloc(), typed, class) {
-            Ok(code) => tell_class(rt, &code)?,
-            Err(_) => println!(rt; "memory")?,
-        }
+        tell_class(rt, &generate(rt.alloc(), typed, class)?)?;
     }
     Ok(())
 }

@@ -1,5 +1,0 @@
-use Rattle.da_system.specs.State.{IsReady}
-use Rattle.memory_cases.proofs.make_steps.Given as goal
-
-abbrev pub invariant-loop-event : goal.invariant-loop-event
-invariant-loop-event g l = IsReady l.system
