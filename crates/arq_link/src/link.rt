@@ -12,8 +12,8 @@ use std::alloc::Global;
 ///
 /// Each payload goes as a frame with a number, and waits until the peer has acknowledged it. At each hundredth answer in a row
 /// that nothing is there, what waits first for each peer is given again. Memory of a call is taken first, and where a call fails
-/// what is kept for the peers is as it was. So a payload whose `give` failed was not given, and a datagram that was taken in a call
-/// which failed counts as lost.
+/// what is kept for the peers is as it was. A `give` that failed has given nothing, and what a failed call took from the inner
+/// link counts as lost.
 ///
 /// While a peer is away, all that was given to it waits, and memory grows with each `give`. No bound is set.
 #[derive(Drop)]
