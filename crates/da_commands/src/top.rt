@@ -67,7 +67,7 @@ pub fn dalgo<F: Files, K: Sink, L: Link, S: Spawner>(
     // A node answers by the program's text and by what its link answers, which is the inner link where the channels of the program
     // keep no order and may lose and double messages, else the reliable link over it. That link is bound once, unless the program
     // is refused, and then tells the talk of the run. Where it fails to be bound nothing is written. Where a write fails, it tells
-    // the talk up to there, and only lines of the last event are missing.
+    // the talk up to there, and lines are missing only of events after which it told nothing.
     ensures node { (p : List ℕ) (setting : NodeSetting) → IsNode (map string_bytes words.now) p setting → IsAnswer result
         → OfTold (F.told files.old p)
         (λ t. (kind : ChannelKind) → HasKind t kind → HasAnswered t setting result (told_over L.told kind link.old) (told_over L.told kind link.new) (K.taken out.old) (K.taken out.new)) }
@@ -78,7 +78,7 @@ pub fn dalgo<F: Files, K: Sink, L: Link, S: Spawner>(
         → OfTold (F.told files.old p)
         (λ t. (kind : ChannelKind) → HasKind t kind → HasStopped t setting result (told_over L.told kind link.old) (told_over L.told kind link.new) (K.taken out.old) (K.taken out.new)) }
 
-    // However it ends, a node gives nothing but packets of messages that its process sent.
+    // However it ends, a node gives nothing but packets that name its process as their sender.
     ensures node_packets { (p : List ℕ) (setting : NodeSetting) → IsNode (map string_bytes words.now) p setting
         → OfTold (F.told files.old p)
         (λ t. (kind : ChannelKind) → HasKind t kind → GivesPackets setting.me (told_over L.told kind link.old) (told_over L.told kind link.new)) }
@@ -102,7 +102,8 @@ pub fn dalgo<F: Files, K: Sink, L: Link, S: Spawner>(
     // status are those of the reply to these calls. Where a write failed or memory was refused, a telling spawner tells the
     // first calls of a reply, and the sink gained a prefix of its bytes: of the children whose ends were told, with nothing missing
     // of a child after whose end more was told. Where a write failed, the calls stop at the child whose text was being written.
-    // A call for which memory was refused is not told, so no clause speaks of it; the launch ends there, and makes no other one.
+    // A call for which memory was refused is not told. Another call after it would be no call of a reply; that the same one is not
+    // made again is how the code is.
     ensures launch { (p : List ℕ) (setting : LaunchSetting) → IsLaunch (map string_bytes words.now) p setting → IsLaunchAnswer result
         → OfTold (F.told files.old p) (λ t. HasLaunched t p setting result (S.told children.old) (S.told children.new) (K.taken out.old) (K.taken out.new)) }
     ensures launch_stopped { (p : List ℕ) (setting : LaunchSetting) → IsLaunch (map string_bytes words.now) p setting → (IsLaunchAnswer result → ⊥)
@@ -141,7 +142,7 @@ pub fn dalgo<F: Files, K: Sink, L: Link, S: Spawner>(
 
     // Asked for declarations, it answers by the program's text: with the refusal by the grammar in which parameters may lack their
     // types, by names, by limits, or by the least line up to which no types keep the rules; or with what is printed of the program
-    // with some types that keep all rules.
+    // with types that keep all rules, of which each is that of any others, with `int` or `proc` in place of some parts.
     ensures infers { (p : List ℕ) → IsInfer (map string_bytes words.now) p → IsAnswer result
         → OfTold (F.told files.old p) (λ t. Gains (InferReply t) result (K.taken out.old) (K.taken out.new)) }
     ensures begun_infer { (p : List ℕ) → IsInfer (map string_bytes words.now) p → (IsAnswer result → ⊥)

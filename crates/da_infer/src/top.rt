@@ -67,7 +67,8 @@ pub fn infer(alloc: Global, loose: &LooseTree) -> Result<Tree, InferFault>
     // Names and limits do not depend on the types.
     ensures same { AgreeFor loose.now }
 
-    // The program is that of the text with types for what has none; it keeps all rules, and its text spells it again.
+    // The program is that of the text with types for what has none; it keeps all rules, no other types with which it does are
+    // better, and its text spells it again.
     ensures inferred { IfOk result (IsInferred loose.now) }
 
     // What is told, but want of memory, is so.

@@ -79,7 +79,7 @@ pub record WasCut (program : Program) (me idle turns : ℕ) (told_before told_af
 
 -- WHAT THE LINK WAS GIVEN
 
--- a gift is the packet of a message that process `me` sent
+-- a gift is a packet that names process `me` as its sender
 abbrev pub IsPacketOf : ℕ → LinkEntry → Type 0
 IsPacketOf me (Gave to bytes) = (time : ℕ) × (message : Val) × IsPacket me time message bytes
 IsPacketOf me _ = Unit {0}

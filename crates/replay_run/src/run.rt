@@ -2,10 +2,10 @@
 ghost use Rattle.da_lang.specs.declared.event.Action.TheVariants as action;
 ghost use Rattle.da_outside.specs.Outside.{Appends, AppendsPrefix, HasCause};
 ghost use Rattle.da_system.specs.SourceRun.{EndsByStop};
-ghost use Rattle.da_system.specs.State.{IsReady, Whichever, program_of};
+ghost use Rattle.da_system.specs.State.{IsReady, Whichever, is_spent, program_of};
 ghost use Rattle.replay_run.specs.Replay.{HasEnded, HasRun, IsTried, run_on, run_text, step_text};
 ghost use Rattle.sched_text.specs.ActionText.{action_line, action_text};
-ghost use Rattle.std.specs.Prelude.{ℕ, ◌≡◌, ◌↔◌, ◌∷◌, List, [], IfOk, IsErrOf, OnErr, OnOk};
+ghost use Rattle.std.specs.Prelude.{ℕ, ◌≡◌, ◌↔◌, ◌∷◌, false, List, [], IfOk, IsErrOf, OnErr, OnOk};
 
 use crate::outcome::Outcome;
 use da_lang::{Action, Event};
@@ -25,6 +25,7 @@ pub fn replay<K: Sink>(
     sink: &mut K,
 ) -> Outcome
     requires ready { IsReady system.old }
+    requires unspent { is_spent system.old ≡ false }
 
     // From each state that the system stands for: the sink gained the text of the run, and the system stands where the events
     // that were carried out lead.

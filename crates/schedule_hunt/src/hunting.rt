@@ -22,8 +22,8 @@ pub enum HuntOutcome {
     Found,
     /// None of the tried ones shows what was looked for.
     None,
-    /// A schedule was found whose lines no schedule can have: they have more than 16,777,216 bytes even with an empty remark,
-    /// or a number of more than nine digits. Nothing was written.
+    /// A schedule was found that is none as a text: with an empty remark it has more than 16,777,216 bytes, or a number of
+    /// more than nine digits. Nothing was written.
     Unspelled,
     /// The sink failed.
     WriteFault,

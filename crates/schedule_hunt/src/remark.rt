@@ -75,7 +75,7 @@ fn put_fault(alloc: Global, told: &Told, out: &mut Buf) -> Result<(), NoMemory> 
 }
 
 fn put_stuck(count: usize, told: &Told, out: &mut Buf) -> Result<(), NoMemory> {
-    out.append(b"stuck: no event may be picked, and these processes have not ended:")?;
+    out.append(b"stuck: no move, timeout or delivery is allowed, and these have not ended:")?;
     for place in 0..count {
         if !has_ended(place + 1, told.actions.as_slice()) {
             put_process(place + 1, out)?;

@@ -10,8 +10,8 @@ use da_system::System;
 use da_values::{List, NoMemory};
 use std::alloc::Global;
 
-/// The messages of a channel that are looked at, at most.
-const MESSAGES: usize = 999_999_999;
+/// The messages of a channel that are looked at, at most: as many as an event can number. A schedule can name fewer.
+const MESSAGES: usize = 4_294_967_295;
 
 /// What may be done with a message in flight.
 #[derive(Clone, Copy, Debug)]

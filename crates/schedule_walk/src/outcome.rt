@@ -7,8 +7,8 @@ pub enum NextOutcome {
     Done,
     /// The event of this number is not allowed. Events are numbered from 1.
     Forbidden(u64),
-    /// No schedule has all events that are allowed: their lines have more than 16,777,216 bytes even with empty remarks, or
-    /// one has a number of more than nine digits. Nothing was written.
+    /// The events that are allowed are no schedule: with empty remarks they have more than 16,777,216 bytes, or one has a
+    /// number of more than nine digits. Nothing was written.
     Unspelled,
     /// The sink failed.
     WriteFault,

@@ -24,8 +24,8 @@ pub enum Status {
     Memory,
     /// A hunt found a schedule.
     Found,
-    /// The answer has events whose lines are no schedule: they are too many, or one has a number that no schedule can name.
-    /// Nothing was written.
+    /// The events of the answer, with empty remarks, are no schedule: the text is too long, or one has a number that no
+    /// schedule can name. Nothing was written.
     Unspelled,
 }
 
