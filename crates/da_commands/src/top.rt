@@ -142,7 +142,8 @@ pub fn dalgo<F: Files, K: Sink, L: Link, S: Spawner>(
 
     // Asked for declarations, it answers by the program's text: with the refusal by the grammar in which parameters may lack their
     // types, by names, by limits, or by the least line up to which no types keep the rules; or with what is printed of the program
-    // with types that keep all rules, of which each is that of any others, with `int` or `proc` in place of some parts.
+    // with types that keep all rules, of which each is that of any others, with `int` or `proc` in place of some parts, but `proc`
+    // in that of no `int`.
     ensures infers { (p : List ℕ) → IsInfer (map string_bytes words.now) p → IsAnswer result
         → OfTold (F.told files.old p) (λ t. Gains (InferReply t) result (K.taken out.old) (K.taken out.new)) }
     ensures begun_infer { (p : List ℕ) → IsInfer (map string_bytes words.now) p → (IsAnswer result → ⊥)

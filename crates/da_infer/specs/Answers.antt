@@ -62,8 +62,8 @@ IsRefusedAs l (fault.NoTypes line) = HasNoTypes l line
 IsRefusedAs l fault.Memory = ⊥
 
 -- A program with types for what has none: it has a program, which keeps all rules of types. No other types with which it does are
--- better: each type is that of any others, with `int` or `proc` in place of some parts. Some tokens spell the program, few enough
--- to be counted by 32 bits, and the tokens of what is printed of it spell it again, but for the numbers of lines.
+-- better: each type is that of any others, with `int` or `proc` in place of some parts (`IsLean`). Some tokens spell the program,
+-- few enough to be counted by 32 bits, and the tokens of what is printed of it spell it again, but for the numbers of lines.
 pub record IsInferred (l : LooseTree) (t : Tree) : Type 0 where
   pub types : List Ty
   pub fills : Fills l types t

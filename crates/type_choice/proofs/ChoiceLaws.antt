@@ -157,6 +157,14 @@ module _ (old : List Form) (adds receives : List ℕ) (table : IsTable old) (add
           go f.Text e = refused f.Text e refl
           go (f.Tuple ks) e = refused (f.Tuple ks) e refl
 
+      -- what is filled is sent to, so it is no integer
+      no_int : (m : Meaning) → Meets old adds receives m → (k : ℕ) → FilledAt now roots new k → extended old m k ≡ t.Int → ⊥
+      no_int m meets k here int_is =
+          let (j, there_is, same) = map_get (root_of now) receives here.place k here.is in
+          false≢true
+          (sym (received_at (extended old m j) t.Int layer.Int (end_same now (extended old m) (still m meets) j j ∙ ap (extended old m) same ∙ int_is) t.outs-Int)
+          ∙ all_at (λ i. is_recipient (extended old m i) ≡ true) receives here.place j (extended_all old is_recipient m receives receives_in meets.received) there_is)
+
       pub chosen : Chosen old adds receives (types_of new)
       chosen =
           record {
@@ -165,5 +173,5 @@ module _ (old : List Form) (adds receives : List ℕ) (table : IsTable old) (add
               added = all_from (λ k. is_added (v k) ≡ true) adds added;
               received = all_from (λ k. is_recipient (v k) ≡ true) receives received;
             };
-            lean = λ m meets k inside. subst (IsLean (v k)) (extended_same old m k inside) (round_lean now roots new filled.each (extended old m) (still m meets) (length new) k);
+            lean = λ m meets k inside. subst (IsLean (v k)) (extended_same old m k inside) (round_lean now roots new filled.each (extended old m) (still m meets) (no_int m meets) (length new) k);
           }

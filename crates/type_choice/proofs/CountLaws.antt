@@ -172,7 +172,7 @@ lean_length xs ys (AreLean.more x y rest others first each) = ap suc (lean_lengt
 mutual
   pub no_longer : (x y : Ty) → IsLean x y → tokens x ≤ tokens y
   no_longer x y (IsLean.int other) = omega (arith, tokens-Int, some_token other)
-  no_longer x y (IsLean.proc other) = omega (arith, tokens-Proc, some_token other)
+  no_longer x y (IsLean.proc other apart) = omega (arith, tokens-Proc, some_token other)
   no_longer x y IsLean.truth = omega arith
   no_longer x y IsLean.text = omega arith
   no_longer x y (IsLean.tuple parts others each) =

@@ -15,7 +15,7 @@ use Rattle.type_choice.proofs.TypeLaws.{some_in}
 mutual
   pub no_deeper : (x y : Ty) → IsLean x y → levels x ≤ levels y
   no_deeper x y (IsLean.int other) = omega (arith, levels-Int)
-  no_deeper x y (IsLean.proc other) = omega (arith, levels-Proc)
+  no_deeper x y (IsLean.proc other apart) = omega (arith, levels-Proc)
   no_deeper x y IsLean.truth = omega arith
   no_deeper x y IsLean.text = omega arith
   no_deeper x y (IsLean.tuple parts others each) = omega (arith, none_deeper parts others each, levels-Tuple parts, levels-Tuple others)
@@ -28,7 +28,7 @@ mutual
 mutual
   pub still_ordered : (x y : Ty) → IsLean x y → ordered y ≡ true → ordered x ≡ true
   still_ordered x y (IsLean.int other) is = ordered-Int
-  still_ordered x y (IsLean.proc other) is = ordered-Proc
+  still_ordered x y (IsLean.proc other apart) is = ordered-Proc
   still_ordered x y IsLean.truth is = is
   still_ordered x y IsLean.text is = is
   still_ordered x y (IsLean.tuple parts others each) is = ordered-Tuple parts ∙ all_ordered parts others each (sym (ordered-Tuple others) ∙ is)
@@ -45,7 +45,7 @@ set_layer l = some_in (element_in l)
 
 pub still_no_set : (x y : Ty) → IsLean x y → is_set y ≡ false → is_set x ≡ false
 still_no_set x y (IsLean.int other) none = ap set_layer t.outs-Int
-still_no_set x y (IsLean.proc other) none = ap set_layer t.outs-Proc
+still_no_set x y (IsLean.proc other apart) none = ap set_layer t.outs-Proc
 still_no_set x y IsLean.truth none = none
 still_no_set x y IsLean.text none = none
 still_no_set x y (IsLean.tuple parts others each) none = ap set_layer (t.outs-Tuple parts)

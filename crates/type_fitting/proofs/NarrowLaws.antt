@@ -46,7 +46,7 @@ lean_length xs ys (AreLean.more x y rest others first each) = ap suc (lean_lengt
 mutual
   pub still_narrow : (x y : Ty) → IsLean x y → narrow y ≡ true → narrow x ≡ true
   still_narrow x y (IsLean.int other) is = narrow_int
-  still_narrow x y (IsLean.proc other) is = narrow_proc
+  still_narrow x y (IsLean.proc other apart) is = narrow_proc
   still_narrow x y IsLean.truth is = is
   still_narrow x y IsLean.text is = is
   still_narrow x y (IsLean.tuple parts others each) is =

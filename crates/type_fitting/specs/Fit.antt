@@ -21,7 +21,8 @@ pub record Fits (count : ℕ) (demands : List Demand) (types : List Ty) : Type 0
   pub each : All IsDeclarable types
   pub met : all_met (meaning_of types) (λ slot. true) demands ≡ true
 
--- these are such types, and no others are better: each is that of any others, with `int` or `proc` in place of some parts
+-- these are such types, and no others are better: each is that of any others, with `int` or `proc` in place of some parts, but `proc`
+-- in that of no `int`
 pub record FitsBest (count : ℕ) (demands : List Demand) (types : List Ty) : Type 0 where
   pub fits : Fits count demands types
   pub lean : (others : List Ty) → Fits count demands others → AreLean types others

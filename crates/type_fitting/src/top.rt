@@ -13,7 +13,8 @@ use type_demands::Demand;
 
 /// Types for so many unknown types, each of which may be declared, with which all is met that is demanded; or none where
 /// there are no such types. What nothing is demanded of is `int`, what is sent to is `proc`, and what is sent to and added
-/// is `set[proc]`. No other types are better: each is that of any others, with `int` or `proc` in place of some parts.
+/// is `set[proc]`. No other types are better: each is that of any others, with `int` or `proc` in place of some parts,
+/// but `proc` in that of no `int`.
 pub fn fitting(
     alloc: Global,
     count: usize,
