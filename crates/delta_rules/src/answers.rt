@@ -17,13 +17,18 @@ use std::sync::ledger::Blank;
 /// What a process of a class has to know of its past: its number, its slots, the rows of each node of the plan and those of
 /// each live pattern. The values are those of a pool, of which the answers hold the ids of `ids_of_answers`; answers that are
 /// only dropped leave these counted.
+///
+/// Nobody else reaches the slots and the sets: a caller changes them by updates alone, learns of a node whether it has a row
+/// (`flag`), and reads rows only as what a query tells. Whoever has a counter of steps and no answers to change can read no
+/// row by it.
 #[derive(Drop)]
 pub struct Answers {
+    /// The number of the process.
     pub me: u16,
-    pub slots: IdRow,
-    pub nodes: Vec<AnswerSet>,
-    pub live: Vec<AnswerSet>,
-    pub fixed: Fixed,
+    pub(crate) slots: IdRow,
+    pub(crate) nodes: Vec<AnswerSet>,
+    pub(crate) live: Vec<AnswerSet>,
+    pub(crate) fixed: Fixed,
 }
 
 impl Answers {
@@ -42,7 +47,8 @@ impl Answers {
     ghost use Rattle.std.specs.Prelude.{◌≡◌, [], IfOk, List as Seq, length, map, sum};
 
     /// The answers of a process of this number with these slots that has neither sent nor received a message. The pool is
-    /// empty before, and nobody else may hold an id of it after.
+    /// empty before, and nobody else may hold an id of it after. `NoMemory` comes where memory is refused, where a value would
+    /// have 2^128 holders, and where a sum is outside an i128.
     pub fn new(
         alloc: Global,
         plan: &Plan,
