@@ -36,6 +36,7 @@ impl Answers {
     ghost use Rattle.da_lang.specs.World.{Data, value_in};
     ghost use Rattle.da_values.specs.Value.{val_of};
     ghost use Rattle.answer_index.specs.Rows.{row_in};
+    ghost use Rattle.delta_rules.specs.Forms.{HasWidths};
     ghost use Rattle.delta_rules.specs.Holding.{ids_of_answers};
     ghost use Rattle.delta_rules.specs.Keeping.{Keeps, all_live};
     ghost use Rattle.delta_rules.specs.Laid.{IsLaid};
@@ -62,6 +63,7 @@ impl Answers {
         ensures kept { IfOk result (λ answers. (d : Data) → d.me ≡ me → d.slots ≡ slots.now → d.sent ≡ [] → d.received ≡ []
             → Keeps answers pool.new plan.now.nodes d) }
         ensures laid { IfOk result (λ answers. IsLaid answers pool.new plan.now.nodes) }
+        ensures width { IfOk result (λ answers. HasWidths answers plan.now.nodes) }
         ensures held { IfOk result (λ answers. HoldsAll pool.new (ids_of_answers answers)) }
     {
         let live = live_patterns(alloc, plan)?;
