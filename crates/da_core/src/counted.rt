@@ -94,8 +94,8 @@ fn insert_counted<L: Ledger>(
     requires spared { Unnamed source plan.now.nodes }
     ensures kept { OnOk result ((d : Data) (time : ℕ) → Keeps answers.old pool.old plan.now.nodes d
         → Keeps answers.new pool.new plan.now.nodes (after (coming source (val_of v.now) peer time) d)) }
-    ensures steps { OnOk result ((d : Data) (time : ℕ) → Keeps answers.old pool.old plan.now.nodes d
-        → steps.new ≤ steps.old + work (coming source (val_of v.now) peer time) d plan.now.nodes) }
+    ensures steps { (d : Data) (time : ℕ) → Keeps answers.old pool.old plan.now.nodes d
+        → steps.new ≤ steps.old + work (coming source (val_of v.now) peer time) d plan.now.nodes }
     ensures laid { OnOk result (IsLaid answers.new pool.new plan.now.nodes) }
     ensures held { OnOk result (HoldsAll pool.new (ids_of_answers answers.new)) }
 {
@@ -171,8 +171,8 @@ fn remove_counted<L: Ledger>(
     requires spared { NoneNames slot plan.now.nodes }
     ensures kept { OnOk result ((d : Data) → Keeps answers.old pool.old plan.now.nodes d
         → Keeps answers.new pool.new plan.now.nodes (after (Leaves slot (val_of v.now)) d)) }
-    ensures steps { OnOk result ((d : Data) → Keeps answers.old pool.old plan.now.nodes d
-        → steps.new ≤ steps.old + work (Leaves slot (val_of v.now)) d plan.now.nodes) }
+    ensures steps { (d : Data) → Keeps answers.old pool.old plan.now.nodes d
+        → steps.new ≤ steps.old + work (Leaves slot (val_of v.now)) d plan.now.nodes }
     ensures laid { OnOk result (IsLaid answers.new pool.new plan.now.nodes) }
     ensures held { OnOk result (HoldsAll pool.new (ids_of_answers answers.new)) }
 {
@@ -245,8 +245,8 @@ fn assign_counted<L: Ledger>(
     requires held { HoldsAll pool.old (ids_of_answers answers.old) }
     ensures kept { OnOk result ((d : Data) → Keeps answers.old pool.old plan.now.nodes d
         → Keeps answers.new pool.new plan.now.nodes (after (Assigns slot (val_of v.now)) d)) }
-    ensures steps { OnOk result ((d : Data) → Keeps answers.old pool.old plan.now.nodes d
-        → steps.new ≤ steps.old + work (Assigns slot (val_of v.now)) d plan.now.nodes) }
+    ensures steps { (d : Data) → Keeps answers.old pool.old plan.now.nodes d
+        → steps.new ≤ steps.old + work (Assigns slot (val_of v.now)) d plan.now.nodes }
     ensures laid { OnOk result (IsLaid answers.new pool.new plan.now.nodes) }
     ensures held { OnOk result (HoldsAll pool.new (ids_of_answers answers.new)) }
 {
