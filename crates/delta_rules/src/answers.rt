@@ -35,10 +35,9 @@ impl Answers {
     ghost use Rattle.da_lang.specs.declared.query.Node.{Node};
     ghost use Rattle.da_lang.specs.World.{Data, value_in};
     ghost use Rattle.da_values.specs.Value.{val_of};
-    ghost use Rattle.answer_index.specs.Rows.{row_in};
     ghost use Rattle.delta_rules.specs.Forms.{HasWidths};
     ghost use Rattle.delta_rules.specs.Holding.{ids_of_answers};
-    ghost use Rattle.delta_rules.specs.Keeping.{Keeps, all_live};
+    ghost use Rattle.delta_rules.specs.Keeping.{Keeps, all_live, slots_of};
     ghost use Rattle.delta_rules.specs.Laid.{IsLaid};
     ghost use Rattle.query_plan.specs.Nodes.{IsPlan, node_rows};
     ghost use Rattle.query_plan.specs.PlainNodes.{PlainNodes};
@@ -99,7 +98,7 @@ impl Answers {
 
     /// The value of a slot, numbered from 1; process 0, which is no process, where there is no such slot.
     pub fn slot(&self, s: u16, pool: &Pool) -> Result<Value, NoMemory>
-        ensures { IfOk result (λ v. val_of v ≡ value_in (row_in pool.now self.now.slots) s) }
+        ensures { IfOk result (λ v. val_of v ≡ value_in (slots_of self.now pool.now) s) }
     {
         match slot_id(&self.slots, s) {
             Some(id) => pool.value(id),
@@ -109,7 +108,7 @@ impl Answers {
 
     /// Copies of the values of all slots.
     pub fn slot_values(&self, alloc: Global, pool: &Pool) -> Result<Row, NoMemory>
-        ensures { IfOk result (λ values. values ≡ row_in pool.now self.now.slots) }
+        ensures { IfOk result (λ values. values ≡ slots_of self.now pool.now) }
     {
         row_values(alloc, self.slots.ids.as_slice(), pool)
     }
