@@ -91,4 +91,4 @@ module _ (p : Program) (class : Class) (code : ClassCode) (known : Known) (m : M
       pub run_whole : (new : Known) (spot : Place) → HasStopped code after new answer spot → HasRun p class code d.me k ran known new m1 spot
       run_whole new spot stopped =
           has_run class code may.waits p d.me k ran.data' ran.todo ran.actions known after new m1 answer spot run.known
-          (leaves p class code known m k begin d todo may).same so_far ran.turns ran.halt run.stops stopped
+          (leaves p class code known m k begin d todo may).same so_far ran.turns ran.halt run.no_values run.stops stopped

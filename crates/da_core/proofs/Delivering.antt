@@ -266,6 +266,7 @@ module _ (core : Core) (w : World) (s : StandsFor core w) (x : Delivery)
             no_actions = none;
             place = taken.stands;
             at = at_after p class code core.machine after.world ran.halt waits_here;
+            no_values = s.no_values;
           })
 
           pub has_made : (out given : List Action) → own ≡ out → given ≡ known.actions → (answer : Stopped) → answer ≡ stopped_at spot

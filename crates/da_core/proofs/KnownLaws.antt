@@ -3,14 +3,19 @@ use Rattle.std.proofs.Common.{◌≡◌, ℕ, List, [], length, map, Some, refl,
 use Rattle.std.specs.Prelude.{Bool, max, sum}
 use Rattle.std.proofs.lemmas.Simd.{map-map}
 use Rattle.da_values.specs.declared.val.Val.{Val}
+use Rattle.da_values.specs.Sets.{Has}
 use Rattle.da_lang.specs.declared.event.Action.{Action}
 use Rattle.da_lang.specs.declared.program.Class.{Class}
 use Rattle.da_lang.specs.declared.program.Program.{Program}
 use Rattle.da_lang.specs.declared.query.Node.{Node}
+use Rattle.da_lang.specs.declared.ty.Ty.TheVariants as t
 use Rattle.da_lang.specs.Live.{live_rows}
 use Rattle.da_lang.specs.Steps.{received_at}
 use Rattle.da_lang.specs.Turns.{later, sent_at, with_element, without_element}
 use Rattle.da_lang.specs.World.{Data, class_of, first_value, opening_data, put_slot}
+use Rattle.da_types.proofs.sound.AcceptedLaws.{is_typed}
+use Rattle.da_types.proofs.totality.Worlds.{class_has}
+use Rattle.da_machine.specs.Conditions.{SomeProcess, TakesElement}
 use Rattle.query_plan.specs.declared.plan.Plan.{Plan}
 use Rattle.query_plan.specs.Nodes.{IsPlan, node_rows}
 use Rattle.query_plan.specs.PlainNodes.{PlainNodes}
@@ -20,10 +25,12 @@ use Rattle.query_plan.specs.Told.{has_row}
 use Rattle.query_plan.specs.Updates.{Assigns, Joins, Leaves, Receives, Sends, Update, after}
 use Rattle.quant_norm.proofs.ClassLaw.{class_law}
 use Rattle.quant_norm.proofs.PlainLaw.{class_plain}
+use Rattle.quant_norm.proofs.SetSlotLaw.{typed_spares}
 use Rattle.row_pool.specs.Cells.{Cells}
 use Rattle.row_pool.specs.Pool.{HoldsAll}
 use Rattle.answer_index.specs.Rows.{row_in}
 use Rattle.delta_rules.specs.declared.answers.Answers.{Answers}
+use Rattle.delta_rules.specs.Counting.{NoneNames}
 use Rattle.delta_rules.specs.Holding.{ids_of_answers}
 use Rattle.delta_rules.specs.Keeping.{Keeps, all_live}
 use Rattle.delta_rules.specs.Laid.{IsLaid}
@@ -76,6 +83,16 @@ laid_out known (p, class, d, knows) = knows.laid
 
 pub all_held : (known : Known) → KnowsSome known → HoldsAll known.pool (ids_of_answers known.answers)
 all_held known (p, class, d, knows) = knows.held
+
+-- A slot takes an element of some process for which it stands.
+pub takes_some : (known : Known) (s : ℕ) (v : Val) → SomeProcess (Knows known) (λ p class d. TakesElement p class s v) → KnowsSome known
+takes_some known s v (p, class, d, knows, is, takes) = (p, class, d, knows)
+
+-- No node names such a slot.
+pub spares_slot : (known : Known) (s : ℕ) (v : Val) → SomeProcess (Knows known) (λ p class d. TakesElement p class s v) → NoneNames s known.plan.now.nodes
+spares_slot known s v (p, class, d, knows, is, takes) n among =
+    typed_spares p class (is_typed p is.accepted) (class_has p d.me class is.shaped.is_class) s (t.Set takes.ty, takes.slot, refl) n
+    (subst (λ (x : Plan). Has x.nodes n) knows.plan among)
 
 -- UPDATES
 

@@ -152,6 +152,7 @@ module _ (core : Core) (w : World) (s : StandsFor core w) (step : Step) (k : ℕ
             no_actions = none;
             place = run.stands;
             at = at_after p can.class code m after ran.halt run.behind;
+            no_values = run.no_values;
           })
 
       pub has_made : (out given : List Action) → own ≡ out → given ≡ known.actions → (answer : Stopped) → answer ≡ stopped_at spot → HasMade core w step new answer out given

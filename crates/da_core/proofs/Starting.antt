@@ -116,8 +116,8 @@ module _ (c : Compiled) (me : ℕ) (is : IsCompiled c) where
   module _ (there : IsProcess p me) (core : Core) (of_c : core.compiled.now ≡ c) (code : ClassCode) (coded : code_of c me ≡ Some code) (planned : core.known.plan.now ≡ code.plan) where
     starts_as : core.spent ≡ false → core.place ≡ place.New → core.known.actions ≡ []
         → ((class : Class) → class_of p me ≡ Some class → core.known.plan.now ≡ norm_class class → Knows core.known p class (opening_data p me)) → core.machine.loops ≡ []
-        → start_in p (code_of c me) me ≡ Some core.machine.place → StandsFor core (opening p me)
-    starts_as unspent new no_actions opened loops entry =
+        → core.machine.stack ≡ [] → start_in p (code_of c me) me ≡ Some core.machine.place → StandsFor core (opening p me)
+    starts_as unspent new no_actions opened loops no_values entry =
         let b = begun there in
         let open_world = (keeps_shaped p is.accepted).opens me b.class there b.classed in
         let classes : ◌≡◌ {A = Option Class} (Some open_world.class) (Some b.class) = sym open_world.knows.is_class ∙ b.classed in
@@ -141,15 +141,16 @@ module _ (c : Compiled) (me : ℕ) (is : IsCompiled c) where
           no_actions = no_actions;
           place = subst (λ x. IsPlace [] x New) (sym new) refl;
           at = subst (λ x. CodeFor b.code.code b.class core.machine.place core.machine.loops (first_tasks (program_of x) b.class me)) (sym of_c) code_for;
+          no_values = no_values;
         }
 
     -- where its parts are those of the opening
     pub starts_with : (class : Class) → class_of p me ≡ Some class → core.spent ≡ false → core.place ≡ place.New → core.known.actions ≡ [] → core.known.clock ≡ 0
         → ((d : Data) → d.me ≡ me → d.slots ≡ map (first_value me) class.slots → d.sent ≡ [] → d.received ≡ [] → Keeps core.known.answers core.known.pool code.plan.nodes d)
-        → IsLaid core.known.answers core.known.pool code.plan.nodes → HoldsAll core.known.pool (ids_of_answers core.known.answers) → core.machine.loops ≡ [] → start_in p (code_of c me) me ≡ Some core.machine.place
-        → StandsFor core (opening p me)
-    starts_with class classed unspent new no_actions early keeps laid held loops entry =
-        starts_as unspent new no_actions opened loops entry
+        → IsLaid core.known.answers core.known.pool code.plan.nodes → HoldsAll core.known.pool (ids_of_answers core.known.answers) → core.machine.loops ≡ [] → core.machine.stack ≡ []
+        → start_in p (code_of c me) me ≡ Some core.machine.place → StandsFor core (opening p me)
+    starts_with class classed unspent new no_actions early keeps laid held loops no_values entry =
+        starts_as unspent new no_actions opened loops no_values entry
       where
         keeps_first : (d : Data) → d.me ≡ me → d.slots ≡ map (first_value me) class.slots → d.sent ≡ [] → d.received ≡ [] → Keeps core.known.answers core.known.pool core.known.plan.now.nodes d
         keeps_first d mine slots sent received = subst (λ (x : Plan). Keeps core.known.answers core.known.pool x.nodes d) (sym planned) (keeps d mine slots sent received)

@@ -122,30 +122,33 @@ module _ (class : Class) (code : ClassCode) (waits : code.waits ≡ waits_of cla
     closed : (halt : Halt) → new.actions ≡ known.actions ++ closing me halt → new.actions ≡ old.actions ++ ((action.Took me k ∷ acts) ++ closing me halt)
     closed halt is = is ∙ ap (λ xs. xs ++ closing me halt) told_so_far ∙ told old.actions acts (closing me halt) (action.Took me k)
 
-    pub has_run : (turns : ℕ) (halt : Halt) → IsStop code.code class answer m todo halt → HasStopped code known new answer spot → HasRun p class code me k (ran_as turns halt) old new m spot
-    has_run turns AtYield (number, is, there, code_for) stopped =
+    pub has_run : (turns : ℕ) (halt : Halt) → m.stack ≡ [] → IsStop code.code class answer m todo halt → HasStopped code known new answer spot → HasRun p class code me k (ran_as turns halt) old new m spot
+    has_run turns AtYield bare (number, is, there, code_for) stopped =
         let (stays, stands) = subst (λ x. HasStopped code known new x spot) is stopped in
         record {
           known = subst (λ x. Knows x p class d) (sym stays) knows;
           actions = closed AtYield (ap (λ (x : Known). x.actions) stays ∙ sym (append-nil known.actions));
           stands = place_there code class number m.loops waits spot stands todo (at_point code.code class m.place m.loops todo code_for number there);
           behind = record { number = number; there = there; code_for = code_for };
+          no_values = bare;
         }
-    has_run turns UsedUp is stopped =
+    has_run turns UsedUp bare is stopped =
         let (becomes, place_is) = subst (λ x. HasStopped code known new x spot) is stopped in
         record {
           known = told_of (action.End known.answers.me) becomes;
           actions = closed UsedUp (ap (λ (x : Known). x.actions) becomes ∙ ap (λ x. known.actions ++ action.End x ∷ []) known_me);
           stands = subst (λ x. IsPlace todo x (phase_after UsedUp)) (sym place_is) tt;
           behind = tt;
+          no_values = bare;
         }
-    has_run turns (Faults kind line) is stopped =
+    has_run turns (Faults kind line) bare is stopped =
         let (becomes, place_is) = subst (λ x. HasStopped code known new x spot) is stopped in
         record {
           known = told_of (action.Fault known.answers.me kind line) becomes;
           actions = closed (Faults kind line) (ap (λ (x : Known). x.actions) becomes ∙ ap (λ x. known.actions ++ action.Fault x kind line ∷ []) known_me);
           stands = subst (λ x. IsPlace todo x (phase_after (Faults kind line))) (sym place_is) tt;
           behind = tt;
+          no_values = bare;
         }
 
 -- WHERE MEMORY WAS REFUSED

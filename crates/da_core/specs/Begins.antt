@@ -204,9 +204,10 @@ abbrev pub IsAfter : Class → ClassCode → Machine → List Task → Phase →
 IsAfter class code m todo Waiting = IsWaiting class code.code m todo
 IsAfter class code m todo _ = Unit {0}
 
--- the run was made, and the process knows and stands as it leaves it
+-- the run was made, the process knows and stands as it leaves it, and the machine has no values
 pub record HasRun (p : Program) (class : Class) (code : ClassCode) (me k : ℕ) (ran : Ran) (old new : Known) (m : Machine) (place : Place) : Type 0 where
   pub known : Knows new p class ran.data'
   pub actions : new.actions ≡ old.actions ++ move_actions me k ran
   pub stands : IsPlace ran.todo place (phase_after ran.halt)
   pub behind : IsAfter class code m ran.todo (phase_after ran.halt)
+  pub no_values : m.stack ≡ []

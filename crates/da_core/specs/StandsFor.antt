@@ -79,7 +79,8 @@ IsAt p class code m w Ended = Unit {0}
 IsAt p class code m w Faulted = Unit {0}
 
 -- A core stands for a world that is as types say, of a process of a compiled program: what it keeps stands for what the process
--- knows, it stands at the same place, and the code where its machine stands stands for what is to do. It is not spent.
+-- knows, it stands at the same place, and the code where its machine stands stands for what is to do. The machine has no values
+-- on its stack, so that between events nothing is kept but this. It is not spent.
 pub record StandsFor (core : Core) (w : World) : Type 0 where
   pub unspent : core.spent ≡ false
   pub compiled : IsCompiled core.compiled.now
@@ -92,6 +93,7 @@ pub record StandsFor (core : Core) (w : World) : Type 0 where
   pub no_actions : core.known.actions ≡ []
   pub place : IsPlace w.todo core.place w.phase
   pub at : IsAt (program_of core) class code.code core.machine w w.phase
+  pub no_values : core.machine.stack ≡ []
 
 -- it holds of each world that the core stands for
 abbrev pub Whichever : Core → (World → Type 0) → Type 0

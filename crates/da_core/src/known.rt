@@ -1,11 +1,12 @@
 //! What a process knows, as code keeps it: its clock, and the answers to its queries and conditions, which hold its slots, with
 //! the pool of their values. Of the messages that it sent and received nothing else is kept.
 ghost use Rattle.da_core.specs.Arrivals.{untold};
-ghost use Rattle.da_core.specs.Known.{Becomes, KnowsSome};
+ghost use Rattle.da_core.specs.Known.{Becomes, Knows, KnowsSome};
 ghost use Rattle.da_lang.specs.Steps.{received_at};
 ghost use Rattle.da_lang.specs.Turns.{bind_all, later, sent_at, with_element, without_element};
 ghost use Rattle.da_lang.specs.World.{put_slot};
 ghost use Rattle.da_lang.specs.declared.event.Action.TheVariants as action;
+ghost use Rattle.da_machine.specs.Conditions.{SomeProcess, TakesElement};
 ghost use Rattle.da_machine.specs.RunsTo.{AddsPrefix};
 ghost use Rattle.da_values.specs.Value.{val_of};
 ghost use Rattle.std.specs.Prelude.{◌≡◌, [], ◌∷◌, ◌++◌, OnErr, OnOk};
@@ -129,7 +130,7 @@ impl Known<'_> {
 
     /// Adds an element to the set in a slot.
     pub fn add_to(&mut self, s: u16, v: &Value) -> Result<(), NoMemory>
-        requires { KnowsSome self.old }
+        requires { SomeProcess (Knows self.old) (λ p class d. TakesElement p class s (val_of v.now)) }
         ensures known { OnOk result (Becomes self.old self.new (with_element s (val_of v.now))) }
         ensures actions { self.new.actions ≡ self.old.actions }
     {
@@ -147,7 +148,7 @@ impl Known<'_> {
 
     /// Takes an element out of the set in a slot.
     pub fn take_from(&mut self, s: u16, v: &Value) -> Result<(), NoMemory>
-        requires { KnowsSome self.old }
+        requires { SomeProcess (Knows self.old) (λ p class d. TakesElement p class s (val_of v.now)) }
         ensures known { OnOk result (Becomes self.old self.new (without_element s (val_of v.now))) }
         ensures actions { self.new.actions ≡ self.old.actions }
     {

@@ -27,7 +27,8 @@ pub enum StepFault {
     /// The event is not allowed. Nothing has changed.
     #[error("the event is not allowed")]
     Forbidden,
-    /// Memory was refused in the midst of the event. No further step can be made.
+    /// Memory was refused in the midst of the event, or a value would have 2^128 holders, or a sum is outside an i128. No
+    /// further step can be made.
     #[error("no memory is left")]
     Memory,
     /// Memory was refused in an earlier event.

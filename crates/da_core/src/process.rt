@@ -49,7 +49,8 @@ pub struct Core<'c> {
 }
 
 impl<'c> Core<'c> {
-    /// A process before its first event.
+    /// A process before its first event. `NoMemory` comes where memory is refused, where a value would have 2^128 holders, and
+    /// where a sum is outside an i128.
     pub fn start(alloc: Global, compiled: &'c Compiled, me: u16) -> Result<Core<'c>, NoMemory>
         requires compiled { IsCompiled compiled.now }
         requires there { IsProcess (compiled_program compiled.now) me }

@@ -17,7 +17,7 @@ use Rattle.da_lang.specs.declared.program.ItemKind.TheOpen.{ItemKind-F}
 use Rattle.da_lang.specs.declared.program.Program.{Program}
 use Rattle.da_lang.specs.declared.program.RBranch.{RBranch}
 use Rattle.da_lang.specs.declared.program.SetupCall.{SetupCall}
-use Rattle.da_lang.specs.Runs.{Ran, ran_after, behind_turn, kind_yields, max_turns, run, run_to_yield, yields}
+use Rattle.da_lang.specs.Runs.{Halt, AtYield, UsedUp, Faults, Ran, ran_after, behind_turn, kind_yields, max_turns, run, run_to_yield, yields}
 use Rattle.da_lang.specs.Shaped.{IsTask, ShapedTasks}
 use Rattle.da_lang.specs.Turns.{kind_of, line_of, line_of_task, turn}
 use Rattle.da_lang.specs.World.{Data, Task, Do, Loop, Prepare}
@@ -201,12 +201,20 @@ ready_runs p class code m d todo early ready =
     runs_as p class code (promises_known p class d ready.accepted ready.knows) (max_turns - m.turns) m.turns (omega (arith, early)) m.place m.loops todo ready.code_for m d
     (record { known = record { accepted = ready.accepted; shaped = ready.knows }; tasks = ready.tasks }) (record { place = refl; inside = refl; taken = refl })
 
--- What a call leaves where its run is that one.
-pub is_run : (class : Class) (code : Code) (p : Program) (m m1 : Machine) (d : Data) (s : Stop) (stands : Data → Type 0) (old new : List Action) (ran : Ran) → (as_it : RunsAs p class code m d ran)
-    → (s ≡ as_it.stop) × (m1 ≡ as_it.last) × stands ran.data' × (new ≡ old ++ ran.actions) → IsRun class code s m1 stands old new ran
-is_run class code p m m1 d s stands old new ran as_it left = record {
-  stops = subst (λ x. IsStop code class x m1 ran.todo ran.halt) (sym left.0) (subst (λ x. IsStop code class as_it.stop x ran.todo ran.halt) (sym left.1) as_it.stops);
+-- A stop is the same whatever is on the stack.
+still_stops : (class : Class) (code : Code) (s : Stop) (m : Machine) (stack : List Val) (todo : List Task) (halt : Halt) → IsStop code class s m todo halt → IsStop code class s (record m { stack = stack }) todo halt
+still_stops class code s m stack todo AtYield is = is
+still_stops class code s m stack todo UsedUp is = is
+still_stops class code s m stack todo (Faults kind line) is = is
+
+-- What a call leaves where its run is that one and the stack is emptied after it.
+pub is_run : (class : Class) (code : Code) (p : Program) (m m1 : Machine) (stack : List Val) (d : Data) (s : Stop) (stands : Data → Type 0) (old new : List Action) (ran : Ran) → stack ≡ [] → (as_it : RunsAs p class code m d ran)
+    → (s ≡ as_it.stop) × (m1 ≡ as_it.last) × stands ran.data' × (new ≡ old ++ ran.actions) → IsRun class code s (record m1 { stack = stack }) stands old new ran
+is_run class code p m m1 stack d s stands old new ran bare as_it left = record {
+  stops = still_stops class code s m1 stack ran.todo ran.halt
+      (subst (λ x. IsStop code class x m1 ran.todo ran.halt) (sym left.0) (subst (λ x. IsStop code class as_it.stop x ran.todo ran.halt) (sym left.1) as_it.stops));
   turns = ap (λ (x : Machine). x.turns) left.1 ∙ as_it.turns;
+  no_values = bare;
   known = left.2;
   actions = left.3;
 }

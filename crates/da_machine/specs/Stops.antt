@@ -1,5 +1,5 @@
 -- How a run of the code stops as the run of what is to do.
-use Rattle.std.specs.Prelude.{◌≡◌, ℕ, List, ◌++◌}
+use Rattle.std.specs.Prelude.{◌≡◌, ℕ, List, [], ◌++◌}
 use Rattle.da_lang.specs.declared.code.Instr.TheVariants as op
 use Rattle.da_lang.specs.declared.event.Action.{Action}
 use Rattle.da_lang.specs.declared.program.Class.{Class}
@@ -29,9 +29,10 @@ pub record CanRun (p : Program) (class : Class) (code : Code) (m : Machine) (d :
   pub tasks : ShapedTasks p class d.me todo
   pub code_for : CodeFor code class m.place m.loops todo
 
--- What a call of `run_code` leaves where what is to do runs so.
+-- What a call of `run_code` leaves where what is to do runs so. The stack has no values then.
 pub record IsRun (class : Class) (code : Code) (s : Stop) (m : Machine) (stands : Data → Type 0) (old new : List Action) (ran : Ran) : Type 0 where
   pub stops : IsStop code class s m ran.todo ran.halt
   pub turns : m.turns ≡ ran.turns
+  pub no_values : m.stack ≡ []
   pub known : stands ran.data'
   pub actions : new ≡ old ++ ran.actions

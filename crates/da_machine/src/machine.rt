@@ -40,11 +40,12 @@ pub struct Machine {
 }
 
 impl Machine {
-    /// A machine at an entry of the code. It takes no memory.
+    /// A machine at an entry of the code, with no values. It takes no memory.
     pub fn new(alloc: Global, entry: u64) -> Machine
         ensures place { result.place ≡ entry }
         ensures turns { result.turns ≡ 0 }
         ensures loops { result.loops ≡ [] }
+        ensures stack { result.stack ≡ [] }
     {
         Machine {
             place: entry,

@@ -47,8 +47,8 @@ fn run_machine<S: Store>(
 
 /// Runs the code up to the next yield point, to its end or to a fault. For each process that the store stands for and
 /// for whose tasks the code stands, the answer, the store, its actions and the turns are those of the run of these
-/// tasks; before a yield point the code stands for what is left. After want of memory the actions are the old ones
-/// and a prefix of those that were due.
+/// tasks; before a yield point the code stands for what is left. No value stays on the stack. After want of memory the
+/// actions are the old ones and a prefix of those that were due.
 pub fn run_code<S: Store>(
     alloc: Global,
     code: &Code,
@@ -64,7 +64,10 @@ pub fn run_code<S: Store>(
         → AddsPrefix (S.actions s.old) (S.actions s.new) (run_to_yield class m.old.turns d todo).actions) }
 {
     match run_machine(alloc, code, m, s) {
-        Ok(stop) => Ok(stop),
+        Ok(stop) => {
+            m.stack.clear();
+            Ok(stop)
+        }
         Err(e) => Err(e),
     }
 }

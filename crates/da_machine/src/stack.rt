@@ -85,6 +85,13 @@ impl Stack {
         self.values.pop()
     }
 
+    /// Lets all values go. It takes no memory.
+    pub fn clear(&mut self)
+        ensures { self.new ≡ [] }
+    {
+        self.values.truncate(0);
+    }
+
     /// Whether the two values on top are there, and are integers.
     #[inline(always)]
     #[tactic(auto, using(crate::proofs::Stacks::top_at, crate::proofs::Stacks::second_at))]

@@ -28,7 +28,8 @@ pub struct System<'c> {
 }
 
 impl<'c> System<'c> {
-    /// The system before any event.
+    /// The system before any event. `NoMemory` comes where memory is refused, where a value would have 2^128 holders, and where a
+    /// sum is outside an i128.
     pub fn new(alloc: Global, compiled: &'c Compiled) -> Result<System<'c>, NoMemory>
         requires { IsCompiled compiled.now }
         ensures ready { IfOk result IsReady }

@@ -1,6 +1,7 @@
 pub mod Counting
 pub mod Empty
 pub mod Entering
+pub mod Forms
 pub mod Holding
 pub mod Keeping
 pub mod Keys

@@ -17,22 +17,27 @@ use std::sync::ledger::Blank;
 /// What a process of a class has to know of its past: its number, its slots, the rows of each node of the plan and those of
 /// each live pattern. The values are those of a pool, of which the answers hold the ids of `ids_of_answers`; answers that are
 /// only dropped leave these counted.
+///
+/// Nobody else reaches the slots and the sets: a caller changes them by updates alone, learns of a node whether it has a row
+/// (`flag`), and reads rows only as what a query tells. Whoever has a counter of steps and no answers to change can read no
+/// row by it.
 #[derive(Drop)]
 pub struct Answers {
+    /// The number of the process.
     pub me: u16,
-    pub slots: IdRow,
-    pub nodes: Vec<AnswerSet>,
-    pub live: Vec<AnswerSet>,
-    pub fixed: Fixed,
+    pub(crate) slots: IdRow,
+    pub(crate) nodes: Vec<AnswerSet>,
+    pub(crate) live: Vec<AnswerSet>,
+    pub(crate) fixed: Fixed,
 }
 
 impl Answers {
     ghost use Rattle.da_lang.specs.declared.query.Node.{Node};
     ghost use Rattle.da_lang.specs.World.{Data, value_in};
     ghost use Rattle.da_values.specs.Value.{val_of};
-    ghost use Rattle.answer_index.specs.Rows.{row_in};
+    ghost use Rattle.delta_rules.specs.Forms.{HasWidths};
     ghost use Rattle.delta_rules.specs.Holding.{ids_of_answers};
-    ghost use Rattle.delta_rules.specs.Keeping.{Keeps, all_live};
+    ghost use Rattle.delta_rules.specs.Keeping.{Keeps, all_live, slots_of};
     ghost use Rattle.delta_rules.specs.Laid.{IsLaid};
     ghost use Rattle.query_plan.specs.Nodes.{IsPlan, node_rows};
     ghost use Rattle.query_plan.specs.PlainNodes.{PlainNodes};
@@ -42,7 +47,8 @@ impl Answers {
     ghost use Rattle.std.specs.Prelude.{◌≡◌, [], IfOk, List as Seq, length, map, sum};
 
     /// The answers of a process of this number with these slots that has neither sent nor received a message. The pool is
-    /// empty before, and nobody else may hold an id of it after.
+    /// empty before, and nobody else may hold an id of it after. `NoMemory` comes where memory is refused, where a value would
+    /// have 2^128 holders, and where a sum is outside an i128.
     pub fn new(
         alloc: Global,
         plan: &Plan,
@@ -56,6 +62,7 @@ impl Answers {
         ensures kept { IfOk result (λ answers. (d : Data) → d.me ≡ me → d.slots ≡ slots.now → d.sent ≡ [] → d.received ≡ []
             → Keeps answers pool.new plan.now.nodes d) }
         ensures laid { IfOk result (λ answers. IsLaid answers pool.new plan.now.nodes) }
+        ensures width { IfOk result (λ answers. HasWidths answers plan.now.nodes) }
         ensures held { IfOk result (λ answers. HoldsAll pool.new (ids_of_answers answers)) }
     {
         let live = live_patterns(alloc, plan)?;
@@ -91,7 +98,7 @@ impl Answers {
 
     /// The value of a slot, numbered from 1; process 0, which is no process, where there is no such slot.
     pub fn slot(&self, s: u16, pool: &Pool) -> Result<Value, NoMemory>
-        ensures { IfOk result (λ v. val_of v ≡ value_in (row_in pool.now self.now.slots) s) }
+        ensures { IfOk result (λ v. val_of v ≡ value_in (slots_of self.now pool.now) s) }
     {
         match slot_id(&self.slots, s) {
             Some(id) => pool.value(id),
@@ -101,7 +108,7 @@ impl Answers {
 
     /// Copies of the values of all slots.
     pub fn slot_values(&self, alloc: Global, pool: &Pool) -> Result<Row, NoMemory>
-        ensures { IfOk result (λ values. values ≡ row_in pool.now self.now.slots) }
+        ensures { IfOk result (λ values. values ≡ slots_of self.now pool.now) }
     {
         row_values(alloc, self.slots.ids.as_slice(), pool)
     }

@@ -36,8 +36,7 @@ impl Answers {
     ghost use Rattle.std.specs.List.{All};
     ghost use Rattle.std.specs.Prelude.{◌≡◌, IfOk, map, take};
 
-    /// The value of query `q`, numbered from 1; process 0, which is no process, where there is no such query. A sum outside an
-    /// i128 answers `NoMemory`.
+    /// The value of query `q`, numbered from 1; process 0, which is no process, where there is no such query.
     pub fn ask(&self, alloc: Global, plan: &Plan, q: u32, pool: &Pool) -> Result<Value, NoMemory>
         ensures { IfOk result (λ v. (d : Data) → Keeps self.now pool.now plan.now.nodes d → val_of v ≡ asked d plan.now q) }
     {

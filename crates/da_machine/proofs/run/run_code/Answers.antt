@@ -10,7 +10,7 @@ run_machine-requires-clause-runs g c =
 pub returns-in-Ok-clause-runs : goal.returns-in-Ok-clause-runs
 returns-in-Ok-clause-runs g c = λ p class d todo stands ready.
     let ran = ready_runs p class c.args.code.now c.args.m.now d todo c.requires.turns ready in
-    is_run class c.args.code.now p _ _ d _ _ _ _ _ ran (c.in-Ok.ensures.runs p class d _ ran.stop ran.last _ stands ran.runs)
+    is_run class c.args.code.now p _ c.run_machine.new.m c.clear.new.self d _ _ _ _ _ c.clear.ensures ran (c.in-Ok.ensures.runs p class d _ ran.stop ran.last _ stands ran.runs)
 
 pub returns-in-Err-clause-part : goal.returns-in-Err-clause-part
 returns-in-Err-clause-part g c = λ p class d todo stands ready.

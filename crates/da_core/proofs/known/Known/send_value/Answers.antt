@@ -5,7 +5,7 @@ use Rattle.da_core.proofs.known.Known.send_value.Goals as goal
 pub insert-requires : goal.insert-requires
 insert-requires c =
     let known = c.args.self.now in
-    record { plan = lower_plan known c.requires; plain = plain_nodes known c.requires; laid = laid_out known c.requires; held = all_held known c.requires }
+    record { plan = lower_plan known c.requires; plain = plain_nodes known c.requires; laid = laid_out known c.requires; held = all_held known c.requires; spared = tt }
 
 pub returns-clause-known : goal.returns-clause-known
 returns-clause-known c =

@@ -1,8 +1,8 @@
-use Rattle.std.proofs.Common.{◌∙◌, ap, length, refl, subst, sym}
-use Rattle.query_plan.specs.Nodes.{IsPlan}
+use Rattle.std.proofs.Common.{◌∙◌, [], ap, length, map, refl, subst, sym}
+use Rattle.query_plan.specs.Nodes.{IsPlan, in_order, width_step}
 use Rattle.std.specs.List.{All}
 use Rattle.answer_index.specs.Answers.{IsSet}
-use Rattle.delta_rules.specs.Empty.{AreEmpty}
+use Rattle.delta_rules.specs.Empty.{AreEmpty, live_width}
 use Rattle.delta_rules.proofs.FirstLaws.{first_kept}
 use Rattle.delta_rules.proofs.HoldingLaws.{first_held, first_still, laid_first, none_held}
 use Rattle.delta_rules.proofs.answers.Answers.new.Goals as goal
@@ -38,6 +38,12 @@ pub returns-clause-laid : goal.returns-clause-laid
 returns-clause-laid c =
     laid_first _ c.first_rows.new.pool c.args.plan.now.nodes c.as_slice-nodes.result.now c.as_slice.result.now c.in_ok-laid.laid c.as_slice-nodes.ensures (c.as_slice.ensures ∙ c.in_ok-live.ensures) c.in_ok-laid.ensures.laid
     c.in_ok-first_rows.ensures.sets c.in_ok-first_rows.ensures.keys refl refl c.in_ok-live.ensures c.in_ok-named.ensures c.in_ok-used.ensures
+
+pub returns-clause-width : goal.returns-clause-width
+returns-clause-width c = (
+  c.in_ok-first_rows.ensures.widths ∙ c.in_ok-laid.ensures.laid.widths ∙ ap (in_order 0 width_step []) c.as_slice-nodes.ensures,
+  c.in_ok-laid.ensures.laid.live_widths ∙ ap (map live_width) (c.as_slice.ensures ∙ c.in_ok-live.ensures),
+)
 
 pub returns-clause-held : goal.returns-clause-held
 returns-clause-held c = first_held _ _ _ _ _ _ _ c.requires.none c.in_ok-ids.ensures.ok c.in_ok-first_rows.ensures.trades c.in_ok-laid.ensures.laid.ids c.in_ok-laid.ensures.laid.live_ids
