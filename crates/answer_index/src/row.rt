@@ -14,7 +14,7 @@ pub struct IdRow {
     pub ids: List<Id>,
 }
 
-/// A copy of a row, which holds each id once more. Where memory is refused no holder came.
+/// A copy of a row, which holds each id once more. Where memory is refused, or a value has 2^128 - 1 holders, no holder came.
 pub fn copy_row(alloc: Global, row: &[Id], pool: &mut Pool) -> Result<IdRow, NoMemory>
     requires { Holds pool.old row.now }
     ensures same { IfOk result (λ copy. copy.ids ≡ row.now) }

@@ -9,8 +9,8 @@ use da_values::{List, NoMemory, Row, Value};
 use row_pool::{Id, Pool};
 use std::alloc::Global;
 
-/// The row of ids that stands for a row of values. It is one more holder of each of them. Where memory is refused no
-/// holder came.
+/// The row of ids that stands for a row of values. It is one more holder of each of them. Where memory is refused, or a value on
+/// the way has 2^128 - 1 holders, no holder came.
 pub fn intern_row(alloc: Global, row: &[Value], pool: &mut Pool) -> Result<IdRow, NoMemory>
     ensures values { IfOk result (λ made. row_in pool.new made ≡ vals row.now) }
     ensures ok { IfOk result (λ made. Trades pool.old [] pool.new made.ids) }

@@ -27,7 +27,7 @@ pub enum InferFault {
     /// Neither, and no types keep the rules on all lines up to this one, while some do on all lines before it.
     #[error("no types keep the rules up to line {line}")]
     NoTypes { line: u32 },
-    /// Memory was refused, or the program would have more nodes than `resolve` builds.
+    /// Memory was refused, or the program would have more than the 4,194,304 nodes that `resolve` builds.
     #[error("no memory is left")]
     Memory,
 }

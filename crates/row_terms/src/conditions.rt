@@ -13,7 +13,8 @@ use da_lang::{CmpOp, Cond, Operand, SignedOperand};
 use da_values::{NoMemory, Row, Value, cmp_values};
 use std::cmp::Ordering;
 
-/// Whether a condition holds of a row. A sum outside an i128 answers `NoMemory`: it has more operands than a text can have.
+/// Whether a condition holds of a row. A sum outside an i128 answers `NoMemory`: it has more operands than a text can have, or
+/// one of them is the sum of more integers than memory holds.
 #[cycle(conditions)]
 #[tactic(auto, using(crate::proofs::PlainForms::plain_rules))]
 pub fn holds(condition: &Cond, locals: &Locals<'_>, row: &Row) -> Result<bool, NoMemory>
