@@ -18,14 +18,14 @@ const DATA: u8 = 0;
 const ACKNOWLEDGEMENT: u8 = 1;
 
 /// Whether a frame is data or an acknowledgement.
-#[derive(Clone, Copy, Debug, PartialEq, Eq)]
+#[derive(Clone, Copy, PartialEq, Eq)]
 pub(crate) enum FrameKind {
     Data,
     Acknowledgement,
 }
 
 /// What the bytes of a frame before its payload say.
-#[derive(Clone, Copy, Debug)]
+#[derive(Clone, Copy)]
 pub(crate) struct Header {
     pub(crate) kind: FrameKind,
     pub(crate) sender: u16,

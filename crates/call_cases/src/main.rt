@@ -1,15 +1,18 @@
 //! Makes the calls of the program that stand in files, and prints for each file how many there are and how many of them end
-//! otherwise than was expected, and before that what these wrote.
+//! otherwise than was expected, and before that what these wrote. Then prints trees of texts again, and the code of classes.
 #![tactic(auto)]
 
 mod calls;
+mod code;
 mod entries;
 mod fault;
+mod printing;
 mod texts;
 
 use anyhow::Context;
 use calls::{Texts, call_reply};
 use da_values::List;
+use printing::{print_codes, print_trees};
 use std::net::Net;
 use std::{fs, rt};
 use texts::bytes_of;
@@ -31,7 +34,8 @@ fn main(rt: HostRuntime) -> anyhow::Result<()> {
     for name in FILES {
         answer_file(&rt, name)?;
     }
-    Ok(())
+    print_trees(&rt)?;
+    print_codes(&rt)
 }
 
 // Tries the calls of a file. After `=== program` stands the text of the file `p`, after `=== schedule` that of `s`, after each

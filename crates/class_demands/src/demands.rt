@@ -4,7 +4,7 @@ use da_values::List;
 use type_demands::{Demand, LineDemand};
 
 /// A header that gives types to slots: that of a loop, of what binds the row of a `some`, or of a handler.
-#[derive(Debug, Drop)]
+#[derive(Drop)]
 pub struct Head {
     /// The slots that take types from it.
     pub binds: List<u16>,
@@ -13,7 +13,7 @@ pub struct Head {
 }
 
 /// What the statements of a class demand.
-#[derive(Debug, Drop)]
+#[derive(Drop)]
 pub struct ClassDemands {
     /// The headers, in the order in which slots take types from them.
     pub heads: List<Head>,
@@ -22,7 +22,7 @@ pub struct ClassDemands {
 }
 
 /// What a line of `setup` in `main` demands.
-#[derive(Debug, Drop)]
+#[derive(Drop)]
 pub struct SetupDemands {
     /// The class of the process, counted from 0.
     pub class: u16,
@@ -31,7 +31,7 @@ pub struct SetupDemands {
 }
 
 /// What a program demands.
-#[derive(Debug, Drop)]
+#[derive(Drop)]
 pub struct ProgramDemands {
     /// Its classes.
     pub classes: List<ClassDemands>,

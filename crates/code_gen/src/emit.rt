@@ -89,7 +89,7 @@ pub fn set_point(code: &mut Code, at: usize, point: YieldPoint)
 
 /// An `await` whose blocks are still added: the number of its yield point, the entries of its blocks so far, and where these
 /// leave.
-#[derive(Debug, Drop)]
+#[derive(Drop)]
 pub struct OpenAwait {
     pub at: usize,
     pub entries: List<u64>,

@@ -17,7 +17,7 @@ use da_values::{List, NoMemory};
 use std::alloc::Global;
 
 /// What has a body.
-#[derive(Clone, Copy, Debug)]
+#[derive(Clone, Copy)]
 pub enum Place<'t> {
     Setup,
     Run,
@@ -30,7 +30,7 @@ pub enum Place<'t> {
 }
 
 /// A body, its parameters, and the line of its header.
-#[derive(Clone, Copy, Debug)]
+#[derive(Clone, Copy)]
 pub struct Body<'t> {
     pub place: Place<'t>,
     pub params: &'t [Param],

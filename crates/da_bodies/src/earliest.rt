@@ -55,7 +55,7 @@ impl Kind for LimitKind {
 }
 
 /// What a program breaks, and the line where it does.
-#[derive(Clone, Copy, Debug, PartialEq, Eq)]
+#[derive(Clone, Copy, PartialEq, Eq)]
 pub struct Fault<K> {
     /// What is broken.
     pub kind: K,
@@ -70,7 +70,7 @@ pub type NameFault = Fault<ScopeKind>;
 pub type LimitFault = Fault<LimitKind>;
 
 /// The refusal to be reported of those that were found so far.
-#[derive(Debug, Drop)]
+#[derive(Drop)]
 pub struct Earliest<K> {
     found: Option<Fault<K>>,
 }

@@ -12,7 +12,7 @@ use std::alloc::Global;
 use std::collections::BTreeMap;
 
 /// A name, and the line of its declaration.
-#[derive(Clone, Copy, Debug)]
+#[derive(Clone, Copy)]
 pub struct Declared<'t> {
     pub name: &'t [u8],
     pub line: u32,

@@ -9,7 +9,7 @@ use std::collections::BTreeMap;
 use std::marker::Model;
 
 /// What a name stands for.
-#[derive(Clone, Copy, Debug, PartialEq, Eq)]
+#[derive(Clone, Copy, PartialEq, Eq)]
 pub enum Role {
     /// A variable of the class.
     ClassVariable,
@@ -22,7 +22,7 @@ pub enum Role {
 }
 
 /// A name that came into scope, and what it stood for before.
-#[derive(Debug, Drop)]
+#[derive(Drop)]
 pub struct Entry<'t> {
     name: &'t [u8],
     role: Role,
@@ -68,7 +68,7 @@ fn reset_role<'t>(roles: &mut Roles<'t>, name: &'t [u8], before: Option<Role>)
 }
 
 /// The names in scope, which contracts see as a scope with the innermost name first.
-#[derive(Debug, Drop)]
+#[derive(Drop)]
 pub struct Names<'t> {
     roles: Roles<'t>,
     entries: List<Entry<'t>>,

@@ -24,7 +24,7 @@ use std::alloc::Global;
 
 /// The code of a class, its plan, what is waited for at each of its yield points, its live patterns, and the opened patterns
 /// of its handlers.
-#[derive(Debug, Drop)]
+#[derive(Drop)]
 pub struct ClassCode {
     pub code: Code,
     pub plan: Plan,
@@ -34,7 +34,7 @@ pub struct ClassCode {
 }
 
 /// An accepted program with the code and the plans of its classes.
-#[derive(Debug, Drop)]
+#[derive(Drop)]
 pub struct Compiled {
     pub(crate) typed: Typed,
     pub(crate) codes: List<ClassCode>,

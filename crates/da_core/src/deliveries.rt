@@ -37,7 +37,7 @@ pub struct Delivery<'x> {
 }
 
 /// How handlers stop: they come through, with so many turns of the event, or one of them ends by a fault.
-#[derive(Clone, Copy, Debug)]
+#[derive(Clone, Copy)]
 pub enum Handled {
     Through(u32),
     Fault { kind: FaultKind, line: u32 },

@@ -20,7 +20,7 @@ use da_values::NoMemory;
 use std::alloc::Global;
 
 /// Where a move goes on in the code, and how many turns of the event were taken by then.
-#[derive(Clone, Copy, Debug)]
+#[derive(Clone, Copy)]
 pub struct Begin {
     pub entry: u64,
     pub turns: u32,

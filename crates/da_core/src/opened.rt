@@ -13,7 +13,7 @@ use history_live::live_pattern;
 use std::alloc::Global;
 
 /// The patterns of a handler, with a variable for each term in which a slot or a variable stands.
-#[derive(Debug, Drop)]
+#[derive(Drop)]
 pub struct Opened {
     pub message: Pattern,
     pub from: Pattern,

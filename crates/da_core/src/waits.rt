@@ -8,7 +8,7 @@ use std::alloc::Global;
 
 /// An alternative of an `await`: its flag, which is the node of the plan that has a row exactly where its condition holds; the
 /// `some` whose least row it binds, if there is one; and the slots that take the parts of that row.
-#[derive(Debug, Drop)]
+#[derive(Drop)]
 pub struct Alternative {
     pub flag: u32,
     pub found: Option<u32>,
@@ -17,7 +17,7 @@ pub struct Alternative {
 
 /// What is waited for at a yield point: the alternatives of its `await`, whether it has a block for a timeout, and the label at
 /// which it waits, if there is one. A label has no alternatives.
-#[derive(Debug, Drop)]
+#[derive(Drop)]
 pub struct Wait {
     pub alternatives: List<Alternative>,
     pub has_timeout: bool,

@@ -10,7 +10,7 @@ use std::alloc::Global;
 use text_hints::Nearest;
 
 /// A label, and its line.
-#[derive(Clone, Copy, Debug)]
+#[derive(Clone, Copy)]
 pub struct Label<'t> {
     pub name: &'t [u8],
     pub line: u32,

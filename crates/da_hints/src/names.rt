@@ -11,7 +11,7 @@ use da_values::List;
 use text_hints::Nearest;
 
 /// A name that breaks a rule, or an expression where a name is wanted.
-#[derive(Clone, Copy, Debug)]
+#[derive(Clone, Copy)]
 pub enum Misuse<'t> {
     Name(&'t [u8], Wanted),
     Form(&'t Expr),

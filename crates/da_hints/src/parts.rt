@@ -175,7 +175,7 @@ fn widened(place: Span, is_tuple: bool, case: &Case<'_>) -> Span {
 }
 
 /// Where a bracket is missing.
-#[derive(Clone, Copy, Debug)]
+#[derive(Clone, Copy)]
 enum Missing {
     Before,
     After,

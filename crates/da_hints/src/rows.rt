@@ -5,7 +5,7 @@ use da_values::List;
 use std::alloc::Global;
 
 /// What stands on a line of a body.
-#[derive(Clone, Copy, Debug)]
+#[derive(Clone, Copy)]
 pub struct Row<'t> {
     pub part: Part<'t>,
     pub line: u32,

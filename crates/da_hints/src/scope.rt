@@ -4,7 +4,7 @@ use da_values::List;
 use std::alloc::Global;
 
 /// What a name stands for.
-#[derive(Clone, Copy, Debug, PartialEq, Eq)]
+#[derive(Clone, Copy, PartialEq, Eq)]
 pub enum Role {
     ClassVariable,
     Parameter,
@@ -16,7 +16,7 @@ pub enum Role {
 }
 
 /// A name in scope, the line that declares it, how many blocks it is in, and its type, where it is known.
-#[derive(Debug, Drop)]
+#[derive(Drop)]
 pub struct Entry<'t> {
     pub name: &'t [u8],
     pub role: Role,
@@ -26,7 +26,7 @@ pub struct Entry<'t> {
 }
 
 /// The names in scope, the innermost last, the line and the blocks that names come into scope at, and the messages of the program.
-#[derive(Debug, Drop)]
+#[derive(Drop)]
 pub struct Scope<'t> {
     pub alloc: Global,
     messages: &'t [MessageDecl],

@@ -7,7 +7,7 @@ use da_bodies::{Body, Place, body_of};
 use da_lang::{ClassTree, Expr, MainLine, Member, MessageDecl, Stmt, Tree, Ty};
 
 /// What stands on a line.
-#[derive(Clone, Copy, Debug)]
+#[derive(Clone, Copy)]
 pub enum Part<'t> {
     /// A declaration of a message.
     Message(&'t MessageDecl),
@@ -28,7 +28,7 @@ pub enum Part<'t> {
 }
 
 /// What stands on a line, with the class and the body around it, where there are any.
-#[derive(Clone, Copy, Debug)]
+#[derive(Clone, Copy)]
 pub struct Site<'t> {
     pub class: Option<&'t ClassTree>,
     pub body: Option<Body<'t>>,

@@ -14,7 +14,7 @@ use std::alloc::Global;
 use text_hints::{Hint, tell_grammar, tell_tokens};
 
 /// Why a program is refused.
-#[derive(Clone, Copy, Debug)]
+#[derive(Clone, Copy)]
 pub enum Why {
     /// A text has no tokens.
     Token(LexKind),

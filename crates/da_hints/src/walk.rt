@@ -8,7 +8,7 @@ use std::mem;
 use text_hints::slice_at;
 
 /// What a name has to be.
-#[derive(Clone, Copy, Debug, PartialEq, Eq)]
+#[derive(Clone, Copy, PartialEq, Eq)]
 pub enum Wanted {
     /// A variable.
     Value,
@@ -22,14 +22,14 @@ pub enum Wanted {
 
 /// A part of a line: the number of its first token, and that of the one after its last. Brackets but for braces, and commas, have no
 /// number.
-#[derive(Clone, Copy, Debug)]
+#[derive(Clone, Copy)]
 pub struct Span {
     pub first: usize,
     pub end: usize,
 }
 
 /// A step of a walk.
-#[derive(Clone, Copy, Debug)]
+#[derive(Clone, Copy)]
 pub enum Step<'t> {
     /// An expression, all of whose parts came before, within so many queries.
     Whole(&'t Expr, usize, Span),

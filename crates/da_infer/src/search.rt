@@ -13,7 +13,7 @@ use type_demands::LineDemand;
 use type_fitting::fitting;
 
 /// What is found for the demands of a program.
-#[derive(Debug, Drop)]
+#[derive(Drop)]
 pub enum Found {
     /// With these types all is met.
     Types(List<Ty>),

@@ -86,7 +86,7 @@ fn quantified(each: bool, rows: QueryRows<'_>) -> Cond
 }
 
 /// The generators of a query with the condition after them, and the names in scope there.
-#[derive(Debug, Drop)]
+#[derive(Drop)]
 pub struct QueryRows<'t> {
     pub gens: List<RGen>,
     pub cond: Option<Boxed<Cond>>,
@@ -236,7 +236,7 @@ fn signed_operands<'t>(
 }
 
 /// What an aggregate goes over: generators, a condition, and a term.
-#[derive(Debug, Drop)]
+#[derive(Drop)]
 pub struct Rows {
     pub gens: List<RGen>,
     pub cond: Option<Boxed<Cond>>,

@@ -11,7 +11,7 @@ use da_values::{List, NoMemory};
 use std::alloc::Global;
 
 /// Generators, with the names in scope after them.
-#[derive(Debug, Drop)]
+#[derive(Drop)]
 pub struct Front<'t> {
     pub gens: List<RGen>,
     pub inner: Scope<'t>,

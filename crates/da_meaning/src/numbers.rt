@@ -6,7 +6,7 @@ use da_values::{List, NoMemory};
 use std::alloc::Global;
 
 /// So many numbers in a row, from the first on.
-#[derive(Clone, Copy, Debug)]
+#[derive(Clone, Copy)]
 pub struct Row {
     pub first: u16,
     pub count: u16,

@@ -15,7 +15,7 @@ use std::collections::BTreeMap;
 use std::marker::Model;
 
 /// What a name stands for.
-#[derive(Clone, Copy, Debug)]
+#[derive(Clone, Copy)]
 pub enum Meaning {
     /// A slot of the class.
     InSlot(u16),
@@ -28,7 +28,7 @@ pub enum Meaning {
 }
 
 /// A name with what it stands for.
-#[derive(Clone, Copy, Debug)]
+#[derive(Clone, Copy)]
 pub struct Named<'t> {
     name: &'t [u8],
     means: Meaning,
@@ -87,7 +87,7 @@ fn set_meaning<'t>(index: &mut Index<'t>, name: &'t [u8], means: Meaning) -> Res
 
 /// The names in scope, with the number of parts of the row so far. The first so many names are found by a map, the
 /// others one by one. Contracts see the list of the names, the innermost first.
-#[derive(Debug, Drop)]
+#[derive(Drop)]
 pub struct Scope<'t> {
     names: List<Named<'t>>,
     parts: u16,

@@ -8,7 +8,7 @@ use std::alloc::Global;
 use std::marker::Model;
 
 /// The slots and the numbered queries that were met so far in the text of a class.
-#[derive(Debug, Drop)]
+#[derive(Drop)]
 pub struct Tables {
     slots: List<Option<Ty>>,
     queries: List<Query>,

@@ -239,7 +239,7 @@ fn deeds_of_bodies<'t>(alloc: Global, bodies: &[Body<'t>]) -> Result<List<Deed<'
 }
 
 /// What a class has once.
-#[derive(Clone, Copy, Debug)]
+#[derive(Clone, Copy)]
 enum Once {
     Setup,
     Run,

@@ -10,7 +10,7 @@ use da_values::{List, NoMemory};
 use std::alloc::Global;
 
 /// What a statement or header does, as far as a rule names it.
-#[derive(Clone, Copy, Debug)]
+#[derive(Clone, Copy)]
 pub enum Doing<'t> {
     Sends,
     Outputs,
@@ -23,7 +23,7 @@ pub enum Doing<'t> {
 }
 
 /// The expressions of a statement or header.
-#[derive(Clone, Copy, Debug)]
+#[derive(Clone, Copy)]
 pub enum Said<'t> {
     Nothing,
     One(&'t Expr),
@@ -32,7 +32,7 @@ pub enum Said<'t> {
 }
 
 /// A statement or header: its line, what it does, and its expressions.
-#[derive(Clone, Copy, Debug)]
+#[derive(Clone, Copy)]
 pub struct Deed<'t> {
     pub line: u32,
     pub does: Doing<'t>,

@@ -11,8 +11,6 @@ mod script;
 mod script_link;
 mod script_spawner;
 mod spawner;
-#[cfg(test)]
-mod tests;
 mod transfer;
 
 pub use link::{DATAGRAM_MAX, Link, LinkAnswer, LinkEntry, Taken};

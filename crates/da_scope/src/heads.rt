@@ -16,14 +16,14 @@ use da_values::{Boxed, List, NoMemory};
 use std::alloc::Global;
 
 /// The slots that a condition binds, and the names in scope in the block after it.
-#[derive(Debug, Drop)]
+#[derive(Drop)]
 struct Opened<'t> {
     binds: List<u16>,
     scope: Scope<'t>,
 }
 
 /// The head of a branch of an `if`.
-#[derive(Debug, Drop)]
+#[derive(Drop)]
 pub struct BranchHead<'t> {
     pub cond: Boxed<RExpr>,
     pub found: Option<u32>,
@@ -32,7 +32,7 @@ pub struct BranchHead<'t> {
 }
 
 /// The head of an alternative of an `await`.
-#[derive(Debug, Drop)]
+#[derive(Drop)]
 pub struct AltHead<'t> {
     pub cond: Boxed<Cond>,
     pub found: Option<u32>,
@@ -41,7 +41,7 @@ pub struct AltHead<'t> {
 }
 
 /// The head of a `for`.
-#[derive(Debug, Drop)]
+#[derive(Drop)]
 pub struct ForHead<'t> {
     pub slot: u16,
     pub over: Boxed<RExpr>,

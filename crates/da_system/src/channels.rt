@@ -15,7 +15,7 @@ use std::marker::Model;
 /// The channels of so many processes: for each two of them, a process with itself included, the messages that are under
 /// way from the one to the other. Those of the first sender come first, in the order of the recipients. Contracts see how
 /// many processes there are and the queues, and the channels that they stand for, by `StandsFor`.
-#[derive(Debug, Drop)]
+#[derive(Drop)]
 pub struct Channels {
     alloc: Global,
     count: usize,

@@ -8,14 +8,14 @@ use std::collections::VecDeque;
 use std::marker::Model;
 
 /// A message in flight, with the time of its sending.
-#[derive(Debug, Drop)]
+#[derive(Drop)]
 pub struct InFlight {
     pub value: Value,
     pub time: u64,
 }
 
 /// The messages in flight in one channel, the eldest first, which is all that a contract sees.
-#[derive(Debug, Drop)]
+#[derive(Drop)]
 pub struct Queue {
     messages: VecDeque<InFlight>,
 }

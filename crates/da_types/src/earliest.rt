@@ -6,7 +6,7 @@ ghost use Rattle.std.specs.Prelude.{◌≡◌, [], ◌∷◌};
 use std::marker::Model;
 
 /// The earliest line of those that were found so far.
-#[derive(Debug, Drop)]
+#[derive(Drop)]
 pub struct Earliest {
     found: Option<u32>,
 }

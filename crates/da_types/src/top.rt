@@ -39,7 +39,7 @@ impl From<NoMemory> for TypeFault {
 }
 
 /// The typed program of a text that is accepted. Contracts see the program.
-#[derive(Debug, Drop)]
+#[derive(Drop)]
 pub struct Typed {
     program: Program,
 }

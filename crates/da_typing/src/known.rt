@@ -12,7 +12,7 @@ use da_values::NoMemory;
 use std::alloc::Global;
 
 /// The declared messages, and the types of the slots, where they are known.
-#[derive(Clone, Copy, Debug)]
+#[derive(Clone, Copy)]
 pub struct Known<'p> {
     pub messages: &'p [MessageDecl],
     pub slots: &'p [Option<Ty>],

@@ -9,7 +9,7 @@ use crate::types::{is_int, is_ordered, is_typed, same_type};
 use da_lang::{AggOp, CmpOp, Ty};
 
 /// A side of a comparison: its type, and whether it is a `sum`.
-#[derive(Debug, Drop)]
+#[derive(Drop)]
 pub struct Side {
     pub ty: Ty,
     pub sum: bool,

@@ -12,7 +12,7 @@ use std::alloc::Global;
 
 /// What a plan needs of the elements of histories: the live patterns of its generators over histories. Each stands there
 /// once, in the order of the first nodes that have them.
-#[derive(Debug, Drop)]
+#[derive(Drop)]
 pub struct Live {
     pub patterns: List<LivePattern>,
 }

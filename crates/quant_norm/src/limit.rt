@@ -5,7 +5,7 @@ use da_values::NoMemory;
 pub const MOST_NODES: usize = 4096;
 
 /// Why a plan is not made to its end.
-#[derive(Clone, Copy, Debug)]
+#[derive(Clone, Copy)]
 pub enum Halt {
     /// It has more nodes than a plan may have.
     Full,

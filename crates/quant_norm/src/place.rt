@@ -7,7 +7,7 @@ use da_values::{List, NoMemory};
 use std::alloc::Global;
 
 /// A node, how many parts its rows have, and for each variable in scope the part in which it stands.
-#[derive(Debug, Drop)]
+#[derive(Drop)]
 pub struct Place {
     pub node: u32,
     pub width: u16,

@@ -17,7 +17,7 @@ struct Listed {
 }
 
 /// What may be done with a message in flight.
-#[derive(Clone, Copy, Debug)]
+#[derive(Clone, Copy)]
 enum Deed {
     Deliver,
     Lose,

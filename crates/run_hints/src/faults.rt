@@ -17,7 +17,7 @@ pub fn fault_words(kind: FaultKind) -> &'static [u8] {
 }
 
 /// A fault of a process: its line, and what a person is told of it.
-#[derive(Debug, Drop)]
+#[derive(Drop)]
 pub struct Fault {
     pub line: u32,
     pub told: Phrase,

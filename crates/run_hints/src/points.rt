@@ -2,7 +2,7 @@
 use da_lang::{Alt, Item, ItemKind, RBranch};
 
 /// A place to wait: its line, and whether it is an `await` with a block for a timeout.
-#[derive(Clone, Copy, Debug)]
+#[derive(Clone, Copy)]
 pub struct Point {
     pub line: u32,
     pub times_out: bool,

@@ -9,7 +9,7 @@ use da_values::{Buf, List, write_value};
 use std::alloc::Global;
 
 /// A process that a fault has ended, and the line of it.
-#[derive(Clone, Copy, Debug)]
+#[derive(Clone, Copy)]
 pub struct Ended {
     pub process: u16,
     pub kind: FaultKind,

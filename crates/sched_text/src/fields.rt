@@ -14,7 +14,7 @@ use std::alloc::Global;
 use std::str;
 
 /// The numbers of a message: two processes, in the order of the line, and the time.
-#[derive(Clone, Copy, Debug)]
+#[derive(Clone, Copy)]
 pub(crate) struct Route {
     pub first: u16,
     pub second: u16,

@@ -8,7 +8,7 @@ ghost use Rattle.da_lang.specs.declared.event.FaultKind.{FaultKind};
 use da_lang::FaultKind;
 
 /// What an action is. `da_lang::Action` says what each of them means.
-#[derive(Clone, Copy, Debug, PartialEq, Eq)]
+#[derive(Clone, Copy, PartialEq, Eq)]
 pub enum Kind {
     Took,
     Sent,

@@ -8,7 +8,7 @@ use crate::line::split_line;
 use crate::schedule::is_skipped;
 
 /// A line of a text: its number, counted from 1, and its bytes without the end.
-#[derive(Clone, Copy, Debug)]
+#[derive(Clone, Copy)]
 pub struct Place<'a> {
     pub number: u64,
     pub line: &'a [u8],

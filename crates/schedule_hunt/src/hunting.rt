@@ -16,7 +16,7 @@ use da_values::{Buf, List, NoMemory};
 use std::alloc::Global;
 
 /// How a hunt ended.
-#[derive(Clone, Copy, Debug, PartialEq, Eq)]
+#[derive(Clone, Copy, PartialEq, Eq)]
 pub enum HuntOutcome {
     /// A schedule was found and written.
     Found,
@@ -94,7 +94,7 @@ pub fn hunt<K: Sink, P: Progress>(
 }
 
 /// A text that answers, and whether it has a schedule.
-#[derive(Debug, Drop)]
+#[derive(Drop)]
 struct Reply {
     found: bool,
     text: Buf,

@@ -18,7 +18,7 @@ struct Told {
 }
 
 /// The places of two actions.
-#[derive(Clone, Copy, Debug)]
+#[derive(Clone, Copy)]
 struct Pair {
     first: usize,
     second: usize,

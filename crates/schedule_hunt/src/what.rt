@@ -2,7 +2,7 @@
 use da_values::Value;
 
 /// What the run of a schedule may show.
-#[derive(Debug, Drop)]
+#[derive(Drop)]
 pub enum What {
     /// A fault ends a process.
     Fault,

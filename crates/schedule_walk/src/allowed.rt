@@ -14,7 +14,7 @@ use std::alloc::Global;
 const MESSAGES: usize = 4_294_967_295;
 
 /// What may be done with a message in flight.
-#[derive(Clone, Copy, Debug)]
+#[derive(Clone, Copy)]
 enum Deed {
     Deliver,
     Lose,

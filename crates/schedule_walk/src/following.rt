@@ -50,7 +50,7 @@ pub fn next<K: Sink>(
 }
 
 /// How the run of a schedule ended, and what is answered to it.
-#[derive(Debug, Drop)]
+#[derive(Drop)]
 struct Answer {
     outcome: NextOutcome,
     lines: Buf,

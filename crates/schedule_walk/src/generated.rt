@@ -87,7 +87,7 @@ pub fn pick_events(
 }
 
 /// An event, and the number that picked it.
-#[derive(Clone, Copy, Debug)]
+#[derive(Clone, Copy)]
 struct Pick {
     event: Event,
     number: u64,

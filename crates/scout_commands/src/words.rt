@@ -9,7 +9,7 @@ use schedule_hunt::What;
 use std::alloc::Global;
 
 /// What is looked for over a program.
-#[derive(Debug, Drop)]
+#[derive(Drop)]
 pub enum Search {
     /// The generated schedule: the number with which it begins, and the most events.
     Walk {
@@ -27,7 +27,7 @@ pub enum Search {
 }
 
 /// What the program is asked to do.
-#[derive(Debug, Drop)]
+#[derive(Drop)]
 pub enum Command<'a> {
     /// To look for something over the program of this name.
     Search { search: Search, program: &'a str },
@@ -40,7 +40,7 @@ pub enum Command<'a> {
 }
 
 /// The names of a program and of a schedule.
-#[derive(Clone, Copy, Debug)]
+#[derive(Clone, Copy)]
 pub struct Names<'a> {
     pub program: &'a str,
     pub schedule: &'a str,

@@ -2,7 +2,7 @@
 ghost use Rattle.std.specs.Prelude.{◌<◌};
 
 /// A generator of numbers.
-#[derive(Debug, Drop)]
+#[derive(Drop)]
 pub struct Chance {
     state: u64,
 }

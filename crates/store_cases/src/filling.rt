@@ -12,7 +12,7 @@ use row_pool::Pool;
 use std::alloc::Global;
 
 /// The order in which rows come: ascending, descending, or neither.
-#[derive(Clone, Copy, Debug)]
+#[derive(Clone, Copy)]
 pub enum Way {
     Up,
     Down,
@@ -20,7 +20,7 @@ pub enum Way {
 }
 
 /// What a run found.
-#[derive(Clone, Copy, Debug)]
+#[derive(Clone, Copy)]
 pub struct Found {
     /// How many rows were new, and how many were when all were put in again.
     pub came: usize,

@@ -7,7 +7,7 @@ use row_pool::{Id, Pool};
 use std::alloc::Global;
 
 /// How many values there were, and how many after all ids were given back.
-#[derive(Clone, Copy, Debug)]
+#[derive(Clone, Copy)]
 pub struct Found {
     pub there: usize,
     pub left: usize,

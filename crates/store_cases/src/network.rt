@@ -9,7 +9,7 @@ use std::alloc::Global;
 use std::cell::RefCell;
 
 /// What a network does to datagrams. Each number says how many of 16 it happens to.
-#[derive(Clone, Copy, Debug)]
+#[derive(Clone, Copy)]
 pub struct Habits {
     /// Datagrams that are lost.
     pub loses: usize,
@@ -30,14 +30,14 @@ pub const GOOD: Habits = Habits {
 };
 
 // A datagram on its way.
-#[derive(Debug, Drop)]
+#[derive(Drop)]
 struct Parcel {
     to: u16,
     bytes: Buf,
 }
 
 /// How many datagrams a network was given, and what it did to them.
-#[derive(Clone, Copy, Debug)]
+#[derive(Clone, Copy)]
 pub struct Tally {
     pub given: u32,
     pub lost: u32,
@@ -69,7 +69,7 @@ impl Tally {
 }
 
 /// A network with the datagrams that are on their way, in the order in which they were given.
-#[derive(Debug, Drop)]
+#[derive(Drop)]
 pub struct Network {
     alloc: Global,
     habits: Habits,

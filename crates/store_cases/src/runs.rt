@@ -17,7 +17,7 @@ const DEEDS: u32 = 40;
 const ROUNDS: u32 = 60;
 
 /// What went between the processes, and what the network did.
-#[derive(Clone, Copy, Debug)]
+#[derive(Clone, Copy)]
 pub struct Outcome {
     pub ways: Way,
     pub network: Tally,

@@ -13,7 +13,7 @@ use row_pool::Pool;
 use std::alloc::Global;
 
 /// A set with one key, its rows, the parts by which a group of it is read, and the rows that it is brought to then.
-#[derive(Clone, Copy, Debug)]
+#[derive(Clone, Copy)]
 pub struct Table<'a> {
     pub width: u16,
     pub key: &'a [u16],
@@ -78,7 +78,7 @@ fn choices_of(alloc: Global, rows: &[Row], keep: bool) -> Result<List<Choice>, N
 
 /// What was found in a table: how many rows there were, how many in the group, how many came and left when it was brought
 /// to the others, how many of these are there, and how many rows after they had left, and values in the pool.
-#[derive(Clone, Copy, Debug)]
+#[derive(Clone, Copy)]
 pub struct Tried {
     pub rows: usize,
     pub group: usize,
@@ -90,7 +90,7 @@ pub struct Tried {
 }
 
 // What the texts of a table say.
-#[derive(Debug, Drop)]
+#[derive(Drop)]
 struct Texts {
     rows: List<Row>,
     next: List<Row>,

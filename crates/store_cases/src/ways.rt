@@ -6,7 +6,7 @@ use std::alloc::Global;
 
 /// How many payloads a process gave to another, how many of these the other was handed, and how many of those were not the next
 /// one.
-#[derive(Clone, Copy, Debug)]
+#[derive(Clone, Copy)]
 pub struct Way {
     pub given: u32,
     pub handed: u32,
@@ -32,7 +32,7 @@ impl Way {
 }
 
 /// The ways between processes 1 and 2, each of which gives to itself too.
-#[derive(Clone, Copy, Debug)]
+#[derive(Clone, Copy)]
 pub struct Ways {
     ways: [Way; 4],
 }

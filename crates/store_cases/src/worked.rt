@@ -13,7 +13,7 @@ use row_pool::{Id, Pool};
 use std::alloc::Global;
 
 /// What was found: whether each row was new, what was read then, and whether each row was there when it was taken out.
-#[derive(Clone, Copy, Debug)]
+#[derive(Clone, Copy)]
 pub struct Worked {
     pub fresh: [bool; 3],
     pub seen: Seen,
@@ -23,7 +23,7 @@ pub struct Worked {
 }
 
 /// The least row, how many rows the group of 1 has, and how many a set has to which the least row was lent.
-#[derive(Clone, Copy, Debug)]
+#[derive(Clone, Copy)]
 pub struct Seen {
     pub least: (i128, i128),
     pub group: usize,

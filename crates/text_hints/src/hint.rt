@@ -3,7 +3,7 @@ use crate::phrase::Phrase;
 use std::alloc::Global;
 
 /// What a person is told of a fault, beside its kind and its line.
-#[derive(Debug, Drop)]
+#[derive(Drop)]
 pub struct Hint {
     /// What is wrong, in one sentence. It is empty where no more is known than the kind says.
     pub sentence: Phrase,

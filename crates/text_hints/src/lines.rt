@@ -1,7 +1,7 @@
 //! Lines of a text.
 
 /// A line: the place of its first byte in the text, and its bytes without the end.
-#[derive(Clone, Copy, Debug)]
+#[derive(Clone, Copy)]
 pub struct Line<'t> {
     pub first: usize,
     pub bytes: &'t [u8],

@@ -6,7 +6,7 @@ use std::alloc::Global;
 const LONG: usize = 60;
 
 /// A text that grows. Where memory is refused a piece is left out.
-#[derive(Debug, Drop)]
+#[derive(Drop)]
 pub struct Phrase {
     text: Buf,
 }

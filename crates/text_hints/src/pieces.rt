@@ -3,7 +3,7 @@ use crate::lines::behind;
 use da_values::{LexKind, front_symbol, read_number};
 
 /// A piece that no program may hold: its kind, its place in the line, and how many bytes it has.
-#[derive(Clone, Copy, Debug)]
+#[derive(Clone, Copy)]
 pub struct Bad {
     pub kind: LexKind,
     pub place: usize,
@@ -11,7 +11,7 @@ pub struct Bad {
 }
 
 /// What stands at the front of some bytes of a line.
-#[derive(Clone, Copy, Debug)]
+#[derive(Clone, Copy)]
 enum Front {
     /// Bytes that are in order, so many.
     Good(usize),

@@ -12,7 +12,7 @@ use std::alloc::Global;
 
 /// Where the reader stops: at the token of this place, counted from 0, or after all tokens. With `deep` it stops since the
 /// token would open one thing too many.
-#[derive(Clone, Copy, Debug)]
+#[derive(Clone, Copy)]
 pub struct StopPlace {
     pub place: usize,
     pub deep: bool,

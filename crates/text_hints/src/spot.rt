@@ -5,7 +5,7 @@ use da_lex::Token;
 use da_values::Mark;
 
 /// A place among the tokens of a text: the token of this number, counted from 0, or the end after all of them.
-#[derive(Clone, Copy, Debug)]
+#[derive(Clone, Copy)]
 pub struct Spot<'t> {
     pub text: &'t [u8],
     pub tokens: &'t [Token],

@@ -13,7 +13,7 @@ use std::marker::Model;
 const MOST_MESSAGES: usize = 999_999_999;
 
 /// The actions that sent the messages of a channel, the eldest first. Contracts see the messages.
-#[derive(Debug, Drop)]
+#[derive(Drop)]
 pub(crate) struct Queue<'t> {
     sent: VecDeque<&'t Action>,
 }

@@ -13,7 +13,7 @@ use std::alloc::Global;
 use std::marker::Model;
 
 /// The channels from one process to each one, in the order of their numbers.
-#[derive(Debug, Drop)]
+#[derive(Drop)]
 struct Row<'t> {
     queues: Vec<Queue<'t>>,
 }
@@ -103,7 +103,7 @@ impl<'t> Row<'t> {
 }
 
 /// The channels from each process, in the order of their numbers. Contracts see the messages of all.
-#[derive(Debug, Drop)]
+#[derive(Drop)]
 pub(crate) struct Queues<'t> {
     rows: Vec<Row<'t>>,
 }

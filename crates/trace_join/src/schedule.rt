@@ -12,7 +12,7 @@ use std::marker::Model;
 const GREATEST: u32 = 999_999_999;
 
 /// Events with numbers that a schedule may have.
-#[derive(Debug, Drop)]
+#[derive(Drop)]
 pub(crate) struct Schedule {
     events: List<Event>,
 }

@@ -24,7 +24,7 @@ const WIDEST: u64 = 240;
 pub(crate) const LABEL_MOST: usize = 26;
 
 /// A point of the drawing.
-#[derive(Clone, Copy, Debug)]
+#[derive(Clone, Copy)]
 pub(crate) struct Point {
     pub x: u64,
     pub y: u64,

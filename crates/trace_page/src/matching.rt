@@ -6,7 +6,7 @@ use std::alloc::Global;
 use std::collections::BTreeMap;
 
 /// What tells a message from all others of a run: its sender, and the time of its sender's clock.
-#[derive(Clone, Copy, Debug, PartialEq, Eq, PartialOrd, Ord, Drop)]
+#[derive(Clone, Copy, PartialEq, Eq, PartialOrd, Ord, Drop)]
 struct Sending {
     process: u16,
     time: u64,

@@ -1,7 +1,7 @@
 //! How a drawing ends.
 
 /// How a drawing ended.
-#[derive(Clone, Copy, Debug, PartialEq, Eq)]
+#[derive(Clone, Copy, PartialEq, Eq)]
 pub enum DrawOutcome {
     /// The page was written.
     Done,

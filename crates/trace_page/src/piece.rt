@@ -6,7 +6,7 @@ use crate::markup::{Markup, bytes_of};
 use da_values::{Buf, NoMemory, write_number};
 
 /// A piece of a page. What a trace says comes into a page as `Text` alone, and so never as markup.
-#[derive(Clone, Copy, Debug)]
+#[derive(Clone, Copy)]
 pub(crate) enum Piece<'t> {
     Mark(Markup),
     Number(u64),

@@ -5,7 +5,7 @@ use da_lang::Action;
 use sched_text::Kind;
 
 /// An action with its line. Of the numbers that its kind does not have, each is 0.
-#[derive(Clone, Copy, Debug)]
+#[derive(Clone, Copy)]
 pub(crate) struct Step<'t> {
     pub kind: Kind,
     /// The process at which it happens; of a message that is lost or doubled, the sender.

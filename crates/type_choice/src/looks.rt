@@ -20,7 +20,7 @@ const MOST_LEVELS: usize = 32;
 const MOST_TOKENS: usize = 1024;
 
 /// What is seen of the type of each number of a table.
-#[derive(Debug, Drop)]
+#[derive(Drop)]
 pub struct Looks {
     /// Whether it is ordered.
     pub ordered: List<bool>,

@@ -13,7 +13,7 @@ use type_table::Form;
 
 /// The numbers in the order so far are marked. Each other number that was looked at waits for one that it is made of and
 /// that is not marked, with the place of that one, before which all are marked.
-#[derive(Debug, Drop)]
+#[derive(Drop)]
 pub struct Walk {
     pub marks: List<bool>,
     pub waits: List<List<(usize, usize)>>,

@@ -3,7 +3,7 @@
 use type_table::Scheme;
 
 /// What is demanded of types.
-#[derive(Debug, Drop)]
+#[derive(Drop)]
 pub enum Demand {
     /// What nothing meets.
     Never,
@@ -32,7 +32,7 @@ pub enum Demand {
 }
 
 /// A demand, and the line of the statement that it comes from.
-#[derive(Debug, Drop)]
+#[derive(Drop)]
 pub struct LineDemand {
     pub line: u32,
     pub demand: Demand,

@@ -14,7 +14,7 @@ use std::alloc::Global;
 use type_table::Scheme;
 
 /// What stands for the type of a slot.
-#[derive(Debug, Drop)]
+#[derive(Drop)]
 pub enum SlotScheme {
     /// Nothing.
     Untyped,
@@ -25,7 +25,7 @@ pub enum SlotScheme {
 }
 
 /// What stands for the type of the messages with a tag: tuples of a text and the other parts.
-#[derive(Debug, Drop)]
+#[derive(Drop)]
 pub struct MessageScheme {
     pub tag: Name,
     pub whole: Scheme,
@@ -33,7 +33,7 @@ pub struct MessageScheme {
 
 /// What stands for the types of the slots and of the messages, the numbered queries, and the line of the statement whose
 /// demands are listed.
-#[derive(Clone, Copy, Debug)]
+#[derive(Clone, Copy)]
 pub struct Known<'p> {
     pub slots: &'p [SlotScheme],
     pub messages: &'p [MessageScheme],

@@ -15,7 +15,7 @@ use std::alloc::Global;
 use type_table::Scheme;
 
 /// A side of a comparison: what stands for its type, and whether it is a `sum`.
-#[derive(Debug, Drop)]
+#[derive(Drop)]
 pub struct SideScheme {
     pub scheme: Scheme,
     pub sum: bool,

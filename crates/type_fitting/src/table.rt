@@ -4,7 +4,7 @@ use da_values::List;
 use type_table::Form;
 
 /// What is asked of a type.
-#[derive(Clone, Copy, Debug)]
+#[derive(Clone, Copy)]
 pub enum Kind {
     /// It is ordered.
     Ordered,
@@ -19,14 +19,14 @@ pub enum Kind {
 }
 
 /// What is asked of the type of a number.
-#[derive(Clone, Copy, Debug)]
+#[derive(Clone, Copy)]
 pub struct Note {
     pub kind: Kind,
     pub number: usize,
 }
 
 /// A table, equations between its numbers, and what is asked of them.
-#[derive(Debug, Drop)]
+#[derive(Drop)]
 pub struct Table {
     pub forms: List<Form>,
     pub equations: List<(usize, usize)>,

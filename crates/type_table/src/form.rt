@@ -3,7 +3,7 @@
 use da_values::List;
 
 /// What a table tells of a number that stands for a type.
-#[derive(Debug, Drop)]
+#[derive(Drop)]
 pub enum Form {
     /// Nothing.
     Open,

@@ -8,8 +8,6 @@ mod roots;
 mod scheme;
 mod settle;
 mod solve;
-#[cfg(test)]
-mod tests;
 mod values;
 mod whole;
 

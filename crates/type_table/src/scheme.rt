@@ -3,7 +3,7 @@
 use da_values::{Boxed, List};
 
 /// A type that is made of unknown types.
-#[derive(Debug, Drop)]
+#[derive(Drop)]
 pub enum Scheme {
     /// The unknown type with this number.
     Unknown(usize),

@@ -3,7 +3,5 @@
 #![tactic(auto)]
 
 mod link;
-#[cfg(test)]
-mod tests;
 
 pub use link::UdpLink;

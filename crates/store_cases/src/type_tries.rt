@@ -1,12 +1,21 @@
-//! Wide tuples, and types that are built.
-
-use crate::form::Form;
-use crate::number::number_of;
-use crate::scheme::Scheme;
-use crate::values::type_of;
+//! A table of unknown types: wide tuples, and types that are built.
 use da_lang::Ty;
 use da_values::{Boxed, List, NoMemory};
 use std::alloc::Global;
+use type_table::{Form, Scheme, number_of, type_of};
+
+/// How many parts the wide tuple has.
+const WIDE: usize = 255;
+
+/// Prints how many numbers and equations there are after the parts of a wide tuple were asked for, and whether the type of a
+/// set of integers is built.
+pub fn try_types<R: Print + AllocGlobal>(rt: &R) -> anyhow::Result<()> {
+    let (numbers, equations) = wide(rt.alloc(), WIDE)?;
+    println!(rt; "{WIDE} parts: {numbers} numbers, {equations} equations")?;
+    let is_built = set_of_integers(rt.alloc())?;
+    println!(rt; "a set of integers: {is_built}")?;
+    Ok(())
+}
 
 // The parts of one unknown tuple are asked for one by one. It answers how many numbers there are then, and equations.
 fn wide(alloc: Global, count: usize) -> Result<(usize, usize), NoMemory> {
@@ -36,14 +45,4 @@ fn is_set_of_integers(ty: &Ty) -> bool {
         Ty::Set(element) => matches!(element.get(), Ty::Int),
         Ty::Int | Ty::Bool | Ty::Text | Ty::Proc | Ty::Tuple(_) => false,
     }
-}
-
-#[test]
-fn parts_are_numbered_once(rt: HostRuntime) {
-    assert!(rt; wide(rt.alloc(), 255) == Ok((256, 0)));
-}
-
-#[test]
-fn types_are_built(rt: HostRuntime) {
-    assert!(rt; set_of_integers(rt.alloc()) == Ok(true));
 }

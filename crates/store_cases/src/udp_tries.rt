@@ -1,8 +1,25 @@
+//! Two links over UDP, between which datagrams go.
 ghost use Rattle.std.specs.Prelude.{◌≡◌, ◌≤◌, IfSome};
 
-use crate::UdpLink;
+use anyhow::anyhow;
 use da_outside::{DATAGRAM_MAX, Link, Taken, Trouble};
-use std::test::Fail;
+use std::net::Net;
+use udp_link::UdpLink;
+
+/// Prints whether each takes what the other gives, what comes after a datagram that UDP does not carry, and how a link ends that
+/// is bound to its own port once more.
+pub fn try_udp<R: Net + Print>(rt: &R) -> anyhow::Result<()> {
+    let mut one = UdpLink::new(rt);
+    let mut two = UdpLink::new(rt);
+    let Some(port) = bind_both(&mut one, &mut two) else {
+        return Err(anyhow!("no two ports in a row are free"));
+    };
+    show_passed(rt, &mut one, &mut two)?;
+    show_lost(rt, &mut one, &mut two)?;
+    let again = two.bind(port, 1, 2);
+    println!(rt; "bound to a port of the other: {again:?}")?;
+    Ok(())
+}
 
 // A port above which the two next ones were free, where one is found: the links are bound to these.
 fn bind_both<L: Link>(one: &mut L, two: &mut L) -> Option<u16>
@@ -45,18 +62,27 @@ fn passes<L: Link>(one: &mut L, to: u16, other: &mut L, bytes: &[u8]) -> Result<
     Ok(count == Some(bytes.len()) && buf.starts_with(bytes))
 }
 
-#[test]
-fn what_one_gives_the_other_takes(rt: HostRuntime) -> Result<(), Fail> {
-    let mut one = UdpLink::new(&rt);
-    let mut two = UdpLink::new(&rt);
-    let Some(port) = bind_both(&mut one, &mut two) else {
-        return Err(Fail::from(Trouble::Failed));
-    };
-    assert!(rt; passes(&mut one, 2, &mut two, b"first")?);
-    assert!(rt; passes(&mut two, 1, &mut one, &[7; 60_000])?);
+// Prints whether each takes what the other gives, a short datagram and a long one.
+fn show_passed<R: Print, L: Link>(rt: &R, one: &mut L, two: &mut L) -> anyhow::Result<()>
+    requires one { L.count one.old ≡ 2 }
+    requires two { L.count two.old ≡ 2 }
+    ensures one { L.count one.new ≡ 2 }
+    ensures two { L.count two.new ≡ 2 }
+{
+    let short = passes(one, 2, two, b"first")?;
+    let long = passes(two, 1, one, &[7; 60_000])?;
+    println!(rt; "passed: {short}, {long}")?;
+    Ok(())
+}
+
+// Prints whether the next datagram is taken after one that is too long, and what is taken after that.
+fn show_lost<R: Print, L: Link>(rt: &R, one: &mut L, two: &mut L) -> anyhow::Result<()>
+    requires one { L.count one.old ≡ 2 }
+    requires two { L.count two.old ≡ 2 }
+{
     two.give(1, &[8; DATAGRAM_MAX])?;
-    assert!(rt; passes(&mut two, 1, &mut one, b"")?);
-    assert_eq!(rt; one.take(&mut [0; DATAGRAM_MAX])?, Taken::Nothing);
-    assert_eq!(rt; two.bind(port, 1, 2), Err(Trouble::Failed));
+    let next = passes(two, 1, one, b"")?;
+    let rest = one.take(&mut [0; DATAGRAM_MAX])?;
+    println!(rt; "after one that is too long: {next}, {rest:?}")?;
     Ok(())
 }
