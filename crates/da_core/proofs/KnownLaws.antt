@@ -1,6 +1,6 @@
 -- The processes for which what code keeps stands. These laws alone look into what it keeps.
 use Rattle.std.proofs.Common.{◌≡◌, ℕ, List, [], length, map, Some, refl, sym, ap, ◌∙◌, subst}
-use Rattle.std.specs.Prelude.{Bool, max, sum}
+use Rattle.std.specs.Prelude.{Bool, true, false, max, sum, Option, None}
 use Rattle.std.proofs.lemmas.Simd.{map-map}
 use Rattle.da_values.specs.declared.val.Val.{Val}
 use Rattle.da_values.specs.Sets.{Has}
@@ -8,9 +8,11 @@ use Rattle.da_lang.specs.declared.event.Action.{Action}
 use Rattle.da_lang.specs.declared.program.Class.{Class}
 use Rattle.da_lang.specs.declared.program.Program.{Program}
 use Rattle.da_lang.specs.declared.query.Node.{Node}
+use Rattle.da_lang.specs.declared.ty.Ty.{Ty}
 use Rattle.da_lang.specs.declared.ty.Ty.TheVariants as t
 use Rattle.da_lang.specs.Live.{live_rows}
 use Rattle.da_lang.specs.Steps.{received_at}
+use Rattle.da_lang.specs.Types.{element_in, is_set}
 use Rattle.da_lang.specs.Turns.{later, sent_at, with_element, without_element}
 use Rattle.da_lang.specs.World.{Data, class_of, first_value, opening_data, put_slot}
 use Rattle.da_types.proofs.sound.AcceptedLaws.{is_typed}
@@ -88,10 +90,16 @@ all_held known (p, class, d, knows) = knows.held
 pub takes_some : (known : Known) (s : ℕ) (v : Val) → SomeProcess (Knows known) (λ p class d. TakesElement p class s v) → KnowsSome known
 takes_some known s v (p, class, d, knows, is, takes) = (p, class, d, knows)
 
+abbrev has_element : Option Ty → Bool
+has_element o = elim o [ Some element ↦ true | None ↦ false ]
+
+set_is : (ty : Ty) → is_set (t.Set ty) ≡ true
+set_is ty = ap has_element (ap element_in (t.outs-Set ty))
+
 -- No node names such a slot.
 pub spares_slot : (known : Known) (s : ℕ) (v : Val) → SomeProcess (Knows known) (λ p class d. TakesElement p class s v) → NoneNames s known.plan.now.nodes
 spares_slot known s v (p, class, d, knows, is, takes) n among =
-    typed_spares p class (is_typed p is.accepted) (class_has p d.me class is.shaped.is_class) s (t.Set takes.ty, takes.slot, refl) n
+    typed_spares p class (is_typed p is.accepted) (class_has p d.me class is.shaped.is_class) s (t.Set takes.ty, takes.slot, set_is takes.ty) n
     (subst (λ (x : Plan). Has x.nodes n) knows.plan among)
 
 -- UPDATES

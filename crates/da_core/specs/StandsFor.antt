@@ -80,7 +80,7 @@ IsAt p class code m w Faulted = Unit {0}
 
 -- A core stands for a world that is as types say, of a process of a compiled program: what it keeps stands for what the process
 -- knows, it stands at the same place, and the code where its machine stands stands for what is to do. The machine has no values
--- on its stack, so that between events nothing is kept but this. It is not spent.
+-- on its stack. It is not spent.
 pub record StandsFor (core : Core) (w : World) : Type 0 where
   pub unspent : core.spent ≡ false
   pub compiled : IsCompiled core.compiled.now

@@ -41,7 +41,7 @@ pub struct Compiled {
 }
 
 /// Compiles a program. `TooMany` comes exactly where the plan of a class has too many nodes, with the earliest line of such a
-/// class, and `Memory` only for want of memory.
+/// class. `Memory` comes for want of memory, or where a number of `generate` or `normalise` has no room.
 pub fn compile(alloc: Global, t: Typed) -> Result<Compiled, PlanFault>
     ensures compiled { IfOk result IsCompiled }
     ensures program { IfOk result (λ c. program_of c ≡ t) }

@@ -1,5 +1,5 @@
-//! Updates of kept answers, each with a counter of steps that nobody looks at. None takes more steps than its work: no node of
-//! the plan names a slot into whose set an element comes, or from which one leaves.
+//! Updates of kept answers, each with a counter of steps that nobody looks at. Those that are handed a counter take no more steps
+//! than their work: no node of the plan names a slot into whose set an element comes, or from which one leaves.
 ghost use Rattle.da_lang.specs.World.{Data};
 ghost use Rattle.da_values.specs.Value.{val_of};
 ghost use Rattle.delta_rules.specs.Counting.{NoneNames, Unnamed};
