@@ -3,7 +3,7 @@ use da_values::{NoMemory, Value};
 use thiserror::Error;
 
 /// A message, with the process that sent it and the time of the sending.
-#[derive(Debug, Drop)]
+#[derive(Drop)]
 pub struct Packet {
     pub sender: u16,
     /// At most 2^63 - 1.
