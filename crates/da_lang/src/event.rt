@@ -2,7 +2,7 @@
 use da_values::{SetVal, Value};
 
 /// An event of a schedule. Processes are numbered from 1, and so are the messages of a channel.
-#[derive(Clone, Copy, PartialEq, Eq)]
+#[derive(Clone, Copy)]
 pub enum Event {
     /// Process `p` begins, or goes on from the label where it waits.
     Move { p: u32 },

@@ -7,7 +7,7 @@ use crate::ty::{ChannelKind, Name, Ty};
 use da_values::{Boxed, List, Str};
 
 /// A whole program.
-#[derive(PartialEq, Eq, Drop)]
+#[derive(Drop)]
 pub struct Tree {
     /// The kind of its channels; `UnorderedUnreliable` where the text names none.
     pub kind: ChannelKind,
@@ -20,7 +20,7 @@ pub struct Tree {
 }
 
 /// `message TAG(TYPES)`
-#[derive(PartialEq, Eq, Drop)]
+#[derive(Drop)]
 pub struct MessageDecl {
     /// The tag.
     pub tag: Name,
@@ -31,7 +31,7 @@ pub struct MessageDecl {
 }
 
 /// `class NAME extends process:` and its members, of which there is at least one.
-#[derive(PartialEq, Eq, Drop)]
+#[derive(Drop)]
 pub struct ClassTree {
     /// The name.
     pub name: Name,
@@ -42,7 +42,7 @@ pub struct ClassTree {
 }
 
 /// A member of a class.
-#[derive(PartialEq, Eq, Drop)]
+#[derive(Drop)]
 pub enum Member {
     /// `var NAME: TYPE`
     Var {
@@ -79,7 +79,7 @@ pub enum Member {
 }
 
 /// A parameter with its type.
-#[derive(PartialEq, Eq, Drop)]
+#[derive(Drop)]
 pub struct Param {
     /// The name.
     pub name: Name,
@@ -89,7 +89,7 @@ pub struct Param {
 
 /// A statement. Its line is the one where it begins.
 #[cycle(stmt)]
-#[derive(PartialEq, Eq, Drop)]
+#[derive(Drop)]
 pub enum Stmt {
     /// `NAME = EXPR`
     Assign {
@@ -169,7 +169,7 @@ pub enum Stmt {
 
 /// A condition and its block. The line is that of the header.
 #[cycle(stmt)]
-#[derive(PartialEq, Eq, Drop)]
+#[derive(Drop)]
 pub struct Branch {
     /// The condition.
     pub cond: Boxed<Expr>,
@@ -181,7 +181,7 @@ pub struct Branch {
 
 /// `timeout:` and its block.
 #[cycle(stmt)]
-#[derive(PartialEq, Eq, Drop)]
+#[derive(Drop)]
 pub struct TimeoutTree {
     /// The statements of the block, of which there is at least one.
     pub body: List<Stmt>,
@@ -311,7 +311,7 @@ pub enum SourceTree {
 }
 
 /// A line of `main`.
-#[derive(PartialEq, Eq, Drop)]
+#[derive(Drop)]
 pub enum MainLine {
     /// `NAME = new(CLASS)`, or `NAME = new(CLASS, COUNT)`
     New {

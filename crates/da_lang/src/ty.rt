@@ -19,7 +19,7 @@ pub enum ChannelKind {
 }
 
 /// A type of values.
-#[derive(PartialEq, Eq, Drop)]
+#[derive(Drop)]
 pub enum Ty {
     /// Integers.
     Int,

@@ -15,7 +15,7 @@ use da_values::{List, NoMemory, Value};
 use std::alloc::Global;
 
 /// Where a run stops.
-#[derive(Clone, Copy, PartialEq, Eq)]
+#[derive(Clone, Copy)]
 pub enum Stop {
     /// Before the yield point of this number.
     Yield(u32),

@@ -12,7 +12,7 @@ pub struct Packet {
 }
 
 /// Why no packet was read.
-#[derive(Clone, Copy, Debug, PartialEq, Eq, Error)]
+#[derive(Clone, Copy, Debug, Error)]
 pub enum CodecFault {
     /// No packet has these bytes.
     #[error("these bytes are no packet")]

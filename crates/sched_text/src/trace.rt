@@ -15,7 +15,7 @@ use thiserror::Error;
 pub const TRACE_LIMIT: usize = 1_048_576;
 
 /// Why a trace gives no actions.
-#[derive(Clone, Copy, Debug, PartialEq, Eq, Error)]
+#[derive(Clone, Copy, Debug, Error)]
 pub enum TraceFault {
     /// The line of this number, counted from 1, is the first that is no line of the process; or, with 0, the trace has
     /// more than `TRACE_LIMIT` bytes.

@@ -15,7 +15,7 @@ use thiserror::Error;
 pub const TRACE_LIMIT: usize = 16_777_216;
 
 /// Why a text gives no steps.
-#[derive(Clone, Copy, Debug, PartialEq, Eq, Error)]
+#[derive(Clone, Copy, Debug, Error)]
 pub(crate) enum TraceFault {
     /// The line of this number, counted from 1, is the first that is no line of an action; or, with 0, the text has more
     /// than `TRACE_LIMIT` bytes.
