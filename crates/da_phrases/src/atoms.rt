@@ -34,9 +34,9 @@ impl<
         ensures room { IfOk result (λ _. self.now.depth < 32) }
     {
         opening(tokens, Mark::OpenParen, self.depth)?;
-        let argument = self.inner(tokens, Level::Disj)?;
+        let argument = Boxed::new(self.alloc, self.inner(tokens, Level::Disj)?)?;
         tokens.expect(Mark::Comma)?;
-        Ok(Boxed::new(self.alloc, argument)?)
+        Ok(argument)
     }
 
     /// `EXPR)`
@@ -46,9 +46,9 @@ impl<
         requires room { self.now.depth < 32 }
         ensures { Reads (spec.last_argument (at_depth self.now.depth) tokens.old) result tokens.new }
     {
-        let argument = self.inner(tokens, Level::Disj)?;
+        let argument = Boxed::new(self.alloc, self.inner(tokens, Level::Disj)?)?;
         tokens.expect(Mark::CloseParen)?;
-        Ok(Boxed::new(self.alloc, argument)?)
+        Ok(argument)
     }
 
     /// `(EXPR)`
