@@ -207,14 +207,22 @@ module _ (p : Place) where
     ps ← others plus_op product
     pure (chained x ps)
 
+  -- after `EXPR in`
+  abbrev pub member_of : Expr → Reader Expr
+  member_of x = sum >>= λ y. pure (ex.Member x y)
+
+  -- after an expression and the sign of a comparison
+  abbrev pub compared_to : Expr → CmpOp → Reader Expr
+  compared_to x op = sum >>= λ y. pure (ex.Cmp op x y)
+
   abbrev pub compared_by : Expr → Option CmpOp → Reader Expr
-  compared_by x (Some op) = past (sum >>= λ y. pure (ex.Cmp op x y))
+  compared_by x (Some op) = past (compared_to x op)
   compared_by x None = pure x
 
   unfoldable pub comparison : Reader Expr
   comparison = do
     x ← sum
-    after_token m.In (sum >>= λ y. pure (ex.Member x y)) (by_mark (λ k. compared_by x (cmp_op_at k)))
+    after_token m.In (member_of x) (by_mark (λ k. compared_by x (cmp_op_at k)))
 
   unfoldable pub negation : Reader Expr
   negation = if_next m.Not (opens p.may_open >> (p.expr level.Neg >>= λ x. pure (ex.Not x))) comparison
