@@ -124,15 +124,21 @@ impl<
         Ok(found)
     }
 
-    /// A product.
+    /// A product. (An operand that is not kept is dropped by a call: where it is left to the end of a way out, the check goes
+    /// through the parts of each form of expression there.)
     #[tactic(auto, unfolding(crate::specs::Exprs::product))]
     fn product(&self, tokens: &mut Cursor<'_>) -> Result<Expr, Stop>
         requires nests { Nests self.now.depth (F.pre self.now.expr) (F.post self.now.expr) (P.pre self.now.pattern) (P.post self.now.pattern) }
         ensures { Reads (spec.product (at_depth self.now.depth) tokens.old) result tokens.new }
     {
         let first = self.unary(tokens)?;
-        let others = self.factors(tokens)?;
-        Ok(chained(self.alloc, first, others)?)
+        match self.factors(tokens) {
+            Ok(others) => Ok(chained(self.alloc, first, others)?),
+            Err(stop) => {
+                drop(first);
+                Err(stop)
+            }
+        }
     }
 
     /// Further operands of a sum.
@@ -160,8 +166,13 @@ impl<
         ensures { Reads (spec.sum (at_depth self.now.depth) tokens.old) result tokens.new }
     {
         let first = self.product(tokens)?;
-        let others = self.summands(tokens)?;
-        Ok(chained(self.alloc, first, others)?)
+        match self.summands(tokens) {
+            Ok(others) => Ok(chained(self.alloc, first, others)?),
+            Err(stop) => {
+                drop(first);
+                Err(stop)
+            }
+        }
     }
 
     /// What stands after `in`: the right operand.
