@@ -54,6 +54,10 @@ abbrev pub chained : Expr → List ChainTree → Expr
 chained x [] = x
 chained x (p ∷ ps) = ex.Chain x (p ∷ ps)
 
+-- `)` after an expression
+abbrev pub before_paren : Expr → Reader Expr
+before_paren x = expect m.CloseParen >> pure x
+
 -- operands with a word between
 unfoldable pub joined : Mark → (List Expr → Expr) → Reader Expr → Reader Expr
 joined k join operand = do
@@ -140,11 +144,10 @@ module _ (p : Place) where
   abbrev pub grouped_by : Option Bool → Reader Expr
   grouped_by (Some each) = do
     x ← p.expr level.Expr
-    expect m.CloseParen
-    pure x
+    before_paren x
   grouped_by None = do
     x ← p.expr level.Disj
-    after_token m.Comma (do xs ← closed m.CloseParen (p.expr level.Disj) (x ∷ []); pure (ex.Tuple xs)) (do expect m.CloseParen; pure x)
+    after_token m.Comma (do xs ← closed m.CloseParen (p.expr level.Disj) (x ∷ []); pure (ex.Tuple xs)) (before_paren x)
 
   unfoldable pub grouped : Reader Expr
   grouped = by_mark (λ k. grouped_by (quantifier k))
