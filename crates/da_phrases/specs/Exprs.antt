@@ -79,6 +79,10 @@ source = do
 abbrev pub made : PatternTree → Option PeerTree → SourceTree → GenTree
 made message other from = roll-GenTree (record { message = message; peer = other; source = from })
 
+-- after the patterns of a generator
+abbrev pub with_source : PatternTree → Option PeerTree → Reader GenTree
+with_source message other = source >>= λ from. pure (made message other from)
+
 -- `_`, a negative integer, a truth value or `self`, in a pattern
 abbrev pub constant : Mark → Reader PatternTree
 constant m.Wild = past (pure pat.Wild)
@@ -93,14 +97,13 @@ module _ (p : Place) where
   unfoldable pub generator_with : PatternTree → (PatternTree → PeerTree) → Reader GenTree
   generator_with message other = do
     x ← p.pattern
-    from ← source
-    pure (made message (Some (other x)) from)
+    with_source message (Some (other x))
 
   unfoldable pub generator : Reader GenTree
   generator = do
     message ← p.pattern
     after_token m.From (generator_with message peer_tree.From)
-        (after_token m.To (generator_with message peer_tree.To) (source >>= λ from. pure (made message None from)))
+        (after_token m.To (generator_with message peer_tree.To) (with_source message None))
 
   unfoldable pub generators : Reader (List GenTree)
   generators = separated m.Comma generator []
