@@ -54,7 +54,7 @@ pub fn rule_demands(
             Ok(())
         }
         ItemKind::Output(x) => {
-            let _ = expr_demands(x.get(), alloc, known, demands)?;
+            drop(expr_demands(x.get(), alloc, known, demands)?);
             Ok(())
         }
         ItemKind::While(x, _) => {
