@@ -108,6 +108,7 @@ fn read_own(alloc: Global, line: &[u8], p: u16) -> Result<Action, ValueFault>
     if told_by(&action) == Some(p) {
         Ok(action)
     } else {
+        drop(action);
         Err(ValueFault::Unread)
     }
 }

@@ -76,7 +76,9 @@ fn read_line<'t>(
 {
     match read_action(alloc, line) {
         Ok(action) => {
-            steps.push(step_of(&action, line))?;
+            let step = step_of(&action, line);
+            drop(action);
+            steps.push(step)?;
             Ok(())
         }
         Err(ValueFault::Unread) => Err(TraceFault::BadLine(number)),
