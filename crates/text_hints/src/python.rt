@@ -2,6 +2,7 @@
 use crate::expected::{has, is_comparison};
 use crate::hint::Hint;
 use crate::spot::Spot;
+use crate::words::said_of;
 use da_values::Mark;
 
 /// Tells what is written in the place of what stands at the spot, where one of these marks is expected. Whether it is known.
@@ -100,13 +101,10 @@ fn on_first_word(spot: Spot<'_>) -> &'static [u8] {
     if !spot.is(begin, Mark::Name) || spot.place > begin.saturating_add(1) {
         return b"";
     }
-    let word = spot.bytes(begin);
-    for entry in &FIRST_WORDS {
-        if entry.0 == word {
-            return entry.1;
-        }
+    match said_of(&FIRST_WORDS, spot.bytes(begin)) {
+        Some(said) => said,
+        None => b"",
     }
-    b""
 }
 
 // What stands outside of classes, and their headers.
