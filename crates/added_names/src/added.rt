@@ -3,7 +3,7 @@
 use da_lang::Name;
 
 /// A tag that gets a `message` line.
-#[derive(PartialEq, Eq, Drop)]
+#[derive(Drop)]
 pub struct AddedTag {
     /// The tag.
     pub tag: Name,
@@ -14,7 +14,7 @@ pub struct AddedTag {
 }
 
 /// A variable of a class that gets a `var` line.
-#[derive(PartialEq, Eq, Drop)]
+#[derive(Drop)]
 pub struct AddedVariable {
     /// The name.
     pub name: Name,
@@ -23,7 +23,7 @@ pub struct AddedVariable {
 }
 
 /// The place of a parameter that has no type, each number counted from 0.
-#[derive(Clone, Copy, PartialEq, Eq)]
+#[derive(Clone, Copy)]
 pub struct OpenPlace {
     /// The class, among the classes.
     pub class: u32,

@@ -143,10 +143,10 @@ fn copy_handler(
 ) -> Result<Member, NoMemory>
     ensures { IfOk result (λ copy. copy ≡ spec.handler message.now from.now at.now body.now line) }
 {
-    let message = copy_pattern(alloc, message)?;
-    let from = copy_sender(alloc, from)?;
-    let at = copy_names(alloc, at)?;
     let body = copy_body(alloc, body)?;
+    let at = copy_names(alloc, at)?;
+    let from = copy_sender(alloc, from)?;
+    let message = copy_pattern(alloc, message)?;
     Ok(Member::Receive {
         message,
         from,

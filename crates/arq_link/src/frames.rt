@@ -18,7 +18,7 @@ const DATA: u8 = 0;
 const ACKNOWLEDGEMENT: u8 = 1;
 
 /// Whether a frame is data or an acknowledgement.
-#[derive(Clone, Copy, PartialEq, Eq)]
+#[derive(Clone, Copy)]
 pub(crate) enum FrameKind {
     Data,
     Acknowledgement,

@@ -4,7 +4,7 @@ ghost use Rattle.std.specs.Prelude.{◌≡◌};
 
 /// What a link tells, where the link under it tells anything. It tells no more after a failure than before it, and nothing
 /// from the next call on.
-#[derive(Clone, Copy, PartialEq, Eq)]
+#[derive(Clone, Copy)]
 pub(crate) enum Telling {
     /// It was never bound, and tells an empty list.
     Unbound,

@@ -17,7 +17,7 @@ ghost use Rattle.type_table.specs.declared.scheme.Scheme.TheVariants as scheme_o
 
 use da_lang::{BindArg, Cond, Handler, ItemKind, RExpr};
 use da_typing::member;
-use da_values::{List, NoMemory, Value};
+use da_values::{Boxed, List, NoMemory, Value};
 use std::alloc::Global;
 use type_demands::{
     Demand, Known, LineDemand, cond_demands, element_of, expr_demands, fit_demands, flat,
@@ -54,7 +54,7 @@ pub fn rule_demands(
             Ok(())
         }
         ItemKind::Output(x) => {
-            let _ = expr_demands(x.get(), alloc, known, demands)?;
+            drop(expr_demands(x.get(), alloc, known, demands)?);
             Ok(())
         }
         ItemKind::While(x, _) => {
@@ -103,8 +103,8 @@ fn element_fits(
 ) -> Result<(), NoMemory>
     ensures { OnOk result (Lists demands.old demands.new known.now (spec.fits_element (slot_in known.now.slots.now slot) (expr_in known.now x.now))) }
 {
-    let whole = slot_demands(slot, alloc, known, demands)?;
-    let element = element_of(&whole, alloc)?;
+    let whole = Boxed::new(alloc, slot_demands(slot, alloc, known, demands)?)?;
+    let element = Scheme::Element(whole);
     fit_demands(x, alloc, known, &element, demands)?;
     Ok(())
 }
@@ -120,9 +120,9 @@ fn element_is(
 ) -> Result<(), NoMemory>
     ensures { OnOk result (Lists demands.old demands.new known.now (spec.is_element (slot_in known.now.slots.now slot) (expr_in known.now x.now))) }
 {
-    let whole = slot_demands(slot, alloc, known, demands)?;
-    let element = element_of(&whole, alloc)?;
+    let whole = Boxed::new(alloc, slot_demands(slot, alloc, known, demands)?)?;
     let scheme = expr_demands(x, alloc, known, demands)?;
+    let element = Scheme::Element(whole);
     same(&element, scheme, alloc, known, demands)?;
     Ok(())
 }
@@ -138,8 +138,8 @@ fn elements_taken(
 ) -> Result<(), NoMemory>
     ensures { OnOk result (Lists demands.old demands.new known.now (spec.takes_elements (slot_in known.now.slots.now slot) (expr_in known.now x.now))) }
 {
-    let whole = expr_demands(x, alloc, known, demands)?;
-    let element = element_of(&whole, alloc)?;
+    let whole = Boxed::new(alloc, expr_demands(x, alloc, known, demands)?)?;
+    let element = Scheme::Element(whole);
     slot_same(slot, alloc, known, &element, demands)?;
     Ok(())
 }

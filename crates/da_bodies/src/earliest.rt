@@ -55,7 +55,7 @@ impl Kind for LimitKind {
 }
 
 /// What a program breaks, and the line where it does.
-#[derive(Clone, Copy, PartialEq, Eq)]
+#[derive(Clone, Copy)]
 pub struct Fault<K> {
     /// What is broken.
     pub kind: K,

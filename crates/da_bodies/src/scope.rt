@@ -9,7 +9,7 @@ use std::collections::BTreeMap;
 use std::marker::Model;
 
 /// What a name stands for.
-#[derive(Clone, Copy, PartialEq, Eq)]
+#[derive(Clone, Copy)]
 pub enum Role {
     /// A variable of the class.
     ClassVariable,

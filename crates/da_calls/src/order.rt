@@ -8,7 +8,7 @@ use da_values::{List, NoMemory};
 use std::alloc::Global;
 
 /// What a walk has still to do.
-#[derive(Clone, Copy, PartialEq, Eq)]
+#[derive(Clone, Copy)]
 enum Visit {
     /// Enter a node, if it was not entered before.
     Enter(usize),

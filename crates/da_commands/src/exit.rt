@@ -14,7 +14,7 @@ const NO_WORDS: u8 = 20;
 const NO_MEMORY: u8 = 7;
 
 /// Why there are no words.
-#[derive(Clone, Copy, PartialEq, Eq)]
+#[derive(Clone, Copy)]
 pub enum NoWords {
     /// The system does not give them.
     Refused,

@@ -27,7 +27,7 @@ use thiserror::Error;
 use trace_join::JoinFault;
 
 /// Why texts give no traces.
-#[derive(Clone, Copy, Debug, PartialEq, Eq, Error)]
+#[derive(Clone, Copy, Debug, Error)]
 pub enum TracesFault {
     /// The text of this process is the first that is no trace, by this line, or by its length, with 0.
     #[error("line {line} of the trace of process {process} is no line of it")]

@@ -4,7 +4,7 @@ use thiserror::Error;
 
 /// Where a process stands: it has not begun, it waits at a label or at an `await` of so many alternatives, it has used
 /// up its statements, or a fault has ended it.
-#[derive(Clone, Copy, PartialEq, Eq)]
+#[derive(Clone, Copy)]
 pub enum Place {
     New,
     Label,
@@ -14,7 +14,7 @@ pub enum Place {
 }
 
 /// How a process stopped: at a label or an `await`, at the end of its statements, or by a fault.
-#[derive(Clone, Copy, PartialEq, Eq)]
+#[derive(Clone, Copy)]
 pub enum Stopped {
     AtYield,
     Ended,
@@ -22,7 +22,7 @@ pub enum Stopped {
 }
 
 /// Why a step was not made.
-#[derive(Clone, Copy, Debug, PartialEq, Eq, Error)]
+#[derive(Clone, Copy, Debug, Error)]
 pub enum StepFault {
     /// The event is not allowed. Nothing has changed.
     #[error("the event is not allowed")]

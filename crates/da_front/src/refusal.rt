@@ -9,7 +9,7 @@ use quant_norm::PlanFault;
 use thiserror::Error;
 
 /// Why a program is refused, and the sentence that tells a person so.
-#[derive(Clone, Copy, Debug, PartialEq, Eq, Error)]
+#[derive(Clone, Copy, Debug, Error)]
 pub enum RefusedKind {
     /// The text has more than 1,048,576 bytes.
     #[error("the text has more than 1,048,576 bytes")]
@@ -95,7 +95,7 @@ pub enum RefusedKind {
 }
 
 /// Why a text gives no program.
-#[derive(Clone, Copy, Debug, PartialEq, Eq, Error)]
+#[derive(Clone, Copy, Debug, Error)]
 pub enum ProgramFault {
     /// The text is refused so, at this line, or at 0 where no line is to blame.
     #[error("line {line} is refused")]

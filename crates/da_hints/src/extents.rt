@@ -11,7 +11,7 @@ use da_values::List;
 use std::alloc::Global;
 
 /// How many statements a text has, how many blocks are within each other, and how many slots it needs, with calls inlined.
-#[derive(Clone, Copy, PartialEq, Eq)]
+#[derive(Clone, Copy)]
 pub struct Extent {
     pub items: usize,
     pub blocks: usize,

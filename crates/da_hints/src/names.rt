@@ -8,7 +8,7 @@ use crate::typing::enter_gen;
 use crate::walk::{Step, Wanted};
 use da_lang::{Expr, MainLine, Member, ScopeKind, Stmt, Tree, Ty};
 use da_values::List;
-use text_hints::Nearest;
+use text_hints::{Nearest, said_of};
 
 /// A name that breaks a rule, or an expression where a name is wanted.
 #[derive(Clone, Copy)]
@@ -174,7 +174,7 @@ fn tell_callee(case: &mut Case<'_>) -> bool {
     }
     case.tell(form, holder, name);
     blame_word(name, case);
-    match cure_of_call(name) {
+    match said_of(&CALLS, name) {
         Some(cure) if !holder.is_empty() => case.note(cure),
         _ => {
             let mut nearest = Nearest::new(case.alloc, name);
@@ -198,19 +198,31 @@ fn put_made<'t>(tree: &'t Tree, line: u32, names: &mut List<&'t [u8]>) {
     }
 }
 
-// What is written in the place of a call of another language.
-fn cure_of_call(name: &[u8]) -> Option<&'static [u8]> {
-    match name {
-        b"print" | b"println" | b"write" | b"log" => {
-            Some(b"write output(..): it takes one value, which may be a tuple")
-        }
-        b"sleep" | b"wait" => Some(b"write await and a condition"),
-        b"start" => Some(b"a process starts by an event of the schedule, as move 1"),
-        b"exit" | b"quit" => Some(b"a process ends with the last line of run"),
-        b"super" => Some(b"there is no inheritance"),
-        _ => None,
-    }
-}
+/// What is written in the place of printing.
+const PRINTS: &[u8] = b"write output(..): it takes one value, which may be a tuple";
+
+/// What is written in the place of waiting.
+const WAITS: &[u8] = b"write await and a condition";
+
+/// What is written in the place of an end.
+const ENDS: &[u8] = b"a process ends with the last line of run";
+
+/// What is written in the place of calls of other languages.
+const CALLS: [(&[u8], &[u8]); 10] = [
+    (b"print", PRINTS),
+    (b"println", PRINTS),
+    (b"write", PRINTS),
+    (b"log", PRINTS),
+    (b"sleep", WAITS),
+    (b"wait", WAITS),
+    (
+        b"start",
+        b"a process starts by an event of the schedule, as move 1",
+    ),
+    (b"exit", ENDS),
+    (b"quit", ENDS),
+    (b"super", b"there is no inheritance"),
+];
 
 const NOT_MADE: &[u8] = b"no line before this one makes $@ by new(..)";
 
@@ -236,7 +248,7 @@ fn tell_name<'t>(name: &'t [u8], wanted: Wanted, case: &mut Case<'t>) {
         b"there is no variable, parameter or pattern variable $@ here"
     };
     case.tell(form, b"", name);
-    match cure_of_value(name) {
+    match said_of(&VALUES, name) {
         Some(cure) => case.note(cure),
         None => {
             if !note_elsewhere(name, case) {
@@ -275,21 +287,32 @@ fn note_value<'t>(name: &'t [u8], wanted: Wanted, case: &mut Case<'t>) {
     case.note_meant(found);
 }
 
-// What is written in the place of a value of another language.
-fn cure_of_value(name: &[u8]) -> Option<&'static [u8]> {
-    match name {
-        b"True" | b"TRUE" => Some(b"write true"),
-        b"False" | b"FALSE" => Some(b"write false"),
-        b"None" | b"null" | b"nil" => Some(
-            b"there is no None: a set that is empty, or a variable of type bool, says that nothing is there",
-        ),
-        b"this" | b"me" => Some(b"write self for the process itself"),
-        b"msg" | b"message" | b"sender" => {
-            Some(b"receive (..) from p: names the message's parts and its sender by patterns")
-        }
-        _ => None,
-    }
-}
+/// What is written in the place of nothing.
+const NOTHING: &[u8] =
+    b"there is no None: a set that is empty, or a variable of type bool, says that nothing is there";
+
+/// What is written in the place of the process itself.
+const ITSELF: &[u8] = b"write self for the process itself";
+
+/// What is written in the place of a message.
+const MESSAGES: &[u8] =
+    b"receive (..) from p: names the message's parts and its sender by patterns";
+
+/// What is written in the place of values of other languages.
+const VALUES: [(&[u8], &[u8]); 12] = [
+    (b"True", b"write true"),
+    (b"TRUE", b"write true"),
+    (b"False", b"write false"),
+    (b"FALSE", b"write false"),
+    (b"None", NOTHING),
+    (b"null", NOTHING),
+    (b"nil", NOTHING),
+    (b"this", ITSELF),
+    (b"me", ITSELF),
+    (b"msg", MESSAGES),
+    (b"message", MESSAGES),
+    (b"sender", MESSAGES),
+];
 
 // An argument of an aggregate that is neither a name nor a comprehension.
 fn tell_form(x: &Expr, case: &mut Case<'_>) {

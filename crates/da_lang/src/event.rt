@@ -2,7 +2,7 @@
 use da_values::{SetVal, Value};
 
 /// An event of a schedule. Processes are numbered from 1, and so are the messages of a channel.
-#[derive(Clone, Copy, Debug, PartialEq, Eq)]
+#[derive(Clone, Copy)]
 pub enum Event {
     /// Process `p` begins, or goes on from the label where it waits.
     Move { p: u32 },
@@ -23,7 +23,7 @@ pub enum Event {
 }
 
 /// Why a process ended before its statements did.
-#[derive(Clone, Copy, Debug, PartialEq, Eq)]
+#[derive(Clone, Copy, PartialEq, Eq)]
 pub enum FaultKind {
     /// A result outside an i64.
     Overflow,
@@ -38,7 +38,7 @@ pub enum FaultKind {
 }
 
 /// What a process does at an event, what is told of it, and where a run stops.
-#[derive(Debug, Drop)]
+#[derive(Drop)]
 pub enum Action {
     /// Process `p` made a move: from its opening or a label with 0, else with the number of the alternative; that of a
     /// timeout is one more than there are alternatives.

@@ -8,7 +8,7 @@ use crate::ty::{ChannelKind, Name, Ty};
 use da_values::{Boxed, List, Value};
 
 /// A program: its messages and classes in text order, and its processes in the order in which `main` makes them.
-#[derive(Debug, Drop)]
+#[derive(Drop)]
 pub struct Program {
     pub kind: ChannelKind,
     pub messages: List<MessageDecl>,
@@ -17,21 +17,21 @@ pub struct Program {
 }
 
 /// A process that `main` makes, of the class at this place in the program, counted from 0, with its line of `setup`.
-#[derive(Debug, Drop)]
+#[derive(Drop)]
 pub struct ProcDecl {
     pub class: u16,
     pub setup: Option<SetupCall>,
 }
 
 /// A line of `setup`, by its arguments.
-#[derive(Debug, Drop)]
+#[derive(Drop)]
 pub struct SetupCall {
     pub args: List<RExpr>,
     pub line: u32,
 }
 
 /// A class, with its calls inlined. The line is that of its header.
-#[derive(Debug, Drop)]
+#[derive(Drop)]
 pub struct Class {
     /// The name.
     pub name: Name,
@@ -53,7 +53,7 @@ pub struct Class {
 
 /// A handler. `binds` are the slots that take the parts of the row of its two patterns. `at` are the labels at which it is
 /// open; it is open everywhere where there are none. The line is that of `receive`.
-#[derive(Debug, Drop)]
+#[derive(Drop)]
 pub struct Handler {
     pub message: Pattern,
     pub from: Pattern,
@@ -65,7 +65,7 @@ pub struct Handler {
 
 /// A statement, with the line where it begins.
 #[cycle(item)]
-#[derive(Debug, Drop)]
+#[derive(Drop)]
 pub struct Item {
     pub line: u32,
     pub kind: ItemKind,
@@ -73,7 +73,7 @@ pub struct Item {
 
 /// What a statement does.
 #[cycle(item)]
-#[derive(Debug, Drop)]
+#[derive(Drop)]
 pub enum ItemKind {
     /// Assigns to a slot.
     Assign(u16, Boxed<RExpr>),
@@ -109,7 +109,7 @@ pub enum ItemKind {
 /// A branch of an `if`, with the line of its header. Where the condition is a `some`, `found` numbers that query, and
 /// the slots `binds` take the least row that it finds, part by part.
 #[cycle(item)]
-#[derive(Debug, Drop)]
+#[derive(Drop)]
 pub struct RBranch {
     pub cond: Boxed<RExpr>,
     pub found: Option<u32>,
@@ -119,7 +119,7 @@ pub struct RBranch {
 }
 
 /// An argument, and the slot of its parameter.
-#[derive(Debug, Drop)]
+#[derive(Drop)]
 pub struct BindArg {
     pub slot: u16,
     pub value: Boxed<RExpr>,
@@ -127,7 +127,7 @@ pub struct BindArg {
 
 /// An alternative of an `await`, as a branch is.
 #[cycle(item)]
-#[derive(Debug, Drop)]
+#[derive(Drop)]
 pub struct Alt {
     pub cond: Boxed<Cond>,
     pub found: Option<u32>,
@@ -138,7 +138,7 @@ pub struct Alt {
 
 /// An expression outside queries.
 #[cycle(rexpr)]
-#[derive(Debug, Drop)]
+#[derive(Drop)]
 pub enum RExpr {
     /// This value.
     Const(Value),
@@ -174,7 +174,7 @@ pub enum RExpr {
 
 /// A further operand of a chain, with the operation before it.
 #[cycle(rexpr)]
-#[derive(Debug, Drop)]
+#[derive(Drop)]
 pub struct ChainPart {
     pub op: ArithOp,
     pub operand: Boxed<RExpr>,

@@ -6,7 +6,7 @@ use crate::tree::CmpOp;
 use da_values::{Boxed, List, Value};
 
 /// A term: a value that a row and the slots give.
-#[derive(Debug, Drop)]
+#[derive(Drop)]
 pub enum Term {
     /// This value.
     Const(Value),
@@ -23,7 +23,7 @@ pub enum Term {
 }
 
 /// A pattern, matched against a value with the row so far.
-#[derive(Debug, Drop)]
+#[derive(Drop)]
 pub enum Pattern {
     /// Matches every value.
     Any,
@@ -40,7 +40,7 @@ pub enum Pattern {
 }
 
 /// What a generator goes through.
-#[derive(Clone, Copy, Debug, PartialEq, Eq)]
+#[derive(Clone, Copy, PartialEq, Eq)]
 pub enum Source {
     /// The messages that were received.
     Received,
@@ -53,7 +53,7 @@ pub enum Source {
 /// A generator: each element of the source that matches. `peer` is matched against the other process of a message, and
 /// is `Any` where none is written. One that is written where it cannot stand (`from` over `sent`, `to` over `received`,
 /// either over a set) is a tuple of `Equal(Foreign)` and that pattern.
-#[derive(Debug, Drop)]
+#[derive(Drop)]
 pub struct RGen {
     pub source: Source,
     pub message: Pattern,
@@ -62,7 +62,7 @@ pub struct RGen {
 
 /// A side of a comparison.
 #[cycle(cond)]
-#[derive(Debug, Drop)]
+#[derive(Drop)]
 pub enum Operand {
     /// A term.
     Term(Term),
@@ -74,7 +74,7 @@ pub enum Operand {
 
 /// A further operand of a chain: with `minus` it is taken away.
 #[cycle(cond)]
-#[derive(Debug, Drop)]
+#[derive(Drop)]
 pub struct SignedOperand {
     pub minus: bool,
     pub operand: Boxed<Operand>,
@@ -82,7 +82,7 @@ pub struct SignedOperand {
 
 /// An aggregate over the set of `term` over the rows. `other` is the value of `min` and `max` where the set is empty.
 #[cycle(cond)]
-#[derive(Debug, Drop)]
+#[derive(Drop)]
 pub struct Agg {
     pub op: AggOp,
     pub gens: List<RGen>,
@@ -92,7 +92,7 @@ pub struct Agg {
 }
 
 /// What an aggregate makes of a set.
-#[derive(Clone, Copy, Debug, PartialEq, Eq)]
+#[derive(Clone, Copy, PartialEq, Eq)]
 pub enum AggOp {
     /// The number of elements.
     Count,
@@ -106,7 +106,7 @@ pub enum AggOp {
 
 /// A condition of a query or of an alternative.
 #[cycle(cond)]
-#[derive(Debug, Drop)]
+#[derive(Drop)]
 pub enum Cond {
     /// A term that is a truth value.
     Truth(Term),
@@ -127,7 +127,7 @@ pub enum Cond {
 }
 
 /// A numbered query of a class.
-#[derive(Debug, Drop)]
+#[derive(Drop)]
 pub enum Query {
     /// `some` or `each`.
     Quant {
@@ -147,7 +147,7 @@ pub enum Query {
 
 /// A node of a plan, with the numbers of the nodes that it reads, counted from 0. The condition of a `Filter` has no
 /// quantification and no aggregate.
-#[derive(Debug, Drop)]
+#[derive(Drop)]
 pub enum Node {
     /// The one empty row.
     Root,
@@ -187,14 +187,14 @@ pub enum Node {
 }
 
 /// The node of a numbered query, and what its rows stand for.
-#[derive(Debug, Drop)]
+#[derive(Drop)]
 pub struct QueryNode {
     pub node: u32,
     pub shape: Shape,
 }
 
 /// What the rows of the node of a query stand for.
-#[derive(Debug, Drop)]
+#[derive(Drop)]
 pub enum Shape {
     /// `some`: the rows that it finds.
     Exists,
@@ -207,7 +207,7 @@ pub enum Shape {
 }
 
 /// What a class needs of an element of a history.
-#[derive(Debug, Drop)]
+#[derive(Drop)]
 pub struct LivePattern {
     pub source: Source,
     pub message: Pattern,

@@ -25,7 +25,7 @@ pub enum ScopeKind {
 }
 
 /// A limit that a program exceeds, in the order in which one is reported before another on one line.
-#[derive(Clone, Copy, Debug, PartialEq, Eq)]
+#[derive(Clone, Copy, Debug)]
 pub enum LimitKind {
     /// 32 classes.
     Classes,

@@ -7,7 +7,7 @@ use crate::ty::{ChannelKind, Name, Ty};
 use da_values::{Boxed, List, Str};
 
 /// A whole program.
-#[derive(Debug, PartialEq, Eq, Drop)]
+#[derive(Drop)]
 pub struct Tree {
     /// The kind of its channels; `UnorderedUnreliable` where the text names none.
     pub kind: ChannelKind,
@@ -20,7 +20,7 @@ pub struct Tree {
 }
 
 /// `message TAG(TYPES)`
-#[derive(Debug, PartialEq, Eq, Drop)]
+#[derive(Drop)]
 pub struct MessageDecl {
     /// The tag.
     pub tag: Name,
@@ -31,7 +31,7 @@ pub struct MessageDecl {
 }
 
 /// `class NAME extends process:` and its members, of which there is at least one.
-#[derive(Debug, PartialEq, Eq, Drop)]
+#[derive(Drop)]
 pub struct ClassTree {
     /// The name.
     pub name: Name,
@@ -42,7 +42,7 @@ pub struct ClassTree {
 }
 
 /// A member of a class.
-#[derive(Debug, PartialEq, Eq, Drop)]
+#[derive(Drop)]
 pub enum Member {
     /// `var NAME: TYPE`
     Var {
@@ -79,7 +79,7 @@ pub enum Member {
 }
 
 /// A parameter with its type.
-#[derive(Debug, PartialEq, Eq, Drop)]
+#[derive(Drop)]
 pub struct Param {
     /// The name.
     pub name: Name,
@@ -89,7 +89,7 @@ pub struct Param {
 
 /// A statement. Its line is the one where it begins.
 #[cycle(stmt)]
-#[derive(Debug, PartialEq, Eq, Drop)]
+#[derive(Drop)]
 pub enum Stmt {
     /// `NAME = EXPR`
     Assign {
@@ -169,7 +169,7 @@ pub enum Stmt {
 
 /// A condition and its block. The line is that of the header.
 #[cycle(stmt)]
-#[derive(Debug, PartialEq, Eq, Drop)]
+#[derive(Drop)]
 pub struct Branch {
     /// The condition.
     pub cond: Boxed<Expr>,
@@ -181,7 +181,7 @@ pub struct Branch {
 
 /// `timeout:` and its block.
 #[cycle(stmt)]
-#[derive(Debug, PartialEq, Eq, Drop)]
+#[derive(Drop)]
 pub struct TimeoutTree {
     /// The statements of the block, of which there is at least one.
     pub body: List<Stmt>,
@@ -191,7 +191,7 @@ pub struct TimeoutTree {
 
 /// An expression.
 #[cycle(expr)]
-#[derive(Debug, PartialEq, Eq, Drop)]
+#[derive(PartialEq, Eq, Drop)]
 pub enum Expr {
     /// `some` or `each` with generators, of which there is at least one, and a condition
     Quant {
@@ -247,7 +247,7 @@ pub enum Expr {
 
 /// A further operand of a chain, with its sign.
 #[cycle(expr)]
-#[derive(Debug, PartialEq, Eq, Drop)]
+#[derive(PartialEq, Eq, Drop)]
 pub struct ChainTree {
     /// The sign before it.
     pub op: ArithOp,
@@ -257,7 +257,7 @@ pub struct ChainTree {
 
 /// A generator of a query.
 #[cycle(expr)]
-#[derive(Debug, PartialEq, Eq, Drop)]
+#[derive(PartialEq, Eq, Drop)]
 pub struct GenTree {
     /// The pattern of the messages or elements.
     pub message: PatternTree,
@@ -269,7 +269,7 @@ pub struct GenTree {
 
 /// The pattern of the other process, with its word.
 #[cycle(expr)]
-#[derive(Debug, PartialEq, Eq, Drop)]
+#[derive(PartialEq, Eq, Drop)]
 pub enum PeerTree {
     /// `from PATTERN`
     From(PatternTree),
@@ -279,7 +279,7 @@ pub enum PeerTree {
 
 /// A pattern.
 #[cycle(expr)]
-#[derive(Debug, PartialEq, Eq, Drop)]
+#[derive(PartialEq, Eq, Drop)]
 pub enum PatternTree {
     /// `_`
     Wild,
@@ -300,7 +300,7 @@ pub enum PatternTree {
 }
 
 /// What a generator goes through.
-#[derive(Debug, PartialEq, Eq, Drop)]
+#[derive(PartialEq, Eq, Drop)]
 pub enum SourceTree {
     /// `received`
     Received,
@@ -311,7 +311,7 @@ pub enum SourceTree {
 }
 
 /// A line of `main`.
-#[derive(Debug, PartialEq, Eq, Drop)]
+#[derive(Drop)]
 pub enum MainLine {
     /// `NAME = new(CLASS)`, or `NAME = new(CLASS, COUNT)`
     New {

@@ -6,7 +6,7 @@ use da_values::{Boxed, Buf, List};
 pub type Name = Buf;
 
 /// How the messages between two processes may be reordered and lost.
-#[derive(Clone, Copy, Debug, PartialEq, Eq)]
+#[derive(Clone, Copy, PartialEq, Eq)]
 pub enum ChannelKind {
     /// In order, each once.
     FifoReliable,
@@ -19,7 +19,7 @@ pub enum ChannelKind {
 }
 
 /// A type of values.
-#[derive(Debug, PartialEq, Eq, Drop)]
+#[derive(Drop)]
 pub enum Ty {
     /// Integers.
     Int,

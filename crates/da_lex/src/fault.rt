@@ -3,7 +3,7 @@ use da_values::{LexKind, NoMemory};
 use thiserror::Error;
 
 /// Why a text has no tokens.
-#[derive(Clone, Copy, Debug, PartialEq, Eq, Error)]
+#[derive(Clone, Copy, Debug, Error)]
 pub enum LexFault {
     /// The first fault of the text, and its line, counted from 1.
     #[error("line {line} cannot be read")]

@@ -12,7 +12,7 @@ use da_values::{List, Token};
 use std::alloc::Global;
 
 /// The tokens of a text, in order, and the text.
-#[derive(Debug, Drop)]
+#[derive(Drop)]
 pub struct Tokens<'a> {
     /// The text.
     pub text: &'a [u8],

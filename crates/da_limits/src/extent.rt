@@ -7,7 +7,7 @@ use crate::numbers::{MOST_BLOCKS, MOST_ITEMS, MOST_VARIABLES};
 
 /// How large a text is with its calls inlined: its statements, its blocks within each other, and the slots that it
 /// adds. A number that does not fit stands at the greatest that does, which is above each limit.
-#[derive(Clone, Copy, PartialEq, Eq)]
+#[derive(Clone, Copy)]
 pub struct Extent {
     pub items: u16,
     pub blocks: u16,

@@ -8,7 +8,7 @@ use da_lang::{Branch, Stmt};
 use da_values::{List, NoMemory};
 
 /// What is written in a statement or a header, without its blocks, and its line.
-#[derive(Clone, Copy, PartialEq, Eq)]
+#[derive(Clone, Copy)]
 pub struct DeedSize {
     pub line: u32,
     pub written: Written,

@@ -9,7 +9,7 @@ use da_lang::{ChainTree, Expr, GenTree, PatternTree, PeerTree};
 use da_values::Boxed;
 
 /// The generators of a query, and its variables.
-#[derive(Clone, Copy, PartialEq, Eq)]
+#[derive(Clone, Copy)]
 pub struct QuerySize {
     pub gens: u16,
     pub variables: u16,
@@ -17,7 +17,7 @@ pub struct QuerySize {
 
 /// What is written in an expression. A number that does not fit stands at the greatest that does, which is above each
 /// limit.
-#[derive(Clone, Copy, PartialEq, Eq)]
+#[derive(Clone, Copy)]
 pub struct Written {
     /// The most generators, and the most variables, of a query that is not within another.
     pub largest: QuerySize,

@@ -4,14 +4,14 @@ use da_values::List;
 
 /// A yield point: after a label there is one entry. At an `await` there is one for each alternative, in order, and last that
 /// of the block for the time that runs out, where there is such a block. An entry is a place in the instructions.
-#[derive(Debug, Drop)]
+#[derive(Drop)]
 pub struct YieldPoint {
     pub label: bool,
     pub entries: List<u64>,
 }
 
 /// The code of a class.
-#[derive(Debug, Drop)]
+#[derive(Drop)]
 pub struct Code {
     /// The instructions. Places in them are counted from 0.
     pub instrs: List<Instr>,

@@ -15,7 +15,7 @@ use da_values::{List, NoMemory, Value};
 use std::alloc::Global;
 
 /// Where a run stops.
-#[derive(Clone, Copy, Debug, PartialEq, Eq)]
+#[derive(Clone, Copy)]
 pub enum Stop {
     /// Before the yield point of this number.
     Yield(u32),
@@ -26,7 +26,7 @@ pub enum Stop {
 }
 
 /// The machine.
-#[derive(Debug, Drop)]
+#[derive(Drop)]
 pub struct Machine {
     /// Its place in the code.
     pub place: u64,

@@ -97,7 +97,10 @@ fn compare_any<S: Store>(m: &mut Machine, s: &mut S, sign: CmpOp) -> Result<Opti
 {
     let b = m.pop();
     let a = m.pop();
-    m.push(Value::Bool(holds(sign, &a, &b)))?;
+    let answer = holds(sign, &a, &b);
+    drop(a);
+    drop(b);
+    m.push(Value::Bool(answer))?;
     Ok(None)
 }
 

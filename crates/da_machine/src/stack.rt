@@ -15,7 +15,7 @@ use std::marker::Model;
 use std::mem;
 
 /// Values one upon the other. Contracts see the list of them, the top one last.
-#[derive(Debug, Drop)]
+#[derive(Drop)]
 pub struct Stack {
     values: List<Value>,
 }
@@ -35,7 +35,7 @@ impl Model for Stack {
 }
 
 /// The rest of a loop over a set. Contracts see the list of the elements that are left, ascending.
-#[derive(Debug, Drop)]
+#[derive(Drop)]
 pub struct Rest {
     set: SetVal,
     taken: usize,

@@ -10,7 +10,7 @@ use da_values::{Buf, List, NoMemory};
 use std::alloc::Global;
 
 /// A file in memory.
-#[derive(Debug, Drop)]
+#[derive(Drop)]
 pub struct MemFile {
     name: Buf,
     bytes: Buf,
@@ -18,7 +18,7 @@ pub struct MemFile {
 
 /// Files in memory. A read of a name that is not there fails, and so do the calls of the script, counted from 1. No other
 /// read fails, and none takes memory.
-#[derive(Debug, Drop)]
+#[derive(Drop)]
 pub struct MemFiles {
     files: List<MemFile>,
     script: Script,
@@ -26,7 +26,7 @@ pub struct MemFiles {
 
 /// A sink in memory. It takes at most `most` bytes a call, and fails at the calls of the script, counted from 1, and, where
 /// `most` is 0, at each call that hands it a byte. No other write fails.
-#[derive(Debug, Drop)]
+#[derive(Drop)]
 pub struct MemSink {
     taken: Buf,
     most: usize,

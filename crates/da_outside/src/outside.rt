@@ -6,7 +6,7 @@ use da_values::NoMemory;
 use thiserror::Error;
 
 /// Why the outside did not do what it was asked.
-#[derive(Clone, Copy, Debug, PartialEq, Eq, Error)]
+#[derive(Clone, Copy, Debug, Error)]
 pub enum Trouble {
     /// The object failed, and counted that.
     #[error("the outside failed")]

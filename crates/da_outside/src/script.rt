@@ -8,7 +8,7 @@ use da_values::List;
 
 /// A plan of failures: `named` holds the numbers of the calls that are to fail (the first call has number 1). Beside it
 /// two tallies, of all calls so far and of those that failed. Neither goes past the greatest u64.
-#[derive(Debug, Drop)]
+#[derive(Drop)]
 pub struct Script {
     named: List<u64>,
     calls: u64,

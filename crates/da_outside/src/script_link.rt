@@ -11,7 +11,7 @@ use std::alloc::Global;
 
 /// A link in memory. It gives the answers of its list in their order, and `Nothing` after them. The calls of the script
 /// fail, where all calls are counted together, from 1. No other call fails.
-#[derive(Debug, Drop)]
+#[derive(Drop)]
 pub struct ScriptLink {
     alloc: Global,
     answers: List<LinkAnswer>,

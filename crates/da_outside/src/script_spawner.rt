@@ -12,7 +12,7 @@ use std::alloc::Global;
 /// A spawner in memory. The children that it starts are numbered from 1. They end as its list says in this order, and those
 /// after it end with status 0 and write nothing; no child has to be started to be finished. The calls of the script fail,
 /// where all calls are counted together, from 1. No other call fails.
-#[derive(Debug, Drop)]
+#[derive(Drop)]
 pub struct ScriptSpawner {
     alloc: Global,
     endings: List<Ended>,

@@ -8,20 +8,20 @@ use crate::outside::Trouble;
 use da_values::{Buf, List};
 
 /// A child that was started, by the number that its spawner gave it.
-#[derive(Debug, Drop)]
+#[derive(Drop)]
 pub struct Child {
     pub number: u32,
 }
 
 /// How a child ended: its exit status, and all that it wrote to its standard output.
-#[derive(Debug, Drop)]
+#[derive(Drop)]
 pub struct Ended {
     pub status: u8,
     pub output: Buf,
 }
 
 /// What a spawner tells of one call.
-#[derive(Debug, Drop)]
+#[derive(Drop)]
 pub enum SpawnEntry {
     /// A child was to be started with these words. It got this number, or none where that failed.
     Start {

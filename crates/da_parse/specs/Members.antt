@@ -107,13 +107,18 @@ unfoldable pub labels : Reader (List (List ℕ))
 labels = after_token m.At (separated m.Comma (word m.Name) []) (pure [])
 
 module _ (s : Parts) where
+  -- after the patterns of a handler
+  abbrev pub handled : PatternTree → Option PatternTree → ℕ → Reader Member
+  handled p o at = do
+    ns ← labels
+    b ← s.block
+    pure (member_tree.Receive p o ns b at)
+
   unfoldable pub handler : ℕ → Reader Member
   handler at = do
     p ← pattern s.place
     o ← sender s
-    ns ← labels
-    b ← s.block
-    pure (member_tree.Receive p o ns b at)
+    handled p o at
 
   abbrev pub member_by : ℕ → Option Mark → Reader Member
   member_by at (Some m.Var) = past (variable s at)

@@ -8,7 +8,7 @@ use std::alloc::Global;
 
 /// The place of a parameter without a type: the class among the classes, the member among its members, and the parameter
 /// among its parameters, each counted from 0.
-#[derive(Clone, Copy, PartialEq, Eq)]
+#[derive(Clone, Copy)]
 pub struct OpenParam {
     pub class: u32,
     pub member: u32,
@@ -16,7 +16,7 @@ pub struct OpenParam {
 }
 
 /// A program in which parameters may lack their types.
-#[derive(PartialEq, Eq, Drop)]
+#[derive(Drop)]
 pub struct LooseTree {
     /// Its tree, with `int` where there is no type.
     pub tree: Tree,

@@ -221,6 +221,41 @@ fn labels(alloc: Global, tokens: &mut Cursor<'_>) -> Result<List<Name>, Stop>
     names(alloc, tokens)
 }
 
+/// What stands after the patterns of a handler. (Patterns that are not kept are dropped by calls: where they are left to the end
+/// of a way out, the check goes through the parts of each form of pattern there.)
+fn handled(
+    alloc: Global,
+    tokens: &mut Cursor<'_>,
+    depth: usize,
+    message: PatternTree,
+    from: Option<PatternTree>,
+    line: u32,
+) -> Result<Member, Stop>
+    ensures { Reads (spec.handled (parts_at false depth) message from line tokens.old) result tokens.new }
+{
+    match labels(alloc, tokens) {
+        Ok(at) => match block_at(alloc, tokens, depth) {
+            Ok(body) => Ok(Member::Receive {
+                message,
+                from,
+                at,
+                body,
+                line,
+            }),
+            Err(stop) => {
+                drop(message);
+                drop(from);
+                Err(stop)
+            }
+        },
+        Err(stop) => {
+            drop(message);
+            drop(from);
+            Err(stop)
+        }
+    }
+}
+
 /// What stands after `receive`.
 #[tactic(auto, unfolding(crate::specs::Members::handler))]
 fn handler(alloc: Global, tokens: &mut Cursor<'_>, depth: usize, line: u32) -> Result<Member, Stop>
@@ -228,16 +263,13 @@ fn handler(alloc: Global, tokens: &mut Cursor<'_>, depth: usize, line: u32) -> R
     ensures { Reads (spec.handler (parts_at false depth) line tokens.old) result tokens.new }
 {
     let message = pattern_at(alloc, tokens, depth)?;
-    let from = sender(alloc, tokens, depth)?;
-    let at = labels(alloc, tokens)?;
-    let body = block_at(alloc, tokens, depth)?;
-    Ok(Member::Receive {
-        message,
-        from,
-        at,
-        body,
-        line,
-    })
+    match sender(alloc, tokens, depth) {
+        Ok(from) => handled(alloc, tokens, depth, message, from, line),
+        Err(stop) => {
+            drop(message);
+            Err(stop)
+        }
+    }
 }
 
 /// A member of a class.

@@ -25,9 +25,9 @@ fn in_parens(alloc: Global, tokens: &mut Cursor<'_>, depth: usize) -> Result<Box
     ensures { Reads (spec.in_parens (at_depth depth) tokens.old) result tokens.new }
 {
     opening(tokens, Mark::OpenParen, depth)?;
-    let found = expr_at(alloc, tokens, depth + 1, Level::Expr)?;
+    let found = Boxed::new(alloc, expr_at(alloc, tokens, depth + 1, Level::Expr)?)?;
     tokens.expect(Mark::CloseParen)?;
-    Ok(Boxed::new(alloc, found)?)
+    Ok(found)
 }
 
 // The rules of da_phrases as function values of this crate.

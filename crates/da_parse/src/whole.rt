@@ -24,7 +24,7 @@ use std::alloc::Global;
 use thiserror::Error;
 
 /// Why there is no tree. Lines are counted from 1; the end of the text has the line of the last token, or 1.
-#[derive(Clone, Copy, Debug, PartialEq, Eq, Error)]
+#[derive(Clone, Copy, Debug, Error)]
 pub enum ParseFault {
     /// No program goes on with the token on this line.
     #[error("line {line}: no program goes on so")]

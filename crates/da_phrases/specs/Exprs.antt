@@ -54,6 +54,10 @@ abbrev pub chained : Expr → List ChainTree → Expr
 chained x [] = x
 chained x (p ∷ ps) = ex.Chain x (p ∷ ps)
 
+-- `)` after an expression
+abbrev pub before_paren : Expr → Reader Expr
+before_paren x = expect m.CloseParen >> pure x
+
 -- operands with a word between
 unfoldable pub joined : Mark → (List Expr → Expr) → Reader Expr → Reader Expr
 joined k join operand = do
@@ -75,6 +79,10 @@ source = do
 abbrev pub made : PatternTree → Option PeerTree → SourceTree → GenTree
 made message other from = roll-GenTree (record { message = message; peer = other; source = from })
 
+-- after the patterns of a generator
+abbrev pub with_source : PatternTree → Option PeerTree → Reader GenTree
+with_source message other = source >>= λ from. pure (made message other from)
+
 -- `_`, a negative integer, a truth value or `self`, in a pattern
 abbrev pub constant : Mark → Reader PatternTree
 constant m.Wild = past (pure pat.Wild)
@@ -89,14 +97,13 @@ module _ (p : Place) where
   unfoldable pub generator_with : PatternTree → (PatternTree → PeerTree) → Reader GenTree
   generator_with message other = do
     x ← p.pattern
-    from ← source
-    pure (made message (Some (other x)) from)
+    with_source message (Some (other x))
 
   unfoldable pub generator : Reader GenTree
   generator = do
     message ← p.pattern
     after_token m.From (generator_with message peer_tree.From)
-        (after_token m.To (generator_with message peer_tree.To) (source >>= λ from. pure (made message None from)))
+        (after_token m.To (generator_with message peer_tree.To) (with_source message None))
 
   unfoldable pub generators : Reader (List GenTree)
   generators = separated m.Comma generator []
@@ -140,11 +147,10 @@ module _ (p : Place) where
   abbrev pub grouped_by : Option Bool → Reader Expr
   grouped_by (Some each) = do
     x ← p.expr level.Expr
-    expect m.CloseParen
-    pure x
+    before_paren x
   grouped_by None = do
     x ← p.expr level.Disj
-    after_token m.Comma (do xs ← closed m.CloseParen (p.expr level.Disj) (x ∷ []); pure (ex.Tuple xs)) (do expect m.CloseParen; pure x)
+    after_token m.Comma (do xs ← closed m.CloseParen (p.expr level.Disj) (x ∷ []); pure (ex.Tuple xs)) (before_paren x)
 
   unfoldable pub grouped : Reader Expr
   grouped = by_mark (λ k. grouped_by (quantifier k))
@@ -207,14 +213,22 @@ module _ (p : Place) where
     ps ← others plus_op product
     pure (chained x ps)
 
+  -- after `EXPR in`
+  abbrev pub member_of : Expr → Reader Expr
+  member_of x = sum >>= λ y. pure (ex.Member x y)
+
+  -- after an expression and the sign of a comparison
+  abbrev pub compared_to : Expr → CmpOp → Reader Expr
+  compared_to x op = sum >>= λ y. pure (ex.Cmp op x y)
+
   abbrev pub compared_by : Expr → Option CmpOp → Reader Expr
-  compared_by x (Some op) = past (sum >>= λ y. pure (ex.Cmp op x y))
+  compared_by x (Some op) = past (compared_to x op)
   compared_by x None = pure x
 
   unfoldable pub comparison : Reader Expr
   comparison = do
     x ← sum
-    after_token m.In (sum >>= λ y. pure (ex.Member x y)) (by_mark (λ k. compared_by x (cmp_op_at k)))
+    after_token m.In (member_of x) (by_mark (λ k. compared_by x (cmp_op_at k)))
 
   unfoldable pub negation : Reader Expr
   negation = if_next m.Not (opens p.may_open >> (p.expr level.Neg >>= λ x. pure (ex.Not x))) comparison

@@ -13,6 +13,20 @@ use da_lang::{Expr, PatternTree};
 use da_values::{Boxed, List, Mark, copy_bytes};
 use std::alloc::Global;
 
+/// Passes the `)` after an expression, and gives that. (Where no `)` stands there, a call drops it: where it is left to the end
+/// of a way out, the check goes through the parts of each form of expression there.)
+fn before_paren(tokens: &mut Cursor<'_>, x: Expr) -> Result<Expr, Stop>
+    ensures { Reads (spec.before_paren x tokens.old) result tokens.new }
+{
+    match tokens.expect(Mark::CloseParen) {
+        Ok(()) => Ok(x),
+        Err(stop) => {
+            drop(x);
+            Err(stop)
+        }
+    }
+}
+
 impl<
     F: Fn(Global, &mut Cursor<'_>, usize, Level) -> Result<Expr, Stop>,
     P: Fn(Global, &mut Cursor<'_>, usize) -> Result<PatternTree, Stop>,
@@ -34,9 +48,9 @@ impl<
         ensures room { IfOk result (λ _. self.now.depth < 32) }
     {
         opening(tokens, Mark::OpenParen, self.depth)?;
-        let argument = self.inner(tokens, Level::Disj)?;
+        let argument = Boxed::new(self.alloc, self.inner(tokens, Level::Disj)?)?;
         tokens.expect(Mark::Comma)?;
-        Ok(Boxed::new(self.alloc, argument)?)
+        Ok(argument)
     }
 
     /// `EXPR)`
@@ -46,9 +60,9 @@ impl<
         requires room { self.now.depth < 32 }
         ensures { Reads (spec.last_argument (at_depth self.now.depth) tokens.old) result tokens.new }
     {
-        let argument = self.inner(tokens, Level::Disj)?;
+        let argument = Boxed::new(self.alloc, self.inner(tokens, Level::Disj)?)?;
         tokens.expect(Mark::CloseParen)?;
-        Ok(Boxed::new(self.alloc, argument)?)
+        Ok(argument)
     }
 
     /// `(EXPR)`
@@ -105,8 +119,7 @@ impl<
     {
         if quantifier(tokens.mark()).is_some() {
             let grouped = self.inner(tokens, Level::Expr)?;
-            tokens.expect(Mark::CloseParen)?;
-            return Ok(grouped);
+            return before_paren(tokens, grouped);
         }
         let first = self.inner(tokens, Level::Disj)?;
         if tokens.eat(Mark::Comma) {
@@ -114,8 +127,7 @@ impl<
             parts.push(first)?;
             return Ok(Expr::Tuple(self.closed_exprs(tokens, parts)?));
         }
-        tokens.expect(Mark::CloseParen)?;
-        Ok(first)
+        before_paren(tokens, first)
     }
 
     /// What stands after `{`: the elements of a set, or a comprehension.

@@ -1,7 +1,6 @@
 //! Operators, from the tightest to the loosest.
 ghost use Rattle.std.specs.Prelude.{[], ◌∷◌, ◌≡◌, ◌≤◌, ◌<◌, IfOk};
 ghost use Rattle.da_lang.specs.ExprGrammar.{negated};
-ghost use Rattle.da_lang.specs.declared.tree.Expr.TheVariants as expr;
 ghost use Rattle.da_phrases.specs.Exprs as spec;
 ghost use Rattle.da_phrases.specs.Exprs.{at_depth};
 ghost use Rattle.da_phrases.specs.Lists.{others, separated};
@@ -61,22 +60,6 @@ fn chained(alloc: Global, first: Expr, others: List<ChainTree>) -> Result<Expr, 
         return Ok(first);
     }
     Ok(Expr::Chain(Boxed::new(alloc, first)?, others))
-}
-
-/// Two operands with the sign of a comparison between them.
-fn compared(alloc: Global, op: CmpOp, left: Expr, right: Expr) -> Result<Expr, NoMemory>
-    ensures { IfOk result (λ x. x ≡ expr.Cmp op left right) }
-{
-    let left = Boxed::new(alloc, left)?;
-    Ok(Expr::Cmp(op, left, Boxed::new(alloc, right)?))
-}
-
-/// Two operands with `in` between them.
-fn membership(alloc: Global, left: Expr, right: Expr) -> Result<Expr, NoMemory>
-    ensures { IfOk result (λ x. x ≡ expr.Member left right) }
-{
-    let left = Boxed::new(alloc, left)?;
-    Ok(Expr::Member(left, Boxed::new(alloc, right)?))
 }
 
 /// An expression taken from 0.
@@ -141,15 +124,21 @@ impl<
         Ok(found)
     }
 
-    /// A product.
+    /// A product. (An operand that is not kept is dropped by a call: where it is left to the end of a way out, the check goes
+    /// through the parts of each form of expression there.)
     #[tactic(auto, unfolding(crate::specs::Exprs::product))]
     fn product(&self, tokens: &mut Cursor<'_>) -> Result<Expr, Stop>
         requires nests { Nests self.now.depth (F.pre self.now.expr) (F.post self.now.expr) (P.pre self.now.pattern) (P.post self.now.pattern) }
         ensures { Reads (spec.product (at_depth self.now.depth) tokens.old) result tokens.new }
     {
         let first = self.unary(tokens)?;
-        let others = self.factors(tokens)?;
-        Ok(chained(self.alloc, first, others)?)
+        match self.factors(tokens) {
+            Ok(others) => Ok(chained(self.alloc, first, others)?),
+            Err(stop) => {
+                drop(first);
+                Err(stop)
+            }
+        }
     }
 
     /// Further operands of a sum.
@@ -177,8 +166,33 @@ impl<
         ensures { Reads (spec.sum (at_depth self.now.depth) tokens.old) result tokens.new }
     {
         let first = self.product(tokens)?;
-        let others = self.summands(tokens)?;
-        Ok(chained(self.alloc, first, others)?)
+        match self.summands(tokens) {
+            Ok(others) => Ok(chained(self.alloc, first, others)?),
+            Err(stop) => {
+                drop(first);
+                Err(stop)
+            }
+        }
+    }
+
+    /// What stands after `in`: the right operand.
+    fn member_of(&self, tokens: &mut Cursor<'_>, left: Expr) -> Result<Expr, Stop>
+        requires nests { Nests self.now.depth (F.pre self.now.expr) (F.post self.now.expr) (P.pre self.now.pattern) (P.post self.now.pattern) }
+        ensures { Reads (spec.member_of (at_depth self.now.depth) left tokens.old) result tokens.new }
+    {
+        let left = Boxed::new(self.alloc, left)?;
+        let right = Boxed::new(self.alloc, self.sum(tokens)?)?;
+        Ok(Expr::Member(left, right))
+    }
+
+    /// What stands after the sign of a comparison: the right operand.
+    fn compared_to(&self, tokens: &mut Cursor<'_>, op: CmpOp, left: Expr) -> Result<Expr, Stop>
+        requires nests { Nests self.now.depth (F.pre self.now.expr) (F.post self.now.expr) (P.pre self.now.pattern) (P.post self.now.pattern) }
+        ensures { Reads (spec.compared_to (at_depth self.now.depth) left op tokens.old) result tokens.new }
+    {
+        let left = Boxed::new(self.alloc, left)?;
+        let right = Boxed::new(self.alloc, self.sum(tokens)?)?;
+        Ok(Expr::Cmp(op, left, right))
     }
 
     /// A comparison, of at most two operands.
@@ -189,15 +203,13 @@ impl<
     {
         let left = self.sum(tokens)?;
         if tokens.eat(Mark::In) {
-            let right = self.sum(tokens)?;
-            return Ok(membership(self.alloc, left, right)?);
+            return self.member_of(tokens, left);
         }
         let Some(op) = cmp_op(tokens.mark()) else {
             return Ok(left);
         };
         tokens.take();
-        let right = self.sum(tokens)?;
-        Ok(compared(self.alloc, op, left, right)?)
+        self.compared_to(tokens, op, left)
     }
 
     /// `not`, or a comparison.

@@ -14,7 +14,7 @@ use std::alloc::Global;
 pub const MAX_NESTING: usize = 32;
 
 /// The levels of expressions, the loosest first.
-#[derive(Clone, Copy, PartialEq, Eq)]
+#[derive(Clone, Copy)]
 pub enum Level {
     /// A quantification, or what `Disj` has.
     Expr,

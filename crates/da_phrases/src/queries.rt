@@ -1,5 +1,5 @@
 //! Quantifications, comprehensions, and their generators.
-ghost use Rattle.std.specs.Prelude.{[], ◌∷◌, ◌≡◌, ◌<◌, IfOk};
+ghost use Rattle.std.specs.Prelude.{[], ◌∷◌, ◌≡◌, ◌<◌, IfOk, Some};
 ghost use Rattle.da_phrases.specs.Exprs as spec;
 ghost use Rattle.da_phrases.specs.Exprs.{at_depth};
 ghost use Rattle.da_phrases.specs.Nests.{Nests};
@@ -42,6 +42,30 @@ fn source(alloc: Global, tokens: &mut Cursor<'_>) -> Result<SourceTree, Stop>
     }
 }
 
+/// What stands after both patterns of a generator. (Patterns that are not kept are dropped by calls: where they are left to the
+/// end of a way out, the check goes through the parts of each form of pattern there.)
+fn with_source(
+    alloc: Global,
+    tokens: &mut Cursor<'_>,
+    message: PatternTree,
+    peer: PeerTree,
+) -> Result<GenTree, Stop>
+    ensures { Reads (spec.with_source message (Some peer) tokens.old) result tokens.new }
+{
+    match source(alloc, tokens) {
+        Ok(source) => Ok(GenTree {
+            message,
+            peer: Some(peer),
+            source,
+        }),
+        Err(stop) => {
+            drop(message);
+            drop(peer);
+            Err(stop)
+        }
+    }
+}
+
 impl<
     F: Fn(Global, &mut Cursor<'_>, usize, Level) -> Result<Expr, Stop>,
     P: Fn(Global, &mut Cursor<'_>, usize) -> Result<PatternTree, Stop>,
@@ -60,12 +84,17 @@ impl<
         if tokens.eat(Mark::To) {
             return self.generator_to(tokens, message);
         }
-        let source = source(self.alloc, tokens)?;
-        Ok(GenTree {
-            message,
-            peer: None,
-            source,
-        })
+        match source(self.alloc, tokens) {
+            Ok(source) => Ok(GenTree {
+                message,
+                peer: None,
+                source,
+            }),
+            Err(stop) => {
+                drop(message);
+                Err(stop)
+            }
+        }
     }
 
     /// What stands after `PATTERN from`.
@@ -75,13 +104,13 @@ impl<
         requires room { self.now.depth < 32 }
         ensures { Reads (spec.generator_with (at_depth self.now.depth) message PeerTree.From tokens.old) result tokens.new }
     {
-        let peer = self.inner_pattern(tokens)?;
-        let source = source(self.alloc, tokens)?;
-        Ok(GenTree {
-            message,
-            peer: Some(PeerTree::From(peer)),
-            source,
-        })
+        match self.inner_pattern(tokens) {
+            Ok(peer) => with_source(self.alloc, tokens, message, PeerTree::From(peer)),
+            Err(stop) => {
+                drop(message);
+                Err(stop)
+            }
+        }
     }
 
     /// What stands after `PATTERN to`.
@@ -91,13 +120,13 @@ impl<
         requires room { self.now.depth < 32 }
         ensures { Reads (spec.generator_with (at_depth self.now.depth) message PeerTree.To tokens.old) result tokens.new }
     {
-        let peer = self.inner_pattern(tokens)?;
-        let source = source(self.alloc, tokens)?;
-        Ok(GenTree {
-            message,
-            peer: Some(PeerTree::To(peer)),
-            source,
-        })
+        match self.inner_pattern(tokens) {
+            Ok(peer) => with_source(self.alloc, tokens, message, PeerTree::To(peer)),
+            Err(stop) => {
+                drop(message);
+                Err(stop)
+            }
+        }
     }
 
     /// Generators with commas between.

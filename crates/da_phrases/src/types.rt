@@ -69,9 +69,9 @@ impl<T: Fn(Global, &mut Cursor<'_>, usize) -> Result<Ty, Stop>> TypeRules<T> {
         ensures { Reads (spec.set_type (at_depth self.now.depth).may_open (type_below self.now.depth) tokens.old) result tokens.new }
     {
         opening(tokens, Mark::OpenBracket, self.depth)?;
-        let elements = self.inner(tokens)?;
+        let elements = Boxed::new(self.alloc, self.inner(tokens)?)?;
         tokens.expect(Mark::CloseBracket)?;
-        Ok(Ty::Set(Boxed::new(self.alloc, elements)?))
+        Ok(Ty::Set(elements))
     }
 
     /// What stands after `(`: the parts of a tuple.

@@ -61,7 +61,7 @@ pub fn awaited<'t>(
     ensures tables { OnOk result (tables.new ≡ ((meant x.now).outside scope.now tables.old).1) }
     ensures slots { OnOk result (tables.new.slots ≡ tables.old.slots) }
 {
-    outside(alloc, x, scope, tables)?;
+    drop(outside(alloc, x, scope, tables)?);
     boxed_condition(alloc, x, scope)
 }
 

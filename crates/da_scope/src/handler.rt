@@ -83,8 +83,8 @@ fn handler<'t>(
 {
     let at = labels_named(alloc, home, at)?;
     let names = variables_of(alloc, message, from)?;
-    let (message, from) = patterns_of(alloc, &home.scope, message, from)?;
     let (binds, body) = body_after(alloc, home, names.as_slice(), stmts, tables)?;
+    let (message, from) = patterns_of(alloc, &home.scope, message, from)?;
     Ok(Handler {
         message,
         from,

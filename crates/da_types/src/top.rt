@@ -17,7 +17,7 @@ use std::marker::Model;
 use thiserror::Error;
 
 /// Why a program is not typed. Lines are counted from 1.
-#[derive(Clone, Copy, Debug, PartialEq, Eq, Error)]
+#[derive(Clone, Copy, Debug, Error)]
 pub enum TypeFault {
     /// A rule of types is broken at this line, and at none before it.
     #[error("line {line} breaks a rule of types")]

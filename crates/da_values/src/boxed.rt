@@ -7,7 +7,7 @@ use std::marker::Model;
 
 /// The owner of one value that lies on the heap. To a contract it is that value, so a tree with owners in it is equal
 /// to another where its values are.
-#[derive(Debug, Drop)]
+#[derive(Drop)]
 pub struct Boxed<T> {
     on_heap: Box<T>,
 }

@@ -27,7 +27,7 @@ impl Model for Str {
 }
 
 /// Why no text was made of some bytes.
-#[derive(Clone, Copy, Debug, PartialEq, Eq, Error)]
+#[derive(Clone, Copy, Debug, Error)]
 pub enum StrFault {
     /// One of the bytes is a quote, or no printable ASCII.
     #[error("a byte that no text may hold")]

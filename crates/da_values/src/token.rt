@@ -1,7 +1,7 @@
 //! Tokens of a program's text, and what the grammar sees of them.
 
 /// What a token is. Which word or symbol it is, its text says.
-#[derive(Clone, Copy, Debug, PartialEq, Eq)]
+#[derive(Clone, Copy, PartialEq, Eq)]
 pub enum TokenKind {
     /// An integer.
     Number,
@@ -24,7 +24,7 @@ pub enum TokenKind {
 }
 
 /// A token of a text. `Newline`, `Indent` and `Dedent` have no bytes.
-#[derive(Clone, Copy, Debug, PartialEq, Eq)]
+#[derive(Clone, Copy)]
 pub struct Token {
     /// What it is.
     pub kind: TokenKind,
@@ -37,7 +37,7 @@ pub struct Token {
 }
 
 /// Why a text has no tokens.
-#[derive(Clone, Copy, Debug, PartialEq, Eq)]
+#[derive(Clone, Copy, Debug)]
 pub enum LexKind {
     /// A byte that may stand in comments alone.
     BadByte,
@@ -50,7 +50,7 @@ pub enum LexKind {
 }
 
 /// What stands at the front of a text. A length counts all bytes of it.
-#[derive(Clone, Copy, Debug, PartialEq, Eq)]
+#[derive(Clone, Copy)]
 pub enum Piece {
     /// A space.
     Space,
@@ -65,7 +65,7 @@ pub enum Piece {
 }
 
 /// What the grammar sees of a token: its kind, each reserved word and each symbol apart.
-#[derive(Clone, Copy, Debug, PartialEq, Eq)]
+#[derive(Clone, Copy, PartialEq, Eq)]
 pub enum Mark {
     Number,
     Quoted,

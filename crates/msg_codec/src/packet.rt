@@ -3,7 +3,7 @@ use da_values::{NoMemory, Value};
 use thiserror::Error;
 
 /// A message, with the process that sent it and the time of the sending.
-#[derive(Debug, Drop)]
+#[derive(Drop)]
 pub struct Packet {
     pub sender: u16,
     /// At most 2^63 - 1.
@@ -12,7 +12,7 @@ pub struct Packet {
 }
 
 /// Why no packet was read.
-#[derive(Clone, Copy, Debug, PartialEq, Eq, Error)]
+#[derive(Clone, Copy, Debug, Error)]
 pub enum CodecFault {
     /// No packet has these bytes.
     #[error("these bytes are no packet")]

@@ -22,7 +22,7 @@ use std::alloc::Global;
 use thiserror::Error;
 
 /// Why a class has no plan.
-#[derive(Clone, Copy, Debug, PartialEq, Eq, Error)]
+#[derive(Clone, Copy, Debug, Error)]
 pub enum PlanFault {
     /// The class at this line has more nodes than a plan may have.
     #[error("the class at line {line} has too many plan nodes")]

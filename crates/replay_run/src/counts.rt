@@ -5,7 +5,7 @@ ghost use Rattle.std.specs.Prelude.{[], length};
 use da_lang::Action;
 
 /// How many actions there were of each kind that is counted.
-#[derive(Clone, Copy, PartialEq, Eq)]
+#[derive(Clone, Copy)]
 pub(crate) struct Counts {
     pub(crate) took: u128,
     pub(crate) sent: u128,

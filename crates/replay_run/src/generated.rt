@@ -59,7 +59,7 @@ pub fn stress<K: Sink>(
 }
 
 /// What a run has come to: how many events there were, how many actions of each kind, and the last number.
-#[derive(Clone, Copy, PartialEq, Eq)]
+#[derive(Clone, Copy)]
 struct Summary {
     events: u64,
     counts: Counts,

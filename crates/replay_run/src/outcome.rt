@@ -1,7 +1,7 @@
 //! How a replay ends.
 
 /// How a replay ended.
-#[derive(Clone, Copy, PartialEq, Eq)]
+#[derive(Clone, Copy)]
 pub enum Outcome {
     /// All events were carried out.
     Done,

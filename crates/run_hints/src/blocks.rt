@@ -16,7 +16,7 @@ use text_hints::{Phrase, between};
 use trace_join::same_action;
 
 /// A process that is blocked, and at which line of its trace.
-#[derive(Clone, Copy, PartialEq, Eq)]
+#[derive(Clone, Copy)]
 pub struct Blocked {
     pub process: u16,
     pub line: u64,

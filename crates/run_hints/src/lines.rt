@@ -1,7 +1,7 @@
 //! Lines that are none of a schedule.
-use crate::words::{form_of, put_meant};
+use crate::words::put_meant;
 use std::alloc::Global;
-use text_hints::Phrase;
+use text_hints::{Phrase, said_of};
 
 /// The events, each with the numbers after its word.
 const EVENTS: [(&[u8], &[u8]); 7] = [
@@ -23,7 +23,7 @@ pub fn explain_line(alloc: Global, line: &[u8]) -> Phrase {
     let mut words = line.split(|byte| *byte == b' ');
     let word = words.next().unwrap_or(line);
     let count = words.count();
-    let Some(form) = form_of(&EVENTS, word) else {
+    let Some(form) = said_of(&EVENTS, word) else {
         told.quote(word);
         told.put(b" is the word of no event");
         put_meant(alloc, &EVENTS, word, &mut told);

@@ -1,9 +1,9 @@
 //! Lines that are none of the trace of a process.
-use crate::words::{form_of, put_meant};
+use crate::words::put_meant;
 use da_values::read_value;
 use std::alloc::Global;
 use std::str;
-use text_hints::Phrase;
+use text_hints::{Phrase, said_of};
 
 /// The lines of a trace, each with what stands after its word.
 const LINES: [(&[u8], &[u8]); 6] = [
@@ -36,7 +36,7 @@ pub fn explain_trace_line(alloc: Global, line: &[u8], process: u16) -> Phrase {
     }
     let mut words = line.split(|byte| *byte == b' ');
     let word = words.next().unwrap_or(line);
-    let Some(form) = form_of(&LINES, word) else {
+    let Some(form) = said_of(&LINES, word) else {
         tell_word(alloc, word, &mut told);
         return told;
     };

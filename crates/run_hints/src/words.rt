@@ -27,17 +27,6 @@ pub fn put_front(bytes: &[u8], out: &mut Phrase) {
     }
 }
 
-/// How a line with this first word is written, of lines whose first words and forms are these, or `None` where it is none of
-/// them.
-pub fn form_of(forms: &[(&'static [u8], &'static [u8])], word: &[u8]) -> Option<&'static [u8]> {
-    for form in forms {
-        if form.0 == word {
-            return Some(form.1);
-        }
-    }
-    None
-}
-
 /// Asks whether the first word is meant that is most like this one, if there is such a word.
 pub fn put_meant(
     alloc: Global,

@@ -15,7 +15,7 @@ use thiserror::Error;
 pub const SCHEDULE_LIMIT: usize = 16_777_216;
 
 /// Why a schedule gives no events.
-#[derive(Clone, Copy, Debug, PartialEq, Eq, Error)]
+#[derive(Clone, Copy, Debug, Error)]
 pub enum SchedFault {
     /// The line of this number, counted from 1, is the first that is no line of a schedule; or, with 0, the schedule
     /// has more than `SCHEDULE_LIMIT` bytes.

@@ -15,7 +15,7 @@ use thiserror::Error;
 pub const TRACE_LIMIT: usize = 1_048_576;
 
 /// Why a trace gives no actions.
-#[derive(Clone, Copy, Debug, PartialEq, Eq, Error)]
+#[derive(Clone, Copy, Debug, Error)]
 pub enum TraceFault {
     /// The line of this number, counted from 1, is the first that is no line of the process; or, with 0, the trace has
     /// more than `TRACE_LIMIT` bytes.
@@ -108,6 +108,7 @@ fn read_own(alloc: Global, line: &[u8], p: u16) -> Result<Action, ValueFault>
     if told_by(&action) == Some(p) {
         Ok(action)
     } else {
+        drop(action);
         Err(ValueFault::Unread)
     }
 }

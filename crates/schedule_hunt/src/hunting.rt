@@ -16,7 +16,7 @@ use da_values::{Buf, List, NoMemory};
 use std::alloc::Global;
 
 /// How a hunt ended.
-#[derive(Clone, Copy, PartialEq, Eq)]
+#[derive(Clone, Copy)]
 pub enum HuntOutcome {
     /// A schedule was found and written.
     Found,

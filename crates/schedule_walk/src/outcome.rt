@@ -1,7 +1,7 @@
 //! How an answer ends.
 
 /// How the question which events are allowed after a schedule was answered.
-#[derive(Clone, Copy, PartialEq, Eq)]
+#[derive(Clone, Copy)]
 pub enum NextOutcome {
     /// The events that are allowed were written.
     Done,

@@ -3,7 +3,7 @@ use da_values::{NoMemory, ValueFault};
 use thiserror::Error;
 
 /// Why a row has no answer.
-#[derive(Clone, Copy, Debug, PartialEq, Eq, Error)]
+#[derive(Clone, Copy, Debug, Error)]
 pub enum RowFault {
     /// No row is written so.
     #[error("no row is written so")]

@@ -45,16 +45,43 @@ pub fn run(alloc: Global, habits: Habits, start: u64, buf: &mut [u8]) -> Result<
     requires { DATAGRAM_MAX ≤ length buf.old }
 {
     let network = RefCell::new(Network::new(alloc, habits, start));
-    let mut one = Party::new(alloc, 1, ArqLink::new(alloc, Wire::new(&network)))?;
-    let mut two = Party::new(alloc, 2, ArqLink::new(alloc, Wire::new(&network)))?;
-    let mut ways = Ways::new();
-    deeds(&mut one, &mut two, start, &mut ways, buf)?;
-    become_good(&network);
-    settle(&mut one, &mut two, &mut ways, buf)?;
+    let ways = run_over(alloc, &network, start, buf)?;
     Ok(Outcome {
-        ways: ways.total(),
+        ways,
         network: tally_of(&network),
     })
+}
+
+// The same over this network: what went between the processes.
+fn run_over(
+    alloc: Global,
+    network: &RefCell<Network>,
+    start: u64,
+    buf: &mut [u8],
+) -> Result<Way, Trouble>
+    requires { DATAGRAM_MAX ≤ length buf.old }
+{
+    let mut one = Party::new(alloc, 1, ArqLink::new(alloc, Wire::new(network)))?;
+    let mut two = Party::new(alloc, 2, ArqLink::new(alloc, Wire::new(network)))?;
+    let mut ways = Ways::new();
+    run_between(&mut one, &mut two, network, start, &mut ways, buf)?;
+    Ok(ways.total())
+}
+
+// The processes give and take, and then what is left over a good network.
+fn run_between<L: Link + Drop>(
+    one: &mut Party<L>,
+    two: &mut Party<L>,
+    network: &RefCell<Network>,
+    start: u64,
+    ways: &mut Ways,
+    buf: &mut [u8],
+) -> Result<(), Trouble>
+    requires { DATAGRAM_MAX ≤ length buf.old }
+{
+    deeds(one, two, start, ways, buf)?;
+    become_good(network);
+    settle(one, two, ways, buf)
 }
 
 // The processes give and take.

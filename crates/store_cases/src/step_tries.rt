@@ -24,16 +24,32 @@ const MOST_BYTES: usize = 1_048_576;
 
 /// Prints the answers.
 pub fn try_steps<R: rt::Files + Print + AllocGlobal>(rt: &R) -> anyhow::Result<()> {
-    let text = fs::read_to_string(rt, "lamport.da")?;
-    let compiled = compiled_of(rt.alloc(), text.as_bytes())?;
-    let schedule = fs::read_to_string(rt, "lamport.moves")?;
-    let events = read_schedule(rt.alloc(), schedule.as_bytes())?;
-    if make_steps(rt, &compiled, events.as_slice())? {
-        let text = fs::read_to_string(rt, "ping.da")?;
-        let compiled = compiled_of(rt.alloc(), text.as_bytes())?;
-        tell_held(rt, &compiled)?;
+    if answer_schedule(rt)? {
+        tell_other(rt)?;
     }
     Ok(())
+}
+
+// Prints the answers to the steps of the schedule. Whether none of them found no memory.
+fn answer_schedule<R: rt::Files + Print + AllocGlobal>(rt: &R) -> anyhow::Result<bool> {
+    let compiled = program_in(rt, "lamport.da")?;
+    let schedule = fs::read_to_string(rt, "lamport.moves")?;
+    let events = read_schedule(rt.alloc(), schedule.as_bytes())?;
+    make_steps(rt, &compiled, events.as_slice())
+}
+
+// Prints how many values a process of the other program holds.
+fn tell_other<R: rt::Files + Print + AllocGlobal>(rt: &R) -> anyhow::Result<()> {
+    let compiled = program_in(rt, "ping.da")?;
+    tell_held(rt, &compiled)
+}
+
+// The program in a file.
+fn program_in<R: rt::Files + AllocGlobal>(rt: &R, name: &str) -> anyhow::Result<Compiled>
+    ensures { IfOk result IsCompiled }
+{
+    let text = fs::read_to_string(rt, name)?;
+    compiled_of(rt.alloc(), text.as_bytes())
 }
 
 // The program of a text.

@@ -1,6 +1,6 @@
 //! What a person is told of a text that has no tokens, or whose tokens begin no program: where that shows, what could stand
-//! there, and what helps. It has the parts of messages besides: texts that grow, lines of a text, and similar names. No
-//! contract speaks of the words.
+//! there, and what helps. It has the parts of messages besides: texts that grow, lines of a text, similar names, and tables of
+//! words. No contract speaks of the words.
 #![tactic(auto)]
 
 mod brackets;
@@ -17,6 +17,7 @@ mod reading;
 mod spellings;
 mod spot;
 mod tokens;
+mod words;
 
 pub use grammar::tell_grammar;
 pub use hint::Hint;
@@ -25,3 +26,4 @@ pub use nearest::Nearest;
 pub use phrase::Phrase;
 pub use reading::slice_at;
 pub use tokens::tell_tokens;
+pub use words::said_of;

@@ -2,6 +2,7 @@
 use crate::expected::{has, is_comparison};
 use crate::hint::Hint;
 use crate::spot::Spot;
+use crate::words::said_of;
 use da_values::Mark;
 
 /// Tells what is written in the place of what stands at the spot, where one of these marks is expected. Whether it is known.
@@ -55,26 +56,54 @@ fn tell_augmented(spot: Spot<'_>, hint: &mut Hint) -> bool {
     true
 }
 
+/// What is said of loops that are left.
+const LOOPS: &[u8] = b"a loop is not left before its end: use a condition, while not done and ..:";
+
+/// What is said of variables of the class.
+const GLOBALS: &[u8] = b"a method sees the variables of its class without that";
+
+/// What is said of exceptions.
+const EXCEPTIONS: &[u8] = b"there are no exceptions";
+
+/// What is said of declarations.
+const DECLARATIONS: &[u8] = b"variables are declared in the class: var x: int";
+
+/// What is said of waiting.
+const WAITS: &[u8] = b"write await and a condition";
+
+/// The words of other languages with which a statement may begin, and what is said of each.
+const FIRST_WORDS: [(&[u8], &[u8]); 17] = [
+    (
+        b"return",
+        b"there is no return: a method ends with its last line, and leaves what it works out in a variable of the class",
+    ),
+    (b"break", LOOPS),
+    (b"continue", LOOPS),
+    (b"import", b"there are no imports"),
+    (b"print", b"write output(..)"),
+    (b"global", GLOBALS),
+    (b"nonlocal", GLOBALS),
+    (b"assert", EXCEPTIONS),
+    (b"raise", EXCEPTIONS),
+    (b"try", EXCEPTIONS),
+    (b"except", EXCEPTIONS),
+    (b"with", EXCEPTIONS),
+    (b"let", DECLARATIONS),
+    (b"const", DECLARATIONS),
+    (b"int", DECLARATIONS),
+    (b"wait", WAITS),
+    (b"sleep", WAITS),
+];
+
 // A statement that begins with a word of another language.
 fn on_first_word(spot: Spot<'_>) -> &'static [u8] {
     let begin = spot.begin();
     if !spot.is(begin, Mark::Name) || spot.place > begin.saturating_add(1) {
         return b"";
     }
-    match spot.bytes(begin) {
-        b"return" => {
-            b"there is no return: a method ends with its last line, and leaves what it works out in a variable of the class"
-        }
-        b"break" | b"continue" => {
-            b"a loop is not left before its end: use a condition, while not done and ..:"
-        }
-        b"import" => b"there are no imports",
-        b"print" => b"write output(..)",
-        b"global" | b"nonlocal" => b"a method sees the variables of its class without that",
-        b"assert" | b"raise" | b"try" | b"except" | b"with" => b"there are no exceptions",
-        b"let" | b"const" | b"int" => b"variables are declared in the class: var x: int",
-        b"wait" | b"sleep" => b"write await and a condition",
-        _ => b"",
+    match said_of(&FIRST_WORDS, spot.bytes(begin)) {
+        Some(said) => said,
+        None => b"",
     }
 }
 

@@ -3,7 +3,7 @@ use da_values::{List, NoMemory};
 use thiserror::Error;
 
 /// Where the trace of a process cannot go on: its number, and the first line that is not reached, counted from 1.
-#[derive(Clone, Copy, Debug, PartialEq, Eq)]
+#[derive(Clone, Copy, Debug)]
 pub struct Block {
     pub process: u16,
     pub line: u64,

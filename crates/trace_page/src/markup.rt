@@ -5,7 +5,7 @@ ghost use Rattle.trace_page.specs.Markup.{markup_text};
 use crate::style::HEAD;
 
 /// Markup that pages have, whatever the trace says.
-#[derive(Clone, Copy, PartialEq, Eq)]
+#[derive(Clone, Copy)]
 pub(crate) enum Markup {
     /// All up to the number of actions.
     Head,

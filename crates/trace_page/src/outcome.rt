@@ -1,7 +1,7 @@
 //! How a drawing ends.
 
 /// How a drawing ended.
-#[derive(Clone, Copy, PartialEq, Eq)]
+#[derive(Clone, Copy)]
 pub enum DrawOutcome {
     /// The page was written.
     Done,

@@ -15,7 +15,7 @@ use thiserror::Error;
 pub const TRACE_LIMIT: usize = 16_777_216;
 
 /// Why a text gives no steps.
-#[derive(Clone, Copy, Debug, PartialEq, Eq, Error)]
+#[derive(Clone, Copy, Debug, Error)]
 pub(crate) enum TraceFault {
     /// The line of this number, counted from 1, is the first that is no line of an action; or, with 0, the text has more
     /// than `TRACE_LIMIT` bytes.
@@ -76,7 +76,9 @@ fn read_line<'t>(
 {
     match read_action(alloc, line) {
         Ok(action) => {
-            steps.push(step_of(&action, line))?;
+            let step = step_of(&action, line);
+            drop(action);
+            steps.push(step)?;
             Ok(())
         }
         Err(ValueFault::Unread) => Err(TraceFault::BadLine(number)),

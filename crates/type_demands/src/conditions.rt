@@ -219,7 +219,7 @@ fn agg_after(
 {
     let scheme = term_demands(&agg.term, alloc, known, rows, demands)?;
     let copy = copy_scheme(&scheme, alloc)?;
-    let _ = flat_set(copy, alloc, known, demands)?;
+    drop(flat_set(copy, alloc, known, demands)?);
     let side = agg_over(agg, scheme, alloc, known, row, demands)?;
     Ok(side)
 }

@@ -11,10 +11,10 @@ ghost use Rattle.type_demands.specs.Terms.{element_sym, gen_sym, gens_sym, messa
 use crate::copy::copy_scheme;
 use crate::demand::{Demand, LineDemand};
 use crate::known::{Known, slot_demands, tag_demands};
-use crate::puts::{element_of, flat, part_of, put, same};
+use crate::puts::{flat, part_of, put, same};
 use crate::terms::{literal_demands, term_demands};
 use da_lang::{Pattern, RGen, Source};
-use da_values::{List, NoMemory, Value};
+use da_values::{Boxed, List, NoMemory, Value};
 use std::alloc::Global;
 use type_table::Scheme;
 
@@ -169,9 +169,8 @@ fn element_demands(
 ) -> Result<(), NoMemory>
     ensures { OnOk result (ListsRow demands.old demands.new known.now (over_sym (context_of known.now) (flat_sym (element_sym (slot_in known.now.slots.now slot))) pattern.now row.old) row.new) }
 {
-    let whole = slot_demands(slot, alloc, known, demands)?;
-    let element = element_of(&whole, alloc)?;
-    let element = flat(element, alloc, known, demands)?;
+    let whole = Boxed::new(alloc, slot_demands(slot, alloc, known, demands)?)?;
+    let element = flat(Scheme::Element(whole), alloc, known, demands)?;
     pattern_demands(pattern, alloc, known, &element, row, demands)?;
     Ok(())
 }

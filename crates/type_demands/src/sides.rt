@@ -80,8 +80,26 @@ pub fn ordered_where(
     }
 }
 
-/// Puts what a comparison of two sides demands.
+// Puts what a comparison of two sides demands, by what stands for their types.
 #[tactic(auto, using(crate::proofs::PutLaws::putting))]
+fn schemes_compared(
+    op: CmpOp,
+    left: &Scheme,
+    right: &Scheme,
+    alloc: Global,
+    known: &Known<'_>,
+    demands: &mut List<LineDemand>,
+) -> Result<(), NoMemory>
+    ensures { OnOk result (Lists demands.old demands.new known.now (demand_of.Same right.now left.now ∷ ordered_if (order_asked op) left.now)) }
+{
+    let first = copy_scheme(left, alloc)?;
+    same(right, first, alloc, known, demands)?;
+    ordered_where(op, left, alloc, known, demands)?;
+    Ok(())
+}
+
+/// Puts what a comparison of two sides demands. (The sides are dropped by calls: where they are left to the end of each way
+/// out, the check goes through the parts of each form of type there.)
 pub fn sides_compared(
     op: CmpOp,
     left: SideScheme,
@@ -92,8 +110,8 @@ pub fn sides_compared(
 ) -> Result<(), NoMemory>
     ensures { OnOk result (Lists demands.old demands.new known.now (demand_of.Same right.scheme left.scheme ∷ ordered_if (order_asked op) left.scheme)) }
 {
-    let first = copy_scheme(&left.scheme, alloc)?;
-    same(&right.scheme, first, alloc, known, demands)?;
-    ordered_where(op, &left.scheme, alloc, known, demands)?;
-    Ok(())
+    let done = schemes_compared(op, &left.scheme, &right.scheme, alloc, known, demands);
+    drop(left);
+    drop(right);
+    done
 }
