@@ -1,5 +1,6 @@
 //! Names that are not what their place asks for.
 use crate::case::Case;
+use crate::elsewhere::{note_sender, note_within};
 use crate::labels::tell_no_label;
 use crate::parts::{blame_place, blame_source, blame_word, place_of, written};
 use crate::scope::{Role, Scope, role_name};
@@ -176,15 +177,50 @@ fn tell_callee(case: &mut Case<'_>) -> bool {
     blame_word(name, case);
     match cure_of_call(name) {
         Some(cure) if !holder.is_empty() => case.note(cure),
-        _ => {
-            let mut nearest = Nearest::new(case.alloc, name);
-            for other in names.as_slice() {
-                nearest.offer(other);
-            }
-            case.note_meant(nearest.found());
-        }
+        _ => note_names(name, names.as_slice(), !holder.is_empty(), case),
     }
     true
+}
+
+/// Words of statements that look like the names of methods where a bracket follows.
+const WORDS: [&[u8]; 5] = [b"output", b"await", b"send", b"while", b"receive"];
+
+// Which of these names is meant, or which word of a statement, where a method is called; or which classes there are.
+fn note_names<'t>(name: &'t [u8], names: &[&'t [u8]], called: bool, case: &mut Case<'t>) {
+    let mut nearest = Nearest::new(case.alloc, name);
+    for other in names {
+        nearest.offer(other);
+    }
+    if called {
+        for word in &WORDS {
+            nearest.offer(word);
+        }
+    }
+    let found = nearest.found();
+    case.note_meant(found);
+    if found.is_none() && matches!(case.site.part, Part::Main(MainLine::New { .. })) {
+        note_list(names, case);
+    }
+}
+
+/// The names that are listed at most.
+const MOST_LISTED: usize = 8;
+
+// Lists the classes that there are.
+fn note_list(names: &[&[u8]], case: &mut Case<'_>) {
+    let mut form = b"the classes are @".as_slice();
+    if names.len() == 1 {
+        form = b"the only class is @";
+    }
+    for (place, name) in names.iter().enumerate() {
+        if place == MOST_LISTED {
+            case.hint.notes.put(b", ..");
+            break;
+        }
+        case.hint.notes.fill(form, name, b"");
+        form = b", @";
+    }
+    case.note(b"");
 }
 
 // Adds the names that `main` makes before a line.
@@ -239,7 +275,7 @@ fn tell_name<'t>(name: &'t [u8], wanted: Wanted, case: &mut Case<'t>) {
     match cure_of_value(name) {
         Some(cure) => case.note(cure),
         None => {
-            if !note_elsewhere(name, case) {
+            if !note_within(name, case) && !note_elsewhere(name, case) {
                 note_value(name, wanted, case);
             }
         }
@@ -273,6 +309,9 @@ fn note_value<'t>(name: &'t [u8], wanted: Wanted, case: &mut Case<'t>) {
         case.note(b"sets are kept in variables of the class (var s: set[int])");
     }
     case.note_meant(found);
+    if found.is_none() && wanted == Wanted::Value {
+        note_sender(name, case);
+    }
 }
 
 // What is written in the place of a value of another language.
@@ -283,10 +322,14 @@ fn cure_of_value(name: &[u8]) -> Option<&'static [u8]> {
         b"None" | b"null" | b"nil" => Some(
             b"there is no None: a set that is empty, or a variable of type bool, says that nothing is there",
         ),
-        b"this" | b"me" => Some(b"write self for the process itself"),
+        b"this" | b"me" | b"myself" | b"id" | b"pid" => Some(b"write self for the process itself"),
         b"msg" | b"message" | b"sender" => {
             Some(b"receive (..) from p: names the message's parts and its sender by patterns")
         }
+        b"time" | b"now" | b"clock" => Some(b"the logical clock is logical_time()"),
+        b"NULL" | b"undefined" | b"Nil" => Some(
+            b"there is no None: a set that is empty, or a variable of type bool, says that nothing is there",
+        ),
         _ => None,
     }
 }

@@ -37,6 +37,10 @@ fn tell_piece(text: &[u8], line: Line<'_>, hint: &mut Hint) {
 fn tell_spelling(text: &[u8], place: usize, bad: Bad, hint: &mut Hint) {
     hint.blame(place, bad.length);
     let bytes = between(text, place, place.saturating_add(bad.length));
+    if between(text, place, place.saturating_add(3)) == b"\"\"\"".as_slice() {
+        hint.say(b"there are no docstrings: a comment begins with #");
+        return;
+    }
     let form = match bytes {
         [b'0', ..] => b"an integer has no 0 in front: @".as_slice(),
         [b'1'..=b'9', ..] => b"@ is more than the greatest integer, 9223372036854775807",
