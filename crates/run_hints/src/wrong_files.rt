@@ -12,11 +12,7 @@ pub fn tell_program_line(line: &[u8], out: &mut Phrase) -> bool {
         word,
         b"message" | b"class" | b"channel" | b"def" | b"var" | b"receive"
     );
-    if is_program
-        && line
-            .iter()
-            .any(|byte| matches!(*byte, b'(' | b':') || *byte == b' ')
-    {
+    if is_program && line.contains(&b' ') {
         out.put(b"this is a line of a program: the program stands before the schedule, PROG SCHED");
         return true;
     }
@@ -31,7 +27,10 @@ pub fn tell_program_line(line: &[u8], out: &mut Phrase) -> bool {
 pub fn tell_printed(line: &[u8], out: &mut Phrase) -> bool {
     let mut words = line.split(|byte| *byte == b' ');
     let word = words.next().unwrap_or(line);
-    let (Some(p), Some(k)) = (words.next(), words.next()) else {
+    let Some(p) = words.next() else {
+        return false;
+    };
+    let Some(k) = words.next() else {
         return tell_plain(word, line, out);
     };
     match word {

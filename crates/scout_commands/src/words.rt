@@ -47,10 +47,10 @@ pub struct Names<'a> {
 }
 
 /// The most schedules of a hunt.
-const MOST_SCHEDULES: u64 = 1_000_000;
+pub const MOST_SCHEDULES: u64 = 1_000_000;
 
 /// The most outputs that a schedule may be looked for to have more of.
-const MOST_OUTPUTS: u64 = 1_000_000_000;
+pub const MOST_OUTPUTS: u64 = 1_000_000_000;
 
 /// What these words ask for.
 pub fn command_of(alloc: Global, words: &[String]) -> Result<Command<'_>, NoMemory>
