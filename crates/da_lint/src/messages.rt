@@ -7,7 +7,12 @@ use da_lang::{GenTree, PatternTree, SourceTree, Tree};
 use da_values::List;
 
 /// Remarks on the messages of a program that no handler receives and no query reads, where this is what all classes hold.
-pub fn tell_messages(text: Text<'_>, tree: &Tree, parts: &[Part<'_>], out: &mut List<Remark>) {
+pub fn tell_messages<'t>(
+    text: Text<'_>,
+    tree: &'t Tree,
+    parts: &[Part<'t>],
+    out: &mut List<Remark>,
+) {
     let mut heard = List::new(text.alloc);
     put_received(tree, &mut heard);
     for part in parts {
