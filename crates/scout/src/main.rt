@@ -49,13 +49,13 @@ fn main(rt: HostRuntime) -> ExitCode {
 
 // The program that these words ask to hunt in, or `None` where they ask for something else.
 fn hunted<'w, R: AllocGlobal>(rt: &R, words: &'w [String]) -> Option<&'w str> {
-    match command_of(rt.alloc(), words) {
-        Ok(
-            Command::Search {
-                search: Search::Hunt { .. },
-                program,
-            },
-        ) => Some(program),
+    let Ok(command) = command_of(rt.alloc(), words) else {
+        return None;
+    };
+    match &command {
+        Command::Search { search, program } if matches!(search, Search::Hunt { .. }) => {
+            Some(*program)
+        }
         _ => None,
     }
 }
