@@ -20,13 +20,14 @@ pub fn tell_words<R: AllocGlobal + Eprint>(rt: &R, words: &[String]) -> io::Resu
     let why = why_not(rt.alloc(), words);
     let why = shown(rt.alloc(), why.as_slice(), TOLD)?;
     eprintln!(rt; "dalgo: {why}")?;
+    let [command, ..] = words else {
+        return eprintln!(rt; "{USAGE}");
+    };
     let mut form = Phrase::new(rt.alloc());
-    if let [command, ..] = words {
-        form.put(form_of(command.as_bytes()));
-    }
+    form.put(form_of(command.as_bytes()));
     if form.is_empty() {
         return eprintln!(rt; "{USAGE}");
     }
     let form = shown(rt.alloc(), form.as_slice(), TOLD)?;
-    eprintln!(rt; "usage: dalgo {form}, where './dalgo COMMAND --help' says more")
+    eprintln!(rt; "usage: dalgo {form}, where './dalgo {command} --help' says more")
 }

@@ -112,7 +112,7 @@ pub fn tell_trace_count<R: rt::Files + AllocGlobal + Eprint>(
     let named = shown_name(rt.alloc(), program)?;
     match processes_of(rt, program) {
         Some(wanted) => eprintln!(rt;
-            "{named}: a join takes one trace for each process: main makes {wanted}, and {count} are given"
+            "{named}: a join takes one trace for each process that main makes, so {wanted}, and not {count}"
         ),
         None => eprintln!(rt;
             "{named}: a join takes one trace for each process that main makes, and not {count}"

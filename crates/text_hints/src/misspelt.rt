@@ -9,7 +9,7 @@ use da_values::Mark;
 use std::alloc::Global;
 
 /// Asks whether a word is meant, where a line begins with a name that is like a word with which it could begin, and the name or
-/// the token after it is at the spot. Whether there is such a word.
+/// the token after it is at the spot, or a bracket stands behind it. Whether there is such a word.
 pub fn tell_first_word(
     alloc: Global,
     spot: Spot<'_>,
@@ -24,7 +24,8 @@ pub fn tell_first_word(
     if spot.place == begin {
         return tell_meant(alloc, spot.bytes(begin), marks, hint);
     }
-    if spot.place != begin.saturating_add(1) {
+    let next = begin.saturating_add(1);
+    if spot.place != next && !spot.is(next, Mark::OpenParen) {
         return false;
     }
     let (front, _) = spot.tokens.split_at(begin.min(spot.tokens.len()));
