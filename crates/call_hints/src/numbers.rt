@@ -1,8 +1,8 @@
 //! Words that are numbers, and from where to where each goes.
 use da_commands::{
-    FIRST_PORT, LAST_PORT, LAST_START, MOST_ANSWERS, MOST_EVENTS, MOST_PROCESSES, number_between,
+    FIRST_PORT, LAST_PORT, LAST_START, MOST_ANSWERS, MOST_EVENTS, MOST_OUTPUTS, MOST_PROCESSES,
+    MOST_SCHEDULES, number_between,
 };
-use scout_commands::{MOST_OUTPUTS, MOST_SCHEDULES};
 use text_hints::Phrase;
 
 /// A word that is a number: its name, its place in the call, and the least and the greatest that it may be.

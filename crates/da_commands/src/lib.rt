@@ -24,5 +24,6 @@ pub use status::Status;
 pub use top::dalgo;
 pub use words::{
     Command, FIRST_PORT, LAST_PORT, LAST_START, LaunchSetting, MOST_ANSWERS, MOST_EVENTS,
-    MOST_PROCESSES, Names, NodeSetting, Task, command_of, number_between,
+    MOST_OUTPUTS, MOST_PROCESSES, MOST_SCHEDULES, Names, NodeSetting, Task, command_of,
+    number_between,
 };

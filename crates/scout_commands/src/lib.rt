@@ -11,4 +11,4 @@ mod words;
 
 pub use status::Status;
 pub use top::scout;
-pub use words::{Command, MOST_OUTPUTS, MOST_SCHEDULES, Names, Search, command_of};
+pub use words::{Command, Names, Search, command_of};
