@@ -52,8 +52,9 @@ fn tell_rest(kind: &[u8], wanted: usize, given: usize, out: &mut Phrase) {
 
 // That a word is no value, and answers whether that is so.
 fn tell_value(alloc: Global, name: &[u8], word: &[u8], out: &mut Phrase) -> bool {
-    if !matches!(read_value(alloc, word), Err(ValueFault::Unread)) {
-        return false;
+    match read_value(alloc, word) {
+        Err(ValueFault::Unread) => {}
+        _ => return false,
     }
     out.put(name);
     out.put(b" is the text of a value, and ");

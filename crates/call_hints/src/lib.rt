@@ -7,14 +7,14 @@ mod commands;
 mod drawn;
 mod hunts;
 mod numbers;
-mod shown;
+mod terminal;
 mod unread;
 mod usage;
 mod wrong;
 
 pub use again::text_again;
 pub use drawn::{explain_drawn, line_at};
-pub use shown::{SHOWN, TOLD, shown, shown_name};
+pub use terminal::{SHOWN, TOLD, shown, shown_name};
 pub use unread::tell_unread;
 pub use usage::tell_words;
 pub use wrong::why_not;

@@ -14,15 +14,13 @@ pub struct Range {
     most: u64,
 }
 
-const START: Range = Range {
-    name: b"START",
-    place: 2,
-    least: 0,
-    most: LAST_START,
-};
-
 const STRESS: [Range; 2] = [
-    START,
+    Range {
+        name: b"START",
+        place: 2,
+        least: 0,
+        most: LAST_START,
+    },
     Range {
         name: b"N",
         place: 3,
@@ -32,7 +30,12 @@ const STRESS: [Range; 2] = [
 ];
 
 const HUNT: [Range; 3] = [
-    START,
+    Range {
+        name: b"START",
+        place: 2,
+        least: 0,
+        most: LAST_START,
+    },
     Range {
         name: b"COUNT",
         place: 3,
@@ -47,15 +50,13 @@ const HUNT: [Range; 3] = [
     },
 ];
 
-const PORT: Range = Range {
-    name: b"PORT",
-    place: 2,
-    least: FIRST_PORT,
-    most: LAST_PORT,
-};
-
 const NODE: [Range; 4] = [
-    PORT,
+    Range {
+        name: b"PORT",
+        place: 2,
+        least: FIRST_PORT,
+        most: LAST_PORT,
+    },
     Range {
         name: b"ME",
         place: 3,
@@ -77,7 +78,12 @@ const NODE: [Range; 4] = [
 ];
 
 const LAUNCH: [Range; 3] = [
-    PORT,
+    Range {
+        name: b"PORT",
+        place: 2,
+        least: FIRST_PORT,
+        most: LAST_PORT,
+    },
     Range {
         name: b"IDLE",
         place: 3,

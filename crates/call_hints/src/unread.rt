@@ -1,5 +1,5 @@
 //! Why a file cannot be read.
-use crate::shown::shown_name;
+use crate::terminal::shown_name;
 use std::io::Eprint;
 use std::{fs, io, rt};
 

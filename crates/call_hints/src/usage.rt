@@ -1,6 +1,6 @@
 //! How the commands are called.
 use crate::commands::form_of;
-use crate::shown::{TOLD, shown};
+use crate::terminal::{TOLD, shown};
 use crate::wrong::why_not;
 use std::io;
 use std::io::Eprint;
@@ -23,6 +23,7 @@ pub fn tell_words<R: AllocGlobal + Eprint>(rt: &R, words: &[String]) -> io::Resu
     let [command, ..] = words else {
         return eprintln!(rt; "{USAGE}");
     };
+    let command = command.as_str();
     let mut form = Phrase::new(rt.alloc());
     form.put(form_of(command.as_bytes()));
     if form.is_empty() {

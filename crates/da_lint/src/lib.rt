@@ -16,3 +16,4 @@ mod waits;
 
 pub use remark::{Kind, Remark, put_remark};
 pub use remarks::remarks_on;
+pub use text::has_token;

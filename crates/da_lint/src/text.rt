@@ -1,5 +1,6 @@
 //! The text of a program, and columns in it.
 use crate::remark::{Kind, Remark, add};
+use da_front::read_tokens;
 use da_lex::Token;
 use da_values::List;
 use std::alloc::Global;
@@ -47,4 +48,16 @@ impl Text<'_> {
         }
         1
     }
+}
+
+/// Whether a text of a program has a token with these bytes. It is also true where the text has no tokens or memory is refused.
+pub fn has_token(alloc: Global, text: &[u8], bytes: &[u8]) -> bool {
+    let Ok(tokens) = read_tokens(alloc, text) else {
+        return true;
+    };
+    tokens
+        .list
+        .as_slice()
+        .iter()
+        .any(|token| slice_at(text, token) == bytes)
 }

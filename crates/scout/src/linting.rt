@@ -3,7 +3,7 @@ use crate::report::tell_program;
 use call_hints::{TOLD, shown, shown_name, text_again};
 use da_commands::{Ending, refused_line};
 use da_front::{PROGRAM_LIMIT, ProgramFault, read_program};
-use da_lint::{Remark, put_remark, remarks_on};
+use da_lint::{Remark, has_token, put_remark, remarks_on};
 use da_outside::{RealFiles, Sink, Trouble, read_all, write_all};
 use da_values::{Buf, List};
 use scout_commands::Status;
@@ -81,14 +81,41 @@ fn written<K: Sink>(out: &mut K, told: &Buf, status: Status) -> Status {
     }
 }
 
-/// Tells the first remarks on the program of this name on standard error, and how many more there are. What cannot be told is
-/// left out.
-pub fn warn<R: rt::Files + AllocGlobal + Eprint>(rt: &R, program: &str) {
+/// Tells the first remarks on the program of this name on standard error, and how many more there are; and which text of these
+/// words for a hunt stands nowhere in it. What cannot be told is left out.
+pub fn warn<R: rt::Files + AllocGlobal + Eprint>(rt: &R, program: &str, words: &[String]) {
     if let Some(text) = text_again(rt, program, PROGRAM_LIMIT) {
         let remarks = remarks_on(rt.alloc(), text.as_slice());
         let told = tell_remarks(rt, program, remarks.as_slice());
         drop(told);
+        let (_, values) = words.split_at(6.min(words.len()));
+        for word in values {
+            let told = tell_no_text(rt, program, text.as_slice(), word.as_bytes());
+            drop(told);
+        }
     }
+}
+
+// Tells that the first text in a value stands nowhere in a program, where that is so: then no process puts the value out.
+fn tell_no_text<R: AllocGlobal + Eprint>(
+    rt: &R,
+    program: &str,
+    text: &[u8],
+    value: &[u8],
+) -> io::Result<()> {
+    let before = value.iter().take_while(|byte| **byte != b'\'').count();
+    let (_, rest) = value.split_at(before.min(value.len()));
+    let [_, inside @ ..] = rest else {
+        return Ok(());
+    };
+    let length = inside.iter().take_while(|byte| **byte != b'\'').count();
+    let (quoted, _) = rest.split_at(length.saturating_add(2).min(rest.len()));
+    if has_token(rt.alloc(), text, quoted) {
+        return Ok(());
+    }
+    let named = shown_name(rt.alloc(), program)?;
+    let quoted = shown(rt.alloc(), quoted, TOLD)?;
+    eprintln!(rt; "{named}: the text {quoted} stands nowhere here, so no process puts it out")
 }
 
 fn tell_remarks<R: AllocGlobal + Eprint>(

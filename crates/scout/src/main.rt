@@ -26,7 +26,7 @@ fn main(rt: HostRuntime) -> ExitCode {
             return ExitCode::from(lint(&rt, program, &mut out));
         }
         if let Some(program) = hunted(&rt, words.as_slice()) {
-            warn(&rt, program);
+            warn(&rt, program, words.as_slice());
         }
     }
     let watched = rt.stderr().is_terminal();

@@ -165,7 +165,7 @@ fn on_time(spot: Spot<'_>) -> &'static [u8] {
 // A label.
 fn on_label(spot: Spot<'_>) -> &'static [u8] {
     let begin = spot.begin();
-    if !spot.is(begin, Mark::Dashes) {
+    if !spot.is(begin, Mark::Dashes) || spot.place == begin {
         b""
     } else if spot.here(Mark::Colon) {
         b"a label has no colon: -- ready"
