@@ -242,7 +242,16 @@ fn cure_of_call(name: &[u8]) -> Option<&'static [u8]> {
         }
         b"sleep" | b"wait" => Some(b"write await and a condition"),
         b"start" => Some(b"a process starts by an event of the schedule, as move 1"),
-        b"exit" | b"quit" => Some(b"a process ends with the last line of run"),
+        b"exit" | b"quit" | b"stop" | b"terminate" => Some(
+            b"a process ends with the last line of run",
+        ),
+        b"broadcast" | b"multicast" | b"sendall" | b"send_all" => {
+            Some(b"write send ('ping', 5) to ps, where ps is a set of processes (set[proc])")
+        }
+        b"assert" => Some(b"write if not (..): and below it output(..), which a hunt can look for"),
+        b"append" | b"add" => Some(b"write s.add(e)"),
+        b"remove" | b"del" => Some(b"write s.del(e)"),
+        b"recv" => Some(b"a handler takes messages: receive ('ping', k) from who:"),
         b"super" => Some(b"there is no inheritance"),
         _ => None,
     }

@@ -64,8 +64,11 @@ pub fn explain_loosely(alloc: Global, text: &[u8], why: Why, line: u32) -> Hint 
         Why::Name(_) | Why::Limit(_) => {
             if let Some(loose) = loose_of(alloc, text) {
                 if let Ok(tree) = with_int(alloc, &loose) {
-                    // a variable that is added has the line of the first statement that sets it
-                    let used = matches!(why, Why::Name(ScopeKind::Unknown));
+                    // a variable or a message that is added has the line of the first statement with it
+                    let used = match why {
+                        Why::Name(kind) => !matches!(kind, ScopeKind::Twice | ScopeKind::NoRun),
+                        _ => false,
+                    };
                     return hint_on(alloc, text, &tree, Asked { why, line, used });
                 }
             }

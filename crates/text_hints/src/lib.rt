@@ -7,6 +7,7 @@ mod brackets;
 mod characters;
 mod expected;
 mod grammar;
+mod habits;
 mod hint;
 mod lines;
 mod misspelt;

@@ -90,6 +90,8 @@ fn on_first_word(spot: Spot<'_>) -> &'static [u8] {
         b"switch" | b"match" | b"case" => b"write if, elif and else",
         b"do" | b"loop" | b"until" => b"a loop is written while ..: or for x in ..:",
         b"echo" | b"puts" | b"printf" => b"write output(..)",
+        b"foreach" | b"forall" => b"write for x in s:",
+        b"unless" => b"write if not (..):",
         _ => b"",
     }
 }
@@ -297,6 +299,12 @@ fn on_call(name: &[u8]) -> &'static [u8] {
         b"abs" => b"there is no abs: compare with 0",
         b"any" | b"all" => b"write some x in s | .. or each x in s | ..",
         b"print" => b"write output(..)",
+        b"input" | b"argv" => b"there is no input: setup and messages give a process its values",
+        b"random" | b"randint" | b"choice" | b"rand" => {
+            b"there is no chance: an await with several true alternatives lets the schedule choose"
+        }
+        b"time" | b"now" | b"clock" => b"the logical clock is logical_time()",
+        b"sorted" | b"reversed" => b"sets have an order of their own: a loop goes upwards",
         _ => {
             b"a call stands on a line of its own, and its method leaves what it works out in a variable"
         }

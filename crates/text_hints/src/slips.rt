@@ -1,12 +1,21 @@
 //! What is often written in the place of messages, queries, labels and lines of a class, and files that are none of a program.
 use crate::expected::{has, is_comparison};
+use crate::habits::habit_at;
 use crate::hint::Hint;
 use crate::spot::Spot;
 use da_values::Mark;
 
 /// Tells what is written in the place of what stands at the spot, where one of these marks is expected. Whether it is known.
 pub fn tell_slip(spot: Spot<'_>, marks: &[Mark], hint: &mut Hint) -> bool {
-    if tell_called(spot, hint) || tell_bare(spot, hint) || tell_taken(spot, marks, hint) {
+    if tell_called(spot, hint) || tell_bare(spot, hint) {
+        return true;
+    }
+    let habit = habit_at(spot, marks);
+    if !habit.is_empty() {
+        hint.note(habit);
+        return true;
+    }
+    if tell_taken(spot, marks, hint) {
         return true;
     }
     for note in [
