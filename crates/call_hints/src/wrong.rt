@@ -21,6 +21,10 @@ pub fn why_not(alloc: Global, words: &[String]) -> Phrase {
         }
         Some(_) => tell_words(alloc, command, words, &mut told),
     }
+    if told.is_empty() {
+        told.quote(command);
+        told.put(b" is a word of the other program: ./dalgo starts the one that knows it");
+    }
     told
 }
 

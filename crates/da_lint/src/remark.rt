@@ -60,7 +60,7 @@ pub fn put_remark(remark: &Remark, out: &mut Buf) {
 }
 
 /// Adds a remark at its place in the text.
-pub fn add(remark: Remark, out: &mut List<Remark>) {
+pub fn put_in_order(remark: Remark, out: &mut List<Remark>) {
     let place = out
         .as_slice()
         .iter()

@@ -1,5 +1,5 @@
 //! The text of a program, and columns in it.
-use crate::remark::{Kind, Remark, add};
+use crate::remark::{Kind, Remark, put_in_order};
 use da_front::read_tokens;
 use da_lex::Token;
 use da_values::List;
@@ -23,7 +23,7 @@ impl Text<'_> {
     /// Adds a remark on the first token with these bytes that stands on a line, or on the beginning of the line.
     pub fn remark(&self, kind: Kind, line: u32, word: &[u8], told: Phrase, out: &mut List<Remark>) {
         let column = self.column_of(line, word);
-        add(
+        put_in_order(
             Remark {
                 kind,
                 line,
