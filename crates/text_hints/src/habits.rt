@@ -145,7 +145,10 @@ fn on_declared(spot: Spot<'_>) -> &'static [u8] {
         b"the types of a message stand in brackets: message ping(int)"
     } else if spot.is(begin, Mark::Receive) && quoted && spot.back(1, Mark::At) {
         b"a label is a name, and has no quotes: at ready"
-    } else if spot.is(begin, Mark::Receive) && spot.back(1, Mark::Quoted) {
+    } else if spot.is(begin, Mark::Receive)
+        && spot.back(1, Mark::Quoted)
+        && spot.here(Mark::OpenParen)
+    {
         b"a message is a tuple: receive ('ping', k) from who:"
     } else {
         b""

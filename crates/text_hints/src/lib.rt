@@ -6,6 +6,7 @@
 mod brackets;
 mod characters;
 mod expected;
+mod gaps;
 mod grammar;
 mod habits;
 mod hint;

@@ -91,6 +91,11 @@ fn on_first_word(spot: Spot<'_>) -> &'static [u8] {
         b"do" | b"loop" | b"until" => b"a loop is written while ..: or for x in ..:",
         b"echo" | b"puts" | b"printf" => b"write output(..)",
         b"foreach" | b"forall" => b"write for x in s:",
+        b"end" | b"endif" | b"fi" | b"od" | b"endwhile" | b"endfor" => {
+            b"a block ends where its indentation does"
+        }
+        b"label" => b"a label is written so: -- ready",
+        b"waitfor" | b"waituntil" | b"wait_until" | b"wait_for" => b"write await and a condition",
         b"unless" => b"write if not (..):",
         _ => b"",
     }

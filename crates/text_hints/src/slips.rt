@@ -1,5 +1,6 @@
 //! What is often written in the place of messages, queries, labels and lines of a class, and files that are none of a program.
 use crate::expected::{has, is_comparison};
+use crate::gaps::gap_at;
 use crate::habits::habit_at;
 use crate::hint::Hint;
 use crate::spot::Spot;
@@ -10,10 +11,11 @@ pub fn tell_slip(spot: Spot<'_>, marks: &[Mark], hint: &mut Hint) -> bool {
     if tell_called(spot, hint) || tell_bare(spot, hint) {
         return true;
     }
-    let habit = habit_at(spot, marks);
-    if !habit.is_empty() {
-        hint.note(habit);
-        return true;
+    for note in [habit_at(spot, marks), gap_at(spot, marks)] {
+        if !note.is_empty() {
+            hint.note(note);
+            return true;
+        }
     }
     if tell_taken(spot, marks, hint) {
         return true;
@@ -52,7 +54,7 @@ fn tell_called(spot: Spot<'_>, hint: &mut Hint) -> bool {
         b"write each ('$', ..) in received: a message begins with its tag as a text"
     } else if spot.back(2, Mark::Receive) {
         b"write receive ('$', ..) from who: a message begins with its tag as a text"
-    } else if spot.back(2, Mark::Send) {
+    } else if spot.back(2, Mark::Send) && !spot.is(spot.place.saturating_add(1), Mark::Quoted) {
         b"write send ('$', ..) to p: a message begins with its tag as a text"
     } else {
         return false;
@@ -90,7 +92,7 @@ fn tell_taken(spot: Spot<'_>, marks: &[Mark], hint: &mut Hint) -> bool {
         || spot.back(1, Mark::Class)
         || spot.back(1, Mark::For)
         || spot.back(1, Mark::Dashes)
-        || spot.is(begin, Mark::Def);
+        || (spot.is(begin, Mark::Def) && spot.place != begin);
     let is_set = spot.place == begin && spot.is(spot.place.saturating_add(1), Mark::Assign);
     let in_pattern = has(marks, Mark::Wild) && !spot.here(Mark::Received) && !spot.here(Mark::Sent);
     if !(is_set || in_pattern || (named && has(marks, Mark::Name))) {
