@@ -330,7 +330,7 @@ fn on_member(spot: Spot<'_>, marks: &[Mark]) -> &'static [u8] {
         )
     {
         b"first values are given by def setup(x: int):"
-    } else if spot.is(next, Mark::OpenParen) {
+    } else if spot.is(next, Mark::OpenParen) && !spot.is(next.saturating_add(1), Mark::Quoted) {
         b"a method is defined by def f(x: int):, and a statement stands in a method"
     } else {
         b""
