@@ -15,6 +15,7 @@ pub fn note_within(name: &[u8], case: &mut Case<'_>) -> bool {
         return false;
     };
     let mut found = 0u32;
+    let mut by_some = false;
     for row in rows_of(case.alloc, body.stmts).as_slice() {
         if row.line <= case.line {
             let cond = match row.part {
@@ -23,8 +24,9 @@ pub fn note_within(name: &[u8], case: &mut Case<'_>) -> bool {
                 _ => None,
             };
             if let Some(cond) = cond {
-                if !matches!(cond, Expr::Quant { .. }) && binds(case.alloc, cond, name) {
+                if let Some(asks) = binder_in(case.alloc, cond, name) {
                     found = row.line;
+                    by_some = asks;
                 }
             }
         }
@@ -33,14 +35,20 @@ pub fn note_within(name: &[u8], case: &mut Case<'_>) -> bool {
         return false;
     }
     let line = case.digits(u64::from(found));
-    let form =
-        b"in line $ a part of the condition has the name: only a 'some' that is the whole condition binds";
+    let form = if by_some {
+        b"in line $ a part of the condition has the name: only a 'some' that is the whole condition binds".as_slice()
+    } else {
+        b"line $ has the name in a query, and it is in scope in that query alone"
+    };
     case.note_of(form, line.as_slice(), b"");
     true
 }
 
-// Whether a pattern within an expression that has a query with `some` has this name.
-fn binds(alloc: Global, x: &Expr, name: &[u8]) -> bool {
+// Whether a condition has a query with `some`, where a pattern within it has this name and it is no such query as a whole.
+fn binder_in(alloc: Global, x: &Expr, name: &[u8]) -> Option<bool> {
+    if is_some(x) {
+        return None;
+    }
     let mut walk = Walk {
         alloc,
         text: &[],
@@ -58,7 +66,7 @@ fn binds(alloc: Global, x: &Expr, name: &[u8]) -> bool {
             _ => {}
         }
     }
-    binds && asks
+    if binds { Some(asks) } else { None }
 }
 
 // Whether an expression is a query with `some`.
@@ -69,17 +77,19 @@ fn is_some(x: &Expr) -> bool {
     }
 }
 
-/// Tells that a handler does not name the sender of its message, where it does not.
-pub fn note_sender(name: &[u8], case: &mut Case<'_>) {
+/// Tells that a handler does not name the sender of its message. Whether it is so.
+pub fn note_sender(name: &[u8], case: &mut Case<'_>) -> bool {
     let Some(body) = case.site.body else {
-        return;
+        return false;
     };
     let Place::Handler { from, .. } = body.place else {
-        return;
+        return false;
     };
-    if from.is_none() {
-        let line = case.digits(u64::from(body.line));
-        let form = b"if it is the sender, line $ names it so: receive (..) from $:";
-        case.note_of(form, line.as_slice(), name);
+    if from.is_some() {
+        return false;
     }
+    let line = case.digits(u64::from(body.line));
+    let form = b"if it is the sender, line $ names it so: receive (..) from $:";
+    case.note_of(form, line.as_slice(), name);
+    true
 }

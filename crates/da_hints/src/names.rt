@@ -185,7 +185,7 @@ fn tell_callee(case: &mut Case<'_>) -> bool {
 /// Words of statements that look like the names of methods where a bracket follows.
 const WORDS: [&[u8]; 5] = [b"output", b"await", b"send", b"while", b"receive"];
 
-// Which of these names is meant, or which word of a statement, where a method is called; or which classes there are.
+// Which of these names is meant, or which word of a statement, where a method is called; or which of them there are.
 fn note_names<'t>(name: &'t [u8], names: &[&'t [u8]], called: bool, case: &mut Case<'t>) {
     let mut nearest = Nearest::new(case.alloc, name);
     for other in names {
@@ -198,27 +198,39 @@ fn note_names<'t>(name: &'t [u8], names: &[&'t [u8]], called: bool, case: &mut C
     }
     let found = nearest.found();
     case.note_meant(found);
-    if found.is_none() && matches!(case.site.part, Part::Main(MainLine::New { .. })) {
-        note_list(names, case);
+    if found.is_some() {
+        return;
+    }
+    if called {
+        if names.is_empty() {
+            case.note_of(
+                b"a method is defined in its class: def $(x: int):",
+                name,
+                b"",
+            );
+        } else {
+            note_list(b"the only method is @", b"the methods are @", names, case);
+        }
+    } else if matches!(case.site.part, Part::Main(MainLine::New { .. })) {
+        note_list(b"the only class is @", b"the classes are @", names, case);
+    } else if !names.is_empty() {
+        note_list(b"made before it is @", b"made before it are @", names, case);
     }
 }
 
 /// The names that are listed at most.
 const MOST_LISTED: usize = 8;
 
-// Lists the classes that there are.
-fn note_list(names: &[&[u8]], case: &mut Case<'_>) {
-    let mut form = b"the classes are @".as_slice();
-    if names.len() == 1 {
-        form = b"the only class is @";
-    }
+// Lists the names that there are, of which there is one at least.
+fn note_list(one: &[u8], more: &[u8], names: &[&[u8]], case: &mut Case<'_>) {
+    let mut form = if names.len() == 1 { one } else { more };
     for (place, name) in names.iter().enumerate() {
         if place == MOST_LISTED {
             case.hint.notes.put(b", ..");
             break;
         }
         case.hint.notes.fill(form, name, b"");
-        form = b", @";
+        form = b", @".as_slice();
     }
     case.note(b"");
 }
@@ -318,8 +330,16 @@ fn note_value<'t>(name: &'t [u8], wanted: Wanted, case: &mut Case<'t>) {
         case.note(b"sets are kept in variables of the class (var s: set[int])");
     }
     case.note_meant(found);
-    if found.is_none() && wanted == Wanted::Value {
-        note_sender(name, case);
+    if found.is_none() && wanted == Wanted::Value && !note_sender(name, case) {
+        note_none(name, case);
+    }
+}
+
+// How a variable comes to be there.
+fn note_none(name: &[u8], case: &mut Case<'_>) {
+    if case.site.class.is_some() {
+        let form = b"a variable of the class is declared so, and set before it is read: var $: int";
+        case.note_of(form, name, b"");
     }
 }
 
