@@ -335,12 +335,24 @@ fn note_value<'t>(name: &'t [u8], wanted: Wanted, case: &mut Case<'t>) {
     }
 }
 
-// How a variable comes to be there.
+// Which names there are, and how another one comes to be there.
 fn note_none(name: &[u8], case: &mut Case<'_>) {
-    if case.site.class.is_some() {
-        let form = b"a variable of the class is declared so, and set before it is read: var $: int";
-        case.note_of(form, name, b"");
+    if case.site.class.is_none() {
+        return;
     }
+    let mut names = List::new(case.alloc);
+    for entry in case.scope.entries() {
+        let _ = names.push(entry.name);
+    }
+    if !names.as_slice().is_empty() {
+        let (one, more) = (
+            b"in scope here is @".as_slice(),
+            b"in scope here are @".as_slice(),
+        );
+        note_list(one, more, names.as_slice(), case);
+    }
+    let form = b"a variable of the class is declared so, and set before it is read: var $: int";
+    case.note_of(form, name, b"");
 }
 
 // What is written in the place of a value of another language.
