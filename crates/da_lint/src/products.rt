@@ -28,7 +28,7 @@ fn is_product(text: Text<'_>, gens: &[GenTree]) -> bool {
         if place != 0 && !compares(text, generator, bound.as_slice()) {
             return true;
         }
-        put_names(text, generator, &mut bound);
+        put_names(generator, &mut bound);
     }
     false
 }
@@ -60,14 +60,10 @@ fn peer_of(generator: &GenTree) -> Option<&PatternTree> {
 }
 
 // Adds the names that the patterns of a generator bind.
-fn put_names<'t>(text: Text<'_>, generator: &'t GenTree, out: &mut List<&'t [u8]>) {
-    let mut patterns = List::new(text.alloc);
-    put_within(&generator.message, &mut patterns);
+fn put_names<'t>(generator: &'t GenTree, out: &mut List<&'t [u8]>) {
+    put_within(&generator.message, out);
     if let Some(pattern) = peer_of(generator) {
-        put_within(pattern, &mut patterns);
-    }
-    for name in patterns.as_slice() {
-        let _ = out.push(*name);
+        put_within(pattern, out);
     }
 }
 

@@ -141,13 +141,25 @@ fn tell_number(line: &[u8], out: &mut Phrase) -> bool {
         if !is_number(word) {
             out.quote_front(word);
             out.put(b" is no number from 1 to 999999999 without a 0 in front");
-            if word.contains(&b',') {
-                out.put(b": the numbers are parted by single spaces");
-            }
+            out.put(cure_of_number(word));
             return true;
         }
     }
     false
+}
+
+// What is to be written in the place of a word that is no number.
+fn cure_of_number(word: &[u8]) -> &'static [u8] {
+    match word {
+        [b'(' | b'\'', ..] => b": a message is named by its place in the channel, counted from 1",
+        [first, ..] if first.is_ascii_alphabetic() => {
+            b": processes are numbered from 1 on, in the order in which main makes them"
+        }
+        _ if word.contains(&b',') => b": the numbers are parted by single spaces",
+        _ if word.contains(&b'>') =>
+            b": the numbers are parted by single spaces, as in deliver 1 2 1",
+        _ => b"",
+    }
 }
 
 fn is_number(word: &[u8]) -> bool {
