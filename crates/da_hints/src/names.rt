@@ -1,5 +1,6 @@
 //! Names that are not what their place asks for.
 use crate::case::Case;
+use crate::elsewhere::{note_sender, note_within};
 use crate::labels::tell_no_label;
 use crate::parts::{blame_place, blame_source, blame_word, place_of, written};
 use crate::scope::{Role, Scope, role_name};
@@ -176,15 +177,62 @@ fn tell_callee(case: &mut Case<'_>) -> bool {
     blame_word(name, case);
     match cure_of_call(name) {
         Some(cure) if !holder.is_empty() => case.note(cure),
-        _ => {
-            let mut nearest = Nearest::new(case.alloc, name);
-            for other in names.as_slice() {
-                nearest.offer(other);
-            }
-            case.note_meant(nearest.found());
-        }
+        _ => note_names(name, names.as_slice(), !holder.is_empty(), case),
     }
     true
+}
+
+/// Words of statements that look like the names of methods where a bracket follows.
+const WORDS: [&[u8]; 5] = [b"output", b"await", b"send", b"while", b"receive"];
+
+// Which of these names is meant, or which word of a statement, where a method is called; or which of them there are.
+fn note_names<'t>(name: &'t [u8], names: &[&'t [u8]], called: bool, case: &mut Case<'t>) {
+    let mut nearest = Nearest::new(case.alloc, name);
+    for other in names {
+        nearest.offer(other);
+    }
+    if called {
+        for word in &WORDS {
+            nearest.offer(word);
+        }
+    }
+    let found = nearest.found();
+    case.note_meant(found);
+    if found.is_some() {
+        return;
+    }
+    if called {
+        if names.is_empty() {
+            case.note_of(
+                b"a method is defined in its class: def $(x: int):",
+                name,
+                b"",
+            );
+        } else {
+            note_list(b"the only method is @", b"the methods are @", names, case);
+        }
+    } else if matches!(case.site.part, Part::Main(MainLine::New { .. })) {
+        note_list(b"the only class is @", b"the classes are @", names, case);
+    } else if !names.is_empty() {
+        note_list(b"made before it is @", b"made before it are @", names, case);
+    }
+}
+
+/// The names that are listed at most.
+const MOST_LISTED: usize = 8;
+
+// Lists the names that there are, of which there is one at least.
+fn note_list(one: &[u8], more: &[u8], names: &[&[u8]], case: &mut Case<'_>) {
+    let mut form = if names.len() == 1 { one } else { more };
+    for (place, name) in names.iter().enumerate() {
+        if place == MOST_LISTED {
+            case.hint.notes.put(b", ..");
+            break;
+        }
+        case.hint.notes.fill(form, name, b"");
+        form = b", @".as_slice();
+    }
+    case.note(b"");
 }
 
 // Adds the names that `main` makes before a line.
@@ -206,7 +254,16 @@ fn cure_of_call(name: &[u8]) -> Option<&'static [u8]> {
         }
         b"sleep" | b"wait" => Some(b"write await and a condition"),
         b"start" => Some(b"a process starts by an event of the schedule, as move 1"),
-        b"exit" | b"quit" => Some(b"a process ends with the last line of run"),
+        b"exit" | b"quit" | b"stop" | b"terminate" => Some(
+            b"a process ends with the last line of run",
+        ),
+        b"broadcast" | b"multicast" | b"sendall" | b"send_all" => {
+            Some(b"write send ('ping', 5) to ps, where ps is a set of processes (set[proc])")
+        }
+        b"assert" => Some(b"write if not (..): and below it output(..), which a hunt can look for"),
+        b"append" | b"add" => Some(b"write s.add(e)"),
+        b"remove" | b"del" => Some(b"write s.del(e)"),
+        b"recv" => Some(b"a handler takes messages: receive ('ping', k) from who:"),
         b"super" => Some(b"there is no inheritance"),
         _ => None,
     }
@@ -239,7 +296,7 @@ fn tell_name<'t>(name: &'t [u8], wanted: Wanted, case: &mut Case<'t>) {
     match cure_of_value(name) {
         Some(cure) => case.note(cure),
         None => {
-            if !note_elsewhere(name, case) {
+            if !note_within(name, case) && !note_elsewhere(name, case) {
                 note_value(name, wanted, case);
             }
         }
@@ -273,6 +330,29 @@ fn note_value<'t>(name: &'t [u8], wanted: Wanted, case: &mut Case<'t>) {
         case.note(b"sets are kept in variables of the class (var s: set[int])");
     }
     case.note_meant(found);
+    if found.is_none() && wanted == Wanted::Value && !note_sender(name, case) {
+        note_none(name, case);
+    }
+}
+
+// Which names there are, and how another one comes to be there.
+fn note_none(name: &[u8], case: &mut Case<'_>) {
+    if case.site.class.is_none() {
+        return;
+    }
+    let mut names = List::new(case.alloc);
+    for entry in case.scope.entries() {
+        let _ = names.push(entry.name);
+    }
+    if !names.as_slice().is_empty() {
+        let (one, more) = (
+            b"in scope here is @".as_slice(),
+            b"in scope here are @".as_slice(),
+        );
+        note_list(one, more, names.as_slice(), case);
+    }
+    let form = b"a variable of the class is declared so, and set before it is read: var $: int";
+    case.note_of(form, name, b"");
 }
 
 // What is written in the place of a value of another language.
@@ -283,10 +363,14 @@ fn cure_of_value(name: &[u8]) -> Option<&'static [u8]> {
         b"None" | b"null" | b"nil" => Some(
             b"there is no None: a set that is empty, or a variable of type bool, says that nothing is there",
         ),
-        b"this" | b"me" => Some(b"write self for the process itself"),
+        b"this" | b"me" | b"myself" | b"id" | b"pid" => Some(b"write self for the process itself"),
         b"msg" | b"message" | b"sender" => {
             Some(b"receive (..) from p: names the message's parts and its sender by patterns")
         }
+        b"time" | b"now" | b"clock" => Some(b"the logical clock is logical_time()"),
+        b"NULL" | b"undefined" | b"Nil" => Some(
+            b"there is no None: a set that is empty, or a variable of type bool, says that nothing is there",
+        ),
         _ => None,
     }
 }

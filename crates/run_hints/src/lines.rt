@@ -1,5 +1,6 @@
 //! Lines that are none of a schedule.
 use crate::words::{form_of, put_meant};
+use crate::wrong_files::{tell_printed, tell_program_line};
 use std::alloc::Global;
 use text_hints::Phrase;
 
@@ -17,6 +18,9 @@ const EVENTS: [(&[u8], &[u8]); 7] = [
 /// Why a line is none of a schedule, in one sentence, which is empty where it is one.
 pub fn explain_line(alloc: Global, line: &[u8]) -> Phrase {
     let mut told = Phrase::new(alloc);
+    if tell_program_line(line, &mut told) || tell_printed(line, &mut told) {
+        return told;
+    }
     if tell_spaces(line, &mut told) {
         return told;
     }
@@ -24,9 +28,7 @@ pub fn explain_line(alloc: Global, line: &[u8]) -> Phrase {
     let word = words.next().unwrap_or(line);
     let count = words.count();
     let Some(form) = form_of(&EVENTS, word) else {
-        told.quote(word);
-        told.put(b" is the word of no event");
-        put_meant(alloc, &EVENTS, word, &mut told);
+        tell_word(alloc, word, &mut told);
         return told;
     };
     if tell_number(line, &mut told) {
@@ -40,6 +42,58 @@ pub fn explain_line(alloc: Global, line: &[u8]) -> Phrase {
         told.put(form);
     }
     told
+}
+
+// A word of no event.
+fn tell_word(alloc: Global, word: &[u8], out: &mut Phrase) {
+    let cure = cure_of(word);
+    if !cure.is_empty() {
+        out.quote(word);
+        out.put(b" is the word of no event: ");
+        out.put(cure);
+        return;
+    }
+    out.quote_front(word);
+    out.put(b" is the word of no event");
+    put_meant(alloc, &EVENTS, word, out);
+}
+
+// What is written in the place of a word.
+fn cure_of(word: &[u8]) -> &'static [u8] {
+    match word {
+        b"start" | b"run" | b"begin" | b"init" | b"launch" => b"'move 1' starts process 1",
+        b"step" | b"go" | b"next" | b"continue" | b"take" | b"choose" => {
+            b"'move 1' goes on from a label, and 'move 1 2' takes alternative 2 of an await"
+        }
+        b"drop" | b"loose" | b"delete" | b"del" => b"'lose 1 2 1' loses message 1 from 1 to 2",
+        b"dup" | b"double" | b"duplicate" | b"copy" | b"again" => {
+            b"'repeat 1 2 1' doubles message 1 from 1 to 2"
+        }
+        b"send" | b"recv" | b"receive" | b"dlv" | b"transmit" => {
+            b"'deliver 1 2 1' delivers message 1 from 1 to 2; sending is part of a move"
+        }
+        b"wait" | b"sleep" | b"expire" | b"tick" => {
+            b"'timeout 1' lets the time of process 1 run out, and nothing else takes time"
+        }
+        b"print" | b"dump" | b"state" | b"answer" => b"'show 1' prints what process 1 keeps",
+        b"stats" | b"count" | b"memory" => b"'stat 1' prints how much process 1 keeps",
+        b"crash" | b"kill" | b"end" | b"exit" => {
+            b"no event ends a process: leave it without events"
+        }
+        b"//" | b"--" | b"/*" | b";" | b"%" => b"a remark begins with #",
+        b"1" | b"2" | b"3" => b"a line begins with its word, as in 'move 1'",
+        _ => cure_of_form(word),
+    }
+}
+
+// The same of words that begin or end with a sign.
+fn cure_of_form(word: &[u8]) -> &'static [u8] {
+    match word {
+        [b'/', b'/', ..] | [b'-', b'-', ..] => b"a remark begins with #",
+        _ if word.contains(&b'(') => b"the numbers stand behind the word without brackets: move 1",
+        [.., b':' | b',' | b';'] => b"the words are parted by single spaces alone: move 1",
+        _ => b"",
+    }
 }
 
 // What stands between the words.
@@ -85,12 +139,27 @@ fn takes(word: &[u8], count: usize) -> bool {
 fn tell_number(line: &[u8], out: &mut Phrase) -> bool {
     for word in line.split(|byte| *byte == b' ').skip(1) {
         if !is_number(word) {
-            out.quote(word);
+            out.quote_front(word);
             out.put(b" is no number from 1 to 999999999 without a 0 in front");
+            out.put(cure_of_number(word));
             return true;
         }
     }
     false
+}
+
+// What is to be written in the place of a word that is no number.
+fn cure_of_number(word: &[u8]) -> &'static [u8] {
+    match word {
+        [b'(' | b'\'', ..] => b": a message is named by its place in the channel, counted from 1",
+        [first, ..] if first.is_ascii_alphabetic() => {
+            b": processes are numbered from 1 on, in the order in which main makes them"
+        }
+        _ if word.contains(&b',') => b": the numbers are parted by single spaces",
+        _ if word.contains(&b'>') =>
+            b": the numbers are parted by single spaces, as in deliver 1 2 1",
+        _ => b"",
+    }
 }
 
 fn is_number(word: &[u8]) -> bool {

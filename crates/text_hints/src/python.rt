@@ -4,13 +4,22 @@ use crate::hint::Hint;
 use crate::spot::Spot;
 use da_values::Mark;
 
-/// Tells what is written in the place of what stands at the spot, where one of these marks is expected. Whether it is known.
-pub fn tell_python(spot: Spot<'_>, marks: &[Mark], hint: &mut Hint) -> bool {
+/// Tells what is written in the place of a statement that begins as in another language. Whether it is known.
+pub fn tell_first(spot: Spot<'_>, hint: &mut Hint) -> bool {
     if tell_augmented(spot, hint) {
         return true;
     }
+    let note = on_first_word(spot);
+    if note.is_empty() {
+        return false;
+    }
+    hint.note(note);
+    true
+}
+
+/// Tells what is written in the place of what stands at the spot, where one of these marks is expected. Whether it is known.
+pub fn tell_python(spot: Spot<'_>, marks: &[Mark], hint: &mut Hint) -> bool {
     for note in [
-        on_first_word(spot),
         on_outermost(spot, marks),
         on_main(spot, marks),
         on_header(spot, marks),
@@ -68,12 +77,26 @@ fn on_first_word(spot: Spot<'_>) -> &'static [u8] {
         b"break" | b"continue" => {
             b"a loop is not left before its end: use a condition, while not done and ..:"
         }
-        b"import" => b"there are no imports",
+        b"import" | b"include" => b"there are no imports",
         b"print" => b"write output(..)",
         b"global" | b"nonlocal" => b"a method sees the variables of its class without that",
-        b"assert" | b"raise" | b"try" | b"except" | b"with" => b"there are no exceptions",
+        b"assert" => {
+            b"there is no assert: write if not (..): and below it output(..), which a hunt can look for"
+        }
+        b"raise" | b"try" | b"except" | b"with" => b"there are no exceptions",
         b"let" | b"const" | b"int" => b"variables are declared in the class: var x: int",
         b"wait" | b"sleep" => b"write await and a condition",
+        b"yield" => b"a place to wait is a label, -- name, or an await",
+        b"switch" | b"match" | b"case" => b"write if, elif and else",
+        b"do" | b"loop" | b"until" => b"a loop is written while ..: or for x in ..:",
+        b"echo" | b"puts" | b"printf" => b"write output(..)",
+        b"foreach" | b"forall" => b"write for x in s:",
+        b"end" | b"endif" | b"fi" | b"od" | b"endwhile" | b"endfor" => {
+            b"a block ends where its indentation does"
+        }
+        b"label" => b"a label is written so: -- ready",
+        b"waitfor" | b"waituntil" | b"wait_until" | b"wait_for" => b"write await and a condition",
+        b"unless" => b"write if not (..):",
         _ => b"",
     }
 }
@@ -150,7 +173,7 @@ fn on_method(spot: Spot<'_>, marks: &[Mark], name: usize) -> &'static [u8] {
     } else if spot.here(Mark::SelfWord) {
         b"there is no parameter self: a method sees the variables of its class"
     } else if ends && spot.back(1, Mark::Name) && has(marks, Mark::Colon) {
-        b"each parameter has a type: def f(x: int, p: proc):"
+        b"each parameter has a type: def f(x: int, p: proc):, or let 'dalgo infer' add the types"
     } else if spot.here(Mark::Assign) {
         b"parameters have no defaults"
     } else if spot.here(Mark::Minus) {
@@ -281,6 +304,12 @@ fn on_call(name: &[u8]) -> &'static [u8] {
         b"abs" => b"there is no abs: compare with 0",
         b"any" | b"all" => b"write some x in s | .. or each x in s | ..",
         b"print" => b"write output(..)",
+        b"input" | b"argv" => b"there is no input: setup and messages give a process its values",
+        b"random" | b"randint" | b"choice" | b"rand" => {
+            b"there is no chance: an await with several true alternatives lets the schedule choose"
+        }
+        b"time" | b"now" | b"clock" => b"the logical clock is logical_time()",
+        b"sorted" | b"reversed" => b"sets have an order of their own: a loop goes upwards",
         _ => {
             b"a call stands on a line of its own, and its method leaves what it works out in a variable"
         }

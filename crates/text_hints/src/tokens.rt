@@ -37,6 +37,14 @@ fn tell_piece(text: &[u8], line: Line<'_>, hint: &mut Hint) {
 fn tell_spelling(text: &[u8], place: usize, bad: Bad, hint: &mut Hint) {
     hint.blame(place, bad.length);
     let bytes = between(text, place, place.saturating_add(bad.length));
+    if between(text, place, place.saturating_add(3)) == b"\"\"\"".as_slice() {
+        hint.say(b"there are no docstrings: a comment begins with #");
+        return;
+    }
+    if between(text, place, place.saturating_add(2)) == b"/*".as_slice() {
+        hint.say(b"a comment begins with #, and ends with its line");
+        return;
+    }
     let form = match bytes {
         [b'0', ..] => b"an integer has no 0 in front: @".as_slice(),
         [b'1'..=b'9', ..] => b"@ is more than the greatest integer, 9223372036854775807",
@@ -56,6 +64,10 @@ fn cure_of(bytes: &[u8]) -> &'static [u8] {
         [b'^'] => b"there are no powers",
         [b'\\'] => b"a line goes on by itself while a bracket is open",
         [b'@'] => b"there are no decorators",
+        [b'?'] => b"there is no value with an if inside: write an if with lines of its own",
+        [b'~'] => b"write not",
+        [b'`'] => b"a text stands in single quotes ('), as in 'ping'",
+        [b'$'] => b"a name has letters, digits and _ alone",
         _ => b"only a text and a comment may hold it",
     }
 }
