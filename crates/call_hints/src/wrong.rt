@@ -31,7 +31,7 @@ pub fn why_not(alloc: Global, words: &[String]) -> Phrase {
 // Words of which one has no form that its place asks for.
 fn tell_words(alloc: Global, command: &[u8], words: &[String], out: &mut Phrase) {
     if !tell_numbers(command, words, out) && command == b"hunt".as_slice() {
-        let (_, what) = words.split_at(5.min(words.len()));
+        let (_, what) = words.split_at(words.len().min(5));
         tell_what(alloc, what, out);
     }
 }

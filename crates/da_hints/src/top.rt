@@ -80,7 +80,7 @@ pub fn explain_loosely(alloc: Global, text: &[u8], why: Why, line: u32) -> Hint 
 }
 
 // Why a program is refused, at which line, and whether only what is used there counts.
-#[derive(Clone, Copy, Debug)]
+#[derive(Clone, Copy)]
 struct Asked {
     why: Why,
     line: u32,

@@ -4,7 +4,7 @@ use da_lang::{Branch, ChainTree, Expr, GenTree, PatternTree, PeerTree, SourceTre
 use da_values::{Boxed, List};
 
 /// What an expression or a pattern holds.
-#[derive(Clone, Copy, Debug)]
+#[derive(Clone, Copy)]
 pub enum Part<'t> {
     /// A name that is read.
     Name(&'t [u8]),

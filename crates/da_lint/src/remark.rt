@@ -3,7 +3,7 @@ use da_values::{Buf, List, write_number};
 use text_hints::Phrase;
 
 /// What is remarkable.
-#[derive(Clone, Copy, Debug, PartialEq, Eq)]
+#[derive(Clone, Copy, PartialEq, Eq)]
 pub enum Kind {
     /// A block of an `await` that is never taken, or that no node takes.
     Never,
@@ -32,7 +32,7 @@ fn word_of(kind: Kind) -> &'static [u8] {
 }
 
 /// A remark: its kind, its place with line and column counted from 1, and what is so and what helps, on one line.
-#[derive(Debug, Drop)]
+#[derive(Drop)]
 pub struct Remark {
     pub kind: Kind,
     pub line: u32,

@@ -88,7 +88,7 @@ pub fn warn<R: rt::Files + AllocGlobal + Eprint>(rt: &R, program: &str, words: &
         let remarks = remarks_on(rt.alloc(), text.as_slice());
         let told = tell_remarks(rt, program, remarks.as_slice());
         drop(told);
-        let (_, values) = words.split_at(6.min(words.len()));
+        let (_, values) = words.split_at(words.len().min(6));
         for word in values {
             let told = tell_no_text(rt, program, text.as_slice(), word.as_bytes());
             drop(told);

@@ -19,7 +19,7 @@ pub struct StopPlace {
 }
 
 /// A text, and whether its parameters may lack their types.
-#[derive(Clone, Copy, Debug)]
+#[derive(Clone, Copy)]
 pub struct Source<'t> {
     pub text: &'t [u8],
     pub loose: bool,

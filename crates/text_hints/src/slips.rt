@@ -48,8 +48,8 @@ fn tell_called(spot: Spot<'_>, hint: &mut Hint) -> bool {
     if !(spot.here(Mark::OpenParen) && spot.back(1, Mark::Name)) {
         return false;
     }
-    let form = if spot.back(2, Mark::Some) {
-        b"write some ('$', ..) in received: a message begins with its tag as a text".as_slice()
+    let form: &[u8] = if spot.back(2, Mark::Some) {
+        b"write some ('$', ..) in received: a message begins with its tag as a text"
     } else if spot.back(2, Mark::Each) {
         b"write each ('$', ..) in received: a message begins with its tag as a text"
     } else if spot.back(2, Mark::Receive) {
