@@ -60,12 +60,16 @@ fn tell_value(alloc: Global, name: &[u8], word: &[u8], out: &mut Phrase) -> bool
     out.put(b" is the text of a value, and ");
     out.quote_front(word);
     out.put(b" is none");
-    if word
+    let inside = match word {
+        [b'"', inside @ .., b'"'] => inside,
+        _ => word,
+    };
+    if inside
         .iter()
         .all(|byte| byte.is_ascii_alphanumeric() || *byte == b'_')
     {
         out.put(b": for a text write \"'");
-        out.put(word);
+        out.put(inside);
         out.put(b"'\", since the shell takes the double quotes off");
     }
     true

@@ -52,10 +52,33 @@ fn tell_few(command: &[u8], count: usize, given: usize, out: &mut Phrase) {
 // Too many words, and the first of these.
 fn tell_many(command: &[u8], count: usize, rest: &[String], out: &mut Phrase) {
     tell_count(command, count, rest.len(), out);
-    if let Some(word) = rest.get(count) {
+    if let Some(word) = excess(count, rest) {
         out.put(b": ");
-        out.quote_front(word.as_bytes());
+        out.quote_front(word);
         out.put(b" is one too many");
+        if word == b"--traces".as_slice() {
+            out.put(b"; ./dalgo takes '--traces DIR' as the last two words of launch");
+        } else if is_option(word) {
+            out.put(b", since there are no options");
+        }
+    }
+}
+
+// The word that is too many: the first that begins as an option does, or else the first behind those that are taken.
+fn excess(count: usize, rest: &[String]) -> Option<&[u8]> {
+    for word in rest {
+        if is_option(word.as_bytes()) {
+            return Some(word.as_bytes());
+        }
+    }
+    Some(rest.get(count)?.as_bytes())
+}
+
+// Whether a word begins as an option does.
+fn is_option(word: &[u8]) -> bool {
+    match word {
+        [b'-', second, ..] => !second.is_ascii_digit(),
+        _ => false,
     }
 }
 

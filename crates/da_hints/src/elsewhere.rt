@@ -1,11 +1,11 @@
-//! Where else a name is bound that is unknown at its place.
+//! Where else a name stands that is unknown at its place.
 use crate::case::Case;
 use crate::rows::rows_of;
 use crate::scope::Role;
 use crate::site::Part;
 use crate::walk::{Step, Walk, put_steps};
 use da_bodies::Place;
-use da_lang::Expr;
+use da_lang::{Expr, MainLine, Member};
 use da_values::List;
 use std::alloc::Global;
 
@@ -75,6 +75,66 @@ fn is_some(x: &Expr) -> bool {
         Expr::Quant { each, .. } => !*each,
         _ => false,
     }
+}
+
+/// Tells that the name stands for something of the program that is no value: a class, a process of `main`, a method or a message.
+/// Whether it does so.
+pub fn note_otherwise(name: &[u8], case: &mut Case<'_>) -> bool {
+    let form = other_use(name, case);
+    if form.is_empty() {
+        return false;
+    }
+    case.note_of(form, name, name);
+    true
+}
+
+// What stands for a name that is no value, with what helps, or nothing.
+fn other_use(name: &[u8], case: &Case<'_>) -> &'static [u8] {
+    let Some(class) = case.site.class else {
+        return b"";
+    };
+    for member in class.members.as_slice() {
+        if let Member::Method { name: other, .. } = member {
+            if other.as_slice() == name {
+                return b"@ is a method, whose call stands on a line of its own: $(..)";
+            }
+        }
+    }
+    for other in case.tree.classes.as_slice() {
+        if other.name.as_slice() == name {
+            return b"@ is a class: processes come to know each other by setup or by messages, as values of type proc";
+        }
+    }
+    for made in case.tree.main.as_slice() {
+        if let MainLine::New { name: other, .. } = made {
+            if other.as_slice() == name {
+                return b"main makes @: it gives it to a process by setup(.., $), whose class keeps it by def setup(p: proc):";
+            }
+        }
+    }
+    if is_tag(name, case) {
+        return b"@ is the tag of a message, and stands in quotes: ('$', ..)";
+    }
+    b""
+}
+
+// Whether a message has this tag.
+fn is_tag(name: &[u8], case: &Case<'_>) -> bool {
+    for message in case.tree.messages.as_slice() {
+        if message.tag.as_slice() == name {
+            return true;
+        }
+    }
+    false
+}
+
+/// Tells how a message of this tag is sent. Whether there is one.
+pub fn note_tag(name: &[u8], case: &mut Case<'_>) -> bool {
+    let found = is_tag(name, case);
+    if found {
+        case.note_of(b"a message is sent so: send ('$', ..) to p", name, b"");
+    }
+    found
 }
 
 /// Tells that a handler does not name the sender of its message. Whether it is so.

@@ -1,6 +1,6 @@
 //! Names that are not what their place asks for.
 use crate::case::Case;
-use crate::elsewhere::{note_sender, note_within};
+use crate::elsewhere::{note_otherwise, note_sender, note_tag, note_within};
 use crate::labels::tell_no_label;
 use crate::parts::{blame_place, blame_source, blame_word, place_of, written};
 use crate::scope::{Role, Scope, role_name};
@@ -175,9 +175,14 @@ fn tell_callee(case: &mut Case<'_>) -> bool {
     }
     case.tell(form, holder, name);
     blame_word(name, case);
+    let called = !holder.is_empty();
     match cure_of_call(name) {
-        Some(cure) if !holder.is_empty() => case.note(cure),
-        _ => note_names(name, names.as_slice(), !holder.is_empty(), case),
+        Some(cure) if called => case.note(cure),
+        _ => {
+            if !(called && note_tag(name, case)) {
+                note_names(name, names.as_slice(), called, case);
+            }
+        }
     }
     true
 }
@@ -296,7 +301,10 @@ fn tell_name<'t>(name: &'t [u8], wanted: Wanted, case: &mut Case<'t>) {
     match cure_of_value(name) {
         Some(cure) => case.note(cure),
         None => {
-            if !note_within(name, case) && !note_elsewhere(name, case) {
+            if !note_otherwise(name, case)
+                && !note_within(name, case)
+                && !note_elsewhere(name, case)
+            {
                 note_value(name, wanted, case);
             }
         }
@@ -368,6 +376,9 @@ fn cure_of_value(name: &[u8]) -> Option<&'static [u8]> {
             Some(b"receive (..) from p: names the message's parts and its sender by patterns")
         }
         b"time" | b"now" | b"clock" => Some(b"the logical clock is logical_time()"),
+        b"all" | b"everyone" | b"everybody" | b"others" => {
+            Some(b"write send ('ping', 5) to ps, where ps is a set of processes (set[proc])")
+        }
         b"NULL" | b"undefined" | b"Nil" => Some(
             b"there is no None: a set that is empty, or a variable of type bool, says that nothing is there",
         ),

@@ -61,8 +61,11 @@ fn tell_word(alloc: Global, word: &[u8], out: &mut Phrase) {
 // What is written in the place of a word.
 fn cure_of(word: &[u8]) -> &'static [u8] {
     match word {
-        b"start" | b"run" | b"begin" | b"init" | b"launch" => b"'move 1' starts process 1",
-        b"step" | b"go" | b"next" | b"continue" | b"take" | b"choose" => {
+        b"start" | b"started" | b"run" | b"begin" | b"init" | b"launch" | b"new" => {
+            b"'move 1' starts process 1"
+        }
+        b"took" => b"the event that lets process 1 act is 'move 1'",
+        b"step" | b"go" | b"next" | b"continue" | b"take" | b"choose" | b"await" => {
             b"'move 1' goes on from a label, and 'move 1 2' takes alternative 2 of an await"
         }
         b"drop" | b"loose" | b"delete" | b"del" => b"'lose 1 2 1' loses message 1 from 1 to 2",
@@ -80,8 +83,9 @@ fn cure_of(word: &[u8]) -> &'static [u8] {
         b"crash" | b"kill" | b"end" | b"exit" => {
             b"no event ends a process: leave it without events"
         }
+        b"output" => b"what a process puts out is part of its moves",
+        b"ok" | b"refused" => b"this is what a call prints, and no schedule",
         b"//" | b"--" | b"/*" | b";" | b"%" => b"a remark begins with #",
-        b"1" | b"2" | b"3" => b"a line begins with its word, as in 'move 1'",
         _ => cure_of_form(word),
     }
 }
@@ -90,6 +94,7 @@ fn cure_of(word: &[u8]) -> &'static [u8] {
 fn cure_of_form(word: &[u8]) -> &'static [u8] {
     match word {
         [b'/', b'/', ..] | [b'-', b'-', ..] => b"a remark begins with #",
+        [b'0'..=b'9' | b'[', ..] => b"a line begins with its word, as in 'move 1'",
         _ if word.contains(&b'(') => b"the numbers stand behind the word without brackets: move 1",
         [.., b':' | b',' | b';'] => b"the words are parted by single spaces alone: move 1",
         _ => b"",
@@ -156,6 +161,7 @@ fn cure_of_number(word: &[u8]) -> &'static [u8] {
             b": processes are numbered from 1 on, in the order in which main makes them"
         }
         _ if word.contains(&b',') => b": the numbers are parted by single spaces",
+        _ if word.contains(&b';') => b": each event stands on a line of its own",
         _ if word.contains(&b'>') =>
             b": the numbers are parted by single spaces, as in deliver 1 2 1",
         _ => b"",

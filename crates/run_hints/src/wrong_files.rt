@@ -8,11 +8,12 @@ pub fn tell_program_line(line: &[u8], out: &mut Phrase) -> bool {
         return true;
     }
     let word = first_word(line.trim_ascii_start());
-    let is_program = matches!(
-        word,
-        b"message" | b"class" | b"channel" | b"def" | b"var" | b"receive"
-    );
-    if is_program && line.contains(&b' ') {
+    let is_program = match word {
+        b"message" | b"class" | b"channel" | b"def" | b"var" => line.contains(&b' '),
+        b"receive" => line.contains(&b'('),
+        _ => false,
+    };
+    if is_program {
         out.put(b"this is a line of a program: the program stands before the schedule, PROG SCHED");
         return true;
     }

@@ -19,6 +19,7 @@ pub fn gap_at(spot: Spot<'_>, marks: &[Mark]) -> &'static [u8] {
         on_variable(spot),
         on_main(spot, marks),
         on_member(spot, marks),
+        on_number(spot),
     ] {
         if !note.is_empty() {
             return note;
@@ -235,7 +236,11 @@ fn is_type(spot: Spot<'_>) -> bool {
 fn on_type(spot: Spot<'_>, marks: &[Mark]) -> &'static [u8] {
     let begin = spot.begin();
     let is_message = spot.is(begin, Mark::Message);
-    if has(marks, Mark::Int) && spot.is(begin, Mark::Def) {
+    if has(marks, Mark::Int) && is_process(spot) {
+        b"the type of every process is proc"
+    } else if has(marks, Mark::Int) && is_map(spot.bytes(spot.place)) {
+        b"a set of pairs stands for a map: set[(int, str)]"
+    } else if has(marks, Mark::Int) && spot.is(begin, Mark::Def) {
         b"types are written int, bool, str, proc, (int, str), set[int]"
     } else if has(marks, Mark::Int) && is_message && spot.here(Mark::CloseParen) {
         b"a comma stands between two types alone"
@@ -246,6 +251,25 @@ fn on_type(spot: Spot<'_>, marks: &[Mark]) -> &'static [u8] {
     }
 }
 
+// Whether a word that stands for processes is at the spot: `process`, or the name of a class.
+fn is_process(spot: Spot<'_>) -> bool {
+    let name = spot.bytes(spot.place);
+    if matches!(name, b"process" | b"Process" | b"pid" | b"node") {
+        return true;
+    }
+    for place in 0..spot.tokens.len() {
+        if spot.is(place, Mark::Class) && spot.is_name(place.saturating_add(1), name) {
+            return spot.here(Mark::Name);
+        }
+    }
+    false
+}
+
+// Whether a word is the type of a map in other languages.
+fn is_map(name: &[u8]) -> bool {
+    matches!(name, b"dict" | b"map" | b"Map" | b"HashMap" | b"dictionary" | b"table")
+}
+
 // The header of a handler.
 fn on_receiver(spot: Spot<'_>, marks: &[Mark]) -> &'static [u8] {
     if !spot.is(spot.begin(), Mark::Receive) {
@@ -253,6 +277,12 @@ fn on_receiver(spot: Spot<'_>, marks: &[Mark]) -> &'static [u8] {
     }
     if spot.here(Mark::Comma) && spot.back(1, Mark::Name) && spot.back(2, Mark::Receive) {
         b"a message is a tuple that begins with its tag as a text: receive ('ping', k) from who:"
+    } else if spot.here(Mark::Minus) && spot.is(spot.place.saturating_add(1), Mark::Greater) {
+        b"the statements of a handler stand below it: receive ('ping', k) from who:"
+    } else if spot.is_name(spot.place, b"as") {
+        b"the pattern names the parts of the message, and 'from who' its sender"
+    } else if (spot.here(Mark::Or) || spot.here(Mark::And)) && has(marks, Mark::Comma) {
+        b"a comma stands between labels: at ready, done"
     } else if matches!(spot.bytes(spot.place), b"when" | b"where" | b"if" | b"and") {
         b"a handler has no condition: put an if into its block"
     } else if spot.here(Mark::Colon) && has(marks, Mark::Comma) && has(marks, Mark::CloseParen) {
@@ -287,10 +317,31 @@ fn on_class(spot: Spot<'_>, marks: &[Mark]) -> &'static [u8] {
 
 // The line of a variable.
 fn on_variable(spot: Spot<'_>) -> &'static [u8] {
-    if spot.is(spot.begin(), Mark::Var) && spot.here(Mark::Comma) {
+    if !spot.is(spot.begin(), Mark::Var) {
+        b""
+    } else if spot.here(Mark::Comma) && spot.back(2, Mark::OpenBracket) {
+        b"the elements of a set have one type, which may be a tuple: set[(int, str)]"
+    } else if spot.here(Mark::Comma) || (spot.here(Mark::Name) && spot.back(2, Mark::Var)) {
         b"each variable has a line of its own: var x: int"
     } else {
         b""
+    }
+}
+
+// What stands directly behind the digits of a number.
+fn on_number(spot: Spot<'_>) -> &'static [u8] {
+    let first = match spot.tokens.get(spot.place) {
+        Some(token) => token.first as usize,
+        None => return b"",
+    };
+    if !(spot.here(Mark::Name) && spot.back(1, Mark::Number) && first == spot.end_before()) {
+        return b"";
+    }
+    match spot.bytes(spot.place) {
+        [b'x' | b'X' | b'b' | b'B' | b'o', ..] => b"numbers are written in decimal",
+        [b'_', ..] => b"a number has digits alone: 1000",
+        [b'e' | b'E', ..] => b"there are no floating-point numbers: 1000",
+        _ => b"a number has digits alone, and no unit",
     }
 }
 

@@ -41,7 +41,10 @@ fn on_sign(spot: Spot<'_>) -> &'static [u8] {
     let next = spot.place.saturating_add(1);
     let begin = spot.begin();
     let second = spot.is(begin, Mark::Name) && spot.place == begin.saturating_add(1);
-    if spot.here(Mark::Assign) && spot.is(next, Mark::Less) {
+    let inside = spot.place > begin.saturating_add(1) && spot.back(1, Mark::Name);
+    if inside && spot.here(Mark::Colon) && spot.is(next, Mark::Assign) {
+        b"a variable is set on a line of its own: x = 3"
+    } else if spot.here(Mark::Assign) && spot.is(next, Mark::Less) {
         b"write <="
     } else if spot.here(Mark::Assign) && spot.is(next, Mark::Greater) {
         b"write >="
@@ -64,7 +67,7 @@ fn on_dot(spot: Spot<'_>) -> &'static [u8] {
             b"count" | b"length" | b"len" => { b"the number of elements of a set is count(s)" }
             b"start" =>
                 b"there is no start: a process starts by an event of the schedule, as move 1",
-            _ => b"",
+            _ => on_module(spot.back_bytes(1)),
         };
     }
     if !spot.back(1, Mark::Dot) {
@@ -77,6 +80,19 @@ fn on_dot(spot: Spot<'_>) -> &'static [u8] {
         b"remove" | b"discard" | b"delete" | b"erase" | b"pop" => b"write s.del(e)",
         b"clear" => b"write s = {}",
         b"send" => b"write send ('ping', 5) to p",
+        _ => b"",
+    }
+}
+
+// The name of a library of another language.
+fn on_module(name: &[u8]) -> &'static [u8] {
+    match name {
+        b"random" => {
+            b"there is no chance: an await with several true alternatives lets the schedule choose"
+        }
+        b"time" => b"the logical clock is logical_time(), and timeout: stands behind an await",
+        b"asyncio" | b"threading" => b"a process waits by await and a condition: await n > 5",
+        b"math" => b"there are no floating-point numbers, and no functions of them",
         _ => b"",
     }
 }
@@ -139,8 +155,10 @@ fn on_declared(spot: Spot<'_>) -> &'static [u8] {
     let quoted = spot.here(Mark::Quoted);
     if spot.back(1, Mark::Set) && !spot.here(Mark::Assign) {
         b"types are written int, bool, str, proc, (int, str), set[int]"
-    } else if spot.is(begin, Mark::Message) && quoted {
+    } else if spot.back(1, Mark::Message) && quoted {
         b"the tag of a declaration has no quotes: message ping(int)"
+    } else if spot.is(begin, Mark::Message) && quoted {
+        b"a type has no quotes: message ping(int)"
     } else if spot.is(begin, Mark::Message) && spot.back(2, Mark::Message) {
         b"the types of a message stand in brackets: message ping(int)"
     } else if spot.is(begin, Mark::Receive) && quoted && spot.back(1, Mark::At) {
@@ -175,7 +193,12 @@ fn on_parts(spot: Spot<'_>, marks: &[Mark]) -> &'static [u8] {
         && has(marks, Mark::Plus)
         && spot.is(spot.begin(), Mark::Name)
     {
-        b"a tuple stands in brackets: (1, 2)"
+        let next = spot.place.saturating_add(1);
+        if spot.is(next, Mark::Name) && spot.is(next.saturating_add(1), Mark::Assign) {
+            b"each statement stands on a line of its own"
+        } else {
+            b"a tuple stands in brackets: (1, 2)"
+        }
     } else {
         b""
     }

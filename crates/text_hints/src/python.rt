@@ -83,7 +83,10 @@ fn on_first_word(spot: Spot<'_>) -> &'static [u8] {
         b"assert" => {
             b"there is no assert: write if not (..): and below it output(..), which a hunt can look for"
         }
-        b"raise" | b"try" | b"except" | b"with" => b"there are no exceptions",
+        b"raise" | b"try" | b"except" => b"there are no exceptions",
+        b"with" | b"lock" | b"synchronized" => {
+            b"no lock is needed: a process takes messages at labels and awaits alone"
+        }
         b"let" | b"const" | b"int" => b"variables are declared in the class: var x: int",
         b"wait" | b"sleep" => b"write await and a condition",
         b"yield" => b"a place to wait is a label, -- name, or an await",
@@ -333,6 +336,8 @@ fn on_operator(spot: Spot<'_>, marks: &[Mark]) -> &'static [u8] {
         b"write not (x in s)"
     } else if spot.here(Mark::If) {
         b"there is no value with an if inside: write an if with lines of its own"
+    } else if spot.here(Mark::Dashes) && spot.is(next.saturating_add(1), Mark::Newline) {
+        b"a label (--) stands on a line of its own, and a comment begins with #; two minus signs are parted by a space"
     } else if spot.here(Mark::Dashes) {
         b"-- begins a label: part the two signs by a space"
     } else if spot.here(Mark::Assign) {

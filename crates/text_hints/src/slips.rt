@@ -30,7 +30,8 @@ pub fn tell_slip(spot: Spot<'_>, marks: &[Mark], hint: &mut Hint) -> bool {
         on_source(spot, marks),
         on_braces(spot, marks),
         on_made(spot, marks),
-        on_statement(spot, marks),
+        on_begin(spot, marks),
+        on_statement(spot),
         on_block(spot, marks),
         on_loop(spot),
         on_arguments(spot),
@@ -83,7 +84,8 @@ fn tell_taken(spot: Spot<'_>, marks: &[Mark], hint: &mut Hint) -> bool {
         [] => false,
     };
     let excluded = spot.here(Mark::SelfWord) || spot.here(Mark::Receive) || spot.here(Mark::Main);
-    if !is_word || excluded {
+    let in_order = spot.back(1, Mark::Receive) && (spot.here(Mark::From) || spot.here(Mark::At));
+    if !is_word || excluded || in_order {
         return false;
     }
     let named = spot.back(1, Mark::Var)
@@ -254,8 +256,25 @@ fn on_made(spot: Spot<'_>, marks: &[Mark]) -> &'static [u8] {
     }
 }
 
+// What stands where a statement could begin.
+fn on_begin(spot: Spot<'_>, marks: &[Mark]) -> &'static [u8] {
+    if !has(marks, Mark::Await) {
+        b""
+    } else if spot.here(Mark::OpenParen) && spot.place == spot.begin() {
+        b"no statement begins with '('; the pattern of a query takes a tuple apart: if some (k, p) in q:"
+    } else if spot.here(Mark::Del) {
+        b"write s.del(e)"
+    } else if spot.here(Mark::Var) || is_type(spot) {
+        b"variables are declared in the class, before its methods: var x: int"
+    } else if spot.here(Mark::Def) || spot.here(Mark::Receive) {
+        b"methods and handlers stand in the class, indented by four spaces"
+    } else {
+        b""
+    }
+}
+
 // What stands in a statement.
-fn on_statement(spot: Spot<'_>, marks: &[Mark]) -> &'static [u8] {
+fn on_statement(spot: Spot<'_>) -> &'static [u8] {
     let next = spot.place.saturating_add(1);
     let begin = spot.begin();
     let second = spot.place == begin.saturating_add(1);
@@ -263,13 +282,7 @@ fn on_statement(spot: Spot<'_>, marks: &[Mark]) -> &'static [u8] {
         || spot.is(next, Mark::Bool)
         || spot.is(next, Mark::Str)
         || spot.is(next, Mark::Set);
-    if has(marks, Mark::Await) && spot.here(Mark::Del) {
-        b"write s.del(e)"
-    } else if has(marks, Mark::Await) && (spot.here(Mark::Var) || is_type(spot)) {
-        b"variables are declared in the class, before its methods: var x: int"
-    } else if has(marks, Mark::Await) && (spot.here(Mark::Def) || spot.here(Mark::Receive)) {
-        b"methods and handlers stand in the class, indented by four spaces"
-    } else if second
+    if second
         && spot.is(begin, Mark::Name)
         && spot.here(Mark::Colon)
         && spot.is(next, Mark::Assign)
@@ -316,14 +329,20 @@ fn on_loop(spot: Spot<'_>) -> &'static [u8] {
     }
 }
 
-// Too many values.
+// Too many values, or values with names.
 fn on_arguments(spot: Spot<'_>) -> &'static [u8] {
-    if spot.here(Mark::Comma) && spot.is_inside(Mark::Output) {
+    let comma = spot.here(Mark::Comma);
+    let named = spot.here(Mark::Assign);
+    if comma && spot.is_inside(Mark::Output) {
         b"output takes one value, which may be a tuple: output((n, k))"
-    } else if spot.here(Mark::Comma) && spot.is_inside(Mark::Count) {
+    } else if comma && spot.is_inside(Mark::Count) {
         b"count takes one set"
-    } else if spot.here(Mark::Comma) && (spot.is_inside(Mark::Max) || spot.is_inside(Mark::Min)) {
+    } else if (comma || named) && (spot.is_inside(Mark::Max) || spot.is_inside(Mark::Min)) {
         b"min and max take a set, and the answer for the empty set: max(s, 0)"
+    } else if named && spot.is_inside(Mark::Setup) {
+        b"the values have no names, and stand in the order of the parameters of setup: setup(a, b)"
+    } else if named && spot.is(spot.begin(), Mark::Name) && spot.is_inside(Mark::Name) {
+        b"the values have no names, and stand in the order of the parameters: f(5)"
     } else {
         b""
     }
