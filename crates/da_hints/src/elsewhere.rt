@@ -1,10 +1,10 @@
 //! Where else a name stands that is unknown at its place.
 use crate::case::Case;
 use crate::rows::rows_of;
-use crate::scope::Role;
-use crate::site::Part;
+use crate::scope::{Role, Scope};
+use crate::site::{Part, enter_head};
 use crate::walk::{Step, Walk, put_steps};
-use da_bodies::Place;
+use da_bodies::{Place, body_of};
 use da_lang::{Expr, MainLine, Member};
 use da_values::List;
 use std::alloc::Global;
@@ -135,6 +135,30 @@ pub fn note_tag(name: &[u8], case: &mut Case<'_>) -> bool {
         case.note_of(b"a message is sent so: send ('$', ..) to p", name, b"");
     }
     found
+}
+
+/// Tells that a pattern of a handler has the name. Whether one has.
+pub fn note_handler(name: &[u8], case: &mut Case<'_>) -> bool {
+    let Some(class) = case.site.class else {
+        return false;
+    };
+    for member in class.members.as_slice() {
+        let Some(body) = body_of(member) else {
+            continue;
+        };
+        if matches!(body.place, Place::Handler { .. }) {
+            let mut scope = Scope::new(case.alloc, &[]);
+            enter_head(body, &mut scope);
+            if scope.look(name).is_some() {
+                let line = case.digits(u64::from(body.line));
+                let form =
+                    b"the handler in line $ has the name for its own block: let it keep the value in a variable of the class";
+                case.note_of(form, line.as_slice(), b"");
+                return true;
+            }
+        }
+    }
+    false
 }
 
 /// Tells that a handler does not name the sender of its message. Whether it is so.

@@ -1,6 +1,6 @@
 //! Names that are not what their place asks for.
 use crate::case::Case;
-use crate::elsewhere::{note_otherwise, note_sender, note_tag, note_within};
+use crate::elsewhere::{note_handler, note_otherwise, note_sender, note_tag, note_within};
 use crate::labels::tell_no_label;
 use crate::parts::{blame_place, blame_source, blame_word, place_of, written};
 use crate::scope::{Role, Scope, role_name};
@@ -338,7 +338,8 @@ fn note_value<'t>(name: &'t [u8], wanted: Wanted, case: &mut Case<'t>) {
         case.note(b"sets are kept in variables of the class (var s: set[int])");
     }
     case.note_meant(found);
-    if found.is_none() && wanted == Wanted::Value && !note_sender(name, case) {
+    let unlike = found.is_none() && wanted == Wanted::Value;
+    if unlike && !note_handler(name, case) && !note_sender(name, case) {
         note_none(name, case);
     }
 }

@@ -20,6 +20,7 @@ pub fn gap_at(spot: Spot<'_>, marks: &[Mark]) -> &'static [u8] {
         on_main(spot, marks),
         on_member(spot, marks),
         on_number(spot),
+        on_any(spot, marks),
     ] {
         if !note.is_empty() {
             return note;
@@ -69,7 +70,14 @@ fn on_generator(spot: Spot<'_>, marks: &[Mark]) -> &'static [u8] {
 fn on_await(spot: Spot<'_>, marks: &[Mark]) -> &'static [u8] {
     let ends = spot.here(Mark::Newline) || spot.here(Mark::Colon);
     let behind = spot.back(1, Mark::Colon) && has(marks, Mark::Newline);
-    if behind && spot.is(spot.begin(), Mark::Await) {
+    let waits = spot.is(spot.begin(), Mark::Await);
+    if waits && spot.here(Mark::Comma) && has(marks, Mark::Colon) && has(marks, Mark::Newline) {
+        if spot.is(spot.place.saturating_add(1), Mark::Timeout) {
+            b"a timeout is a block of its own, timeout:, behind the alternatives of the await"
+        } else {
+            b"two conditions are parted by and, or by or; blocks of their own begin with or x:"
+        }
+    } else if behind && waits {
         b"a block stands on lines of its own; the condition of a query stands behind |"
     } else if spot.back(1, Mark::Await) && ends {
         b"a condition stands behind await, as in await n > 5; await false waits for ever"
@@ -267,7 +275,10 @@ fn is_process(spot: Spot<'_>) -> bool {
 
 // Whether a word is the type of a map in other languages.
 fn is_map(name: &[u8]) -> bool {
-    matches!(name, b"dict" | b"map" | b"Map" | b"HashMap" | b"dictionary" | b"table")
+    matches!(
+        name,
+        b"dict" | b"map" | b"Map" | b"HashMap" | b"dictionary" | b"table"
+    )
 }
 
 // The header of a handler.
@@ -342,6 +353,15 @@ fn on_number(spot: Spot<'_>) -> &'static [u8] {
         [b'_', ..] => b"a number has digits alone: 1000",
         [b'e' | b'E', ..] => b"there are no floating-point numbers: 1000",
         _ => b"a number has digits alone, and no unit",
+    }
+}
+
+// A part of a pattern that may be anything.
+fn on_any(spot: Spot<'_>, marks: &[Mark]) -> &'static [u8] {
+    if has(marks, Mark::Wild) && (spot.here(Mark::Star) || spot.here(Mark::Dot)) {
+        b"a part that may be anything is written _"
+    } else {
+        b""
     }
 }
 

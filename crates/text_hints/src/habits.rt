@@ -47,7 +47,7 @@ fn on_sign(spot: Spot<'_>) -> &'static [u8] {
     } else if spot.here(Mark::Assign) && spot.is(next, Mark::Less) {
         b"write <="
     } else if spot.here(Mark::Assign) && spot.is(next, Mark::Greater) {
-        b"write >="
+        b"write >=; for an implication write not a or b"
     } else if spot.here(Mark::Assign) && spot.back(1, Mark::Equal) {
         b"equal is written =="
     } else if spot.here(Mark::Assign) && spot.back(1, Mark::NotEqual) {
@@ -64,7 +64,11 @@ fn on_dot(spot: Spot<'_>) -> &'static [u8] {
     let next = spot.place.saturating_add(1);
     if spot.here(Mark::Dot) {
         return match spot.bytes(next) {
-            b"count" | b"length" | b"len" => { b"the number of elements of a set is count(s)" }
+            b"count" | b"length" | b"len" | b"size" => {
+                b"the number of elements of a set is count(s)"
+            }
+            b"empty" | b"is_empty" | b"isEmpty" => b"whether a set is empty is count(s) == 0",
+            b"pop" => b"a query finds an element, if some x in s:, and s.del(x) takes it out",
             b"start" =>
                 b"there is no start: a process starts by an event of the schedule, as move 1",
             _ => on_module(spot.back_bytes(1)),
@@ -176,7 +180,9 @@ fn on_declared(spot: Spot<'_>) -> &'static [u8] {
 // The line of the channels.
 fn on_channel(spot: Spot<'_>) -> &'static [u8] {
     let begin = spot.begin();
-    if spot.is(begin, Mark::Channel) && spot.place != begin && !spot.here(Mark::Name) {
+    let is_verb = matches!(spot.bytes(spot.place), b"is" | b"are" | b"be");
+    let names = spot.here(Mark::Name) && !is_verb;
+    if spot.is(begin, Mark::Channel) && spot.place != begin && !names {
         b"first stands fifo or unordered, and then reliable or unreliable: channel fifo reliable"
     } else {
         b""

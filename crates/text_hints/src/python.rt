@@ -311,7 +311,7 @@ fn on_call(name: &[u8]) -> &'static [u8] {
         b"random" | b"randint" | b"choice" | b"rand" => {
             b"there is no chance: an await with several true alternatives lets the schedule choose"
         }
-        b"time" | b"now" | b"clock" => b"the logical clock is logical_time()",
+        b"time" | b"now" | b"clock" | b"logical_clock" => b"the logical clock is logical_time()",
         b"sorted" | b"reversed" => b"sets have an order of their own: a loop goes upwards",
         _ => {
             b"a call stands on a line of its own, and its method leaves what it works out in a variable"

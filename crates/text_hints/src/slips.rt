@@ -136,6 +136,8 @@ fn on_outer_word(spot: Spot<'_>, marks: &[Mark]) -> &'static [u8] {
         b"there are no variables of all processes: each class has its own, and messages tell others"
     } else if spot.here(Mark::Receive) {
         b"a handler stands in a class, indented by four spaces"
+    } else if spot.is_name(spot.place, b"config") || spot.is_name(spot.place, b"configure") {
+        b"the first line says how channels are: channel fifo reliable"
     } else {
         b""
     }
@@ -282,7 +284,9 @@ fn on_statement(spot: Spot<'_>) -> &'static [u8] {
         || spot.is(next, Mark::Bool)
         || spot.is(next, Mark::Str)
         || spot.is(next, Mark::Set);
-    if second
+    if spot.is(begin, Mark::Send) && spot.here(Mark::Comma) && spot.back(2, Mark::To) {
+        b"several processes are a set: send ('ping', 5) to {p, q}"
+    } else if second
         && spot.is(begin, Mark::Name)
         && spot.here(Mark::Colon)
         && spot.is(next, Mark::Assign)

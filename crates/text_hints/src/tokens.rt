@@ -5,6 +5,7 @@ use crate::hint::Hint;
 use crate::lines::{Line, between, line_of};
 use crate::phrase::Phrase;
 use crate::pieces::{Bad, bad_piece};
+use crate::reading::slice_at;
 use da_lex::{TokenKind, lex};
 use da_values::{LexKind, List};
 use std::alloc::Global;
@@ -45,12 +46,25 @@ fn tell_spelling(text: &[u8], place: usize, bad: Bad, hint: &mut Hint) {
         hint.say(b"a comment begins with #, and ends with its line");
         return;
     }
+    if bytes == b"\\".as_slice() && !ends_line(text, place.saturating_add(1)) {
+        hint.say(b"no token begins with \\: what one set has and another has not is s - t");
+        return;
+    }
     let form = match bytes {
         [b'0', ..] => b"an integer has no 0 in front: @".as_slice(),
         [b'1'..=b'9', ..] => b"@ is more than the greatest integer, 9223372036854775807",
         _ => b"no token begins with $: $",
     };
     hint.sentence.fill(form, bytes, cure_of(bytes));
+}
+
+// Whether no more than spaces stand between a place and the end of its line.
+fn ends_line(text: &[u8], place: usize) -> bool {
+    let rest = between(text, place, text.len());
+    match rest.iter().find(|byte| **byte != b' ') {
+        Some(byte) => *byte == b'\n' || *byte == b'\r',
+        None => true,
+    }
 }
 
 // What is written in the place of a character.
@@ -82,6 +96,31 @@ fn tell_indent(alloc: Global, text: &[u8], line: Line<'_>, hint: &mut Hint) {
     hint.notes.put(b"the lines of the open blocks have ");
     put_levels(levels.as_slice(), &mut hint.notes);
     hint.note(b" spaces");
+    if let Some(odd) = odd_indent(alloc, between(text, 0, line.first)) {
+        hint.notes.put(b"line ");
+        hint.notes.number(u64::from(odd));
+        hint.note(b" is indented deeper than the line before it, which does not end with ':'");
+    }
+}
+
+// The first line that is indented deeper than the line before it though that one begins no block.
+fn odd_indent(alloc: Global, text: &[u8]) -> Option<u32> {
+    if text.len() > 1_048_576 {
+        return None;
+    }
+    let Ok(tokens) = lex(alloc, text) else {
+        return None;
+    };
+    let list = tokens.list.as_slice();
+    for (place, token) in list.iter().enumerate() {
+        if token.kind == TokenKind::Indent {
+            let before = list.get(place.checked_sub(2)?)?;
+            if slice_at(text, before) != b":".as_slice() {
+                return Some(token.line);
+            }
+        }
+    }
+    None
 }
 
 fn put_levels(levels: &[usize], out: &mut Phrase) {
