@@ -64,7 +64,8 @@ fn on_dot(spot: Spot<'_>) -> &'static [u8] {
     let next = spot.place.saturating_add(1);
     if spot.here(Mark::Dot) {
         return match spot.bytes(next) {
-            b"count" | b"length" | b"len" | b"size" => {
+            b"size" => b"values have no attributes; the number of elements of a set is count(s)",
+            b"count" | b"length" | b"len" => {
                 b"the number of elements of a set is count(s)"
             }
             b"empty" | b"is_empty" | b"isEmpty" => b"whether a set is empty is count(s) == 0",
