@@ -140,6 +140,23 @@ fn nearest_in<'t>(name: &'t [u8], case: &Case<'t>) -> Option<&'t [u8]> {
     nearest.found()
 }
 
+// The same with the words that could stand in its place.
+fn nearest_to<'t>(name: &'t [u8], wanted: Wanted, case: &Case<'t>) -> Option<&'t [u8]> {
+    let mut nearest = Nearest::new(case.alloc, name);
+    for entry in case.scope.entries() {
+        nearest.offer(entry.name);
+    }
+    if wanted == Wanted::Source {
+        nearest.offer(b"received");
+        nearest.offer(b"sent");
+    } else if wanted == Wanted::Value {
+        nearest.offer(b"true");
+        nearest.offer(b"false");
+        nearest.offer(b"self");
+    }
+    nearest.found()
+}
+
 // A method, a class or a name of `main` that is not there.
 fn tell_callee(case: &mut Case<'_>) -> bool {
     let tree = case.tree;
@@ -217,6 +234,14 @@ fn note_names<'t>(name: &'t [u8], names: &[&'t [u8]], called: bool, case: &mut C
             note_list(b"the only method is @", b"the methods are @", names, case);
         }
     } else if matches!(case.site.part, Part::Main(MainLine::New { .. })) {
+        if names.is_empty() {
+            case.note_of(
+                b"a class stands before main: class $ extends process:",
+                name,
+                b"",
+            );
+            return;
+        }
         note_list(b"the only class is @", b"the classes are @", names, case);
     } else if !names.is_empty() {
         note_list(b"made before it is @", b"made before it are @", names, case);
@@ -333,7 +358,7 @@ fn note_elsewhere(name: &[u8], case: &mut Case<'_>) -> bool {
 
 // The name that is meant, or where a name could come from.
 fn note_value<'t>(name: &'t [u8], wanted: Wanted, case: &mut Case<'t>) {
-    let found = nearest_in(name, case);
+    let found = nearest_to(name, wanted, case);
     if found.is_none() && wanted != Wanted::Value {
         case.note(b"sets are kept in variables of the class (var s: set[int])");
     }

@@ -10,7 +10,9 @@ pub fn gap_at(spot: Spot<'_>, marks: &[Mark]) -> &'static [u8] {
         on_generator(spot, marks),
         on_await(spot, marks),
         on_operand(spot, marks),
+        on_number(spot),
         on_set(spot, marks),
+        on_colon(spot, marks),
         on_short(spot, marks),
         on_definition(spot, marks),
         on_type(spot, marks),
@@ -19,7 +21,6 @@ pub fn gap_at(spot: Spot<'_>, marks: &[Mark]) -> &'static [u8] {
         on_variable(spot),
         on_main(spot, marks),
         on_member(spot, marks),
-        on_number(spot),
         on_any(spot, marks),
     ] {
         if !note.is_empty() {
@@ -150,6 +151,9 @@ fn on_set(spot: Spot<'_>, marks: &[Mark]) -> &'static [u8] {
     if !joins {
         return b"";
     }
+    if has(marks, Mark::Comma) && begins_part(spot) {
+        return b"a comma stands between two parts: (a, b)";
+    }
     if is_one_bar(spot) && !has(marks, Mark::Bar) {
         return b"the union of two sets is s + t";
     }
@@ -163,6 +167,31 @@ fn on_set(spot: Spot<'_>, marks: &[Mark]) -> &'static [u8] {
         b"equals" | b"eq" => b"equal is written ==",
         b"contains" => b"whether a set has an element: x in s",
         _ => b"",
+    }
+}
+
+// Whether a further part begins at the spot, directly behind another one.
+fn begins_part(spot: Spot<'_>) -> bool {
+    let number = spot.here(Mark::Number) && !spot.back(1, Mark::CloseParen);
+    let behind = spot.back(1, Mark::Quoted) || spot.back(1, Mark::Number);
+    number || (behind && (spot.here(Mark::Name) || spot.here(Mark::SelfWord)))
+}
+
+// A colon behind what has no block.
+fn on_colon(spot: Spot<'_>, marks: &[Mark]) -> &'static [u8] {
+    let begin = spot.begin();
+    let ends = has(marks, Mark::Newline) && spot.is(spot.place.saturating_add(1), Mark::Newline);
+    if !(spot.here(Mark::Colon) && ends) {
+        b""
+    } else if spot.is(begin, Mark::Message) {
+        b"no colon stands behind a message: message ping(int)"
+    } else if spot.is(begin, Mark::Send)
+        || spot.is(begin, Mark::Name)
+        || spot.is(begin, Mark::Output)
+    {
+        b"no colon stands behind this statement: it has no block"
+    } else {
+        b""
     }
 }
 

@@ -3,7 +3,7 @@ use crate::brackets::open_brackets;
 use crate::expected::{has, put_expected};
 use crate::hint::Hint;
 use crate::lines::{between, column_of, line_number};
-use crate::misspelt::{tell_first_word, tell_word_here};
+use crate::misspelt::{tell_first_word, tell_word_before, tell_word_here};
 use crate::phrase::Phrase;
 use crate::python::{tell_first, tell_python};
 use crate::reading::{Source, next_marks, stop_in};
@@ -59,7 +59,9 @@ fn tell_in(alloc: Global, source: Source<'_>, hint: &mut Hint) {
 fn tell_cure(alloc: Global, spot: Spot<'_>, loose: bool, marks: &[Mark], hint: &mut Hint) -> bool {
     tell_first(spot, hint)
         || tell_first_word(alloc, spot, loose, marks, hint)
+        || (has(marks, Mark::Int) && tell_word_here(alloc, spot, marks, hint))
         || tell_slip(spot, marks, hint)
+        || tell_word_before(alloc, spot, loose, hint)
         || tell_python(spot, marks, hint)
         || tell_word_here(alloc, spot, marks, hint)
 }

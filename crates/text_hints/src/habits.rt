@@ -65,9 +65,7 @@ fn on_dot(spot: Spot<'_>) -> &'static [u8] {
     if spot.here(Mark::Dot) {
         return match spot.bytes(next) {
             b"size" => b"values have no attributes; the number of elements of a set is count(s)",
-            b"count" | b"length" | b"len" => {
-                b"the number of elements of a set is count(s)"
-            }
+            b"count" | b"length" | b"len" => { b"the number of elements of a set is count(s)" }
             b"empty" | b"is_empty" | b"isEmpty" => b"whether a set is empty is count(s) == 0",
             b"pop" => b"a query finds an element, if some x in s:, and s.del(x) takes it out",
             b"start" =>

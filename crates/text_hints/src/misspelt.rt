@@ -41,6 +41,24 @@ pub fn tell_word_here(alloc: Global, spot: Spot<'_>, marks: &[Mark], hint: &mut 
     spot.here(Mark::Name) && tell_meant(alloc, spot.bytes(spot.place), marks, hint)
 }
 
+/// Asks whether a word is meant, where the name before the spot, within a line, is like a word that could stand in its place.
+/// Whether there is such a word.
+pub fn tell_word_before(alloc: Global, spot: Spot<'_>, loose: bool, hint: &mut Hint) -> bool {
+    let Some(place) = spot.place.checked_sub(1) else {
+        return false;
+    };
+    let goes_on = spot.here(Mark::Name) || spot.here(Mark::OpenParen);
+    if !(goes_on && place > spot.begin() && spot.is(place, Mark::Name)) {
+        return false;
+    }
+    let (front, _) = spot.tokens.split_at(place.min(spot.tokens.len()));
+    let text = spot.text;
+    match next_marks(alloc, Source { text, loose }, front) {
+        Some(marks) => tell_meant(alloc, spot.bytes(place), marks.as_slice(), hint),
+        None => false,
+    }
+}
+
 // Asks whether the word of these marks is meant that is most like a name.
 fn tell_meant(alloc: Global, name: &[u8], marks: &[Mark], hint: &mut Hint) -> bool {
     let mut nearest = Nearest::new(alloc, name);

@@ -270,6 +270,8 @@ fn on_begin(spot: Spot<'_>, marks: &[Mark]) -> &'static [u8] {
         b"variables are declared in the class, before its methods: var x: int"
     } else if spot.here(Mark::Def) || spot.here(Mark::Receive) {
         b"methods and handlers stand in the class, indented by four spaces"
+    } else if spot.here(Mark::Setup) || spot.here(Mark::Run) || spot.here(Mark::Main) {
+        b"no statement calls setup, run or main: main sets processes up, and run begins with the first move"
     } else {
         b""
     }
@@ -298,8 +300,19 @@ fn on_statement(spot: Spot<'_>) -> &'static [u8] {
         b"one variable is set at a time: x = 1, and y = 2 on the next line"
     } else if second && spot.is(begin, Mark::Output) && !spot.here(Mark::OpenParen) {
         b"write output(..)"
+    } else if second && spot.is(begin, Mark::Name) && ends_value(spot) {
+        b"a value alone is no statement: x = .. keeps it, and output(..) puts it out"
     } else {
         b""
+    }
+}
+
+// Whether the line ends at the spot, or a value goes on there.
+fn ends_value(spot: Spot<'_>) -> bool {
+    match spot.mark(spot.place) {
+        Some(Mark::Newline | Mark::Plus | Mark::Minus | Mark::Star | Mark::Percent) => true,
+        Some(mark) => is_comparison(mark) && mark != Mark::Equal,
+        None => false,
     }
 }
 
