@@ -118,7 +118,7 @@ fn tell_target(case: &mut Case<'_>) -> bool {
 
 // How the name would be declared, or which one is meant.
 fn note_declaration<'t>(name: &'t [u8], value: &'t Expr, plain: bool, case: &mut Case<'t>) {
-    case.note_meant(nearest_in(name, case));
+    case.note_meant(nearest_to(name, Wanted::Fresh, case));
     let shown = match case.type_of(value) {
         Some(ty) => case.shown(&ty),
         None => case.shown(&Ty::Int),
@@ -131,16 +131,7 @@ fn note_declaration<'t>(name: &'t [u8], value: &'t Expr, plain: bool, case: &mut
     case.note_of(form, name, shown.as_slice());
 }
 
-// The name in scope that is most like one.
-fn nearest_in<'t>(name: &'t [u8], case: &Case<'t>) -> Option<&'t [u8]> {
-    let mut nearest = Nearest::new(case.alloc, name);
-    for entry in case.scope.entries() {
-        nearest.offer(entry.name);
-    }
-    nearest.found()
-}
-
-// The same with the words that could stand in its place.
+// The name in scope, or the word that could stand in its place, that is most like a name.
 fn nearest_to<'t>(name: &'t [u8], wanted: Wanted, case: &Case<'t>) -> Option<&'t [u8]> {
     let mut nearest = Nearest::new(case.alloc, name);
     for entry in case.scope.entries() {

@@ -87,12 +87,14 @@ fn on_dot(spot: Spot<'_>) -> &'static [u8] {
     }
 }
 
+/// What stands in the place of chance.
+pub const NO_CHANCE: &[u8] =
+    b"there is no chance: an await with several true alternatives lets the schedule choose";
+
 // The name of a library of another language.
 fn on_module(name: &[u8]) -> &'static [u8] {
     match name {
-        b"random" => {
-            b"there is no chance: an await with several true alternatives lets the schedule choose"
-        }
+        b"random" => NO_CHANCE,
         b"time" => b"the logical clock is logical_time(), and timeout: stands behind an await",
         b"asyncio" | b"threading" => b"a process waits by await and a condition: await n > 5",
         b"math" => b"there are no floating-point numbers, and no functions of them",

@@ -28,12 +28,7 @@ pub fn tell_first_word(
     if spot.place != next && !spot.is(next, Mark::OpenParen) {
         return false;
     }
-    let (front, _) = spot.tokens.split_at(begin.min(spot.tokens.len()));
-    let text = spot.text;
-    match next_marks(alloc, Source { text, loose }, front) {
-        Some(first) => tell_meant(alloc, spot.bytes(begin), first.as_slice(), hint),
-        None => false,
-    }
+    tell_at(alloc, spot, begin, loose, hint)
 }
 
 /// Asks whether a word is meant, where the name at the spot is like a word that could stand there. Whether there is such a word.
@@ -51,6 +46,11 @@ pub fn tell_word_before(alloc: Global, spot: Spot<'_>, loose: bool, hint: &mut H
     if !(goes_on && place > spot.begin() && spot.is(place, Mark::Name)) {
         return false;
     }
+    tell_at(alloc, spot, place, loose, hint)
+}
+
+// Asks whether a word is meant, where the name at a place before the spot is like a word that could stand in its place.
+fn tell_at(alloc: Global, spot: Spot<'_>, place: usize, loose: bool, hint: &mut Hint) -> bool {
     let (front, _) = spot.tokens.split_at(place.min(spot.tokens.len()));
     let text = spot.text;
     match next_marks(alloc, Source { text, loose }, front) {

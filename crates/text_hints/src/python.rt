@@ -1,5 +1,6 @@
 //! What is written in the place of forms that this language does not have.
 use crate::expected::{has, is_comparison};
+use crate::habits::NO_CHANCE;
 use crate::hint::Hint;
 use crate::spot::Spot;
 use da_values::Mark;
@@ -308,9 +309,7 @@ fn on_call(name: &[u8]) -> &'static [u8] {
         b"any" | b"all" => b"write some x in s | .. or each x in s | ..",
         b"print" => b"write output(..)",
         b"input" | b"argv" => b"there is no input: setup and messages give a process its values",
-        b"random" | b"randint" | b"choice" | b"rand" => {
-            b"there is no chance: an await with several true alternatives lets the schedule choose"
-        }
+        b"random" | b"randint" | b"choice" | b"rand" => NO_CHANCE,
         b"time" | b"now" | b"clock" | b"logical_clock" => b"the logical clock is logical_time()",
         b"sorted" | b"reversed" => b"sets have an order of their own: a loop goes upwards",
         _ => {

@@ -6,7 +6,7 @@ use crate::lines::{Line, between, line_of};
 use crate::phrase::Phrase;
 use crate::pieces::{Bad, bad_piece};
 use crate::reading::slice_at;
-use da_lex::{TokenKind, lex};
+use da_lex::{TokenKind, Tokens, lex};
 use da_values::{LexKind, List};
 use std::alloc::Global;
 
@@ -103,14 +103,17 @@ fn tell_indent(alloc: Global, text: &[u8], line: Line<'_>, hint: &mut Hint) {
     }
 }
 
-// The first line that is indented deeper than the line before it though that one begins no block.
-fn odd_indent(alloc: Global, text: &[u8]) -> Option<u32> {
+// The tokens of a text, where it is not too long and has some.
+fn tokens_in<'t>(alloc: Global, text: &'t [u8]) -> Option<Tokens<'t>> {
     if text.len() > 1_048_576 {
         return None;
     }
-    let Ok(tokens) = lex(alloc, text) else {
-        return None;
-    };
+    lex(alloc, text).ok()
+}
+
+// The first line that is indented deeper than the line before it though that one begins no block.
+fn odd_indent(alloc: Global, text: &[u8]) -> Option<u32> {
+    let tokens = tokens_in(alloc, text)?;
     let list = tokens.list.as_slice();
     for (place, token) in list.iter().enumerate() {
         if token.kind == TokenKind::Indent {
@@ -135,10 +138,7 @@ fn put_levels(levels: &[usize], out: &mut Phrase) {
 // The levels of the blocks that are open after a text, but for 0. What closes at the end of the text stands for no line.
 fn levels_before(alloc: Global, text: &[u8]) -> List<usize> {
     let mut levels = List::new(alloc);
-    if text.len() > 1_048_576 {
-        return levels;
-    }
-    let Ok(tokens) = lex(alloc, text) else {
+    let Some(tokens) = tokens_in(alloc, text) else {
         return levels;
     };
     for token in tokens.list.as_slice() {
