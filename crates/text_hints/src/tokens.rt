@@ -108,7 +108,10 @@ fn tokens_in<'t>(alloc: Global, text: &'t [u8]) -> Option<Tokens<'t>> {
     if text.len() > 1_048_576 {
         return None;
     }
-    lex(alloc, text).ok()
+    match lex(alloc, text) {
+        Ok(tokens) => Some(tokens),
+        Err(_) => None,
+    }
 }
 
 // The first line that is indented deeper than the line before it though that one begins no block.
