@@ -16,15 +16,14 @@ mod starting;
 mod status;
 mod tasks;
 mod top;
-mod unread;
 mod words;
 
 pub use exit::{Ending, NoWords, exit_code, words_of_call};
 pub use lines::{bad_line, refused_line};
 pub use status::Status;
 pub use top::dalgo;
-pub use unread::tell_unread;
 pub use words::{
     Command, FIRST_PORT, LAST_PORT, LAST_START, LaunchSetting, MOST_ANSWERS, MOST_EVENTS,
-    MOST_PROCESSES, Names, NodeSetting, Task, command_of, number_between,
+    MOST_OUTPUTS, MOST_PROCESSES, MOST_SCHEDULES, Names, NodeSetting, Task, command_of,
+    number_between,
 };

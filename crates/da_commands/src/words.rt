@@ -90,6 +90,12 @@ pub const LAST_START: u64 = 281_474_976_710_655;
 /// The most events of a generated schedule.
 pub const MOST_EVENTS: u64 = 1_000_000;
 
+/// The most schedules of a hunt.
+pub const MOST_SCHEDULES: u64 = 1_000_000;
+
+/// The most outputs that a schedule may be looked for to have more of.
+pub const MOST_OUTPUTS: u64 = 1_000_000_000;
+
 /// The first port that the link of a node may be asked for.
 pub const FIRST_PORT: u64 = 1_024;
 

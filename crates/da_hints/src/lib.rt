@@ -3,6 +3,7 @@
 #![tactic(auto)]
 
 mod case;
+mod elsewhere;
 mod extents;
 mod labels;
 mod limits;

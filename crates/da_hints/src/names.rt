@@ -1,5 +1,6 @@
 //! Names that are not what their place asks for.
 use crate::case::Case;
+use crate::elsewhere::{note_handler, note_otherwise, note_sender, note_tag, note_within};
 use crate::labels::tell_no_label;
 use crate::parts::{blame_place, blame_source, blame_word, place_of, written};
 use crate::scope::{Role, Scope, role_name};
@@ -117,7 +118,7 @@ fn tell_target(case: &mut Case<'_>) -> bool {
 
 // How the name would be declared, or which one is meant.
 fn note_declaration<'t>(name: &'t [u8], value: &'t Expr, plain: bool, case: &mut Case<'t>) {
-    case.note_meant(nearest_in(name, case));
+    case.note_meant(nearest_to(name, Wanted::Fresh, case));
     let shown = match case.type_of(value) {
         Some(ty) => case.shown(&ty),
         None => case.shown(&Ty::Int),
@@ -130,11 +131,19 @@ fn note_declaration<'t>(name: &'t [u8], value: &'t Expr, plain: bool, case: &mut
     case.note_of(form, name, shown.as_slice());
 }
 
-// The name in scope that is most like one.
-fn nearest_in<'t>(name: &'t [u8], case: &Case<'t>) -> Option<&'t [u8]> {
+// The name in scope, or the word that could stand in its place, that is most like a name.
+fn nearest_to<'t>(name: &'t [u8], wanted: Wanted, case: &Case<'t>) -> Option<&'t [u8]> {
     let mut nearest = Nearest::new(case.alloc, name);
     for entry in case.scope.entries() {
         nearest.offer(entry.name);
+    }
+    if wanted == Wanted::Source {
+        nearest.offer(b"received");
+        nearest.offer(b"sent");
+    } else if wanted == Wanted::Value {
+        nearest.offer(b"true");
+        nearest.offer(b"false");
+        nearest.offer(b"self");
     }
     nearest.found()
 }
@@ -174,17 +183,77 @@ fn tell_callee(case: &mut Case<'_>) -> bool {
     }
     case.tell(form, holder, name);
     blame_word(name, case);
+    let called = !holder.is_empty();
     match said_of(&CALLS, name) {
-        Some(cure) if !holder.is_empty() => case.note(cure),
+        Some(cure) if called => case.note(cure),
         _ => {
-            let mut nearest = Nearest::new(case.alloc, name);
-            for other in names.as_slice() {
-                nearest.offer(other);
+            if !(called && note_tag(name, case)) {
+                note_names(name, names.as_slice(), called, case);
             }
-            case.note_meant(nearest.found());
         }
     }
     true
+}
+
+/// Words of statements that look like the names of methods where a bracket follows.
+const WORDS: [&[u8]; 5] = [b"output", b"await", b"send", b"while", b"receive"];
+
+// Which of these names is meant, or which word of a statement, where a method is called; or which of them there are.
+fn note_names<'t>(name: &'t [u8], names: &[&'t [u8]], called: bool, case: &mut Case<'t>) {
+    let mut nearest = Nearest::new(case.alloc, name);
+    for other in names {
+        nearest.offer(other);
+    }
+    if called {
+        for word in &WORDS {
+            nearest.offer(word);
+        }
+    }
+    let found = nearest.found();
+    case.note_meant(found);
+    if found.is_some() {
+        return;
+    }
+    if called {
+        if names.is_empty() {
+            case.note_of(
+                b"a method is defined in its class: def $(x: int):",
+                name,
+                b"",
+            );
+        } else {
+            note_list(b"the only method is @", b"the methods are @", names, case);
+        }
+    } else if matches!(case.site.part, Part::Main(MainLine::New { .. })) {
+        if names.is_empty() {
+            case.note_of(
+                b"a class stands before main: class $ extends process:",
+                name,
+                b"",
+            );
+            return;
+        }
+        note_list(b"the only class is @", b"the classes are @", names, case);
+    } else if !names.is_empty() {
+        note_list(b"made before it is @", b"made before it are @", names, case);
+    }
+}
+
+/// The names that are listed at most.
+const MOST_LISTED: usize = 8;
+
+// Lists the names that there are, of which there is one at least.
+fn note_list(one: &[u8], more: &[u8], names: &[&[u8]], case: &mut Case<'_>) {
+    let mut form = if names.len() == 1 { one } else { more };
+    for (place, name) in names.iter().enumerate() {
+        if place == MOST_LISTED {
+            case.hint.notes.put(b", ..");
+            break;
+        }
+        case.hint.notes.fill(form, name, b"");
+        form = b", @".as_slice();
+    }
+    case.note(b"");
 }
 
 // Adds the names that `main` makes before a line.
@@ -207,8 +276,17 @@ const WAITS: &[u8] = b"write await and a condition";
 /// What is written in the place of an end.
 const ENDS: &[u8] = b"a process ends with the last line of run";
 
+/// What is written in the place of sending to all.
+const SENDS: &[u8] = b"write send ('ping', 5) to ps, where ps is a set of processes (set[proc])";
+
+/// What is written in the place of methods that put elements into a set.
+const ADDS: &[u8] = b"write s.add(e)";
+
+/// What is written in the place of methods that take elements out.
+const DELS: &[u8] = b"write s.del(e)";
+
 /// What is written in the place of calls of other languages.
-const CALLS: [(&[u8], &[u8]); 10] = [
+const CALLS: [(&[u8], &[u8]); 22] = [
     (b"print", PRINTS),
     (b"println", PRINTS),
     (b"write", PRINTS),
@@ -221,6 +299,24 @@ const CALLS: [(&[u8], &[u8]); 10] = [
     ),
     (b"exit", ENDS),
     (b"quit", ENDS),
+    (b"stop", ENDS),
+    (b"terminate", ENDS),
+    (b"broadcast", SENDS),
+    (b"multicast", SENDS),
+    (b"sendall", SENDS),
+    (b"send_all", SENDS),
+    (
+        b"assert",
+        b"write if not (..): and below it output(..), which a hunt can look for",
+    ),
+    (b"append", ADDS),
+    (b"add", ADDS),
+    (b"remove", DELS),
+    (b"del", DELS),
+    (
+        b"recv",
+        b"a handler takes messages: receive ('ping', k) from who:",
+    ),
     (b"super", b"there is no inheritance"),
 ];
 
@@ -251,7 +347,10 @@ fn tell_name<'t>(name: &'t [u8], wanted: Wanted, case: &mut Case<'t>) {
     match said_of(&VALUES, name) {
         Some(cure) => case.note(cure),
         None => {
-            if !note_elsewhere(name, case) {
+            if !note_otherwise(name, case)
+                && !note_within(name, case)
+                && !note_elsewhere(name, case)
+            {
                 note_value(name, wanted, case);
             }
         }
@@ -280,12 +379,42 @@ fn note_elsewhere(name: &[u8], case: &mut Case<'_>) -> bool {
 
 // The name that is meant, or where a name could come from.
 fn note_value<'t>(name: &'t [u8], wanted: Wanted, case: &mut Case<'t>) {
-    let found = nearest_in(name, case);
+    let found = nearest_to(name, wanted, case);
     if found.is_none() && wanted != Wanted::Value {
         case.note(b"sets are kept in variables of the class (var s: set[int])");
     }
     case.note_meant(found);
+    let unlike = found.is_none() && wanted == Wanted::Value;
+    if unlike && !note_handler(name, case) && !note_sender(name, case) {
+        note_none(name, case);
+    }
 }
+
+// Which names there are, and how another one comes to be there.
+fn note_none(name: &[u8], case: &mut Case<'_>) {
+    if case.site.class.is_none() {
+        return;
+    }
+    let mut names = List::new(case.alloc);
+    for entry in case.scope.entries() {
+        let _ = names.push(entry.name);
+    }
+    if !names.as_slice().is_empty() {
+        let (one, more) = (
+            b"in scope here is @".as_slice(),
+            b"in scope here are @".as_slice(),
+        );
+        note_list(one, more, names.as_slice(), case);
+    }
+    let form = b"a variable of the class is declared so, and set before it is read: var $: int";
+    case.note_of(form, name, b"");
+}
+
+/// What is written in the place of what is true.
+const TRUTH: &[u8] = b"write true";
+
+/// What is written in the place of what is false.
+const FALSITY: &[u8] = b"write false";
 
 /// What is written in the place of nothing.
 const NOTHING: &[u8] =
@@ -298,20 +427,36 @@ const ITSELF: &[u8] = b"write self for the process itself";
 const MESSAGES: &[u8] =
     b"receive (..) from p: names the message's parts and its sender by patterns";
 
+/// What is written in the place of time.
+const CLOCK: &[u8] = b"the logical clock is logical_time()";
+
 /// What is written in the place of values of other languages.
-const VALUES: [(&[u8], &[u8]); 12] = [
-    (b"True", b"write true"),
-    (b"TRUE", b"write true"),
-    (b"False", b"write false"),
-    (b"FALSE", b"write false"),
+const VALUES: [(&[u8], &[u8]); 25] = [
+    (b"True", TRUTH),
+    (b"TRUE", TRUTH),
+    (b"False", FALSITY),
+    (b"FALSE", FALSITY),
     (b"None", NOTHING),
     (b"null", NOTHING),
     (b"nil", NOTHING),
     (b"this", ITSELF),
     (b"me", ITSELF),
+    (b"myself", ITSELF),
+    (b"id", ITSELF),
+    (b"pid", ITSELF),
     (b"msg", MESSAGES),
     (b"message", MESSAGES),
     (b"sender", MESSAGES),
+    (b"time", CLOCK),
+    (b"now", CLOCK),
+    (b"clock", CLOCK),
+    (b"all", SENDS),
+    (b"everyone", SENDS),
+    (b"everybody", SENDS),
+    (b"others", SENDS),
+    (b"NULL", NOTHING),
+    (b"undefined", NOTHING),
+    (b"Nil", NOTHING),
 ];
 
 // An argument of an aggregate that is neither a name nor a comprehension.

@@ -1,6 +1,6 @@
 //! Rules of types in patterns and generators, and messages that are sent.
 use crate::case::Case;
-use crate::parts::{blame_source, blame_word, place_of_pattern};
+use crate::parts::{blame_source, blame_word, place_of, place_of_pattern};
 use crate::queries::tell_term;
 use crate::scope::Role;
 use crate::shown::put_types;
@@ -104,8 +104,25 @@ pub fn tell_message_pattern<'t>(pattern: &'t PatternTree, case: &mut Case<'t>) -
 fn tell_no_message(pattern: &PatternTree, why: &[u8], case: &mut Case<'_>) -> bool {
     put_pattern_part(pattern, case);
     case.say(why);
-    case.note(WRITTEN);
+    match pattern {
+        PatternTree::Text(tag) => note_bare(tag.as_bytes(), case),
+        _ => case.note(WRITTEN),
+    }
     true
+}
+
+// How a message is written of which the tag alone stands there.
+fn note_bare(tag: &[u8], case: &mut Case<'_>) {
+    let parts = match case.scope.message(tag, None) {
+        Some(message) => message.parts.len(),
+        None => 0,
+    };
+    if parts == 0 {
+        let form = b"a message without parts is a tuple too, with a comma: ('$',)";
+        case.note_of(form, tag, b"");
+    } else {
+        case.note(WRITTEN);
+    }
 }
 
 // Adds a pattern to the sentence, and blames it.
@@ -215,7 +232,7 @@ fn tell_equal<'t>(x: &'t Expr, ty: &Ty, case: &mut Case<'t>) -> bool {
 pub fn tell_sent<'t>(x: &'t Expr, case: &mut Case<'t>) -> bool {
     let why = b" is sent, and is no message that is written out";
     let Expr::Tuple(parts) = x else {
-        return tell_form(x, why, WRITTEN, case);
+        return tell_no_tuple(x, why, case);
     };
     let [Expr::Text(tag), rest @ ..] = parts.as_slice() else {
         return tell_form(x, why, WRITTEN, case);
@@ -232,6 +249,20 @@ pub fn tell_sent<'t>(x: &'t Expr, case: &mut Case<'t>) -> bool {
         }
     }
     false
+}
+
+// Something else in the place of a message that is sent.
+fn tell_no_tuple(x: &Expr, why: &[u8], case: &mut Case<'_>) -> bool {
+    match x {
+        Expr::Text(tag) => {
+            let place = place_of(x, case);
+            put_place(place, case);
+            case.say(why);
+            note_bare(tag.as_bytes(), case);
+            true
+        }
+        _ => tell_form(x, why, WRITTEN, case),
+    }
 }
 
 /// Tells that a message is sent to what is neither a process nor a set of them.

@@ -5,9 +5,10 @@ use crate::rows::rows_of;
 use crate::site::Part;
 use crate::walk::Step;
 use da_bodies::{Body, Place, body_of};
-use da_lang::{ClassTree, Expr, MainLine, Param, Stmt};
+use da_lang::{ClassTree, Expr, MainLine, Member, Param, Stmt};
 use da_values::List;
 use std::alloc::Global;
+use text_hints::Nearest;
 
 /// Tells that a method calls itself.
 pub fn tell_recursive(case: &mut Case<'_>) {
@@ -200,8 +201,36 @@ pub fn tell_norun(case: &mut Case<'_>) {
     let name = class.name.as_slice();
     let form = b"the class @ has no method 'run', with which its processes begin";
     case.tell(form, name, b"");
-    case.note(b"where a process only answers messages: def run(): and below it await false");
+    match nearly_run(case.alloc, class) {
+        Some((other, line)) => {
+            let line = case.digits(u64::from(line));
+            let form = b"line $ defines @: a process begins with def run():";
+            case.note_of(form, line.as_slice(), other);
+        }
+        None => {
+            case.note(
+                b"where a process only answers messages: def run(): and below it await false",
+            );
+        }
+    }
     blame_word(name, case);
+}
+
+// The first method whose name is like `run`, or which stands for it in other languages, and its line.
+fn nearly_run(alloc: Global, class: &ClassTree) -> Option<(&[u8], u32)> {
+    for member in class.members.as_slice() {
+        if let Member::Method { name, line, .. } = member {
+            let name = name.as_slice();
+            let mut nearest = Nearest::new(alloc, name);
+            nearest.offer(b"run");
+            if nearest.found().is_some()
+                || matches!(name, b"start" | b"begin" | b"go" | b"execute")
+            {
+                return Some((name, *line));
+            }
+        }
+    }
+    None
 }
 
 /// Tells how many arguments there are, and how many are wanted.

@@ -8,10 +8,10 @@ use crate::rules::{tell_arity, tell_norun, tell_recursive, tell_setup, tell_yiel
 use crate::types::tell_types;
 use crate::undeclared::{loose_of, tell_no_types, with_int};
 use da_lang::{LimitKind, ScopeKind, Tree};
-use da_parse::{ParseFault, parse};
+use da_parse::parse;
 use da_values::LexKind;
 use std::alloc::Global;
-use text_hints::{Hint, tell_grammar, tell_tokens};
+use text_hints::{Hint, tell_grammar, tell_loose_grammar, tell_tokens};
 
 /// Why a program is refused.
 #[derive(Clone, Copy)]
@@ -42,7 +42,12 @@ pub fn explain(alloc: Global, text: &[u8], why: Why, line: u32) -> Hint {
         _ => {
             if let Some(tokens) = tokens_of(alloc, text) {
                 if let Ok(tree) = parse(alloc, &tokens) {
-                    return hint_on(alloc, text, &tree, why, line);
+                    let asked = Asked {
+                        why,
+                        line,
+                        used: false,
+                    };
+                    return hint_on(alloc, text, &tree, asked);
                 }
             }
         }
@@ -55,15 +60,16 @@ pub fn explain_loosely(alloc: Global, text: &[u8], why: Why, line: u32) -> Hint 
     let mut hint = Hint::new(alloc);
     match why {
         Why::Token(kind) => tell_tokens(alloc, text, kind, line, &mut hint),
-        Why::Grammar => {
-            if breaks_grammar_at(alloc, text, line) {
-                tell_grammar(alloc, text, &mut hint);
-            }
-        }
+        Why::Grammar => tell_loose_grammar(alloc, text, &mut hint),
         Why::Name(_) | Why::Limit(_) => {
             if let Some(loose) = loose_of(alloc, text) {
                 if let Ok(tree) = with_int(alloc, &loose) {
-                    return hint_on(alloc, text, &tree, why, line);
+                    // a variable or a message that is added has the line of the first statement with it
+                    let used = match why {
+                        Why::Name(kind) => !matches!(kind, ScopeKind::Twice | ScopeKind::NoRun),
+                        _ => false,
+                    };
+                    return hint_on(alloc, text, &tree, Asked { why, line, used });
                 }
             }
         }
@@ -73,23 +79,20 @@ pub fn explain_loosely(alloc: Global, text: &[u8], why: Why, line: u32) -> Hint 
     hint
 }
 
-// Whether the grammar that asks for all types refuses the text at this line too.
-fn breaks_grammar_at(alloc: Global, text: &[u8], number: u32) -> bool {
-    let Some(tokens) = tokens_of(alloc, text) else {
-        return false;
-    };
-    match parse(alloc, &tokens) {
-        Err(ParseFault::Syntax { line }) | Err(ParseFault::Deep { line }) => line == number,
-        _ => false,
-    }
+// Why a program is refused, at which line, and whether only what is used there counts.
+#[derive(Clone, Copy)]
+struct Asked {
+    why: Why,
+    line: u32,
+    used: bool,
 }
 
 // Tells why a program is refused.
-fn hint_on(alloc: Global, text: &[u8], tree: &Tree, why: Why, line: u32) -> Hint {
-    let Some(mut case) = Case::new(alloc, text, tree, line, false) else {
+fn hint_on(alloc: Global, text: &[u8], tree: &Tree, asked: Asked) -> Hint {
+    let Some(mut case) = Case::new(alloc, text, tree, asked.line, asked.used) else {
         return Hint::new(alloc);
     };
-    match why {
+    match asked.why {
         Why::Name(kind) => tell_names(kind, &mut case),
         Why::Limit(which) => tell_limit(which, &mut case),
         Why::Nodes => tell_nodes(&mut case),

@@ -1,9 +1,9 @@
 //! What a person is told of a join of traces: of a line that is none of its trace, and of processes that are blocked.
-use crate::again::{TOLD, shown, text_again};
 use crate::refused::show;
+use call_hints::{TOLD, shown, shown_name, text_again};
 use da_front::PROGRAM_LIMIT;
 use da_values::{Buf, List};
-use run_hints::{Blocked, explain_blocks, explain_trace_line, trace_line};
+use run_hints::{Blocked, explain_blocks, explain_trace_line, process_count, trace_line};
 use sched_text::TRACE_LIMIT;
 use std::io::Eprint;
 use std::{io, rt};
@@ -19,16 +19,17 @@ pub fn tell_bad_trace<R: rt::Files + AllocGlobal + Eprint>(
     process: u16,
     number: u64,
 ) -> io::Result<()> {
+    let named = shown_name(rt.alloc(), trace)?;
     if number == 0 {
-        return eprintln!(rt; "{trace}: a trace has at most {TRACE_LIMIT} bytes");
+        return eprintln!(rt; "{named}: a trace has at most {TRACE_LIMIT} bytes");
     }
     let text = text_again(rt, trace, TRACE_LIMIT);
     match text
         .as_ref()
         .and_then(|text| trace_line(text.as_slice(), number))
     {
-        Some(line) => tell_line(rt, trace, process, number, line)?,
-        None => eprintln!(rt; "{trace}:{number}: not a line of the trace of process {process}")?,
+        Some(line) => tell_line(rt, named.as_str(), process, number, line)?,
+        None => eprintln!(rt; "{named}:{number}: not a line of the trace of process {process}")?,
     }
     eprintln!(rt;
         "lines: took P K, sent P Q T V, got P Q T V, out P V, end P, fault P KIND LINE, where P is {process}"
@@ -72,7 +73,8 @@ pub fn tell_blocks<R: rt::Files + AllocGlobal + Eprint>(
             Some(text) => text.as_slice(),
             None => &[],
         };
-        tell_block(rt, name.as_str(), *block, text, told.get(place))?;
+        let named = shown_name(rt.alloc(), name.as_str())?;
+        tell_block(rt, named.as_str(), *block, text, told.get(place))?;
     }
     Ok(())
 }
@@ -99,6 +101,29 @@ fn tell_block<R: AllocGlobal + Eprint>(
         Some(bytes) => show(rt, line, bytes),
         None => Ok(()),
     }
+}
+
+/// Tells how many traces a join takes, where there are so many.
+pub fn tell_trace_count<R: rt::Files + AllocGlobal + Eprint>(
+    rt: &R,
+    program: &str,
+    count: usize,
+) -> io::Result<()> {
+    let named = shown_name(rt.alloc(), program)?;
+    match processes_of(rt, program) {
+        Some(wanted) => eprintln!(rt;
+            "{named}: a join takes one trace for each process that main makes, so {wanted}, and not {count}"
+        ),
+        None => eprintln!(rt;
+            "{named}: a join takes one trace for each process that main makes, and not {count}"
+        ),
+    }
+}
+
+/// How many processes the program of this name has, if its text can be read again.
+pub fn processes_of<R: rt::Files + AllocGlobal>(rt: &R, program: &str) -> Option<usize> {
+    let text = text_again(rt, program, PROGRAM_LIMIT)?;
+    process_count(rt.alloc(), text.as_slice())
 }
 
 // Why each process is blocked, as far as that is known.

@@ -2,14 +2,12 @@
 //! told: writes what they do.
 #![tactic(auto)]
 
-mod again;
 mod joined;
 mod needs;
 mod refused;
 mod report;
 mod stopped;
 mod watch;
-mod words;
 
 use arq_link::ArqLink;
 use da_commands::{NoWords, Status, dalgo, exit_code, words_of_call};

@@ -1,5 +1,5 @@
 //! What a person is told of a program that is refused.
-use crate::again::{SHOWN, TOLD, shown, text_again};
+use call_hints::{SHOWN, TOLD, shown, shown_name, text_again};
 use da_front::{PROGRAM_LIMIT, RefusedKind};
 use da_hints::{Why, explain, explain_loosely};
 use da_lang::{LimitKind, ScopeKind};
@@ -38,16 +38,17 @@ fn tell_by<R: rt::Files + AllocGlobal + Eprint>(
     number: u32,
     loose: bool,
 ) -> io::Result<()> {
+    let named = shown_name(rt.alloc(), program)?;
     if number == 0 {
-        return eprintln!(rt; "{program}: {kind}");
+        return eprintln!(rt; "{named}: {kind}");
     }
     let Some(text) = text_again(rt, program, PROGRAM_LIMIT) else {
-        return eprintln!(rt; "{program}:{number}: {kind}");
+        return eprintln!(rt; "{named}:{number}: {kind}");
     };
     let hint = hint_on(rt, &text, kind, number, loose);
     match line_of(text.as_slice(), number) {
-        Some(line) => tell_line(rt, program, kind, number, line, &hint)?,
-        None => return eprintln!(rt; "{program}:{number}: {kind}"),
+        Some(line) => tell_line(rt, named.as_str(), kind, number, line, &hint)?,
+        None => return eprintln!(rt; "{named}:{number}: {kind}"),
     }
     show_elsewhere(rt, text.as_slice(), number, &hint)?;
     tell_notes(rt, hint.notes.as_slice())

@@ -1,25 +1,15 @@
 //! What a person is told on standard error: why the work was not done, in a few lines, and of a run that a process ended with a
 //! fault. What cannot be told is left out: the exit status says how the call ended.
-use crate::again::{TOLD, shown};
-use crate::joined::{tell_bad_trace, tell_blocks};
+use crate::joined::{processes_of, tell_bad_trace, tell_blocks, tell_trace_count};
 use crate::refused::{tell_refused, tell_refused_loosely};
 use crate::stopped::{tell_bad_line, tell_fault, tell_forbidden};
-use crate::words::why_not;
-use da_commands::{Command, Names, NodeSetting, Status, command_of, tell_unread};
+use call_hints::{shown_name, tell_unread, tell_words};
+use da_commands::{Command, Names, NodeSetting, Status, command_of};
 use da_front::RefusedKind;
 use da_outside::ChildTrouble;
 use run_hints::Blocked;
 use std::io::Eprint;
 use std::{io, rt};
-
-const USAGE: &str = "\
-usage:
-  dalgo check PROG, dalgo plan PROG, dalgo infer PROG
-  dalgo replay PROG SCHED
-  dalgo join PROG TRACE..                 what the nodes wrote, in the order of their processes
-  dalgo stress PROG START N               START from 0 to 281474976710655, N from 1 to 1000000
-  dalgo node PROG PORT ME IDLE TURNS      PORT from 1024 to 65000, ME from 1 to 64,
-  dalgo launch PROG PORT IDLE TURNS       IDLE and TURNS from 1 to 1000000000";
 
 /// How a call ended: its status, the first line that told a fault, how many such lines there were, the processes that are blocked in
 /// a join, and the first child at which a call failed, with the reason.
@@ -42,7 +32,8 @@ pub fn report<R: rt::Files + AllocGlobal + Eprint>(rt: &R, words: &[String], out
         Command::Node { setting, program } => tell_node(rt, setting, program, outcome),
         Command::Launch { program, .. } => tell_launch(rt, program, outcome),
         Command::Join { program, traces } => tell_join(rt, program, traces, outcome),
-        Command::Other => tell_common(rt, words, status),
+        Command::Other if matches!(status, Status::Words) => tell_words(rt, words),
+        Command::Other => tell_common(rt, status),
     };
     drop(told);
 }
@@ -63,7 +54,7 @@ fn tell_replay<R: rt::Files + AllocGlobal + Eprint>(
             if tell_unread(rt, names.program)? || tell_unread(rt, names.schedule)? {
                 return Ok(());
             }
-            tell_common(rt, &[], outcome.status)
+            tell_common(rt, outcome.status)
         }
         status => tell_program(rt, names.program, status),
     }
@@ -81,9 +72,9 @@ fn tell_program<R: rt::Files + AllocGlobal + Eprint>(
             if tell_unread(rt, program)? {
                 return Ok(());
             }
-            tell_common(rt, &[], status)
+            tell_common(rt, status)
         }
-        _ => tell_common(rt, &[], status),
+        _ => tell_common(rt, status),
     }
 }
 
@@ -117,10 +108,30 @@ fn tell_node<R: rt::Files + AllocGlobal + Eprint>(
             let port = u32::from(setting.port) + u32::from(me);
             eprintln!(rt; "dalgo: node {me}: port {port} is not free, or the socket failed")
         }
+        Status::Refused {
+            kind: RefusedKind::Me,
+            ..
+        } => tell_no_process(rt, program, me),
         Status::Idle => eprintln!(rt; "dalgo: node {me}: idle for {idle} turns in a row"),
         Status::Spent => eprintln!(rt; "dalgo: node {me}: all {turns} turns are spent"),
         Status::Faulted => tell_fault(rt, program, outcome.fault, outcome.count),
         status => tell_program(rt, program, status),
+    }
+}
+
+// The program has no process of this number.
+fn tell_no_process<R: rt::Files + AllocGlobal + Eprint>(
+    rt: &R,
+    program: &str,
+    me: u16,
+) -> io::Result<()> {
+    let named = shown_name(rt.alloc(), program)?;
+    match processes_of(rt, program) {
+        Some(1) => eprintln!(rt; "{named}: there is no process {me}: main makes 1, so ME is 1"),
+        Some(count) => eprintln!(rt;
+            "{named}: there is no process {me}: main makes {count}, so ME is from 1 to {count}"
+        ),
+        None => eprintln!(rt; "{named}: there is no process {me}: main makes fewer"),
     }
 }
 
@@ -145,12 +156,7 @@ fn tell_join<R: rt::Files + AllocGlobal + Eprint>(
         Status::Refused {
             kind: RefusedKind::Traces,
             ..
-        } => {
-            let count = traces.len();
-            eprintln!(rt;
-                "{program}: a join takes one trace for each process that main makes, and not {count}"
-            )
-        }
+        } => tell_trace_count(rt, program, traces.len()),
         Status::ReadFault => {
             if tell_unread(rt, program)? {
                 return Ok(());
@@ -160,7 +166,7 @@ fn tell_join<R: rt::Files + AllocGlobal + Eprint>(
                     return Ok(());
                 }
             }
-            tell_common(rt, &[], outcome.status)
+            tell_common(rt, outcome.status)
         }
         status => tell_program(rt, program, status),
     }
@@ -201,18 +207,8 @@ fn meaning_of(status: u8) -> &'static str {
 }
 
 // How a call ended whatever it was for.
-fn tell_common<R: AllocGlobal + Eprint>(
-    rt: &R,
-    words: &[String],
-    status: Status,
-) -> io::Result<()> {
+fn tell_common<R: Eprint>(rt: &R, status: Status) -> io::Result<()> {
     match status {
-        Status::Words => {
-            let why = why_not(rt.alloc(), words);
-            let why = shown(rt.alloc(), why.as_slice(), TOLD)?;
-            eprintln!(rt; "dalgo: {why}")?;
-            eprintln!(rt; "{USAGE}")
-        }
         Status::ReadFault => eprintln!(rt; "dalgo: a read failed"),
         Status::WriteFault => eprintln!(rt; "dalgo: standard output cannot be written"),
         Status::Memory => eprintln!(rt; "dalgo: out of memory"),

@@ -1,7 +1,7 @@
 //! What a person is told of a schedule: of a line that is none, of an event that is not allowed, and of faults.
-use crate::again::{TOLD, shown, text_again};
 use crate::needs::needs_of;
 use crate::refused::{show, tell_notes};
+use call_hints::{TOLD, shown, shown_name, text_again};
 use da_commands::Names;
 use da_front::PROGRAM_LIMIT;
 use run_hints::{Fault, explain_fault, explain_line, explain_stop};
@@ -19,16 +19,17 @@ pub fn tell_bad_line<R: rt::Files + AllocGlobal + Eprint>(
     schedule: &str,
     number: u64,
 ) -> io::Result<()> {
+    let named = shown_name(rt.alloc(), schedule)?;
     if number == 0 {
-        return eprintln!(rt; "{schedule}: a schedule has at most {SCHEDULE_LIMIT} bytes");
+        return eprintln!(rt; "{named}: a schedule has at most {SCHEDULE_LIMIT} bytes");
     }
     let text = text_again(rt, schedule, SCHEDULE_LIMIT);
     match text
         .as_ref()
         .and_then(|text| line_of_number(text.as_slice(), number))
     {
-        Some(line) => tell_line(rt, schedule, number, line)?,
-        None => eprintln!(rt; "{schedule}:{number}: not a line of a schedule")?,
+        Some(line) => tell_line(rt, named.as_str(), number, line)?,
+        None => eprintln!(rt; "{named}:{number}: not a line of a schedule")?,
     }
     eprintln!(rt; "{LINES}")
 }
@@ -56,13 +57,14 @@ pub fn tell_forbidden<R: rt::Files + AllocGlobal + Eprint>(
     event: u64,
 ) -> io::Result<()> {
     let schedule = names.schedule;
+    let named = shown_name(rt.alloc(), schedule)?;
     let Some(text) = text_again(rt, schedule, SCHEDULE_LIMIT) else {
-        return eprintln!(rt; "{schedule}: event {event} is not allowed after the events before it");
+        return eprintln!(rt; "{named}: event {event} is not allowed after the events before it");
     };
     let Some(place) = line_of_event(text.as_slice(), event) else {
-        return eprintln!(rt; "{schedule}: event {event} is not allowed after the events before it");
+        return eprintln!(rt; "{named}: event {event} is not allowed after the events before it");
     };
-    tell_event(rt, schedule, event, place)?;
+    tell_event(rt, named.as_str(), event, place)?;
     let why = match text_again(rt, names.program, PROGRAM_LIMIT) {
         Some(program) => explain_stop(rt.alloc(), program.as_slice(), text.as_slice(), event),
         None => Phrase::new(rt.alloc()),
@@ -96,10 +98,11 @@ pub fn tell_fault<R: rt::Files + AllocGlobal + Eprint>(
         return Ok(());
     };
     let line = fault.line;
+    let named = shown_name(rt.alloc(), program)?;
     let told = shown(rt.alloc(), fault.told.as_slice(), TOLD)?;
     match count.checked_sub(1) {
-        None | Some(0) => eprintln!(rt; "{program}:{line}: {told}"),
-        Some(others) => eprintln!(rt; "{program}:{line}: {told} (and {others} more)"),
+        None | Some(0) => eprintln!(rt; "{named}:{line}: {told}"),
+        Some(others) => eprintln!(rt; "{named}:{line}: {told} (and {others} more)"),
     }
 }
 

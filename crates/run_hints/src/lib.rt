@@ -5,6 +5,7 @@
 
 mod allowed;
 mod blocks;
+mod counts;
 mod faults;
 mod following;
 mod lines;
@@ -16,8 +17,10 @@ mod trace_lines;
 mod unmade;
 mod unsent;
 mod words;
+mod wrong_files;
 
 pub use blocks::{Blocked, blocked_in, explain_blocks};
+pub use counts::process_count;
 pub use faults::{Fault, explain_fault};
 pub use following::explain_events;
 pub use lines::explain_line;

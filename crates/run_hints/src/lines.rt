@@ -1,5 +1,6 @@
 //! Lines that are none of a schedule.
 use crate::words::put_meant;
+use crate::wrong_files::{tell_printed, tell_program_line};
 use std::alloc::Global;
 use text_hints::{Phrase, said_of};
 
@@ -17,6 +18,9 @@ const EVENTS: [(&[u8], &[u8]); 7] = [
 /// Why a line is none of a schedule, in one sentence, which is empty where it is one.
 pub fn explain_line(alloc: Global, line: &[u8]) -> Phrase {
     let mut told = Phrase::new(alloc);
+    if tell_program_line(line, &mut told) || tell_printed(line, &mut told) {
+        return told;
+    }
     if tell_spaces(line, &mut told) {
         return told;
     }
@@ -24,9 +28,7 @@ pub fn explain_line(alloc: Global, line: &[u8]) -> Phrase {
     let word = words.next().unwrap_or(line);
     let count = words.count();
     let Some(form) = said_of(&EVENTS, word) else {
-        told.quote(word);
-        told.put(b" is the word of no event");
-        put_meant(alloc, &EVENTS, word, &mut told);
+        tell_word(alloc, word, &mut told);
         return told;
     };
     if tell_number(line, &mut told) {
@@ -40,6 +42,130 @@ pub fn explain_line(alloc: Global, line: &[u8]) -> Phrase {
         told.put(form);
     }
     told
+}
+
+// A word of no event.
+fn tell_word(alloc: Global, word: &[u8], out: &mut Phrase) {
+    let cure = cure_of(word);
+    if !cure.is_empty() {
+        out.quote(word);
+        out.put(b" is the word of no event: ");
+        out.put(cure);
+        return;
+    }
+    out.quote_front(word);
+    out.put(b" is the word of no event");
+    put_meant(alloc, &EVENTS, word, out);
+}
+
+/// What is written in the place of a start.
+const STARTS: &[u8] = b"'move 1' starts process 1";
+
+/// What is written in the place of a step.
+const STEPS: &[u8] =
+    b"'move 1' goes on from a label, and 'move 1 2' takes alternative 2 of an await";
+
+/// What is written in the place of a loss.
+const LOSSES: &[u8] = b"'lose 1 2 1' loses message 1 from 1 to 2";
+
+/// What is written in the place of a copy.
+const COPIES: &[u8] = b"'repeat 1 2 1' doubles message 1 from 1 to 2";
+
+/// What is written in the place of a delivery.
+const DELIVERIES: &[u8] =
+    b"'deliver 1 2 1' delivers message 1 from 1 to 2; sending is part of a move";
+
+/// What is written in the place of waiting.
+const WAITS: &[u8] = b"'timeout 1' lets the time of process 1 run out, and nothing else takes time";
+
+/// What is written in the place of printing.
+const SHOWS: &[u8] = b"'show 1' prints what process 1 keeps";
+
+/// What is written in the place of counting.
+const STATS: &[u8] = b"'stat 1' prints how much process 1 keeps";
+
+/// What is written in the place of an end.
+const ENDS: &[u8] = b"no event ends a process: leave it without events";
+
+/// What is said of what a call prints.
+const ANSWERS: &[u8] = b"this is what a call prints, and no schedule";
+
+/// What is said of remarks.
+const REMARKS: &[u8] = b"a remark begins with #";
+
+/// The words of no event, and what is written in the place of each.
+const CURES: [(&[u8], &[u8]); 52] = [
+    (b"start", STARTS),
+    (b"started", STARTS),
+    (b"run", STARTS),
+    (b"begin", STARTS),
+    (b"init", STARTS),
+    (b"launch", STARTS),
+    (b"new", STARTS),
+    (b"took", b"the event that lets process 1 act is 'move 1'"),
+    (b"step", STEPS),
+    (b"go", STEPS),
+    (b"next", STEPS),
+    (b"continue", STEPS),
+    (b"take", STEPS),
+    (b"choose", STEPS),
+    (b"await", STEPS),
+    (b"drop", LOSSES),
+    (b"loose", LOSSES),
+    (b"delete", LOSSES),
+    (b"del", LOSSES),
+    (b"dup", COPIES),
+    (b"double", COPIES),
+    (b"duplicate", COPIES),
+    (b"copy", COPIES),
+    (b"again", COPIES),
+    (b"send", DELIVERIES),
+    (b"recv", DELIVERIES),
+    (b"receive", DELIVERIES),
+    (b"dlv", DELIVERIES),
+    (b"transmit", DELIVERIES),
+    (b"wait", WAITS),
+    (b"sleep", WAITS),
+    (b"expire", WAITS),
+    (b"tick", WAITS),
+    (b"print", SHOWS),
+    (b"dump", SHOWS),
+    (b"state", SHOWS),
+    (b"answer", SHOWS),
+    (b"stats", STATS),
+    (b"count", STATS),
+    (b"memory", STATS),
+    (b"crash", ENDS),
+    (b"kill", ENDS),
+    (b"end", ENDS),
+    (b"exit", ENDS),
+    (b"output", b"what a process puts out is part of its moves"),
+    (b"ok", ANSWERS),
+    (b"refused", ANSWERS),
+    (b"//", REMARKS),
+    (b"--", REMARKS),
+    (b"/*", REMARKS),
+    (b";", REMARKS),
+    (b"%", REMARKS),
+];
+
+// What is written in the place of a word.
+fn cure_of(word: &[u8]) -> &'static [u8] {
+    match said_of(&CURES, word) {
+        Some(cure) => cure,
+        None => cure_of_form(word),
+    }
+}
+
+// The same of words that begin or end with a sign.
+fn cure_of_form(word: &[u8]) -> &'static [u8] {
+    match word {
+        [b'/', b'/', ..] | [b'-', b'-', ..] => REMARKS,
+        [b'0'..=b'9' | b'[', ..] => b"a line begins with its word, as in 'move 1'",
+        _ if word.contains(&b'(') => b"the numbers stand behind the word without brackets: move 1",
+        [.., b':' | b',' | b';'] => b"the words are parted by single spaces alone: move 1",
+        _ => b"",
+    }
 }
 
 // What stands between the words.
@@ -85,12 +211,28 @@ fn takes(word: &[u8], count: usize) -> bool {
 fn tell_number(line: &[u8], out: &mut Phrase) -> bool {
     for word in line.split(|byte| *byte == b' ').skip(1) {
         if !is_number(word) {
-            out.quote(word);
+            out.quote_front(word);
             out.put(b" is no number from 1 to 999999999 without a 0 in front");
+            out.put(cure_of_number(word));
             return true;
         }
     }
     false
+}
+
+// What is to be written in the place of a word that is no number.
+fn cure_of_number(word: &[u8]) -> &'static [u8] {
+    match word {
+        [b'(' | b'\'', ..] => b": a message is named by its place in the channel, counted from 1",
+        [first, ..] if first.is_ascii_alphabetic() => {
+            b": processes are numbered from 1 on, in the order in which main makes them"
+        }
+        _ if word.contains(&b',') => b": the numbers are parted by single spaces",
+        _ if word.contains(&b';') => b": each event stands on a line of its own",
+        _ if word.contains(&b'>') =>
+            b": the numbers are parted by single spaces, as in deliver 1 2 1",
+        _ => b"",
+    }
 }
 
 fn is_number(word: &[u8]) -> bool {

@@ -65,7 +65,10 @@ fn tell_event(view: View<'_, '_>, faults: &[Ended], event: Event, out: &mut Phra
             tell_process(view, faults, p, out);
             tell_no_timeout(view, p, out);
         }
-        Event::Take { p, .. } => tell_process(view, faults, p, out),
+        Event::Take { p, k } => {
+            tell_process(view, faults, p, out);
+            tell_no_alternative(view, p, k, out);
+        }
         Event::Show { p } => tell_process(view, faults, p, out),
         Event::Stat { p } => tell_process(view, faults, p, out),
         Event::Deliver { p, q, i } => {
@@ -119,6 +122,26 @@ fn tell_no_timeout(view: View<'_, '_>, p: u32, out: &mut Phrase) {
         Some(Place::Await(_)) => b"this await has no timeout block, so its time does not run out\n",
         _ => b"",
     });
+}
+
+// That an `await` has not so many alternatives.
+fn tell_no_alternative(view: View<'_, '_>, p: u32, k: u32, out: &mut Phrase) {
+    let Some(Place::Await(many)) = view.system.place(p) else {
+        return;
+    };
+    if k <= many {
+        return;
+    }
+    if many == 1 {
+        out.put(b"the await has 1 alternative, which is number 1\n");
+    } else {
+        let many = u64::from(many);
+        fill(
+            b"the await has # alternatives, from 1 to #\n",
+            &[many, many],
+            out,
+        );
+    }
 }
 
 // Whether a process waits at an `await` with a block for a timeout.

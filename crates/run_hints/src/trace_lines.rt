@@ -73,6 +73,12 @@ fn tell_ends(line: &[u8], out: &mut Phrase) -> bool {
 
 fn tell_word(alloc: Global, word: &[u8], out: &mut Phrase) {
     out.quote_front(word);
+    if matches!(word, b"node" | b"status") {
+        out.put(
+            b" begins a line that launch prints: a trace is what stands between two of them, or './dalgo launch .. --traces DIR' writes it",
+        );
+        return;
+    }
     if REPLAYED.iter().any(|known| *known == word) {
         out.put(b" is told by a replay, and by no node");
         return;

@@ -1,23 +1,20 @@
 //! What a person is told on standard error: why the work was not done, in a line or two. What cannot be told is left out: the
 //! exit status says how the call ended.
-use da_commands::tell_unread;
+use call_hints::{
+    SHOWN, TOLD, explain_drawn, line_at, shown, shown_name, tell_unread, tell_words, text_again,
+};
 use da_front::RefusedKind;
 use scout_commands::{Command, Names, Status, command_of};
 use std::io::Eprint;
 use std::{io, rt};
 
-const USAGE: &str = "\
-usage:
-  dalgo walk PROG START N                 START from 0 to 281474976710655, N from 1 to 1000000
-  dalgo next PROG SCHED
-  dalgo hunt PROG START COUNT N WHAT      COUNT from 1 to 1000000; WHAT is one of fault, stuck, differ,
-                                          overlap IN OUT with two values, more K with K from 0 to 1000000000
-  dalgo draw TRACE";
+/// The most bytes of a schedule and of a trace.
+const TEXT_LIMIT: usize = 16_777_216;
 
 /// Tells how a call with these words ended. Nothing is told where the work was done.
 pub fn report<R: rt::Files + AllocGlobal + Eprint>(rt: &R, words: &[String], status: Status) {
     let told = match command_of(rt.alloc(), words) {
-        Ok(command) => tell_command(rt, &command, status),
+        Ok(command) => tell_command(rt, words, &command, status),
         Err(_) => tell_common(rt, status),
     };
     drop(told);
@@ -26,6 +23,7 @@ pub fn report<R: rt::Files + AllocGlobal + Eprint>(rt: &R, words: &[String], sta
 // How a command ended.
 fn tell_command<R: rt::Files + AllocGlobal + Eprint>(
     rt: &R,
+    words: &[String],
     command: &Command<'_>,
     status: Status,
 ) -> io::Result<()> {
@@ -33,12 +31,13 @@ fn tell_command<R: rt::Files + AllocGlobal + Eprint>(
         Command::Search { program, .. } => tell_program(rt, *program, status),
         Command::Next(names) => tell_next(rt, *names, status),
         Command::Draw { trace } => tell_trace(rt, *trace, status),
+        Command::Other if matches!(status, Status::Words) => tell_words(rt, words),
         Command::Other => tell_common(rt, status),
     }
 }
 
-// How a call ended that reads a program alone.
-fn tell_program<R: rt::Files + AllocGlobal + Eprint>(
+/// Tells how a call ended that reads a program alone.
+pub fn tell_program<R: rt::Files + AllocGlobal + Eprint>(
     rt: &R,
     program: &str,
     status: Status,
@@ -61,21 +60,21 @@ fn tell_next<R: rt::Files + AllocGlobal + Eprint>(
     names: Names<'_>,
     status: Status,
 ) -> io::Result<()> {
-    let schedule = names.schedule;
+    let named = shown_name(rt.alloc(), names.schedule)?;
     match status {
         Status::Forbidden { event } => {
-            eprintln!(rt; "{schedule}: event {event} is not allowed after the events before it")?;
+            eprintln!(rt; "{named}: event {event} is not allowed after the events before it")?;
             tell_why(rt)
         }
         Status::BadLine { line: 0 } => {
-            eprintln!(rt; "{schedule}: a schedule has at most 16777216 bytes")
+            eprintln!(rt; "{named}: a schedule has at most {TEXT_LIMIT} bytes")
         }
         Status::BadLine { line } => {
-            eprintln!(rt; "{schedule}:{line}: not a line of a schedule")?;
+            eprintln!(rt; "{named}:{line}: not a line of a schedule")?;
             tell_why(rt)
         }
         Status::ReadFault => {
-            if tell_unread(rt, names.program)? || tell_unread(rt, schedule)? {
+            if tell_unread(rt, names.program)? || tell_unread(rt, names.schedule)? {
                 return Ok(());
             }
             tell_common(rt, status)
@@ -95,31 +94,59 @@ fn tell_trace<R: rt::Files + AllocGlobal + Eprint>(
     trace: &str,
     status: Status,
 ) -> io::Result<()> {
+    let named = shown_name(rt.alloc(), trace)?;
     match status {
-        Status::BadLine { line: 0 } => eprintln!(rt; "{trace}: a trace has at most 16777216 bytes"),
+        Status::BadLine { line: 0 } => {
+            eprintln!(rt; "{named}: a trace has at most {TEXT_LIMIT} bytes")
+        }
         Status::BadLine { line } => {
-            eprintln!(rt; "{trace}:{line}: not a line that 'dalgo replay' or 'dalgo node' writes")
+            eprintln!(rt; "{named}:{line}: not a line that 'dalgo replay' or 'dalgo node' writes")?;
+            tell_drawn(rt, trace, line)
         }
         status => tell_program(rt, trace, status),
     }
 }
 
-// Why a program is refused.
-fn tell_refused<R: Eprint>(rt: &R, program: &str, kind: RefusedKind, line: u32) -> io::Result<()> {
-    if line == 0 {
-        return eprintln!(rt; "{program}: {kind}");
+// Shows the line that is none of a trace, and what it is.
+fn tell_drawn<R: rt::Files + AllocGlobal + Eprint>(
+    rt: &R,
+    trace: &str,
+    number: u64,
+) -> io::Result<()> {
+    let Some(text) = text_again(rt, trace, TEXT_LIMIT) else {
+        return Ok(());
+    };
+    let Some(line) = line_at(text.as_slice(), number) else {
+        return Ok(());
+    };
+    let why = explain_drawn(rt.alloc(), line);
+    let line = shown(rt.alloc(), line, SHOWN)?;
+    eprintln!(rt; "{number:>5} | {line}")?;
+    if why.is_empty() {
+        return Ok(());
     }
-    eprintln!(rt; "{program}:{line}: {kind}")?;
+    let why = shown(rt.alloc(), why.as_slice(), TOLD)?;
+    eprintln!(rt; "{why}")
+}
+
+// Why a program is refused.
+fn tell_refused<R: AllocGlobal + Eprint>(
+    rt: &R,
+    program: &str,
+    kind: RefusedKind,
+    line: u32,
+) -> io::Result<()> {
+    let named = shown_name(rt.alloc(), program)?;
+    if line == 0 {
+        return eprintln!(rt; "{named}: {kind}");
+    }
+    eprintln!(rt; "{named}:{line}: {kind}")?;
     eprintln!(rt; "'dalgo check' shows the place, and what helps")
 }
 
 // How a call ended whatever it was for.
 fn tell_common<R: Eprint>(rt: &R, status: Status) -> io::Result<()> {
     match status {
-        Status::Words => {
-            eprintln!(rt; "dalgo: the words are none of a call")?;
-            eprintln!(rt; "{USAGE}")
-        }
         Status::ReadFault => eprintln!(rt; "dalgo: a read failed"),
         Status::WriteFault => eprintln!(rt; "dalgo: standard output cannot be written"),
         Status::Memory => eprintln!(rt; "dalgo: out of memory"),

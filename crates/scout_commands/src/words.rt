@@ -3,7 +3,7 @@ ghost use Rattle.scout_commands.specs.Words.{FindsValue, FindsWhat, IsAsked};
 ghost use Rattle.std.specs.Prelude.{◌≡◌, ◌∷◌, [], IfOk, map};
 ghost use Rattle.std.specs.String.{string_bytes};
 
-use da_commands::{LAST_START, MOST_EVENTS, number_between};
+use da_commands::{LAST_START, MOST_EVENTS, MOST_OUTPUTS, MOST_SCHEDULES, number_between};
 use da_values::{NoMemory, Value, ValueFault, read_value};
 use schedule_hunt::What;
 use std::alloc::Global;
@@ -45,12 +45,6 @@ pub struct Names<'a> {
     pub program: &'a str,
     pub schedule: &'a str,
 }
-
-/// The most schedules of a hunt.
-const MOST_SCHEDULES: u64 = 1_000_000;
-
-/// The most outputs that a schedule may be looked for to have more of.
-const MOST_OUTPUTS: u64 = 1_000_000_000;
 
 /// What these words ask for.
 pub fn command_of(alloc: Global, words: &[String]) -> Result<Command<'_>, NoMemory>

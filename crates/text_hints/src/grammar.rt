@@ -3,9 +3,11 @@ use crate::brackets::open_brackets;
 use crate::expected::{has, put_expected};
 use crate::hint::Hint;
 use crate::lines::{between, column_of, line_number};
+use crate::misspelt::{tell_first_word, tell_word_before, tell_word_here};
 use crate::phrase::Phrase;
-use crate::python::tell_python;
-use crate::reading::{next_marks, stop_in};
+use crate::python::{tell_first, tell_python};
+use crate::reading::{Source, next_marks, stop_in};
+use crate::slips::tell_slip;
 use crate::spot::Spot;
 use da_lex::lex;
 use da_values::Mark;
@@ -13,6 +15,16 @@ use std::alloc::Global;
 
 /// Tells at which token a text stops to be the beginning of a program, and what could stand there.
 pub fn tell_grammar(alloc: Global, text: &[u8], hint: &mut Hint) {
+    tell_in(alloc, Source { text, loose: false }, hint);
+}
+
+/// The same of a program whose parameters may lack their types.
+pub fn tell_loose_grammar(alloc: Global, text: &[u8], hint: &mut Hint) {
+    tell_in(alloc, Source { text, loose: true }, hint);
+}
+
+fn tell_in(alloc: Global, source: Source<'_>, hint: &mut Hint) {
+    let text = source.text;
     if text.len() > 1_048_576 {
         return;
     }
@@ -20,7 +32,7 @@ pub fn tell_grammar(alloc: Global, text: &[u8], hint: &mut Hint) {
         return;
     };
     let list = tokens.list.as_slice();
-    let Some(stop) = stop_in(alloc, text, list) else {
+    let Some(stop) = stop_in(alloc, source, list) else {
         return;
     };
     let spot = Spot {
@@ -34,13 +46,24 @@ pub fn tell_grammar(alloc: Global, text: &[u8], hint: &mut Hint) {
         return;
     }
     let (front, _) = list.split_at(stop.place.min(list.len()));
-    let Some(marks) = next_marks(alloc, text, front) else {
+    let Some(marks) = next_marks(alloc, source, front) else {
         return;
     };
     tell_stop(spot, marks.as_slice(), hint);
-    if !tell_python(spot, marks.as_slice(), hint) {
+    if !tell_cure(alloc, spot, source.loose, marks.as_slice(), hint) {
         tell_open(alloc, spot, marks.as_slice(), hint);
     }
+}
+
+// What is to be written, where that is known.
+fn tell_cure(alloc: Global, spot: Spot<'_>, loose: bool, marks: &[Mark], hint: &mut Hint) -> bool {
+    tell_first(spot, hint)
+        || tell_first_word(alloc, spot, loose, marks, hint)
+        || (has(marks, Mark::Int) && tell_word_here(alloc, spot, marks, hint))
+        || tell_slip(spot, marks, hint)
+        || tell_word_before(alloc, spot, loose, hint)
+        || tell_python(spot, marks, hint)
+        || tell_word_here(alloc, spot, marks, hint)
 }
 
 // Blames the token at the spot, or the place where it should stand.

@@ -6,20 +6,24 @@
 mod brackets;
 mod characters;
 mod expected;
+mod gaps;
 mod grammar;
+mod habits;
 mod hint;
 mod lines;
+mod misspelt;
 mod nearest;
 mod phrase;
 mod pieces;
 mod python;
 mod reading;
+mod slips;
 mod spellings;
 mod spot;
 mod tokens;
 mod words;
 
-pub use grammar::tell_grammar;
+pub use grammar::{tell_grammar, tell_loose_grammar};
 pub use hint::Hint;
 pub use lines::{Line, between, line_number, line_of};
 pub use nearest::Nearest;

@@ -1,17 +1,27 @@
 //! What is written in the place of forms that this language does not have.
 use crate::expected::{has, is_comparison};
+use crate::habits::NO_CHANCE;
 use crate::hint::Hint;
 use crate::spot::Spot;
 use crate::words::said_of;
 use da_values::Mark;
 
-/// Tells what is written in the place of what stands at the spot, where one of these marks is expected. Whether it is known.
-pub fn tell_python(spot: Spot<'_>, marks: &[Mark], hint: &mut Hint) -> bool {
+/// Tells what is written in the place of a statement that begins as in another language. Whether it is known.
+pub fn tell_first(spot: Spot<'_>, hint: &mut Hint) -> bool {
     if tell_augmented(spot, hint) {
         return true;
     }
+    let note = on_first_word(spot);
+    if note.is_empty() {
+        return false;
+    }
+    hint.note(note);
+    true
+}
+
+/// Tells what is written in the place of what stands at the spot, where one of these marks is expected. Whether it is known.
+pub fn tell_python(spot: Spot<'_>, marks: &[Mark], hint: &mut Hint) -> bool {
     for note in [
-        on_first_word(spot),
         on_outermost(spot, marks),
         on_main(spot, marks),
         on_header(spot, marks),
@@ -59,11 +69,20 @@ fn tell_augmented(spot: Spot<'_>, hint: &mut Hint) -> bool {
 /// What is said of loops that are left.
 const LOOPS: &[u8] = b"a loop is not left before its end: use a condition, while not done and ..:";
 
+/// What is said of imports.
+const IMPORTS: &[u8] = b"there are no imports";
+
+/// What is said of printing.
+const PRINTS: &[u8] = b"write output(..)";
+
 /// What is said of variables of the class.
 const GLOBALS: &[u8] = b"a method sees the variables of its class without that";
 
 /// What is said of exceptions.
 const EXCEPTIONS: &[u8] = b"there are no exceptions";
+
+/// What is said of locks.
+const LOCKS: &[u8] = b"no lock is needed: a process takes messages at labels and awaits alone";
 
 /// What is said of declarations.
 const DECLARATIONS: &[u8] = b"variables are declared in the class: var x: int";
@@ -71,28 +90,73 @@ const DECLARATIONS: &[u8] = b"variables are declared in the class: var x: int";
 /// What is said of waiting.
 const WAITS: &[u8] = b"write await and a condition";
 
+/// What is said of cases.
+const SWITCHES: &[u8] = b"write if, elif and else";
+
+/// What is said of loops with other words.
+const REPEATS: &[u8] = b"a loop is written while ..: or for x in ..:";
+
+/// What is said of loops through a set.
+const PASSES: &[u8] = b"write for x in s:";
+
+/// What is said of the ends of blocks.
+const ENDS: &[u8] = b"a block ends where its indentation does";
+
 /// The words of other languages with which a statement may begin, and what is said of each.
-const FIRST_WORDS: [(&[u8], &[u8]); 17] = [
+const FIRST_WORDS: [(&[u8], &[u8]); 44] = [
     (
         b"return",
         b"there is no return: a method ends with its last line, and leaves what it works out in a variable of the class",
     ),
     (b"break", LOOPS),
     (b"continue", LOOPS),
-    (b"import", b"there are no imports"),
-    (b"print", b"write output(..)"),
+    (b"import", IMPORTS),
+    (b"include", IMPORTS),
+    (b"print", PRINTS),
     (b"global", GLOBALS),
     (b"nonlocal", GLOBALS),
-    (b"assert", EXCEPTIONS),
+    (
+        b"assert",
+        b"there is no assert: write if not (..): and below it output(..), which a hunt can look for",
+    ),
     (b"raise", EXCEPTIONS),
     (b"try", EXCEPTIONS),
     (b"except", EXCEPTIONS),
-    (b"with", EXCEPTIONS),
+    (b"with", LOCKS),
+    (b"lock", LOCKS),
+    (b"synchronized", LOCKS),
     (b"let", DECLARATIONS),
     (b"const", DECLARATIONS),
     (b"int", DECLARATIONS),
     (b"wait", WAITS),
     (b"sleep", WAITS),
+    (
+        b"yield",
+        b"a place to wait is a label, -- name, or an await",
+    ),
+    (b"switch", SWITCHES),
+    (b"match", SWITCHES),
+    (b"case", SWITCHES),
+    (b"do", REPEATS),
+    (b"loop", REPEATS),
+    (b"until", REPEATS),
+    (b"echo", PRINTS),
+    (b"puts", PRINTS),
+    (b"printf", PRINTS),
+    (b"foreach", PASSES),
+    (b"forall", PASSES),
+    (b"end", ENDS),
+    (b"endif", ENDS),
+    (b"fi", ENDS),
+    (b"od", ENDS),
+    (b"endwhile", ENDS),
+    (b"endfor", ENDS),
+    (b"label", b"a label is written so: -- ready"),
+    (b"waitfor", WAITS),
+    (b"waituntil", WAITS),
+    (b"wait_until", WAITS),
+    (b"wait_for", WAITS),
+    (b"unless", b"write if not (..):"),
 ];
 
 // A statement that begins with a word of another language.
@@ -179,7 +243,7 @@ fn on_method(spot: Spot<'_>, marks: &[Mark], name: usize) -> &'static [u8] {
     } else if spot.here(Mark::SelfWord) {
         b"there is no parameter self: a method sees the variables of its class"
     } else if ends && spot.back(1, Mark::Name) && has(marks, Mark::Colon) {
-        b"each parameter has a type: def f(x: int, p: proc):"
+        b"each parameter has a type: def f(x: int, p: proc):, or let 'dalgo infer' add the types"
     } else if spot.here(Mark::Assign) {
         b"parameters have no defaults"
     } else if spot.here(Mark::Minus) {
@@ -302,15 +366,50 @@ fn on_value(spot: Spot<'_>, marks: &[Mark]) -> &'static [u8] {
     }
 }
 
+/// What is said of new sets.
+const EMPTY: &[u8] = b"{} is the empty set";
+
+/// What is said of queries.
+const QUERIES: &[u8] = b"write some x in s | .. or each x in s | ..";
+
+/// What is said of input.
+const INPUTS: &[u8] = b"there is no input: setup and messages give a process its values";
+
+/// What is said of time.
+const CLOCK: &[u8] = b"the logical clock is logical_time()";
+
+/// What is said of orders.
+const ORDER: &[u8] = b"sets have an order of their own: a loop goes upwards";
+
+/// The names of functions of other languages, and what is said of each.
+const CALLS: [(&[u8], &[u8]); 20] = [
+    (b"len", b"the number of elements of a set is count(s)"),
+    (b"set", EMPTY),
+    (b"list", EMPTY),
+    (b"dict", EMPTY),
+    (b"abs", b"there is no abs: compare with 0"),
+    (b"any", QUERIES),
+    (b"all", QUERIES),
+    (b"print", PRINTS),
+    (b"input", INPUTS),
+    (b"argv", INPUTS),
+    (b"random", NO_CHANCE),
+    (b"randint", NO_CHANCE),
+    (b"choice", NO_CHANCE),
+    (b"rand", NO_CHANCE),
+    (b"time", CLOCK),
+    (b"now", CLOCK),
+    (b"clock", CLOCK),
+    (b"logical_clock", CLOCK),
+    (b"sorted", ORDER),
+    (b"reversed", ORDER),
+];
+
 // A call inside an expression.
 fn on_call(name: &[u8]) -> &'static [u8] {
-    match name {
-        b"len" => b"the number of elements of a set is count(s)",
-        b"set" | b"list" | b"dict" => b"{} is the empty set",
-        b"abs" => b"there is no abs: compare with 0",
-        b"any" | b"all" => b"write some x in s | .. or each x in s | ..",
-        b"print" => b"write output(..)",
-        _ => {
+    match said_of(&CALLS, name) {
+        Some(said) => said,
+        None => {
             b"a call stands on a line of its own, and its method leaves what it works out in a variable"
         }
     }
@@ -333,6 +432,8 @@ fn on_operator(spot: Spot<'_>, marks: &[Mark]) -> &'static [u8] {
         b"write not (x in s)"
     } else if spot.here(Mark::If) {
         b"there is no value with an if inside: write an if with lines of its own"
+    } else if spot.here(Mark::Dashes) && spot.is(next.saturating_add(1), Mark::Newline) {
+        b"a label (--) stands on a line of its own, and a comment begins with #; two minus signs are parted by a space"
     } else if spot.here(Mark::Dashes) {
         b"-- begins a label: part the two signs by a space"
     } else if spot.here(Mark::Assign) {

@@ -6,7 +6,7 @@
 use crate::lines::between;
 use crate::spellings::{SPELLINGS, kind_of};
 use da_lex::{Token, Tokens};
-use da_parse::{ParseFault, parse};
+use da_parse::{ParseFault, parse, parse_loose};
 use da_values::{Buf, List, Mark, mark_of};
 use std::alloc::Global;
 
@@ -18,15 +18,43 @@ pub struct StopPlace {
     pub deep: bool,
 }
 
+/// A text, and whether its parameters may lack their types.
+#[derive(Clone, Copy)]
+pub struct Source<'t> {
+    pub text: &'t [u8],
+    pub loose: bool,
+}
+
 // Where the reader stops in numbered tokens, or `None` where it reads them all or memory is refused.
-fn ask(alloc: Global, tokens: &Tokens<'_>) -> Option<StopPlace> {
-    let (line, deep) = match parse(alloc, tokens) {
-        Err(ParseFault::Syntax { line }) => (line, false),
-        Err(ParseFault::Deep { line }) => (line, true),
-        _ => return None,
+fn ask(alloc: Global, tokens: &Tokens<'_>, loose: bool) -> Option<StopPlace> {
+    let fault = if loose {
+        loose_fault(alloc, tokens)?
+    } else {
+        strict_fault(alloc, tokens)?
+    };
+    let (line, deep) = match fault {
+        ParseFault::Syntax { line } => (line, false),
+        ParseFault::Deep { line } => (line, true),
+        ParseFault::Memory => return None,
     };
     let place = (line as usize).saturating_sub(1);
     Some(StopPlace { place, deep })
+}
+
+// Why tokens are no program.
+fn strict_fault(alloc: Global, tokens: &Tokens<'_>) -> Option<ParseFault> {
+    match parse(alloc, tokens) {
+        Ok(_) => None,
+        Err(fault) => Some(fault),
+    }
+}
+
+// The same where parameters may lack their types.
+fn loose_fault(alloc: Global, tokens: &Tokens<'_>) -> Option<ParseFault> {
+    match parse_loose(alloc, tokens) {
+        Ok(_) => None,
+        Err(fault) => Some(fault),
+    }
 }
 
 /// A number as one of a line.
@@ -77,17 +105,18 @@ fn push_all(tokens: &[Token], list: &mut List<Token>) -> Option<()> {
 }
 
 /// Where the reader stops in the tokens of a text, or `None` where it reads them all or memory is refused.
-pub fn stop_in(alloc: Global, text: &[u8], tokens: &[Token]) -> Option<StopPlace> {
-    let whole = with_spellings(alloc, text)?;
+pub fn stop_in(alloc: Global, source: Source<'_>, tokens: &[Token]) -> Option<StopPlace> {
+    let whole = with_spellings(alloc, source.text)?;
     let mut list = List::new(alloc);
     push_all(tokens, &mut list)?;
-    push_mark(Mark::Channel, text.len(), &mut list)?;
+    push_mark(Mark::Channel, source.text.len(), &mut list)?;
     let text = whole.as_slice();
-    ask(alloc, &Tokens { text, list })
+    ask(alloc, &Tokens { text, list }, source.loose)
 }
 
 /// The kinds of tokens with which the reader goes on after these, which it reads without a stop.
-pub fn next_marks(alloc: Global, text: &[u8], front: &[Token]) -> Option<List<Mark>> {
+pub fn next_marks(alloc: Global, source: Source<'_>, front: &[Token]) -> Option<List<Mark>> {
+    let Source { text, loose } = source;
     let whole = with_spellings(alloc, text)?;
     let mut list = List::new(alloc);
     push_front(text, front, &mut list)?;
@@ -100,7 +129,7 @@ pub fn next_marks(alloc: Global, text: &[u8], front: &[Token]) -> Option<List<Ma
     for entry in &SPELLINGS {
         push_mark(entry.1, text.len(), &mut asked.list)?;
         push_mark(Mark::Channel, text.len(), &mut asked.list)?;
-        let goes = match ask(alloc, &asked) {
+        let goes = match ask(alloc, &asked, loose) {
             None => true,
             Some(stop) => stop.deep || stop.place > place,
         };

@@ -5,7 +5,8 @@ use crate::hint::Hint;
 use crate::lines::{Line, between, line_of};
 use crate::phrase::Phrase;
 use crate::pieces::{Bad, bad_piece};
-use da_lex::{TokenKind, lex};
+use crate::reading::slice_at;
+use da_lex::{TokenKind, Tokens, lex};
 use da_values::{LexKind, List};
 use std::alloc::Global;
 
@@ -37,12 +38,33 @@ fn tell_piece(text: &[u8], line: Line<'_>, hint: &mut Hint) {
 fn tell_spelling(text: &[u8], place: usize, bad: Bad, hint: &mut Hint) {
     hint.blame(place, bad.length);
     let bytes = between(text, place, place.saturating_add(bad.length));
+    if between(text, place, place.saturating_add(3)) == b"\"\"\"".as_slice() {
+        hint.say(b"there are no docstrings: a comment begins with #");
+        return;
+    }
+    if between(text, place, place.saturating_add(2)) == b"/*".as_slice() {
+        hint.say(b"a comment begins with #, and ends with its line");
+        return;
+    }
+    if bytes == b"\\".as_slice() && !ends_line(text, place.saturating_add(1)) {
+        hint.say(b"no token begins with \\: what one set has and another has not is s - t");
+        return;
+    }
     let form = match bytes {
         [b'0', ..] => b"an integer has no 0 in front: @".as_slice(),
         [b'1'..=b'9', ..] => b"@ is more than the greatest integer, 9223372036854775807",
         _ => b"no token begins with $: $",
     };
     hint.sentence.fill(form, bytes, cure_of(bytes));
+}
+
+// Whether no more than spaces stand between a place and the end of its line.
+fn ends_line(text: &[u8], place: usize) -> bool {
+    let rest = between(text, place, text.len());
+    match rest.iter().find(|byte| **byte != b' ') {
+        Some(byte) => *byte == b'\n' || *byte == b'\r',
+        None => true,
+    }
 }
 
 // What is written in the place of a character.
@@ -56,6 +78,10 @@ fn cure_of(bytes: &[u8]) -> &'static [u8] {
         [b'^'] => b"there are no powers",
         [b'\\'] => b"a line goes on by itself while a bracket is open",
         [b'@'] => b"there are no decorators",
+        [b'?'] => b"there is no value with an if inside: write an if with lines of its own",
+        [b'~'] => b"write not",
+        [b'`'] => b"a text stands in single quotes ('), as in 'ping'",
+        [b'$'] => b"a name has letters, digits and _ alone",
         _ => b"only a text and a comment may hold it",
     }
 }
@@ -70,6 +96,37 @@ fn tell_indent(alloc: Global, text: &[u8], line: Line<'_>, hint: &mut Hint) {
     hint.notes.put(b"the lines of the open blocks have ");
     put_levels(levels.as_slice(), &mut hint.notes);
     hint.note(b" spaces");
+    if let Some(odd) = odd_indent(alloc, between(text, 0, line.first)) {
+        hint.notes.put(b"line ");
+        hint.notes.number(u64::from(odd));
+        hint.note(b" is indented deeper than the line before it, which does not end with ':'");
+    }
+}
+
+// The tokens of a text, where it is not too long and has some.
+fn tokens_in<'t>(alloc: Global, text: &'t [u8]) -> Option<Tokens<'t>> {
+    if text.len() > 1_048_576 {
+        return None;
+    }
+    match lex(alloc, text) {
+        Ok(tokens) => Some(tokens),
+        Err(_) => None,
+    }
+}
+
+// The first line that is indented deeper than the line before it though that one begins no block.
+fn odd_indent(alloc: Global, text: &[u8]) -> Option<u32> {
+    let tokens = tokens_in(alloc, text)?;
+    let list = tokens.list.as_slice();
+    for (place, token) in list.iter().enumerate() {
+        if token.kind == TokenKind::Indent {
+            let before = list.get(place.checked_sub(2)?)?;
+            if slice_at(text, before) != b":".as_slice() {
+                return Some(token.line);
+            }
+        }
+    }
+    None
 }
 
 fn put_levels(levels: &[usize], out: &mut Phrase) {
@@ -84,10 +141,7 @@ fn put_levels(levels: &[usize], out: &mut Phrase) {
 // The levels of the blocks that are open after a text, but for 0. What closes at the end of the text stands for no line.
 fn levels_before(alloc: Global, text: &[u8]) -> List<usize> {
     let mut levels = List::new(alloc);
-    if text.len() > 1_048_576 {
-        return levels;
-    }
-    let Ok(tokens) = lex(alloc, text) else {
+    let Some(tokens) = tokens_in(alloc, text) else {
         return levels;
     };
     for token in tokens.list.as_slice() {

@@ -1,0 +1,148 @@
+//! What a hunt is to look for, where the words for it are wrong.
+use crate::numbers::tell_more;
+use da_values::{ValueFault, read_value};
+use std::alloc::Global;
+use text_hints::{Nearest, Phrase, said_of};
+
+/// Processes that end with a fault.
+const FAULT: &[u8] = b"fault";
+
+/// Processes that wait for ever.
+const STUCK: &[u8] = b"stuck";
+
+/// Processes that put out different values.
+const DIFFER: &[u8] = b"differ";
+
+/// Processes that are within the same part at a time.
+const OVERLAP: &[u8] = b"overlap";
+
+/// Processes that put out too much.
+const MORE: &[u8] = b"more";
+
+/// What a hunt looks for.
+const WHATS: [&[u8]; 5] = [FAULT, STUCK, DIFFER, OVERLAP, MORE];
+
+const KINDS: &[u8] = b"WHAT is fault, stuck, differ, overlap IN OUT or more K";
+
+/// Tells which of the words behind N is wrong.
+pub fn tell_what(alloc: Global, words: &[String], out: &mut Phrase) {
+    let [word, rest @ ..] = words else {
+        out.put(KINDS);
+        out.put(b", and none is given");
+        return;
+    };
+    match word.as_bytes() {
+        b"fault" | b"stuck" | b"differ" => tell_rest(word.as_bytes(), 0, rest.len(), out),
+        b"more" => match rest {
+            [most] => {
+                tell_more(most.as_bytes(), out);
+            }
+            _ => tell_rest(b"more", 1, rest.len(), out),
+        },
+        b"overlap" => match rest {
+            [enter, leave] => {
+                if !tell_value(alloc, b"IN", enter.as_bytes(), out) {
+                    tell_value(alloc, b"OUT", leave.as_bytes(), out);
+                }
+            }
+            _ => tell_rest(b"overlap", 2, rest.len(), out),
+        },
+        other => tell_unknown(alloc, other, out),
+    }
+}
+
+// That a kind has more or fewer words behind it than it takes.
+fn tell_rest(kind: &[u8], wanted: usize, given: usize, out: &mut Phrase) {
+    out.quote(kind);
+    out.put(b" takes ");
+    match wanted {
+        0 => out.put(b"no word"),
+        1 => out.put(b"one word, the number K,"),
+        _ => out.put(b"two values, IN and OUT,"),
+    }
+    out.put(b" behind it, and ");
+    out.count(given, b"is", b"are");
+    out.put(b" given");
+}
+
+// That a word is no value, and answers whether that is so.
+fn tell_value(alloc: Global, name: &[u8], word: &[u8], out: &mut Phrase) -> bool {
+    match read_value(alloc, word) {
+        Err(ValueFault::Unread) => {}
+        _ => return false,
+    }
+    out.put(name);
+    out.put(b" is the text of a value, and ");
+    out.quote_front(word);
+    out.put(b" is none");
+    let inside = match word {
+        [b'"', inside @ .., b'"'] => inside,
+        _ => word,
+    };
+    if inside
+        .iter()
+        .all(|byte| byte.is_ascii_alphanumeric() || *byte == b'_')
+    {
+        out.put(b": for a text write \"'");
+        out.put(inside);
+        out.put(b"'\", since the shell takes the double quotes off");
+    }
+    true
+}
+
+// That a word is no kind, and which one is meant.
+fn tell_unknown(alloc: Global, word: &[u8], out: &mut Phrase) {
+    out.put(KINDS);
+    out.put(b", and not ");
+    out.quote_front(word);
+    let mut nearest = Nearest::new(alloc, word);
+    for what in &WHATS {
+        nearest.offer(what);
+    }
+    let meant = match nearest.found() {
+        Some(found) => found,
+        None => kind_like(word),
+    };
+    if !meant.is_empty() {
+        out.put(b": is ");
+        out.quote(meant);
+        out.put(b" meant?");
+    }
+}
+
+/// Other words for what a hunt looks for, and what each stands for.
+const MEANT: [(&[u8], &[u8]); 25] = [
+    (b"deadlock", STUCK),
+    (b"hang", STUCK),
+    (b"hangs", STUCK),
+    (b"block", STUCK),
+    (b"blocked", STUCK),
+    (b"livelock", STUCK),
+    (b"wait", STUCK),
+    (b"crash", FAULT),
+    (b"error", FAULT),
+    (b"exception", FAULT),
+    (b"panic", FAULT),
+    (b"overflow", FAULT),
+    (b"divide", FAULT),
+    (b"mutex", OVERLAP),
+    (b"race", OVERLAP),
+    (b"exclusion", OVERLAP),
+    (b"both", OVERLAP),
+    (b"leaders", DIFFER),
+    (b"disagree", DIFFER),
+    (b"agreement", DIFFER),
+    (b"consensus", DIFFER),
+    (b"unequal", DIFFER),
+    (b"many", MORE),
+    (b"count", MORE),
+    (b"outputs", MORE),
+];
+
+// The kind that another word stands for.
+fn kind_like(word: &[u8]) -> &'static [u8] {
+    match said_of(&MEANT, word) {
+        Some(kind) => kind,
+        None => b"",
+    }
+}

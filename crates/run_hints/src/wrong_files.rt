@@ -1,0 +1,88 @@
+//! Lines of other files in the place of a schedule.
+use text_hints::Phrase;
+
+/// Tells that a line is one of a program, or that a byte-order mark stands before it. Whether that is so.
+pub fn tell_program_line(line: &[u8], out: &mut Phrase) -> bool {
+    if line.starts_with(b"\xEF\xBB\xBF".as_slice()) {
+        out.put(b"a byte order mark (BOM) stands before the first word: save the file without it");
+        return true;
+    }
+    let word = first_word(line.trim_ascii_start());
+    let is_program = match word {
+        b"message" | b"class" | b"channel" | b"def" | b"var" => line.contains(&b' '),
+        b"receive" => line.contains(&b'('),
+        _ => false,
+    };
+    if is_program {
+        out.put(b"this is a line of a program: the program stands before the schedule, PROG SCHED");
+        return true;
+    }
+    if line.starts_with(b"<".as_slice()) {
+        out.put(b"this is a page, and no schedule");
+        return true;
+    }
+    false
+}
+
+/// Tells that a line is one that a run prints, and which event prints it. Whether that is so.
+pub fn tell_printed(line: &[u8], out: &mut Phrase) -> bool {
+    let mut words = line.split(|byte| *byte == b' ');
+    let word = words.next().unwrap_or(line);
+    let Some(p) = words.next() else {
+        return false;
+    };
+    let Some(k) = words.next() else {
+        return tell_plain(word, line, out);
+    };
+    match word {
+        b"took" => {
+            out.put(b"this is a line that a run prints: the event is 'move ");
+            out.put(p);
+            if k != b"0".as_slice() {
+                out.put(b" ");
+                out.put(k);
+            }
+            out.put(b"'");
+            true
+        }
+        b"got" => {
+            out.fill(
+                b"this is a line that a run prints: the event is 'deliver $ $ I'",
+                k,
+                p,
+            );
+            out.put(b", where I is the place of the message in the channel");
+            true
+        }
+        b"lost" => {
+            out.put(b"this is a line that a run prints: the event is 'lose ");
+            out.fill(b"$ $ I'", p, k);
+            true
+        }
+        _ => tell_plain(word, line, out),
+    }
+}
+
+// A line that a run prints, and that stands for no event of its own.
+fn tell_plain(word: &[u8], line: &[u8], out: &mut Phrase) -> bool {
+    let is_printed = match word {
+        b"sent" | b"out" | b"fault" | b"stop" | b"kept" => line.contains(&b' '),
+        b"node" | b"status" => line.contains(&b' '),
+        _ => false,
+    };
+    if is_printed {
+        out.enclose(word);
+        out.put(b" begins a line that a run prints: it stands for no event of its own");
+    }
+    is_printed
+}
+
+// The bytes before the first space or bracket.
+fn first_word(line: &[u8]) -> &[u8] {
+    let length = line
+        .iter()
+        .take_while(|byte| byte.is_ascii_alphabetic())
+        .count();
+    let (word, _) = line.split_at(length.min(line.len()));
+    word
+}
