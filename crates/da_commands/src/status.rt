@@ -4,7 +4,7 @@ use crate::exit::Ending;
 use da_front::RefusedKind;
 
 /// How a call of the program ends.
-#[derive(Clone, Copy, Debug, PartialEq, Eq)]
+#[derive(Clone, Copy)]
 pub enum Status {
     /// The work was carried out to its end.
     Done,
