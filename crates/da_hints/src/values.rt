@@ -198,10 +198,21 @@ pub fn tell_misfit<'t>(x: &'t Expr, wanted: &Ty, case: &mut Case<'t>) -> bool {
 fn tell_misfits<'t>(parts: &'t [Expr], wanted: &Ty, case: &mut Case<'t>) -> bool {
     for part in parts {
         if tell_misfit(part, wanted, case) {
+            note_braces(part, wanted, case);
             return true;
         }
     }
     false
+}
+
+// That an element is itself the set which is wanted.
+fn note_braces<'t>(part: &'t Expr, wanted: &Ty, case: &mut Case<'t>) {
+    match element(case.type_of(part)) {
+        Some(ty) if same_type(&ty, wanted) => case.note(
+            b"it is such a set itself: write it without braces",
+        ),
+        _ => {}
+    }
 }
 
 #[cycle(misfits)]
