@@ -35,13 +35,15 @@ pub fn tell_other<'t>(x: &'t Expr, wanted: &Ty, case: &mut Case<'t>) -> bool {
     let shown = case.shown(wanted);
     tell_no(x, shown.as_slice(), case);
     if let Ty::Set(element) = wanted {
-        note_element(x, element.get(), case);
+        if !note_element(x, element.get(), case) && matches!(x, Expr::Tuple(_)) {
+            case.note(b"a set stands in braces, {1, 2}, and a tuple in brackets, (1, 2)");
+        }
     }
     true
 }
 
-// That one element stands where a set of such elements is wanted.
-fn note_element<'t>(x: &'t Expr, element: &Ty, case: &mut Case<'t>) {
+// That one element stands where a set of such elements is wanted. Whether it is so.
+fn note_element<'t>(x: &'t Expr, element: &Ty, case: &mut Case<'t>) -> bool {
     match case.type_of(x) {
         Some(ty) if same_type(&ty, element) => {
             let place = place_of(x, case);
@@ -51,8 +53,9 @@ fn note_element<'t>(x: &'t Expr, element: &Ty, case: &mut Case<'t>) {
                 written.as_slice(),
                 b"",
             );
+            true
         }
-        _ => {}
+        _ => false,
     }
 }
 

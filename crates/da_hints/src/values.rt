@@ -144,6 +144,8 @@ fn tell_chain<'t>(first: &'t Expr, links: &'t [ChainTree], case: &mut Case<'t>) 
         tell_operands(first, links, case);
         if matches!(ty, Ty::Text) {
             case.note(b"texts are not joined; a tuple holds values of several types: ('got', n)");
+        } else if matches!(ty, Ty::Proc) {
+            case.note(b"the set of one process is {p}, and sets are added: {p} + ps");
         }
         return true;
     }

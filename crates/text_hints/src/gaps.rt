@@ -549,7 +549,10 @@ fn on_main(spot: Spot<'_>, marks: &[Mark]) -> &'static [u8] {
         b"write setup(a, ..)"
     } else if spot.here(Mark::OpenBracket) && spot.is(spot.begin().saturating_add(2), Mark::New) {
         b"several processes are made so: a = new(P, 3)"
-    } else if spot.here(Mark::OpenBracket) && spot.is(spot.begin(), Mark::Setup) {
+    } else if spot.here(Mark::OpenBracket)
+        && spot.back(1, Mark::Name)
+        && spot.is(spot.begin(), Mark::Setup)
+    {
         b"a name stands for all its processes, as their set: setup(b, ..) sets up each of them"
     } else if spot.here(Mark::New) && spot.back(1, Mark::OpenParen) {
         b"a process is made on a line of its own: a = new(P)"

@@ -395,11 +395,15 @@ const INPUTS: &[u8] = b"there is no input: setup and messages give a process its
 /// What is said of time.
 const CLOCK: &[u8] = b"the logical clock is logical_time()";
 
+/// What is said of waiting for some time.
+const TIMES: &[u8] =
+    b"no time is waited for: await n > 5: has a block, and timeout: behind it another one";
+
 /// What is said of orders.
 const ORDER: &[u8] = b"sets have an order of their own: a loop goes upwards";
 
 /// The names of functions of other languages, and what is said of each.
-const CALLS: [(&[u8], &[u8]); 20] = [
+const CALLS: [(&[u8], &[u8]); 22] = [
     (b"len", b"the number of elements of a set is count(s)"),
     (b"set", EMPTY),
     (b"list", EMPTY),
@@ -418,6 +422,8 @@ const CALLS: [(&[u8], &[u8]); 20] = [
     (b"now", CLOCK),
     (b"clock", CLOCK),
     (b"logical_clock", CLOCK),
+    (b"sleep", TIMES),
+    (b"wait", TIMES),
     (b"sorted", ORDER),
     (b"reversed", ORDER),
 ];
@@ -457,6 +463,8 @@ fn on_operator(spot: Spot<'_>, marks: &[Mark]) -> &'static [u8] {
         b"-- begins a label: part the two signs by a space"
     } else if spot.here(Mark::Assign) {
         b"= gives a variable a value; == compares"
+    } else if spot.is_name(spot.place, b"is") && spot.is_name(next, b"empty") {
+        b"whether a set is empty is count(s) == 0"
     } else if spot.is_name(spot.place, b"is") {
         b"write == or !="
     } else if spot.here(Mark::Quoted) && spot.back(1, Mark::Name) {

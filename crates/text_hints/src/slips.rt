@@ -86,7 +86,8 @@ fn tell_taken(spot: Spot<'_>, marks: &[Mark], hint: &mut Hint) -> bool {
     };
     let excluded = spot.here(Mark::SelfWord) || spot.here(Mark::Receive) || spot.here(Mark::Main);
     let in_order = spot.back(1, Mark::Receive) && (spot.here(Mark::From) || spot.here(Mark::At));
-    if !is_word || excluded || in_order {
+    let asks = spot.back(1, Mark::Receive) && (spot.here(Mark::Some) || spot.here(Mark::Each));
+    if !is_word || excluded || in_order || asks {
         return false;
     }
     let named = spot.back(1, Mark::Var)
