@@ -264,11 +264,13 @@ fn begins_part(spot: Spot<'_>) -> bool {
     number || (behind && (spot.here(Mark::Name) || spot.here(Mark::SelfWord)))
 }
 
-// A colon behind what has no block.
+// A colon or a comma at the end of what has no block.
 fn on_colon(spot: Spot<'_>, marks: &[Mark]) -> &'static [u8] {
     let begin = spot.begin();
     let ends = has(marks, Mark::Newline) && spot.is(spot.place.saturating_add(1), Mark::Newline);
-    if !(spot.here(Mark::Colon) && ends) {
+    if ends && spot.here(Mark::Comma) && spot.is(begin, Mark::Output) {
+        b"no comma ends a statement"
+    } else if !(spot.here(Mark::Colon) && ends) {
         b""
     } else if spot.is(begin, Mark::Message) {
         b"no colon stands behind a message: message ping(int)"
@@ -543,6 +545,10 @@ fn on_main(spot: Spot<'_>, marks: &[Mark]) -> &'static [u8] {
     let sets = second && has(marks, Mark::Assign) && !has(marks, Mark::Dot);
     if sets && spot.here(Mark::Comma) {
         b"one name stands for one process, or for several: a = new(P), ps = new(P, 3)"
+    } else if sets && spot.here(Mark::Name) {
+        b"main makes a process so: a = new(P)"
+    } else if sets && spot.here(Mark::Dot) && spot.is(next, Mark::Run) {
+        b"nothing calls run: a process starts by an event of the schedule, as move 1"
     } else if sets && spot.here(Mark::Dot) && spot.is(next, Mark::Setup) {
         b"write setup(a, ..)"
     } else if spot.back(1, Mark::Setup) && !spot.here(Mark::OpenParen) {

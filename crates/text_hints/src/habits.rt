@@ -211,7 +211,9 @@ fn on_inner(spot: Spot<'_>, marks: &[Mark]) -> &'static [u8] {
 fn on_declared(spot: Spot<'_>) -> &'static [u8] {
     let begin = spot.begin();
     let quoted = spot.here(Mark::Quoted);
-    if spot.back(1, Mark::Set) && !spot.here(Mark::Assign) {
+    if spot.back(1, Mark::Message) && spot.here(Mark::OpenParen) {
+        b"a message is declared so: message ping(int)"
+    } else if spot.back(1, Mark::Set) && !spot.here(Mark::Assign) {
         b"types are written int, bool, str, proc, (int, str), set[int]"
     } else if spot.back(1, Mark::Message) && quoted {
         b"the tag of a declaration has no quotes: message ping(int)"

@@ -103,7 +103,7 @@ const PASSES: &[u8] = b"write for x in s:";
 const ENDS: &[u8] = b"a block ends where its indentation does";
 
 /// The words of other languages with which a statement may begin, and what is said of each.
-const FIRST_WORDS: [(&[u8], &[u8]); 46] = [
+const FIRST_WORDS: [(&[u8], &[u8]); 49] = [
     (
         b"return",
         b"there is no return: a method ends with its last line, and leaves what it works out in a variable of the class",
@@ -140,6 +140,9 @@ const FIRST_WORDS: [(&[u8], &[u8]); 46] = [
     (b"do", REPEATS),
     (b"loop", REPEATS),
     (b"until", REPEATS),
+    (b"repeat", REPEATS),
+    (b"otherwise", b"write else:"),
+    (b"default", b"write else:"),
     (b"echo", PRINTS),
     (b"puts", PRINTS),
     (b"printf", PRINTS),
@@ -403,7 +406,7 @@ const TIMES: &[u8] =
 const ORDER: &[u8] = b"sets have an order of their own: a loop goes upwards";
 
 /// The names of functions of other languages, and what is said of each.
-const CALLS: [(&[u8], &[u8]); 22] = [
+const CALLS: [(&[u8], &[u8]); 26] = [
     (b"len", b"the number of elements of a set is count(s)"),
     (b"set", EMPTY),
     (b"list", EMPTY),
@@ -411,6 +414,10 @@ const CALLS: [(&[u8], &[u8]); 22] = [
     (b"abs", b"there is no abs: compare with 0"),
     (b"any", QUERIES),
     (b"all", QUERIES),
+    (b"exists", QUERIES),
+    (b"exist", QUERIES),
+    (b"forall", QUERIES),
+    (b"every", QUERIES),
     (b"print", PRINTS),
     (b"input", INPUTS),
     (b"argv", INPUTS),

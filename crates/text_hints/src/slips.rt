@@ -103,6 +103,10 @@ fn tell_taken(spot: Spot<'_>, marks: &[Mark], hint: &mut Hint) -> bool {
     if !(is_set || in_pattern || (named && has(marks, Mark::Name))) {
         return false;
     }
+    if in_pattern && is_type(spot) && spot.is(spot.place.saturating_add(1), Mark::Name) {
+        hint.note(b"a pattern has no types: they stand in the line of the message");
+        return true;
+    }
     let form = b"@ is a word of the language: take another name";
     hint.notes.fill(form, spot.bytes(spot.place), b"");
     hint.note(b"");
@@ -414,6 +418,10 @@ fn on_block(spot: Spot<'_>, marks: &[Mark]) -> &'static [u8] {
         b"a block begins with ':' and stands below, indented by four spaces"
     } else if spot.is_name(spot.place, b"then") || spot.is_name(spot.place, b"do") {
         b"a header ends with ':'"
+    } else if spot.here(Mark::Send) || spot.here(Mark::Output) || spot.here(Mark::Pass) {
+        b"a header ends with ':', and its block stands below"
+    } else if spot.back(1, Mark::Else) && !spot.here(Mark::If) && !spot.here(Mark::Newline) {
+        b"else has no condition: write elif and the condition"
     } else {
         b""
     }
