@@ -261,10 +261,11 @@ fn tell_number(line: &[u8], out: &mut Phrase) -> bool {
         if place != 0 && !is_number(word) {
             out.quote_front(word);
             out.put(b" is no number from 1 to 999999999 without a 0 in front");
-            out.put(match said_of(&BETWEEN, word) {
+            let cure = match said_of(&BETWEEN, word) {
                 Some(cure) => cure,
                 None => cure_of_number(line, place, word),
-            });
+            };
+            out.put(cure);
             return true;
         }
     }

@@ -34,6 +34,7 @@ pub fn tell_slip(spot: Spot<'_>, marks: &[Mark], hint: &mut Hint) -> bool {
         on_begin(spot, marks),
         on_statement(spot),
         on_block(spot, marks),
+        on_no_block(spot, marks),
         on_loop(spot),
         on_arguments(spot),
     ] {
@@ -422,6 +423,15 @@ fn on_block(spot: Spot<'_>, marks: &[Mark]) -> &'static [u8] {
         b"a header ends with ':', and its block stands below"
     } else if spot.back(1, Mark::Else) && !spot.here(Mark::If) && !spot.here(Mark::Newline) {
         b"else has no condition: write elif and the condition"
+    } else {
+        b""
+    }
+}
+
+// A line that stands where the block of a header should begin.
+fn on_no_block(spot: Spot<'_>, marks: &[Mark]) -> &'static [u8] {
+    if has(marks, Mark::Indent) && !spot.is_end() {
+        b"a block is indented by four spaces more than its header; pass stands where nothing is done"
     } else {
         b""
     }
