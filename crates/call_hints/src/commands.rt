@@ -95,7 +95,7 @@ const CHECKS: &[u8] = b"check says whether a program is accepted";
 const FORMS: &[u8] = b"infer prints a program with its declarations";
 
 /// The words of other programs, and what stands in the place of each.
-const CURES: [(&[u8], &[u8]); 29] = [
+const CURES: [(&[u8], &[u8]); 37] = [
     (b"help", HELP),
     (b"-h", HELP),
     (b"--help", HELP),
@@ -123,6 +123,17 @@ const CURES: [(&[u8], &[u8]); 29] = [
     (b"compile", CHECKS),
     (b"parse", CHECKS),
     (b"verify", CHECKS),
+    (b"explore", SEARCHES),
+    (b"debug", PAGES),
+    (b"print", PAGES),
+    (b"analyze", SEARCHES),
+    (b"types", FORMS),
+    (b"/?", HELP),
+    (b"?", HELP),
+    (
+        b"dalgo",
+        b"the word dalgo stands once, and then a command: ./dalgo check PROG",
+    ),
     (b"fmt", FORMS),
     (b"format", FORMS),
 ];
@@ -142,6 +153,8 @@ fn cure_of_file(word: &[u8]) -> &'static [u8] {
         [.., b'.', b'm', b'o', b'v', b'e', b's'] => {
             b"a command and a program stand before the schedule: replay PROG SCHED"
         }
+        [b'-', b'-', b'h', ..] => HELP,
+        [b'-', _, ..] => b"there are no options but --help, --version and --build",
         _ => b"",
     }
 }

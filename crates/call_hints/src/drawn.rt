@@ -12,8 +12,14 @@ const PROGRAMS: &[u8] = b"this is a program: draw what 'dalgo replay PROG SCHED'
 const LAUNCHES: &[u8] =
     b"this is what launch prints: './dalgo launch .. --traces DIR' writes the trace of each node";
 
+/// What is said of what a check prints.
+const CHECKED: &[u8] = b"this is what a check prints: draw what 'dalgo replay PROG SCHED' prints";
+
+/// What is said of pages.
+const PAGES: &[u8] = b"this is a page already: a browser shows it";
+
 /// The first words of lines that are none of a trace, and what is said of each.
-const FIRST_WORDS: [(&[u8], &[u8]); 15] = [
+const FIRST_WORDS: [(&[u8], &[u8]); 19] = [
     (b"move", SCHEDULES),
     (b"timeout", SCHEDULES),
     (b"deliver", SCHEDULES),
@@ -25,6 +31,10 @@ const FIRST_WORDS: [(&[u8], &[u8]); 15] = [
     (b"class", PROGRAMS),
     (b"channel", PROGRAMS),
     (b"def", PROGRAMS),
+    (b"ok", CHECKED),
+    (b"refused", CHECKED),
+    (b"<!DOCTYPE", PAGES),
+    (b"<html>", PAGES),
     (b"node", LAUNCHES),
     (b"status", LAUNCHES),
     (b"#", b"a trace has no remarks"),

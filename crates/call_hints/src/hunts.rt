@@ -111,7 +111,7 @@ fn tell_unknown(alloc: Global, word: &[u8], out: &mut Phrase) {
 }
 
 /// Other words for what a hunt looks for, and what each stands for.
-const MEANT: [(&[u8], &[u8]); 25] = [
+const MEANT: [(&[u8], &[u8]); 29] = [
     (b"deadlock", STUCK),
     (b"hang", STUCK),
     (b"hangs", STUCK),
@@ -137,6 +137,10 @@ const MEANT: [(&[u8], &[u8]); 25] = [
     (b"many", MORE),
     (b"count", MORE),
     (b"outputs", MORE),
+    (b"output", MORE),
+    (b"safety", OVERLAP),
+    (b"invariant", OVERLAP),
+    (b"Deadlock", STUCK),
 ];
 
 // The kind that another word stands for.

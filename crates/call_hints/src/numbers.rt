@@ -142,5 +142,8 @@ fn tell_number(range: Range, word: &[u8], out: &mut Phrase) -> bool {
     out.number(range.most);
     out.put(b" without a 0 in front, and not ");
     out.quote_front(word);
+    if matches!(word, [.., b'.', b'd', b'a']) {
+        out.put(b": PROG stands directly behind the command");
+    }
     true
 }

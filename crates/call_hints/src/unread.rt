@@ -21,7 +21,9 @@ pub fn tell_unread<R: rt::Files + AllocGlobal + Eprint>(rt: &R, name: &str) -> i
         },
         Err(why) => {
             eprintln!(rt; "{named}: {why}")?;
-            if name == "-" {
+            if name == "" {
+                eprintln!(rt; "the name of the file is empty")?;
+            } else if name == "-" {
                 eprintln!(rt; "standard input is read by its name, /dev/stdin")?;
             } else if name == "--help" || name == "-h" {
                 eprintln!(rt; "the script ./dalgo prints the help of a command")?;

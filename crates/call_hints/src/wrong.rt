@@ -56,7 +56,7 @@ fn tell_many(command: &[u8], count: usize, rest: &[String], out: &mut Phrase) {
         out.put(b": ");
         out.quote_front(word);
         out.put(b" is one too many");
-        if word == b"--traces".as_slice() {
+        if word.starts_with(b"--traces".as_slice()) {
             out.put(b"; ./dalgo takes '--traces DIR' as the last two words of launch");
         } else if is_option(word) {
             out.put(b", since there are no options");

@@ -5,7 +5,7 @@ use crate::scope::{Role, Scope};
 use crate::site::{Part, enter_head};
 use crate::walk::{Step, Walk, put_steps};
 use da_bodies::{Place, body_of};
-use da_lang::{Expr, MainLine, Member};
+use da_lang::{Expr, MainLine, Member, PatternTree};
 use da_values::List;
 use std::alloc::Global;
 
@@ -153,6 +153,34 @@ pub fn note_handler(name: &[u8], case: &mut Case<'_>) -> bool {
                 let line = case.digits(u64::from(body.line));
                 let form =
                     b"the handler in line $ has the name for its own block: let it keep the value in a variable of the class";
+                case.note_of(form, line.as_slice(), b"");
+                return true;
+            }
+        }
+    }
+    false
+}
+
+/// Tells that the pattern of the handler has the name as a text. Whether it has.
+pub fn note_quoted(name: &[u8], case: &mut Case<'_>) -> bool {
+    let Some(body) = case.site.body else {
+        return false;
+    };
+    let Place::Handler { message, .. } = body.place else {
+        return false;
+    };
+    let PatternTree::Tuple(parts) = message else {
+        return false;
+    };
+    let [_, rest @ ..] = parts.as_slice() else {
+        return false;
+    };
+    for part in rest {
+        if let PatternTree::Text(text) = part {
+            if text.as_bytes() == name {
+                let line = case.digits(u64::from(body.line));
+                let form =
+                    b"line $ has it in quotes, as a text: a name without quotes takes a part of the message";
                 case.note_of(form, line.as_slice(), b"");
                 return true;
             }

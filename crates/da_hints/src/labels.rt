@@ -4,7 +4,7 @@ use crate::parts::blame_word;
 use crate::rows::rows_of;
 use crate::site::{Part, Site};
 use da_bodies::{Place, body_of};
-use da_lang::{ClassTree, Name, Stmt};
+use da_lang::{ClassTree, Member, Name, Stmt};
 use da_values::List;
 use std::alloc::Global;
 use text_hints::Nearest;
@@ -53,10 +53,28 @@ pub fn tell_no_label(case: &mut Case<'_>) {
             let form = b"the class @ has no label @";
             case.tell(form, class.name.as_slice(), name);
             blame_word(name, case);
-            note_label(labels.as_slice(), name, case);
+            if is_method(name, class) {
+                case.note(
+                    b"it is a method, and behind at stand labels: -- name, on a line of its own",
+                );
+            } else {
+                note_label(labels.as_slice(), name, case);
+            }
             return;
         }
     }
+}
+
+// Whether a class has a method of this name.
+fn is_method(name: &[u8], class: &ClassTree) -> bool {
+    for member in class.members.as_slice() {
+        if let Member::Method { name: other, .. } = member {
+            if other.as_slice() == name {
+                return true;
+            }
+        }
+    }
+    false
 }
 
 fn note_label(labels: &[Label<'_>], name: &[u8], case: &mut Case<'_>) {

@@ -1,6 +1,8 @@
 //! Names that are not what their place asks for.
 use crate::case::Case;
-use crate::elsewhere::{note_handler, note_otherwise, note_sender, note_tag, note_within};
+use crate::elsewhere::{
+    note_handler, note_otherwise, note_quoted, note_sender, note_tag, note_within,
+};
 use crate::labels::tell_no_label;
 use crate::parts::{blame_place, blame_source, blame_word, place_of, written};
 use crate::scope::{Role, Scope, role_name};
@@ -348,6 +350,7 @@ fn tell_name<'t>(name: &'t [u8], wanted: Wanted, case: &mut Case<'t>) {
         Some(cure) => case.note(cure),
         None => {
             if !note_otherwise(name, case)
+                && !note_quoted(name, case)
                 && !note_within(name, case)
                 && !note_elsewhere(name, case)
             {

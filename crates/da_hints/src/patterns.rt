@@ -7,6 +7,7 @@ use crate::shown::put_types;
 use crate::told::{put_place, tell_form, tell_no, tell_other};
 use crate::typing::{element, enter_gen};
 use crate::values::tell_misfit;
+use da_bodies::Place;
 use da_lang::{Expr, GenTree, MessageDecl, PatternTree, PeerTree, SourceTree, Ty};
 use da_typing::same_type;
 use text_hints::{Nearest, Phrase};
@@ -92,13 +93,32 @@ pub fn tell_message_pattern<'t>(pattern: &'t PatternTree, case: &mut Case<'t>) -
         return tell_no_message(pattern, b" does not begin with the tag of a message", case);
     };
     let Some(message) = case.scope.message(tag.as_bytes(), Some(rest.len())) else {
-        return tell_undeclared(tag.as_bytes(), rest.len(), case);
+        tell_undeclared(tag.as_bytes(), rest.len(), case);
+        note_sender_part(tag.as_bytes(), rest, case);
+        return true;
     };
     if tell_parts(rest, message.parts.as_slice(), case) {
         note_message(message, case);
         return true;
     }
     false
+}
+
+// That a handler which names no sender has one part too many: the sender may be meant.
+fn note_sender_part(tag: &[u8], rest: &[PatternTree], case: &mut Case<'_>) {
+    let Some(body) = case.site.body else {
+        return;
+    };
+    let Place::Handler { from, .. } = body.place else {
+        return;
+    };
+    let is_more = match case.scope.message(tag, None) {
+        Some(message) => message.parts.len().saturating_add(1) == rest.len(),
+        None => false,
+    };
+    if is_more && from.is_none() {
+        case.note(b"the sender is no part of a message: it stands behind from");
+    }
 }
 
 fn tell_no_message(pattern: &PatternTree, why: &[u8], case: &mut Case<'_>) -> bool {

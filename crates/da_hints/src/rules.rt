@@ -245,11 +245,39 @@ pub fn tell_arity(case: &mut Case<'_>) {
             if let Some(class) = class_made(name.as_slice(), case) {
                 case.tell(b"setup of the class @", class.name.as_slice(), b"");
                 put_arity(params_of(class, None), args.len(), case);
+                note_no_setup(class, case);
                 blame_word(b"setup", case);
             }
         }
         _ => {}
     }
+}
+
+// Which method looks like a `setup`, where the class has none.
+fn note_no_setup(class: &ClassTree, case: &mut Case<'_>) {
+    if !params_of(class, None).is_empty() {
+        return;
+    }
+    for member in class.members.as_slice() {
+        if let Member::Method { name, line, .. } = member {
+            let mut nearest = Nearest::new(case.alloc, name.as_slice());
+            nearest.offer(b"setup");
+            if nearest.found().is_some() || is_initial(name.as_slice()) {
+                let line = case.digits(u64::from(*line));
+                let form = b"line $ defines @: first values are given by def setup(x: int):";
+                case.note_of(form, line.as_slice(), name.as_slice());
+                return;
+            }
+        }
+    }
+}
+
+// Whether a name stands for `setup` in other languages.
+fn is_initial(name: &[u8]) -> bool {
+    matches!(
+        name,
+        b"__init__" | b"init" | b"initialize" | b"initialise" | b"constructor" | b"create"
+    )
 }
 
 // How many arguments are wanted, and how many there are.

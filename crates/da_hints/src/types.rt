@@ -21,6 +21,11 @@ pub fn tell_types<'t>(case: &mut Case<'t>) -> bool {
         Part::Wait(cond) => return tell_condition(cond, case),
         _ => {}
     }
+    if let Part::Statement(Stmt::Send { message, .. }) = part {
+        if matches!(message.get(), Expr::SetOf(_)) {
+            return tell_sent(message.get(), case);
+        }
+    }
     for place in 0..case.steps.len() {
         if let Some(Step::Whole(part, 0, _)) = case.steps.get(place).copied() {
             if tell_value(part, case) {

@@ -144,6 +144,8 @@ fn tell_chain<'t>(first: &'t Expr, links: &'t [ChainTree], case: &mut Case<'t>) 
         tell_operands(first, links, case);
         if matches!(ty, Ty::Text) {
             case.note(b"texts are not joined; a tuple holds values of several types: ('got', n)");
+        } else if matches!(ty, Ty::Proc) {
+            case.note(b"the set of one process is {p}, and sets are added: {p} + ps");
         }
         return true;
     }
@@ -198,10 +200,21 @@ pub fn tell_misfit<'t>(x: &'t Expr, wanted: &Ty, case: &mut Case<'t>) -> bool {
 fn tell_misfits<'t>(parts: &'t [Expr], wanted: &Ty, case: &mut Case<'t>) -> bool {
     for part in parts {
         if tell_misfit(part, wanted, case) {
+            note_braces(part, wanted, case);
             return true;
         }
     }
     false
+}
+
+// That an element is itself the set which is wanted.
+fn note_braces<'t>(part: &'t Expr, wanted: &Ty, case: &mut Case<'t>) {
+    match element(case.type_of(part)) {
+        Some(ty) if same_type(&ty, wanted) => case.note(
+            b"it is such a set itself: write it without braces",
+        ),
+        _ => {}
+    }
 }
 
 #[cycle(misfits)]

@@ -87,6 +87,23 @@ const STATS: &[u8] = b"'stat 1' prints how much process 1 keeps";
 /// What is written in the place of an end.
 const ENDS: &[u8] = b"no event ends a process: leave it without events";
 
+/// What is written in the place of a process that begins anew.
+const ANEW: &[u8] =
+    b"no event begins a process anew: it keeps what it has, and goes on by 'move 1'";
+
+/// What is written in the place of messages that are late.
+const LATE: &[u8] = b"a message that no 'deliver' names stays in its channel";
+
+/// What is written in the place of another order.
+const ORDER: &[u8] = b"'deliver 1 2 2' delivers message 2 from 1 to 2 before message 1";
+
+/// What is written in the place of loops and conditions.
+const LOOPS: &[u8] =
+    b"there are no loops and no conditions: each event stands on a line of its own";
+
+/// What is said of calls.
+const CALLS: &[u8] = b"this is a call, and no event: a line is as 'move 1'";
+
 /// What is said of what a call prints.
 const ANSWERS: &[u8] = b"this is what a call prints, and no schedule";
 
@@ -94,7 +111,7 @@ const ANSWERS: &[u8] = b"this is what a call prints, and no schedule";
 const REMARKS: &[u8] = b"a remark begins with #";
 
 /// The words of no event, and what is written in the place of each.
-const CURES: [(&[u8], &[u8]); 52] = [
+const CURES: [(&[u8], &[u8]); 78] = [
     (b"start", STARTS),
     (b"started", STARTS),
     (b"run", STARTS),
@@ -139,6 +156,35 @@ const CURES: [(&[u8], &[u8]); 52] = [
     (b"kill", ENDS),
     (b"end", ENDS),
     (b"exit", ENDS),
+    (b"time", b"'timeout 1' begins with one word"),
+    (b"restart", ANEW),
+    (b"recover", ANEW),
+    (b"resume", ANEW),
+    (b"reset", ANEW),
+    (b"delay", LATE),
+    (b"partition", LATE),
+    (b"hold", LATE),
+    (b"block", LATE),
+    (b"reorder", ORDER),
+    (b"swap", ORDER),
+    (b"shuffle", ORDER),
+    (b"for", LOOPS),
+    (b"while", LOOPS),
+    (b"loop", LOOPS),
+    (b"if", LOOPS),
+    (b"then", LOOPS),
+    (b"./dalgo", CALLS),
+    (b"dalgo", CALLS),
+    (b"replay", CALLS),
+    (b"$", CALLS),
+    (b"fail", ENDS),
+    (b"halt", ENDS),
+    (b"quit", ENDS),
+    (b"log", SHOWS),
+    (
+        b"inject",
+        b"no event makes a message: sending is part of a move",
+    ),
     (b"output", b"what a process puts out is part of its moves"),
     (b"ok", ANSWERS),
     (b"refused", ANSWERS),
@@ -161,6 +207,8 @@ fn cure_of(word: &[u8]) -> &'static [u8] {
 fn cure_of_form(word: &[u8]) -> &'static [u8] {
     match word {
         [b'/', b'/', ..] | [b'-', b'-', ..] => REMARKS,
+        [b'"' | b'\'', ..] => b"the words have no quotes: move 1",
+        [b'{', ..] => b"each event is a line of words: move 1",
         [b'0'..=b'9' | b'[', ..] => b"a line begins with its word, as in 'move 1'",
         _ if word.contains(&b'(') => b"the numbers stand behind the word without brackets: move 1",
         [.., b':' | b',' | b';'] => b"the words are parted by single spaces alone: move 1",
@@ -209,20 +257,69 @@ fn takes(word: &[u8], count: usize) -> bool {
 
 // A word after the first that is no number of an event.
 fn tell_number(line: &[u8], out: &mut Phrase) -> bool {
-    for word in line.split(|byte| *byte == b' ').skip(1) {
-        if !is_number(word) {
+    for (place, word) in line.split(|byte| *byte == b' ').enumerate() {
+        if place != 0 && !is_number(word) {
             out.quote_front(word);
             out.put(b" is no number from 1 to 999999999 without a 0 in front");
-            out.put(cure_of_number(word));
+            let cure = match said_of(&BETWEEN, word) {
+                Some(cure) => cure,
+                None => cure_of_number(line, place, word),
+            };
+            out.put(cure);
             return true;
         }
     }
     false
 }
 
-// What is to be written in the place of a word that is no number.
-fn cure_of_number(word: &[u8]) -> &'static [u8] {
+/// What is said of words between the numbers.
+const PLAIN: &[u8] = b": the numbers alone stand behind the word, as in deliver 1 2 1";
+
+/// What is said of several events at once.
+const SINGLE: &[u8] = b": each event stands on a line of its own, for one process or one message";
+
+/// What is said of remarks behind an event.
+const BEHIND: &[u8] = b": a remark stands on a line of its own, which begins with #";
+
+/// The words that often stand among the numbers, and what is said of each.
+const BETWEEN: [(&[u8], &[u8]); 23] = [
+    (b"from", PLAIN),
+    (b"to", PLAIN),
+    (b"at", PLAIN),
+    (b"of", PLAIN),
+    (b"by", PLAIN),
+    (b"in", PLAIN),
+    (b"message", PLAIN),
+    (b"process", PLAIN),
+    (b"alternative", PLAIN),
+    (b"all", SINGLE),
+    (b"any", SINGLE),
+    (b"both", SINGLE),
+    (b"every", SINGLE),
+    (b"*", SINGLE),
+    (b"&&", SINGLE),
+    (b"and", SINGLE),
+    (b"then", SINGLE),
+    (b"move", SINGLE),
+    (b"deliver", SINGLE),
+    (b"times", SINGLE),
+    (b"--", BEHIND),
+    (b"//", BEHIND),
+    (b"%", BEHIND),
+];
+
+// What is to be written in the place of a word that is no number, so many words behind the first of a line.
+fn cure_of_number(line: &[u8], place: usize, word: &[u8]) -> &'static [u8] {
+    let is_letters = match word {
+        [first, ..] => first.is_ascii_alphabetic(),
+        [] => false,
+    };
     match word {
+        _ if is_letters && place == 3 =>
+            b": a message is named by its place in the channel, counted from 1",
+        _ if is_letters && place == 2 && line.starts_with(b"move ".as_slice()) => {
+            b": an alternative of an await is named by its number, and a label needs none"
+        }
         [b'(' | b'\'', ..] => b": a message is named by its place in the channel, counted from 1",
         [first, ..] if first.is_ascii_alphabetic() => {
             b": processes are numbered from 1 on, in the order in which main makes them"

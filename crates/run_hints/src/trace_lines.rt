@@ -18,6 +18,14 @@ const LINES: [(&[u8], &[u8]); 6] = [
 /// The lines that a replay writes, and no node.
 const REPLAYED: [&[u8]; 5] = [b"lost", b"again", b"answer", b"kept", b"stop"];
 
+/// The first words of the lines of a schedule.
+const SCHEDULED: [&[u8]; 7] = [
+    b"move", b"timeout", b"deliver", b"lose", b"repeat", b"show", b"stat",
+];
+
+/// The first words of the lines of a program.
+const DECLARED: [&[u8]; 4] = [b"message", b"class", b"channel", b"def"];
+
 /// The line of this number of a trace, counted from 1, without its LF; after the last LF there is none where nothing follows.
 pub fn trace_line(text: &[u8], number: u64) -> Option<&[u8]> {
     let place = usize::try_from(number.checked_sub(1)?).ok()?;
@@ -46,7 +54,11 @@ pub fn explain_trace_line(alloc: Global, line: &[u8], process: u16) -> Phrase {
     if let Some(value) = value_of(word, line) {
         if read_value(alloc, value).is_err() {
             told.quote_front(value);
-            told.put(b" is no text of a value: a space stands behind each comma, and sets ascend");
+            told.put(if value.contains(&b'"') {
+                b" is no text of a value: texts stand in single quotes".as_slice()
+            } else {
+                b" is no text of a value: a space stands behind each comma, and sets ascend"
+            });
             return told;
         }
     }
@@ -60,6 +72,9 @@ pub fn explain_trace_line(alloc: Global, line: &[u8], process: u16) -> Phrase {
 // What stands at the ends of a line.
 fn tell_ends(line: &[u8], out: &mut Phrase) -> bool {
     let why = match line {
+        _ if line.starts_with(b"\xEF\xBB\xBF".as_slice()) => {
+            b"a byte order mark (BOM) stands before the first word: save the file without it".as_slice()
+        }
         [] => b"a trace has no empty lines".as_slice(),
         [.., b'\r'] => b"it ends with a carriage return (CR), and lines of a trace with LF alone",
         [b' ', ..] => b"a line begins with its word, and not with a space",
@@ -77,6 +92,14 @@ fn tell_word(alloc: Global, word: &[u8], out: &mut Phrase) {
         out.put(
             b" begins a line that launch prints: a trace is what stands between two of them, or './dalgo launch .. --traces DIR' writes it",
         );
+        return;
+    }
+    if SCHEDULED.iter().any(|known| *known == word) {
+        out.put(b" begins a line of a schedule: a trace is what a node prints, as 'took 1 0'");
+        return;
+    }
+    if DECLARED.iter().any(|known| *known == word) {
+        out.put(b" begins a line of a program: the program stands first, PROG TRACE ..");
         return;
     }
     if REPLAYED.iter().any(|known| *known == word) {

@@ -7,6 +7,10 @@ pub fn tell_program_line(line: &[u8], out: &mut Phrase) -> bool {
         out.put(b"a byte order mark (BOM) stands before the first word: save the file without it");
         return true;
     }
+    if line.starts_with(b"\xFF\xFE".as_slice()) || line.starts_with(b"\xFE\xFF".as_slice()) {
+        out.put(b"the file is in UTF-16: save it as ASCII or UTF-8");
+        return true;
+    }
     let word = first_word(line.trim_ascii_start());
     let is_program = match word {
         b"message" | b"class" | b"channel" | b"def" | b"var" => line.contains(&b' '),

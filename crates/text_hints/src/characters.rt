@@ -11,6 +11,12 @@ pub fn tell_byte(text: &[u8], place: usize, hint: &mut Hint) {
         hint.say(b"a byte order mark (BOM) stands before the text: save the file without it");
         return;
     }
+    if place == 0
+        && (text.starts_with(b"\xFF\xFE".as_slice()) || text.starts_with(b"\xFE\xFF".as_slice()))
+    {
+        hint.say(b"the text is in UTF-16: save the file as ASCII or UTF-8");
+        return;
+    }
     match text.get(place).copied() {
         Some(b'\t') => {
             hint.say(b"a tab stands here: use spaces, four for each level");

@@ -8,14 +8,17 @@ use da_values::Mark;
 /// known.
 pub fn gap_at(spot: Spot<'_>, marks: &[Mark]) -> &'static [u8] {
     for note in [
+        on_behind(spot, marks),
         on_generator(spot, marks),
         on_await(spot, marks),
         on_operand(spot, marks),
         on_number(spot),
+        on_closing(spot, marks),
         on_set(spot, marks),
         on_colon(spot, marks),
         on_short(spot, marks),
         on_definition(spot, marks),
+        on_message(spot, marks),
         on_type(spot, marks),
         on_receiver(spot, marks),
         on_class(spot, marks),
@@ -29,6 +32,19 @@ pub fn gap_at(spot: Spot<'_>, marks: &[Mark]) -> &'static [u8] {
         }
     }
     b""
+}
+
+// What stands behind `main`, with which a program ends.
+fn on_behind(spot: Spot<'_>, marks: &[Mark]) -> &'static [u8] {
+    if !marks.is_empty() || spot.place != spot.begin() || spot.is_end() {
+        b""
+    } else if spot.here(Mark::Def) {
+        b"a program ends with its one main; methods stand in a class, before main"
+    } else if spot.here(Mark::Class) || spot.here(Mark::Message) || spot.here(Mark::Channel) {
+        b"a program ends with main: classes and messages stand before it"
+    } else {
+        b"a program ends with main, which nothing calls"
+    }
 }
 
 const CONDITION: &[u8] = b"the condition of a query stands behind |: some x in s | ..";
@@ -47,13 +63,18 @@ fn on_generator(spot: Spot<'_>, marks: &[Mark]) -> &'static [u8] {
     let alone = spot.here(Mark::CloseParen)
         && has(marks, Mark::Comma)
         && !has(marks, Mark::CloseParen);
-    if alone && spot.back(1, Mark::Quoted) && spot.back(2, Mark::OpenParen) {
+    if spot.here(Mark::In) && (spot.back(1, Mark::From) || spot.back(1, Mark::To)) {
+        b"a name or =p stands behind from and to: some ('pong', n) from p in received"
+    } else if alone && spot.back(1, Mark::Quoted) && spot.back(2, Mark::OpenParen) {
         b"a tuple of one part has a comma: ('stop',)"
     } else if spot.here(Mark::OpenParen)
         && (spot.back(1, Mark::Received) || spot.back(1, Mark::Sent))
     {
         b"the message stands in front: some ('pong', n) in received | n > 5"
-    } else if has(marks, Mark::Bar) && !has(marks, Mark::Plus) && named {
+    } else if has(marks, Mark::Bar)
+        && !has(marks, Mark::Plus)
+        && (named || begins_condition(spot))
+    {
         CONDITION
     } else if !awaits_in || spot.is_inside_braces() {
         b""
@@ -61,11 +82,25 @@ fn on_generator(spot: Spot<'_>, marks: &[Mark]) -> &'static [u8] {
         CONDITION
     } else if spot.here(Mark::Received) || spot.here(Mark::Sent) {
         b"in stands before the source: some ('pong', n) in received"
-    } else if spot.here(Mark::Newline) || spot.here(Mark::CloseParen) || spot.here(Mark::Colon) {
+    } else if spot.here(Mark::Newline)
+        || spot.here(Mark::CloseParen)
+        || spot.here(Mark::Colon)
+        || spot.here(Mark::Comma)
+    {
         b"a query says where it looks: some ('pong', n) in received"
     } else {
         b""
     }
+}
+
+// Whether a condition begins at the spot, directly behind the source of a query.
+fn begins_condition(spot: Spot<'_>) -> bool {
+    let next = spot.place.saturating_add(1);
+    let asks = spot.is(next, Mark::Some) || spot.is(next, Mark::Each) || spot.is(next, Mark::Not);
+    let opens = spot.here(Mark::OpenParen) && asks;
+    let ends_header = matches!(spot.bytes(spot.place), b"then" | b"do");
+    let names = spot.here(Mark::Name) && !ends_header;
+    spot.back(2, Mark::In) && (opens || names || spot.here(Mark::Not) || spot.here(Mark::Number))
 }
 
 // The condition of an `await`.
@@ -81,6 +116,11 @@ fn on_await(spot: Spot<'_>, marks: &[Mark]) -> &'static [u8] {
         }
     } else if behind && waits {
         b"a block stands on lines of its own; the condition of a query stands behind |"
+    } else if spot.back(1, Mark::Or)
+        && spot.place == spot.begin().saturating_add(1)
+        && (ends || spot.here(Mark::If))
+    {
+        b"a condition stands behind or, as in or n > 5:"
     } else if spot.back(1, Mark::Await) && ends {
         b"a condition stands behind await, as in await n > 5; await false waits for ever"
     } else if spot.back(1, Mark::Name) && spot.back(2, Mark::Await) && !ends {
@@ -88,6 +128,8 @@ fn on_await(spot: Spot<'_>, marks: &[Mark]) -> &'static [u8] {
             b"until" | b"for" | b"while" | b"that" => b"the condition stands directly behind await",
             _ => b"",
         }
+    } else if spot.here(Mark::Wild) && has(marks, Mark::OpenBrace) && spot.is_inside(Mark::Bar) {
+        b"a query begins with some or each: (some ('pong', _) in received)"
     } else if spot.here(Mark::Wild) && has(marks, Mark::OpenBrace) {
         b"_ stands in patterns alone: count({k: ('pong', k) in received})"
     } else {
@@ -143,6 +185,18 @@ fn is_sign(spot: Spot<'_>) -> bool {
         || spot.back(1, Mark::Assign)
 }
 
+// A bracket that closes none.
+fn on_closing(spot: Spot<'_>, marks: &[Mark]) -> &'static [u8] {
+    let closes = spot.here(Mark::CloseParen)
+        || spot.here(Mark::CloseBrace)
+        || spot.here(Mark::CloseBracket);
+    if closes && has(marks, Mark::Newline) {
+        b"no bracket is open that this one closes"
+    } else {
+        b""
+    }
+}
+
 /// What is said of unions.
 const UNION: &[u8] = b"the union of two sets is s + t";
 
@@ -155,8 +209,11 @@ const DIFFERENCE: &[u8] = b"what one set has and another has not is s - t";
 /// What is said of values that are equal.
 const EQUALITY: &[u8] = b"equal is written ==";
 
+/// What is said of all processes but one.
+const OTHERS: &[u8] = b"all but the process itself are ps - {self}";
+
 /// The words of other languages between two values, and what is said of each.
-const JOINTS: [(&[u8], &[u8]); 11] = [
+const JOINTS: [(&[u8], &[u8]); 16] = [
     (b"union", UNION),
     (b"intersect", COMMON),
     (b"intersection", COMMON),
@@ -165,6 +222,11 @@ const JOINTS: [(&[u8], &[u8]); 11] = [
     (b"mod", b"the remainder is written %"),
     (b"div", b"the quotient is written //"),
     (b"xor", b"write a != b for two truth values"),
+    (b"nor", b"write not (a or b)"),
+    (b"nand", b"write not (a and b)"),
+    (b"implies", b"for an implication write not a or b"),
+    (b"except", OTHERS),
+    (b"but", OTHERS),
     (b"equals", EQUALITY),
     (b"eq", EQUALITY),
     (b"contains", b"whether a set has an element: x in s"),
@@ -183,7 +245,11 @@ fn on_set(spot: Spot<'_>, marks: &[Mark]) -> &'static [u8] {
         return b"a comma stands between two parts: (a, b)";
     }
     if is_one_bar(spot) && !has(marks, Mark::Bar) {
-        return UNION;
+        return if is_in_aggregate(spot) {
+            b"a condition stands within braces: count({p: p in s | ..})"
+        } else {
+            UNION
+        };
     }
     match said_of(&JOINTS, spot.bytes(spot.place)) {
         Some(said) => said,
@@ -198,11 +264,13 @@ fn begins_part(spot: Spot<'_>) -> bool {
     number || (behind && (spot.here(Mark::Name) || spot.here(Mark::SelfWord)))
 }
 
-// A colon behind what has no block.
+// A colon or a comma at the end of what has no block.
 fn on_colon(spot: Spot<'_>, marks: &[Mark]) -> &'static [u8] {
     let begin = spot.begin();
     let ends = has(marks, Mark::Newline) && spot.is(spot.place.saturating_add(1), Mark::Newline);
-    if !(spot.here(Mark::Colon) && ends) {
+    if ends && spot.here(Mark::Comma) && spot.is(begin, Mark::Output) {
+        b"no comma ends a statement"
+    } else if !(spot.here(Mark::Colon) && ends) {
         b""
     } else if spot.is(begin, Mark::Message) {
         b"no colon stands behind a message: message ping(int)"
@@ -214,6 +282,14 @@ fn on_colon(spot: Spot<'_>, marks: &[Mark]) -> &'static [u8] {
     } else {
         b""
     }
+}
+
+// Whether the innermost bracket that is open at the spot is that of `count`, `sum`, `min` or `max`.
+fn is_in_aggregate(spot: Spot<'_>) -> bool {
+    spot.is_inside(Mark::Count)
+        || spot.is_inside(Mark::Sum)
+        || spot.is_inside(Mark::Min)
+        || spot.is_inside(Mark::Max)
 }
 
 // Whether one bar stands at the spot, outside of braces.
@@ -281,6 +357,34 @@ fn on_definition(spot: Spot<'_>, marks: &[Mark]) -> &'static [u8] {
     }
 }
 
+// The line of a message.
+fn on_message(spot: Spot<'_>, marks: &[Mark]) -> &'static [u8] {
+    if !spot.is(spot.begin(), Mark::Message) {
+        b""
+    } else if is_type(spot) && has(marks, Mark::Comma) {
+        b"a comma stands between two types: message ping(int, str)"
+    } else if spot.back(1, Mark::CloseParen)
+        && (spot.here(Mark::Comma) || spot.here(Mark::Message))
+    {
+        b"each message has a line of its own: message ping(int)"
+    } else {
+        b""
+    }
+}
+
+/// The types of other languages.
+const OTHER_TYPES: [&[u8]; 22] = [
+    b"integer", b"Integer", b"long", b"number", b"float", b"double", b"real", b"string", b"String",
+    b"text", b"char", b"boolean", b"Boolean", b"list", b"List", b"array", b"Array", b"tuple",
+    b"any", b"object", b"None", b"void",
+];
+
+// Whether the type of another language stands at the spot.
+fn is_other_type(spot: Spot<'_>) -> bool {
+    let name = spot.bytes(spot.place);
+    OTHER_TYPES.iter().any(|other| *other == name)
+}
+
 // Whether a type stands at the spot.
 fn is_type(spot: Spot<'_>) -> bool {
     spot.here(Mark::Int)
@@ -298,7 +402,7 @@ fn on_type(spot: Spot<'_>, marks: &[Mark]) -> &'static [u8] {
         b"the type of every process is proc"
     } else if has(marks, Mark::Int) && is_map(spot.bytes(spot.place)) {
         b"a set of pairs stands for a map: set[(int, str)]"
-    } else if has(marks, Mark::Int) && spot.is(begin, Mark::Def) {
+    } else if has(marks, Mark::Int) && (spot.is(begin, Mark::Def) || is_other_type(spot)) {
         b"types are written int, bool, str, proc, (int, str), set[int]"
     } else if has(marks, Mark::Int) && is_message && spot.here(Mark::CloseParen) {
         b"a comma stands between two types alone"
@@ -350,6 +454,12 @@ fn on_receiver(spot: Spot<'_>, marks: &[Mark]) -> &'static [u8] {
         b"a pattern has no types: they stand in the line of the message"
     } else if has(marks, Mark::From) && (spot.here(Mark::Name) || spot.here(Mark::To)) {
         on_sender(spot)
+    } else if spot.here(Mark::From) && has(marks, Mark::Comma) && spot.back(2, Mark::At) {
+        b"from stands before at: receive ('ping', k) from who at ready:"
+    } else if spot.here(Mark::Dashes) && spot.back(1, Mark::At) {
+        b"a label is named without its signs: at ready"
+    } else if spot.here(Mark::In) && has(marks, Mark::At) {
+        b"labels stand behind at: receive ('ping', k) from who at ready:"
     } else {
         b""
     }
@@ -406,10 +516,23 @@ fn on_number(spot: Spot<'_>) -> &'static [u8] {
     }
 }
 
-// A part of a pattern that may be anything.
+// A part of a pattern that may be anything, or that is compared.
 fn on_any(spot: Spot<'_>, marks: &[Mark]) -> &'static [u8] {
+    let compares = match spot.mark(spot.place) {
+        Some(mark) => is_comparison(mark),
+        None => false,
+    };
+    let ends_part = has(marks, Mark::Comma) && has(marks, Mark::CloseParen);
+    let is_part = ends_part && !has(marks, Mark::Plus) && !has(marks, Mark::Int);
     if has(marks, Mark::Wild) && (spot.here(Mark::Star) || spot.here(Mark::Dot)) {
         b"a part that may be anything is written _"
+    } else if compares && (has(marks, Mark::Wild) || is_part) {
+        b"a pattern names its parts, and the condition stands behind |: some ('pong', n) in received | n > 5"
+    } else if is_part
+        && spot.back(2, Mark::Assign)
+        && (spot.here(Mark::Plus) || spot.here(Mark::Minus))
+    {
+        b"one value stands behind = in a pattern: put the sum into a variable first, or compare behind |"
     } else {
         b""
     }
@@ -422,10 +545,21 @@ fn on_main(spot: Spot<'_>, marks: &[Mark]) -> &'static [u8] {
     let sets = second && has(marks, Mark::Assign) && !has(marks, Mark::Dot);
     if sets && spot.here(Mark::Comma) {
         b"one name stands for one process, or for several: a = new(P), ps = new(P, 3)"
+    } else if sets && spot.here(Mark::Name) {
+        b"main makes a process so: a = new(P)"
+    } else if sets && spot.here(Mark::Dot) && spot.is(next, Mark::Run) {
+        b"nothing calls run: a process starts by an event of the schedule, as move 1"
     } else if sets && spot.here(Mark::Dot) && spot.is(next, Mark::Setup) {
         b"write setup(a, ..)"
     } else if spot.back(1, Mark::Setup) && !spot.here(Mark::OpenParen) {
         b"write setup(a, ..)"
+    } else if spot.here(Mark::OpenBracket) && spot.is(spot.begin().saturating_add(2), Mark::New) {
+        b"several processes are made so: a = new(P, 3)"
+    } else if spot.here(Mark::OpenBracket)
+        && spot.back(1, Mark::Name)
+        && spot.is(spot.begin(), Mark::Setup)
+    {
+        b"a name stands for all its processes, as their set: setup(b, ..) sets up each of them"
     } else if spot.here(Mark::New) && spot.back(1, Mark::OpenParen) {
         b"a process is made on a line of its own: a = new(P)"
     } else if spot.here(Mark::From) && has(marks, Mark::Class) && has(marks, Mark::Def) {

@@ -1,6 +1,7 @@
 //! Why the tokens of a text begin no program.
 use crate::brackets::open_brackets;
 use crate::expected::{has, put_expected};
+use crate::habits::tell_channel;
 use crate::hint::Hint;
 use crate::lines::{between, column_of, line_number};
 use crate::misspelt::{tell_first_word, tell_word_before, tell_word_here};
@@ -64,6 +65,7 @@ fn tell_cure(alloc: Global, spot: Spot<'_>, loose: bool, marks: &[Mark], hint: &
         || tell_word_before(alloc, spot, loose, hint)
         || tell_python(spot, marks, hint)
         || tell_word_here(alloc, spot, marks, hint)
+        || tell_channel(spot, hint)
 }
 
 // Blames the token at the spot, or the place where it should stand.

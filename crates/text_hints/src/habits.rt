@@ -1,5 +1,6 @@
 //! Signs, calls and words from other languages, within lines.
 use crate::expected::has;
+use crate::hint::Hint;
 use crate::spot::Spot;
 use crate::words::said_of;
 use da_values::Mark;
@@ -66,8 +67,11 @@ const COUNTS: &[u8] = b"the number of elements of a set is count(s)";
 /// What is said of sets that are empty.
 const EMPTINESS: &[u8] = b"whether a set is empty is count(s) == 0";
 
+/// What is said of the elements of a set.
+const ELEMENTS: &[u8] = b"whether a set has an element: x in s";
+
 /// What stands behind the dot of a value in other languages, and what is said of each.
-const ATTRIBUTES: [(&[u8], &[u8]); 9] = [
+const ATTRIBUTES: [(&[u8], &[u8]); 12] = [
     (
         b"size",
         b"values have no attributes; the number of elements of a set is count(s)",
@@ -75,6 +79,9 @@ const ATTRIBUTES: [(&[u8], &[u8]); 9] = [
     (b"count", COUNTS),
     (b"length", COUNTS),
     (b"len", COUNTS),
+    (b"contains", ELEMENTS),
+    (b"includes", ELEMENTS),
+    (b"has", ELEMENTS),
     (b"empty", EMPTINESS),
     (b"is_empty", EMPTINESS),
     (b"isEmpty", EMPTINESS),
@@ -123,9 +130,13 @@ fn on_dot(spot: Spot<'_>) -> &'static [u8] {
     if !spot.back(1, Mark::Dot) {
         return b"";
     }
-    match said_of(&METHODS, spot.bytes(spot.place)) {
+    let word = spot.bytes(spot.place);
+    match said_of(&METHODS, word) {
         Some(said) => said,
-        None => b"",
+        None => match said_of(&ATTRIBUTES, word) {
+            Some(said) => said,
+            None => b"",
+        },
     }
 }
 
@@ -200,7 +211,9 @@ fn on_inner(spot: Spot<'_>, marks: &[Mark]) -> &'static [u8] {
 fn on_declared(spot: Spot<'_>) -> &'static [u8] {
     let begin = spot.begin();
     let quoted = spot.here(Mark::Quoted);
-    if spot.back(1, Mark::Set) && !spot.here(Mark::Assign) {
+    if spot.back(1, Mark::Message) && spot.here(Mark::OpenParen) {
+        b"a message is declared so: message ping(int)"
+    } else if spot.back(1, Mark::Set) && !spot.here(Mark::Assign) {
         b"types are written int, bool, str, proc, (int, str), set[int]"
     } else if spot.back(1, Mark::Message) && quoted {
         b"the tag of a declaration has no quotes: message ping(int)"
@@ -220,17 +233,61 @@ fn on_declared(spot: Spot<'_>) -> &'static [u8] {
     }
 }
 
+/// What is said of the line of the channels.
+const CHANNEL: &[u8] =
+    b"first stands fifo or unordered, and then reliable or unreliable: channel fifo reliable";
+
+/// Tells how the line of the channels is written, where the spot is on it. Whether it is.
+pub fn tell_channel(spot: Spot<'_>, hint: &mut Hint) -> bool {
+    let begin = spot.begin();
+    let is_within = spot.is(begin, Mark::Channel) && spot.place != begin;
+    if is_within {
+        hint.note(CHANNEL);
+    }
+    is_within
+}
+
 // The line of the channels.
 fn on_channel(spot: Spot<'_>) -> &'static [u8] {
     let begin = spot.begin();
     let is_verb = matches!(spot.bytes(spot.place), b"is" | b"are" | b"be");
     let names = spot.here(Mark::Name) && !is_verb;
-    if spot.is(begin, Mark::Channel) && spot.place != begin && !names {
-        b"first stands fifo or unordered, and then reliable or unreliable: channel fifo reliable"
-    } else {
+    if !spot.is(begin, Mark::Channel) || spot.place == begin {
         b""
+    } else if !names {
+        CHANNEL
+    } else {
+        match said_of(&CHANNELS, spot.bytes(spot.place)) {
+            Some(said) => said,
+            None => b"",
+        }
     }
 }
+
+/// What is said of channels that keep the order of messages.
+const IN_ORDER: &[u8] = b"channels that keep the order of messages: channel fifo reliable";
+
+/// What is said of channels that lose messages.
+const LOSING: &[u8] =
+    b"channels that may lose messages: channel fifo unreliable, or channel unordered unreliable";
+
+/// What is said of channels that lose, double and reorder messages.
+const OF_PACKETS: &[u8] =
+    b"channels that may lose, double and reorder messages: channel unordered unreliable";
+
+/// Other words for channels, and what is said of each.
+const CHANNELS: [(&[u8], &[u8]); 10] = [
+    (b"ordered", IN_ORDER),
+    (b"order", IN_ORDER),
+    (b"queue", IN_ORDER),
+    (b"tcp", IN_ORDER),
+    (b"TCP", IN_ORDER),
+    (b"lossy", LOSING),
+    (b"losing", LOSING),
+    (b"faulty", LOSING),
+    (b"udp", OF_PACKETS),
+    (b"UDP", OF_PACKETS),
+];
 
 // Commas between parts.
 fn on_parts(spot: Spot<'_>, marks: &[Mark]) -> &'static [u8] {

@@ -103,7 +103,7 @@ const PASSES: &[u8] = b"write for x in s:";
 const ENDS: &[u8] = b"a block ends where its indentation does";
 
 /// The words of other languages with which a statement may begin, and what is said of each.
-const FIRST_WORDS: [(&[u8], &[u8]); 44] = [
+const FIRST_WORDS: [(&[u8], &[u8]); 49] = [
     (
         b"return",
         b"there is no return: a method ends with its last line, and leaves what it works out in a variable of the class",
@@ -140,6 +140,9 @@ const FIRST_WORDS: [(&[u8], &[u8]); 44] = [
     (b"do", REPEATS),
     (b"loop", REPEATS),
     (b"until", REPEATS),
+    (b"repeat", REPEATS),
+    (b"otherwise", b"write else:"),
+    (b"default", b"write else:"),
     (b"echo", PRINTS),
     (b"puts", PRINTS),
     (b"printf", PRINTS),
@@ -157,6 +160,8 @@ const FIRST_WORDS: [(&[u8], &[u8]); 44] = [
     (b"wait_until", WAITS),
     (b"wait_for", WAITS),
     (b"unless", b"write if not (..):"),
+    (b"call", b"a method is called by its name alone: f(5)"),
+    (b"invoke", b"a method is called by its name alone: f(5)"),
 ];
 
 // A statement that begins with a word of another language.
@@ -240,6 +245,8 @@ fn on_method(spot: Spot<'_>, marks: &[Mark], name: usize) -> &'static [u8] {
     let ends = spot.here(Mark::Comma) || spot.here(Mark::CloseParen);
     if bare && spot.back(1, Mark::OpenParen) {
         b"run and main have no parameter, not even self: write def run():"
+    } else if spot.here(Mark::SelfWord) && spot.bytes(name) == b"__init__".as_slice() {
+        b"first values are given by def setup(x: int):, which has no parameter self"
     } else if spot.here(Mark::SelfWord) {
         b"there is no parameter self: a method sees the variables of its class"
     } else if ends && spot.back(1, Mark::Name) && has(marks, Mark::Colon) {
@@ -266,7 +273,15 @@ fn on_one_line(spot: Spot<'_>, marks: &[Mark]) -> &'static [u8] {
 fn on_statement(spot: Spot<'_>, marks: &[Mark]) -> &'static [u8] {
     let next = spot.place.saturating_add(1);
     let statement = has(marks, Mark::Send) && has(marks, Mark::Await);
-    if (spot.here(Mark::SelfWord) && spot.is(next, Mark::Dot))
+    let calls = statement && spot.is(next.saturating_add(2), Mark::OpenParen);
+    if spot.here(Mark::SelfWord) && spot.is(next, Mark::Dot) && calls {
+        b"a method is called by its name alone: f(5)"
+    } else if spot.here(Mark::Dot)
+        && spot.back(1, Mark::SelfWord)
+        && matches!(spot.bytes(next), b"id" | b"pid" | b"name" | b"me")
+    {
+        b"write self for the process itself"
+    } else if (spot.here(Mark::SelfWord) && spot.is(next, Mark::Dot))
         || (spot.here(Mark::Dot) && spot.back(1, Mark::SelfWord))
     {
         b"a variable of the class is named without self: x, declared as var x: int"
@@ -274,6 +289,11 @@ fn on_statement(spot: Spot<'_>, marks: &[Mark]) -> &'static [u8] {
         b"a block begins only below a line that ends with ':'"
     } else if statement && spot.here(Mark::Quoted) {
         b"a remark begins with #"
+    } else if statement
+        && (spot.here(Mark::Else) || spot.here(Mark::Elif))
+        && has(marks, Mark::Timeout)
+    {
+        b"a further alternative of an await begins with or, and timeout: stands last"
     } else if statement && (spot.here(Mark::Else) || spot.here(Mark::Elif)) {
         b"no if stands before it with this indentation"
     } else if spot.here(Mark::If) && spot.back(1, Mark::Else) {
@@ -378,11 +398,15 @@ const INPUTS: &[u8] = b"there is no input: setup and messages give a process its
 /// What is said of time.
 const CLOCK: &[u8] = b"the logical clock is logical_time()";
 
+/// What is said of waiting for some time.
+const TIMES: &[u8] =
+    b"no time is waited for: await n > 5: has a block, and timeout: behind it another one";
+
 /// What is said of orders.
 const ORDER: &[u8] = b"sets have an order of their own: a loop goes upwards";
 
 /// The names of functions of other languages, and what is said of each.
-const CALLS: [(&[u8], &[u8]); 20] = [
+const CALLS: [(&[u8], &[u8]); 26] = [
     (b"len", b"the number of elements of a set is count(s)"),
     (b"set", EMPTY),
     (b"list", EMPTY),
@@ -390,6 +414,10 @@ const CALLS: [(&[u8], &[u8]); 20] = [
     (b"abs", b"there is no abs: compare with 0"),
     (b"any", QUERIES),
     (b"all", QUERIES),
+    (b"exists", QUERIES),
+    (b"exist", QUERIES),
+    (b"forall", QUERIES),
+    (b"every", QUERIES),
     (b"print", PRINTS),
     (b"input", INPUTS),
     (b"argv", INPUTS),
@@ -401,6 +429,8 @@ const CALLS: [(&[u8], &[u8]); 20] = [
     (b"now", CLOCK),
     (b"clock", CLOCK),
     (b"logical_clock", CLOCK),
+    (b"sleep", TIMES),
+    (b"wait", TIMES),
     (b"sorted", ORDER),
     (b"reversed", ORDER),
 ];
@@ -428,6 +458,8 @@ fn on_operator(spot: Spot<'_>, marks: &[Mark]) -> &'static [u8] {
         b""
     } else if is_compared(spot) {
         b"a comparison has one sign: write a < b and b < c"
+    } else if spot.here(Mark::Not) && !spot.is(next, Mark::In) {
+        b"not stands before a condition: not (a > b)"
     } else if spot.here(Mark::Not) {
         b"write not (x in s)"
     } else if spot.here(Mark::If) {
@@ -438,6 +470,8 @@ fn on_operator(spot: Spot<'_>, marks: &[Mark]) -> &'static [u8] {
         b"-- begins a label: part the two signs by a space"
     } else if spot.here(Mark::Assign) {
         b"= gives a variable a value; == compares"
+    } else if spot.is_name(spot.place, b"is") && spot.is_name(next, b"empty") {
+        b"whether a set is empty is count(s) == 0"
     } else if spot.is_name(spot.place, b"is") {
         b"write == or !="
     } else if spot.here(Mark::Quoted) && spot.back(1, Mark::Name) {

@@ -34,6 +34,7 @@ pub fn tell_slip(spot: Spot<'_>, marks: &[Mark], hint: &mut Hint) -> bool {
         on_begin(spot, marks),
         on_statement(spot),
         on_block(spot, marks),
+        on_no_block(spot, marks),
         on_loop(spot),
         on_arguments(spot),
     ] {
@@ -86,7 +87,8 @@ fn tell_taken(spot: Spot<'_>, marks: &[Mark], hint: &mut Hint) -> bool {
     };
     let excluded = spot.here(Mark::SelfWord) || spot.here(Mark::Receive) || spot.here(Mark::Main);
     let in_order = spot.back(1, Mark::Receive) && (spot.here(Mark::From) || spot.here(Mark::At));
-    if !is_word || excluded || in_order {
+    let asks = spot.back(1, Mark::Receive) && (spot.here(Mark::Some) || spot.here(Mark::Each));
+    if !is_word || excluded || in_order || asks {
         return false;
     }
     let named = spot.back(1, Mark::Var)
@@ -97,9 +99,14 @@ fn tell_taken(spot: Spot<'_>, marks: &[Mark], hint: &mut Hint) -> bool {
         || spot.back(1, Mark::Dashes)
         || (spot.is(begin, Mark::Def) && spot.place != begin);
     let is_set = spot.place == begin && spot.is(spot.place.saturating_add(1), Mark::Assign);
-    let in_pattern = has(marks, Mark::Wild) && !spot.here(Mark::Received) && !spot.here(Mark::Sent);
+    let in_pattern = has(marks, Mark::Wild)
+        && !(spot.here(Mark::Received) || spot.here(Mark::Sent) || spot.here(Mark::In));
     if !(is_set || in_pattern || (named && has(marks, Mark::Name))) {
         return false;
+    }
+    if in_pattern && is_type(spot) && spot.is(spot.place.saturating_add(1), Mark::Name) {
+        hint.note(b"a pattern has no types: they stand in the line of the message");
+        return true;
     }
     let form = b"@ is a word of the language: take another name";
     hint.notes.fill(form, spot.bytes(spot.place), b"");
@@ -166,18 +173,27 @@ fn on_outer_word(spot: Spot<'_>, marks: &[Mark]) -> &'static [u8] {
 /// What is said of methods.
 const METHODS: &[u8] = b"a method begins with def: def f(x: int):";
 
+/// What is said of words before the lines of a class.
+const MEMBERS: &[u8] = b"no word stands before var, def and receive: var x: int";
+
 /// What is said of handlers.
 const HANDLERS: &[u8] = b"a handler is written so: receive ('ping', k) from who:";
 
 /// The words of other languages with which a line of a class may begin, and what is said of each.
-const MEMBER_WORDS: [(&[u8], &[u8]); 13] = [
+const MEMBER_WORDS: [(&[u8], &[u8]); 19] = [
     (b"func", METHODS),
     (b"function", METHODS),
     (b"fn", METHODS),
     (b"fun", METHODS),
+    (b"void", METHODS),
     (b"method", METHODS),
     (b"proc", METHODS),
     (b"async", METHODS),
+    (b"private", MEMBERS),
+    (b"public", MEMBERS),
+    (b"protected", MEMBERS),
+    (b"static", MEMBERS),
+    (b"final", MEMBERS),
     (b"on", HANDLERS),
     (b"when", HANDLERS),
     (b"upon", HANDLERS),
@@ -250,7 +266,11 @@ fn on_source(spot: Spot<'_>, marks: &[Mark]) -> &'static [u8] {
     let here = spot.here(Mark::Received) || spot.here(Mark::Sent);
     let behind = spot.back(1, Mark::OpenParen)
         && (spot.back(2, Mark::Some) || spot.back(2, Mark::Each));
-    if spot.here(Mark::From) && spot.back(1, Mark::Received) {
+    if spot.here(Mark::Receive) && spot.back(1, Mark::In) {
+        b"the messages that were taken are received: some ('pong', n) in received"
+    } else if spot.here(Mark::Send) && spot.back(1, Mark::In) {
+        b"the messages that were sent are sent: some ('pong', n) in sent"
+    } else if spot.here(Mark::From) && spot.back(1, Mark::Received) {
         b"from stands before in: some ('pong', n) from =peer in received"
     } else if spot.here(Mark::To) && spot.back(1, Mark::Sent) {
         b"to stands before in: some ('pong', n) to =peer in sent"
@@ -302,6 +322,12 @@ fn on_begin(spot: Spot<'_>, marks: &[Mark]) -> &'static [u8] {
         b""
     } else if spot.here(Mark::OpenParen) && spot.place == spot.begin() {
         b"no statement begins with '('; the pattern of a query takes a tuple apart: if some (k, p) in q:"
+    } else if spot.here(Mark::Each) {
+        b"a loop is written for x in s:, and each x in s | .. is a condition"
+    } else if spot.here(Mark::Some) {
+        b"a query stands in a condition: if some x in s | ..:"
+    } else if spot.here(Mark::Set) {
+        b"a variable is set so: x = 3"
     } else if spot.here(Mark::Del) {
         b"write s.del(e)"
     } else if spot.here(Mark::Var) || is_type(spot) {
@@ -324,7 +350,13 @@ fn on_statement(spot: Spot<'_>) -> &'static [u8] {
         || spot.is(next, Mark::Bool)
         || spot.is(next, Mark::Str)
         || spot.is(next, Mark::Set);
-    if spot.is(begin, Mark::Send) && spot.here(Mark::Comma) && spot.back(2, Mark::To) {
+    if spot.back(1, Mark::Send) && spot.here(Mark::Message) {
+        b"write send ('ping', 5) to p: a message begins with its tag as a text"
+    } else if spot.is(begin, Mark::Name) && spot.here(Mark::To) && spot.back(1, Mark::CloseParen) {
+        b"a message is sent so: send ('ping', 5) to p"
+    } else if second && is_method(spot) && begins_argument(spot) {
+        b"a method is called with brackets: f(5)"
+    } else if spot.is(begin, Mark::Send) && spot.here(Mark::Comma) && spot.back(2, Mark::To) {
         b"several processes are a set: send ('ping', 5) to {p, q}"
     } else if second
         && spot.is(begin, Mark::Name)
@@ -343,6 +375,26 @@ fn on_statement(spot: Spot<'_>) -> &'static [u8] {
     } else {
         b""
     }
+}
+
+// Whether the token before the spot is the name of a method of the program.
+fn is_method(spot: Spot<'_>) -> bool {
+    let name = spot.back_bytes(1);
+    for place in 0..spot.tokens.len() {
+        if spot.is(place, Mark::Def) && spot.is_name(place.saturating_add(1), name) {
+            return true;
+        }
+    }
+    false
+}
+
+// Whether a value begins at the spot, or the line ends there.
+fn begins_argument(spot: Spot<'_>) -> bool {
+    spot.here(Mark::Name)
+        || spot.here(Mark::Number)
+        || spot.here(Mark::Quoted)
+        || spot.here(Mark::SelfWord)
+        || spot.here(Mark::Newline)
 }
 
 // Whether the line ends at the spot, or a value goes on there.
@@ -367,6 +419,19 @@ fn on_block(spot: Spot<'_>, marks: &[Mark]) -> &'static [u8] {
         b"a block begins with ':' and stands below, indented by four spaces"
     } else if spot.is_name(spot.place, b"then") || spot.is_name(spot.place, b"do") {
         b"a header ends with ':'"
+    } else if spot.here(Mark::Send) || spot.here(Mark::Output) || spot.here(Mark::Pass) {
+        b"a header ends with ':', and its block stands below"
+    } else if spot.back(1, Mark::Else) && !spot.here(Mark::If) && !spot.here(Mark::Newline) {
+        b"else has no condition: write elif and the condition"
+    } else {
+        b""
+    }
+}
+
+// A line that stands where the block of a header should begin.
+fn on_no_block(spot: Spot<'_>, marks: &[Mark]) -> &'static [u8] {
+    if has(marks, Mark::Indent) && !spot.is_end() {
+        b"a block is indented by four spaces more than its header; pass stands where nothing is done"
     } else {
         b""
     }

@@ -18,24 +18,34 @@ pub fn tell_tokens(alloc: Global, text: &[u8], kind: LexKind, number: u32, hint:
     match kind {
         LexKind::BadIndent => tell_indent(alloc, text, line, hint),
         LexKind::Unclosed => tell_unclosed(alloc, text, line, hint),
-        LexKind::BadByte | LexKind::BadToken => tell_piece(text, line, hint),
+        LexKind::BadByte | LexKind::BadToken => tell_piece(alloc, text, line, hint),
     }
 }
 
 // A byte or a token of a line.
-fn tell_piece(text: &[u8], line: Line<'_>, hint: &mut Hint) {
+fn tell_piece(alloc: Global, text: &[u8], line: Line<'_>, hint: &mut Hint) {
     let Some(bad) = bad_piece(line.bytes) else {
         return;
     };
     let place = line.first.saturating_add(bad.place);
     match bad.kind {
         LexKind::BadByte => tell_byte(text, place, hint),
-        _ => tell_spelling(text, place, bad, hint),
+        _ if is_loop(line.bytes, bad.place) => {
+            hint.blame(place, bad.length);
+            hint.say(b"no token begins with ;: write for i in range(0, 3):");
+        }
+        _ => tell_spelling(alloc, text, place, bad, hint),
     }
 }
 
+// Whether a semicolon at this place of a line stands in a loop with three parts.
+fn is_loop(line: &[u8], place: usize) -> bool {
+    let begins = line.trim_ascii_start().starts_with(b"for".as_slice());
+    begins && between(line, place, place.saturating_add(1)) == b";".as_slice()
+}
+
 // Bytes that spell no token.
-fn tell_spelling(text: &[u8], place: usize, bad: Bad, hint: &mut Hint) {
+fn tell_spelling(alloc: Global, text: &[u8], place: usize, bad: Bad, hint: &mut Hint) {
     hint.blame(place, bad.length);
     let bytes = between(text, place, place.saturating_add(bad.length));
     if between(text, place, place.saturating_add(3)) == b"\"\"\"".as_slice() {
@@ -48,6 +58,10 @@ fn tell_spelling(text: &[u8], place: usize, bad: Bad, hint: &mut Hint) {
     }
     if bytes == b"\\".as_slice() && !ends_line(text, place.saturating_add(1)) {
         hint.say(b"no token begins with \\: what one set has and another has not is s - t");
+        return;
+    }
+    if bytes == b";".as_slice() && open_brackets(alloc, between(text, 0, place)).len() != 0 {
+        hint.say(b"no token begins with ;: a comma stands between two parts");
         return;
     }
     let form = match bytes {
@@ -177,5 +191,10 @@ fn tell_unclosed(alloc: Global, text: &[u8], line: Line<'_>, hint: &mut Hint) {
     let form = b"this @ is not closed: it is open to the end of the text";
     let bracket = between(text, place, place.saturating_add(1));
     hint.sentence.fill(form, bracket, b"");
+    if bracket == b"{".as_slice() && ends_line(text, place.saturating_add(1)) {
+        hint.note(
+            b"a block has no braces: its header ends with ':', and it is indented by four spaces",
+        );
+    }
     hint.note(b"while a bracket is open, the line ends and the indentation below it do not count");
 }
