@@ -42,7 +42,7 @@ fn compares(text: Text<'_>, generator: &GenTree, bound: &[&[u8]]) -> bool {
     }
     for part in parts.as_slice() {
         if let Part::Name(name) = *part {
-            if bound.contains(&name) {
+            if (&*bound).contains(&name) {
                 return true;
             }
         }
