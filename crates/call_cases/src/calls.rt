@@ -1,6 +1,7 @@
 //! Calls of the program over files, a sink, a link and a spawner.
 use crate::entries::{tell_calls, tell_entries, tell_gifts};
 use crate::fault::CallFault;
+use crate::statuses::put_status;
 use crate::texts::bytes_of;
 use arq_link::ArqLink;
 use da_commands::{Status, dalgo};
@@ -259,8 +260,8 @@ fn over_script(alloc: Global, words: &[String], outside: &mut Outside) -> Status
 
 // The status, and what was written.
 fn tell(alloc: Global, status: Status, written: &[u8], out: &mut Buf) -> Result<(), CallFault> {
-    let name = format!(in alloc; "{status:?}:")?;
-    out.append(name.as_str().as_bytes())?;
+    put_status(alloc, status, out)?;
+    out.append(b":")?;
     if written.len() > 0 {
         out.append(b" ")?;
         out.append(written)?;

@@ -7,6 +7,7 @@ mod code;
 mod entries;
 mod fault;
 mod printing;
+mod statuses;
 mod texts;
 
 use anyhow::Context;
