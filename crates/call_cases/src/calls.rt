@@ -58,25 +58,13 @@ pub fn call_reply<R: Net + AllocGlobal>(
     let (head, words) = call.split_once('|').unwrap_or((call, ""));
     let (kind, options) = head.split_once(' ').unwrap_or((head, ""));
     let (words, answers) = words.split_once(" | ").unwrap_or((words, texts.answers));
-    let setting = setting_of(options)?;
     let words = words_of(alloc, words)?;
-    let mut outside = outside_of(alloc, texts, answers, setting)?;
-    reply_over(rt, kind, words.as_slice(), &mut outside, out)
-}
-
-// How a call of this kind over these objects ends, and what it writes.
-fn reply_over<R: Net + AllocGlobal>(
-    rt: &R,
-    kind: &str,
-    words: &[String],
-    outside: &mut Outside,
-    out: &mut Buf,
-) -> Result<(), CallFault> {
+    let mut outside = outside_of(alloc, texts, answers, setting_of(options)?)?;
     if kind == "udp" {
-        let status = over_udp(rt, words, outside);
-        return tell(rt.alloc(), status, outside.sink.bytes(), out);
+        let status = over_udp(rt, words.as_slice(), &mut outside);
+        return tell(alloc, status, outside.sink.bytes(), out);
     }
-    in_memory(rt.alloc(), kind, words, outside, out)
+    in_memory(alloc, kind, words.as_slice(), &mut outside, out)
 }
 
 // The words between spaces.
