@@ -6,6 +6,7 @@
 mod brackets;
 mod characters;
 mod expected;
+mod firsts;
 mod gaps;
 mod grammar;
 mod habits;
@@ -17,6 +18,7 @@ mod phrase;
 mod pieces;
 mod python;
 mod reading;
+mod rules;
 mod slips;
 mod spellings;
 mod spot;
