@@ -32,4 +32,4 @@ pub use nearest::Nearest;
 pub use phrase::Phrase;
 pub use reading::slice_at;
 pub use tokens::tell_tokens;
-pub use words::said_of;
+pub use words::{is_one_of, said_in, said_of};

@@ -73,7 +73,7 @@ pub const VALUES: [&[u8]; 37] = [
     b"<time|now|clock|logical_clock ~ the logical clock is logical_time()",
     b"<sleep|wait ~ no time is waited for: await n > 5: has a block, and timeout: behind it another one",
     b"<sorted|reversed ~ sets have an order of their own: a loop goes upwards",
-    b"~ a call stands on a line of its own, and its method leaves what it works out in a variable",
+    b" ~ a call stands on a line of its own, and its method leaves what it works out in a variable",
     b"?{",
     b"@set ~ the empty set is written {}",
     b"@int|str|bool ~ a value is not turned into one of another type",

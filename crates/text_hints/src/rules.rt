@@ -1,7 +1,7 @@
 //! Rules on what stands at a place among the tokens of a text.
 //!
-//! A rule is a line: the words of a form, `~`, and a sentence, which is said where all words of the form hold. A line without a
-//! sentence is a condition of the lines after it, up to the next such line.
+//! A rule is a row: the words of a form, ` ~ `, and a sentence, which is said where all words of the form hold. A row without a
+//! sentence is a condition of the rows after it, up to the next such row.
 //!
 //! A word is a sign and names with bars between them, of which one is enough. Where `-` stands in front, the rest must not hold.
 //! - `@`: the token at the spot is one of these; `<` and `<2`: the token before it, and the one before that; `>` and `>2`: those
@@ -10,13 +10,13 @@
 //! - `?`: one of these is expected.
 //! - `=`: a condition of `is_true`, by its first letter.
 //!
-//! A name is the spelling of a token, or the front of one and `*`, or a group of tokens as in `group_of`. In a sentence `$` stands
-//! for the token before the spot, `&` for that at the spot, and `@` for that at the spot in quotes.
+//! A name is the spelling of a token, with `..` as in `words`, or a group of tokens as in `group_of`. In a sentence `$` stands for
+//! the token before the spot, `&` for that at the spot, and `@` for that at the spot in quotes.
 use crate::expected::has;
 use crate::hint::Hint;
-use crate::lines::{behind, between};
 use crate::spellings::{SPELLINGS, kind_of};
 use crate::spot::Spot;
+use crate::words::{is_one_of, parts_of};
 use da_lex::TokenKind;
 use da_values::Mark;
 
@@ -25,15 +25,12 @@ use da_values::Mark;
 pub fn tell(rules: &[&'static [u8]], spot: Spot<'_>, marks: &[Mark], hint: &mut Hint) -> bool {
     let mut is_open = true;
     for rule in rules {
-        let rule = *rule;
-        match rule.iter().position(|byte| *byte == b'~') {
-            None => is_open = has_form(rule, spot, marks),
-            Some(place) => {
-                if is_open && has_form(between(rule, 0, place), spot, marks) {
-                    put_said(behind(rule, place.saturating_add(2)), spot, hint);
-                    return true;
-                }
-            }
+        let (form, said) = parts_of(*rule);
+        if said.is_empty() {
+            is_open = has_form(form, spot, marks);
+        } else if is_open && has_form(form, spot, marks) {
+            put_said(said, spot, hint);
+            return true;
         }
     }
     false
@@ -56,11 +53,11 @@ fn put_said(said: &[u8], spot: Spot<'_>, hint: &mut Hint) {
 // Whether all words of a form hold.
 fn has_form(form: &[u8], spot: Spot<'_>, marks: &[Mark]) -> bool {
     for word in form.split(|byte| *byte == b' ') {
-        let holds = match word {
+        let fits = match word {
             [b'-', word @ ..] => !holds(word, spot, marks),
             _ => holds(word, spot, marks),
         };
-        if !holds {
+        if !fits {
             return false;
         }
     }
@@ -106,21 +103,7 @@ fn is_at(place: Option<usize>, spot: Spot<'_>, names: &[u8]) -> bool {
 
 // Whether a token of this kind with these bytes has one of these names.
 fn has_name(kind: TokenKind, bytes: &[u8], names: &[u8]) -> bool {
-    let group = group_of(kind, bytes);
-    for name in names.split(|byte| *byte == b'|') {
-        if name == group || is_like(bytes, name) {
-            return true;
-        }
-    }
-    false
-}
-
-// Whether bytes are this name, or begin with what stands before the `*` of one.
-fn is_like(bytes: &[u8], name: &[u8]) -> bool {
-    match name.strip_suffix(b"*".as_slice()) {
-        Some(front) if front.len() > 0 => bytes.starts_with(front),
-        _ => bytes == name,
-    }
+    is_one_of(bytes, names) || is_one_of(group_of(kind, bytes), names)
 }
 
 // The group of a token, or nothing where it has its spelling alone.

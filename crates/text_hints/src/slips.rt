@@ -35,7 +35,7 @@ pub const PLACES: [&[u8]; 40] = [
     b"^-- -=first",
     b"@: ~ a label has no colon: -- ready",
     b"<-- ~ a label is a name: -- ready; a remark begins with #",
-    b"~ a label stands alone on its line: -- ready; a remark begins with #",
+    b" ~ a label stands alone on its line: -- ready; a remark begins with #",
     b"",
     b"@receive <def ~ a handler has no def: receive ('ping', k) from who:",
     b"^receive @= ~ a handler is written so: receive ('ping', k) from who:",
