@@ -2,7 +2,7 @@
 use crate::numbers::tell_more;
 use da_values::{ValueFault, read_value};
 use std::alloc::Global;
-use text_hints::{Nearest, Phrase, said_of};
+use text_hints::{Nearest, Phrase, said_in};
 
 /// Processes that end with a fault.
 const FAULT: &[u8] = b"fault";
@@ -101,7 +101,7 @@ fn tell_unknown(alloc: Global, word: &[u8], out: &mut Phrase) {
     }
     let meant = match nearest.found() {
         Some(found) => found,
-        None => kind_like(word),
+        None => said_in(&MEANT, word),
     };
     if !meant.is_empty() {
         out.put(b": is ");
@@ -111,42 +111,10 @@ fn tell_unknown(alloc: Global, word: &[u8], out: &mut Phrase) {
 }
 
 /// Other words for what a hunt looks for, and what each stands for.
-const MEANT: [(&[u8], &[u8]); 29] = [
-    (b"deadlock", STUCK),
-    (b"hang", STUCK),
-    (b"hangs", STUCK),
-    (b"block", STUCK),
-    (b"blocked", STUCK),
-    (b"livelock", STUCK),
-    (b"wait", STUCK),
-    (b"crash", FAULT),
-    (b"error", FAULT),
-    (b"exception", FAULT),
-    (b"panic", FAULT),
-    (b"overflow", FAULT),
-    (b"divide", FAULT),
-    (b"mutex", OVERLAP),
-    (b"race", OVERLAP),
-    (b"exclusion", OVERLAP),
-    (b"both", OVERLAP),
-    (b"leaders", DIFFER),
-    (b"disagree", DIFFER),
-    (b"agreement", DIFFER),
-    (b"consensus", DIFFER),
-    (b"unequal", DIFFER),
-    (b"many", MORE),
-    (b"count", MORE),
-    (b"outputs", MORE),
-    (b"output", MORE),
-    (b"safety", OVERLAP),
-    (b"invariant", OVERLAP),
-    (b"Deadlock", STUCK),
+const MEANT: [&[u8]; 5] = [
+    b"deadlock|hang|hangs|block|blocked|livelock|wait|Deadlock ~ stuck",
+    b"crash|error|exception|panic|overflow|divide ~ fault",
+    b"mutex|race|exclusion|both|safety|invariant ~ overlap",
+    b"leaders|disagree|agreement|consensus|unequal ~ differ",
+    b"many|count|outputs|output ~ more",
 ];
-
-// The kind that another word stands for.
-fn kind_like(word: &[u8]) -> &'static [u8] {
-    match said_of(&MEANT, word) {
-        Some(kind) => kind,
-        None => b"",
-    }
-}
