@@ -30,34 +30,30 @@ pub fn tell_printed(line: &[u8], out: &mut Phrase) -> bool {
     let Some(k) = words.next() else {
         return tell_plain(word, line, out);
     };
-    match word {
-        b"took" => {
-            out.put(b"this is a line that a run prints: the event is 'move ");
-            out.put(p);
-            if k != b"0".as_slice() {
-                out.put(b" ");
-                out.put(k);
-            }
-            out.put(b"'");
-            true
-        }
-        b"got" => {
-            out.fill(
-                b"this is a line that a run prints: the event is 'deliver $ $ I'",
-                k,
-                p,
-            );
-            out.put(b", where I is the place of the message in the channel");
-            true
-        }
-        b"lost" => {
-            out.put(b"this is a line that a run prints: the event is 'lose ");
-            out.fill(b"$ $ I'", p, k);
-            true
-        }
-        _ => tell_plain(word, line, out),
+    let form = said_in(&PRINTED, word);
+    if form.is_empty() {
+        return tell_plain(word, line, out);
     }
+    if word == b"took".as_slice() && k == b"0".as_slice() {
+        out.fill(
+            b"this is a line that a run prints: the event is 'move $'",
+            p,
+            b"",
+        );
+    } else if word == b"got".as_slice() {
+        out.fill(form, k, p);
+    } else {
+        out.fill(form, p, k);
+    }
+    true
 }
+
+/// What is said of lines that a run prints, each with two numbers behind its word.
+const PRINTED: [&[u8]; 3] = [
+    b"took ~ this is a line that a run prints: the event is 'move $ $'",
+    b"got ~ this is a line that a run prints: the event is 'deliver $ $ I', where I is the place of the message in the channel",
+    b"lost ~ this is a line that a run prints: the event is 'lose $ $ I'",
+];
 
 // A line that a run prints, and that stands for no event of its own.
 fn tell_plain(word: &[u8], line: &[u8], out: &mut Phrase) -> bool {

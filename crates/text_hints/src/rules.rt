@@ -66,15 +66,26 @@ fn has_form(form: &[u8], spot: Spot<'_>, marks: &[Mark]) -> bool {
 
 // Whether a word holds, which begins with its sign.
 fn holds(word: &[u8], spot: Spot<'_>, marks: &[Mark]) -> bool {
-    match word {
-        [] => true,
-        [b'?', names @ ..] => expects(marks, names),
-        [b'=', name @ ..] => is_true(name, spot, marks),
-        [sign, count, names @ ..] if count.is_ascii_digit() => {
-            let count = usize::from(count.saturating_sub(b'0'));
-            is_at(place_of(*sign, count, spot), spot, names)
+    let [sign, rest @ ..] = word else {
+        return true;
+    };
+    match *sign {
+        b'?' => expects(marks, rest),
+        b'=' => is_true(rest, spot, marks),
+        sign => {
+            let (count, names) = counted(rest);
+            is_at(place_of(sign, count, spot), spot, names)
         }
-        [sign, names @ ..] => is_at(place_of(*sign, 1, spot), spot, names),
+    }
+}
+
+// The number in front of names, or 1, and the names.
+fn counted(rest: &[u8]) -> (usize, &[u8]) {
+    match rest {
+        [digit, names @ ..] if digit.is_ascii_digit() => {
+            (usize::from(digit.saturating_sub(b'0')), names)
+        }
+        _ => (1, rest),
     }
 }
 
@@ -135,16 +146,16 @@ fn expects(marks: &[Mark], names: &[u8]) -> bool {
 // (t)op or (e)nd of the text; (n)othing is expected; a name is (j)oined to what stands before it; there is a (c)lass of this name,
 // or a (m)ethod of that before the spot; or a text without tokens has carriage (r)eturns alone.
 fn is_true(name: &[u8], spot: Spot<'_>, marks: &[Mark]) -> bool {
-    match name {
-        [b'f', ..] => spot.place == spot.begin,
-        [b's', ..] => spot.place == spot.begin.saturating_add(1),
-        [b'a', ..] => spot.place <= spot.begin.saturating_add(1),
-        [b't', ..] => spot.place == 0,
-        [b'e', ..] => spot.is_end(),
-        [b'n', ..] => marks.is_empty(),
-        [b'j', ..] => spot.is_joined(),
-        [b'c', ..] => spot.is_declared(Mark::Class, spot.bytes(spot.place)),
-        [b'm', ..] => spot.is_declared(Mark::Def, spot.bytes_before()),
-        _ => { spot.tokens.is_empty() && spot.text.contains(&b'\r') && !spot.text.contains(&b'\n') }
+    match name.first().copied().unwrap_or(0) {
+        b'f' => spot.place == spot.begin,
+        b's' => spot.place == spot.begin.saturating_add(1),
+        b'a' => spot.place <= spot.begin.saturating_add(1),
+        b't' => spot.place == 0,
+        b'e' => spot.is_end(),
+        b'n' => marks.is_empty(),
+        b'j' => spot.is_joined(),
+        b'c' => spot.is_declared(Mark::Class, spot.bytes(spot.place)),
+        b'm' => spot.is_declared(Mark::Def, spot.bytes_before()),
+        _ => spot.has_returns_alone(),
     }
 }

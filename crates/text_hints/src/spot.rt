@@ -78,6 +78,11 @@ impl<'t> Spot<'t> {
         }
     }
 
+    /// Whether there are no tokens, and carriage returns are all that ends a line of the text.
+    pub fn has_returns_alone(&self) -> bool {
+        self.tokens.is_empty() && self.text.contains(&b'\r') && !self.text.contains(&b'\n')
+    }
+
     // The tokens before the spot.
     fn front(&self) -> &'t [Token] {
         let (front, _) = self.tokens.split_at(self.place.min(self.tokens.len()));

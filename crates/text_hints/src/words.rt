@@ -45,11 +45,15 @@ pub fn is_one_of(word: &[u8], names: &[u8]) -> bool {
 
 // Whether a name stands for a word.
 fn is_like(word: &[u8], name: &[u8]) -> bool {
-    match name {
-        [b'.', b'.', part @ .., b'.', b'.'] => has_part(word, part),
-        [b'.', b'.', end @ ..] => word.ends_with(end),
-        [front @ .., b'.', b'.'] => word.starts_with(front),
-        _ => word == name,
+    match name.strip_prefix(b"..".as_slice()) {
+        None => match name.strip_suffix(b"..".as_slice()) {
+            None => word == name,
+            Some(front) => word.starts_with(front),
+        },
+        Some(end) => match end.strip_suffix(b"..".as_slice()) {
+            None => word.ends_with(end),
+            Some(part) => has_part(word, part),
+        },
     }
 }
 
