@@ -5,7 +5,7 @@ pub const FIRSTS: [&[u8]; 23] = [
     b"=second ^#name @+|-|*|//|% >= ~ there is no &=: write $ = $ & ..",
     b"=second ^#name @+ >+ ~ there is no ++: write $ = $ + 1",
     b"=second ^#name @-- ~ there is no --: write $ = $ - 1",
-    b"^#name =ahead",
+    b"^#name =among",
     b"^return ~ there is no return: a method ends with its last line, and leaves what it works out in a variable of the class",
     b"^break|continue ~ a loop is not left before its end: use a condition, while not done and ..:",
     b"^import|include ~ there are no imports",

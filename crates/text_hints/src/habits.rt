@@ -13,7 +13,7 @@ pub const MESSAGES: [&[u8]; 5] = [
 pub const SIGNS: [&[u8]; 29] = [
     b"@// =first ~ a comment begins with #",
     b"@// ?#end -?+ ~ a comment begins with #",
-    b"-=ahead <#name @: >= ~ a variable is set on a line of its own: x = 3",
+    b"-=among <#name @: >= ~ a variable is set on a line of its own: x = 3",
     b"@= >< ~ write <=",
     b"@= >> ~ write >=; for an implication write not a or b",
     b"@= <= ~ equal is written ==",

@@ -142,9 +142,9 @@ fn expects(marks: &[Mark], names: &[u8]) -> bool {
     false
 }
 
-// Whether a condition is true: the spot is the (f)irst or (s)econd token of its line, or not (a)head of the second, or at the
-// (t)op or (e)nd of the text; (n)othing is expected; a name is (j)oined to what stands before it; there is a (c)lass of this name,
-// or a (m)ethod of that before the spot; or a text without tokens has carriage (r)eturns alone.
+// Whether a condition is true: the spot is the (f)irst or (s)econd token of its line, or (a)mong these two, or at the (t)op or
+// (e)nd of the text; (n)othing is expected; a name is (j)oined to what stands before it; there is a (c)lass of this name, or a
+// (m)ethod of that before the spot; or a text without tokens has carriage (r)eturns alone.
 fn is_true(name: &[u8], spot: Spot<'_>, marks: &[Mark]) -> bool {
     match name.first().copied().unwrap_or(0) {
         b'f' => spot.place == spot.begin,
