@@ -2,7 +2,7 @@
 use crate::words::put_meant;
 use crate::wrong_files::{tell_printed, tell_program_line};
 use std::alloc::Global;
-use text_hints::{Phrase, said_in, said_of};
+use text_hints::{Phrase, is_one_of, said_in, said_of};
 
 /// The events, each with the numbers after its word.
 const EVENTS: [(&[u8], &[u8]); 7] = [
@@ -101,10 +101,12 @@ const SPACES: [&[u8]; 6] = [
 
 // Whether so many numbers may stand after a word.
 fn takes(word: &[u8], count: usize) -> bool {
-    match word {
-        b"move" => count == 1 || count == 2,
-        b"timeout" | b"show" | b"stat" => count == 1,
-        _ => count == 3,
+    if word == b"move".as_slice() {
+        count == 1 || count == 2
+    } else if is_one_of(word, b"timeout|show|stat") {
+        count == 1
+    } else {
+        count == 3
     }
 }
 

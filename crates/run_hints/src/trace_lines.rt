@@ -3,7 +3,7 @@ use crate::words::put_meant;
 use da_values::read_value;
 use std::alloc::Global;
 use std::str;
-use text_hints::{Phrase, said_in, said_of};
+use text_hints::{Phrase, is_one_of, said_in, said_of};
 
 /// The lines of a trace, each with what stands after its word.
 const LINES: [(&[u8], &[u8]); 6] = [
@@ -113,10 +113,12 @@ fn number_of(word: &[u8]) -> Option<u64> {
 
 // The bytes that stand where a line of this word has a value.
 fn value_of<'l>(word: &[u8], line: &'l [u8]) -> Option<&'l [u8]> {
-    let spaces = match word {
-        b"sent" | b"got" => 4u32,
-        b"out" => 2,
-        _ => return None,
+    let spaces = if is_one_of(word, b"sent|got") {
+        4u32
+    } else if word == b"out".as_slice() {
+        2
+    } else {
+        return None;
     };
     let mut rest = line;
     for _space in 0..spaces {
