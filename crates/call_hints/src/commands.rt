@@ -1,6 +1,6 @@
 //! The commands of both programs, and how each is called.
 use std::alloc::Global;
-use text_hints::{Nearest, Phrase, said_of};
+use text_hints::{Nearest, Phrase, said_in};
 
 /// A command: its word, how many words stand behind it at least, and how it is called.
 pub type Command = (&'static [u8], usize, &'static [u8]);
@@ -68,93 +68,29 @@ pub fn tell_command(alloc: Global, word: &[u8], out: &mut Phrase) {
     }
 }
 
-/// What helps where help is asked for.
-const HELP: &[u8] = b"./dalgo --help says what each command does";
-
-/// What helps where the version is asked for.
-const VERSION: &[u8] = b"./dalgo --version prints the version";
-
-/// What helps where a build is asked for.
-const BUILD: &[u8] = b"./dalgo --build builds the programs";
-
-/// What stands in the place of running.
-const RUNS: &[u8] =
-    b"replay runs a schedule, walk makes one, and launch runs all processes as nodes";
-
-/// What stands in the place of testing.
-const SEARCHES: &[u8] =
-    b"stress counts what a generated schedule comes to, and hunt looks for a mistake";
-
-/// What stands in the place of showing.
-const PAGES: &[u8] = b"replay prints a run, and draw makes a page of what it prints";
-
-/// What stands in the place of compiling.
-const CHECKS: &[u8] = b"check says whether a program is accepted";
-
-/// What stands in the place of formatting.
-const FORMS: &[u8] = b"infer prints a program with its declarations";
-
 /// The words of other programs, and what stands in the place of each.
-const CURES: [(&[u8], &[u8]); 37] = [
-    (b"help", HELP),
-    (b"-h", HELP),
-    (b"--help", HELP),
-    (b"-?", HELP),
-    (b"usage", HELP),
-    (b"version", VERSION),
-    (b"--version", VERSION),
-    (b"-v", VERSION),
-    (b"-V", VERSION),
-    (b"build", BUILD),
-    (b"--build", BUILD),
-    (b"make", BUILD),
-    (b"run", RUNS),
-    (b"exec", RUNS),
-    (b"start", RUNS),
-    (b"simulate", RUNS),
-    (b"test", SEARCHES),
-    (b"fuzz", SEARCHES),
-    (b"find", SEARCHES),
-    (b"search", SEARCHES),
-    (b"trace", PAGES),
-    (b"graph", PAGES),
-    (b"show", PAGES),
-    (b"view", PAGES),
-    (b"compile", CHECKS),
-    (b"parse", CHECKS),
-    (b"verify", CHECKS),
-    (b"explore", SEARCHES),
-    (b"debug", PAGES),
-    (b"print", PAGES),
-    (b"analyze", SEARCHES),
-    (b"types", FORMS),
-    (b"/?", HELP),
-    (b"?", HELP),
-    (
-        b"dalgo",
-        b"the word dalgo stands once, and then a command: ./dalgo check PROG",
-    ),
-    (b"fmt", FORMS),
-    (b"format", FORMS),
+const CURES: [&[u8]; 12] = [
+    b"help|-h|--help|-?|usage|/?|? ~ ./dalgo --help says what each command does",
+    b"version|--version|-v|-V ~ ./dalgo --version prints the version",
+    b"build|--build|make ~ ./dalgo --build builds the programs",
+    b"run|exec|start|simulate ~ replay runs a schedule, walk makes one, and launch runs all processes as nodes",
+    b"test|fuzz|find|search|explore|analyze ~ stress counts what a generated schedule comes to, and hunt looks for a mistake",
+    b"trace|graph|show|view|debug|print ~ replay prints a run, and draw makes a page of what it prints",
+    b"compile|parse|verify ~ check says whether a program is accepted",
+    b"types|fmt|format ~ infer prints a program with its declarations",
+    b"dalgo ~ the word dalgo stands once, and then a command: ./dalgo check PROG",
+    b"...da ~ a command stands before the name of the program: check PROG",
+    b"...moves ~ a command and a program stand before the schedule: replay PROG SCHED",
+    b"--h.. ~ ./dalgo --help says what each command does",
 ];
 
 // What stands in the place of a word.
 fn cure_of(word: &[u8]) -> &'static [u8] {
-    match said_of(&CURES, word) {
-        Some(cure) => cure,
-        None => cure_of_file(word),
-    }
-}
-
-// What stands in front of the name of a file.
-fn cure_of_file(word: &[u8]) -> &'static [u8] {
+    let cure = said_in(&CURES, word);
     match word {
-        [.., b'.', b'd', b'a'] => b"a command stands before the name of the program: check PROG",
-        [.., b'.', b'm', b'o', b'v', b'e', b's'] => {
-            b"a command and a program stand before the schedule: replay PROG SCHED"
+        [b'-', _, ..] if cure.is_empty() => {
+            b"there are no options but --help, --version and --build"
         }
-        [b'-', b'-', b'h', ..] => HELP,
-        [b'-', _, ..] => b"there are no options but --help, --version and --build",
-        _ => b"",
+        _ => cure,
     }
 }

@@ -2,25 +2,16 @@
 use crate::numbers::tell_more;
 use da_values::{ValueFault, read_value};
 use std::alloc::Global;
-use text_hints::{Nearest, Phrase, said_of};
+use text_hints::{Nearest, Phrase, said_in};
 
-/// Processes that end with a fault.
-const FAULT: &[u8] = b"fault";
-
-/// Processes that wait for ever.
-const STUCK: &[u8] = b"stuck";
-
-/// Processes that put out different values.
-const DIFFER: &[u8] = b"differ";
-
-/// Processes that are within the same part at a time.
-const OVERLAP: &[u8] = b"overlap";
-
-/// Processes that put out too much.
-const MORE: &[u8] = b"more";
-
-/// What a hunt looks for.
-const WHATS: [&[u8]; 5] = [FAULT, STUCK, DIFFER, OVERLAP, MORE];
+/// What a hunt looks for, and how many words stand behind each.
+const WHATS: [(&[u8], usize); 5] = [
+    (b"fault", 0),
+    (b"stuck", 0),
+    (b"differ", 0),
+    (b"overlap", 2),
+    (b"more", 1),
+];
 
 const KINDS: &[u8] = b"WHAT is fault, stuck, differ, overlap IN OUT or more K";
 
@@ -31,23 +22,28 @@ pub fn tell_what(alloc: Global, words: &[String], out: &mut Phrase) {
         out.put(b", and none is given");
         return;
     };
-    match word.as_bytes() {
-        b"fault" | b"stuck" | b"differ" => tell_rest(word.as_bytes(), 0, rest.len(), out),
-        b"more" => match rest {
-            [most] => {
-                tell_more(most.as_bytes(), out);
+    let kind = word.as_bytes();
+    match WHATS.iter().find(|what| what.0 == kind) {
+        None => tell_unknown(alloc, kind, out),
+        Some(what) if what.1 == 0 || rest.len() != what.1 => {
+            tell_rest(kind, what.1, rest.len(), out);
+        }
+        Some(_) => tell_values(alloc, rest, out),
+    }
+}
+
+// Which of the words behind a kind is wrong: the number of one, or the values of two.
+fn tell_values(alloc: Global, words: &[String], out: &mut Phrase) {
+    match words {
+        [most] => {
+            tell_more(most.as_bytes(), out);
+        }
+        [enter, leave] => {
+            if !tell_value(alloc, b"IN", enter.as_bytes(), out) {
+                tell_value(alloc, b"OUT", leave.as_bytes(), out);
             }
-            _ => tell_rest(b"more", 1, rest.len(), out),
-        },
-        b"overlap" => match rest {
-            [enter, leave] => {
-                if !tell_value(alloc, b"IN", enter.as_bytes(), out) {
-                    tell_value(alloc, b"OUT", leave.as_bytes(), out);
-                }
-            }
-            _ => tell_rest(b"overlap", 2, rest.len(), out),
-        },
-        other => tell_unknown(alloc, other, out),
+        }
+        _ => {}
     }
 }
 
@@ -97,11 +93,11 @@ fn tell_unknown(alloc: Global, word: &[u8], out: &mut Phrase) {
     out.quote_front(word);
     let mut nearest = Nearest::new(alloc, word);
     for what in &WHATS {
-        nearest.offer(what);
+        nearest.offer(what.0);
     }
     let meant = match nearest.found() {
         Some(found) => found,
-        None => kind_like(word),
+        None => said_in(&MEANT, word),
     };
     if !meant.is_empty() {
         out.put(b": is ");
@@ -111,42 +107,10 @@ fn tell_unknown(alloc: Global, word: &[u8], out: &mut Phrase) {
 }
 
 /// Other words for what a hunt looks for, and what each stands for.
-const MEANT: [(&[u8], &[u8]); 29] = [
-    (b"deadlock", STUCK),
-    (b"hang", STUCK),
-    (b"hangs", STUCK),
-    (b"block", STUCK),
-    (b"blocked", STUCK),
-    (b"livelock", STUCK),
-    (b"wait", STUCK),
-    (b"crash", FAULT),
-    (b"error", FAULT),
-    (b"exception", FAULT),
-    (b"panic", FAULT),
-    (b"overflow", FAULT),
-    (b"divide", FAULT),
-    (b"mutex", OVERLAP),
-    (b"race", OVERLAP),
-    (b"exclusion", OVERLAP),
-    (b"both", OVERLAP),
-    (b"leaders", DIFFER),
-    (b"disagree", DIFFER),
-    (b"agreement", DIFFER),
-    (b"consensus", DIFFER),
-    (b"unequal", DIFFER),
-    (b"many", MORE),
-    (b"count", MORE),
-    (b"outputs", MORE),
-    (b"output", MORE),
-    (b"safety", OVERLAP),
-    (b"invariant", OVERLAP),
-    (b"Deadlock", STUCK),
+const MEANT: [&[u8]; 5] = [
+    b"deadlock|hang|hangs|block|blocked|livelock|wait|Deadlock ~ stuck",
+    b"crash|error|exception|panic|overflow|divide ~ fault",
+    b"mutex|race|exclusion|both|safety|invariant ~ overlap",
+    b"leaders|disagree|agreement|consensus|unequal ~ differ",
+    b"many|count|outputs|output ~ more",
 ];
-
-// The kind that another word stands for.
-fn kind_like(word: &[u8]) -> &'static [u8] {
-    match said_of(&MEANT, word) {
-        Some(kind) => kind,
-        None => b"",
-    }
-}

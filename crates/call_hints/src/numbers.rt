@@ -5,120 +5,39 @@ use da_commands::{
 };
 use text_hints::Phrase;
 
-/// A word that is a number: its name, its place in the call, and the least and the greatest that it may be.
-#[derive(Clone, Copy)]
-pub struct Range {
-    name: &'static [u8],
-    place: usize,
-    least: u64,
-    most: u64,
-}
+/// A word that is a number: the command, the name of the word, its place in the call, and the least and the greatest that it may
+/// be.
+type Range = (&'static [u8], &'static [u8], usize, u64, u64);
 
-const STRESS: [Range; 2] = [
-    Range {
-        name: b"START",
-        place: 2,
-        least: 0,
-        most: LAST_START,
-    },
-    Range {
-        name: b"N",
-        place: 3,
-        least: 1,
-        most: MOST_EVENTS,
-    },
-];
-
-const HUNT: [Range; 3] = [
-    Range {
-        name: b"START",
-        place: 2,
-        least: 0,
-        most: LAST_START,
-    },
-    Range {
-        name: b"COUNT",
-        place: 3,
-        least: 1,
-        most: MOST_SCHEDULES,
-    },
-    Range {
-        name: b"N",
-        place: 4,
-        least: 1,
-        most: MOST_EVENTS,
-    },
-];
-
-const NODE: [Range; 4] = [
-    Range {
-        name: b"PORT",
-        place: 2,
-        least: FIRST_PORT,
-        most: LAST_PORT,
-    },
-    Range {
-        name: b"ME",
-        place: 3,
-        least: 1,
-        most: MOST_PROCESSES,
-    },
-    Range {
-        name: b"IDLE",
-        place: 4,
-        least: 1,
-        most: MOST_ANSWERS,
-    },
-    Range {
-        name: b"TURNS",
-        place: 5,
-        least: 1,
-        most: MOST_ANSWERS,
-    },
-];
-
-const LAUNCH: [Range; 3] = [
-    Range {
-        name: b"PORT",
-        place: 2,
-        least: FIRST_PORT,
-        most: LAST_PORT,
-    },
-    Range {
-        name: b"IDLE",
-        place: 3,
-        least: 1,
-        most: MOST_ANSWERS,
-    },
-    Range {
-        name: b"TURNS",
-        place: 4,
-        least: 1,
-        most: MOST_ANSWERS,
-    },
+/// The words that are numbers.
+const RANGES: [Range; 14] = [
+    (b"stress", b"START", 2, 0, LAST_START),
+    (b"stress", b"N", 3, 1, MOST_EVENTS),
+    (b"walk", b"START", 2, 0, LAST_START),
+    (b"walk", b"N", 3, 1, MOST_EVENTS),
+    (b"hunt", b"START", 2, 0, LAST_START),
+    (b"hunt", b"COUNT", 3, 1, MOST_SCHEDULES),
+    (b"hunt", b"N", 4, 1, MOST_EVENTS),
+    (b"node", b"PORT", 2, FIRST_PORT, LAST_PORT),
+    (b"node", b"ME", 3, 1, MOST_PROCESSES),
+    (b"node", b"IDLE", 4, 1, MOST_ANSWERS),
+    (b"node", b"TURNS", 5, 1, MOST_ANSWERS),
+    (b"launch", b"PORT", 2, FIRST_PORT, LAST_PORT),
+    (b"launch", b"IDLE", 3, 1, MOST_ANSWERS),
+    (b"launch", b"TURNS", 4, 1, MOST_ANSWERS),
 ];
 
 /// The number behind `more`.
-const MORE: Range = Range {
-    name: b"K",
-    place: 6,
-    least: 0,
-    most: MOST_OUTPUTS,
-};
+const MORE: Range = (b"hunt", b"K", 6, 0, MOST_OUTPUTS);
 
 /// Tells the first number of a call that is not within its range, and answers whether there is one.
 pub fn tell_numbers(command: &[u8], words: &[String], out: &mut Phrase) -> bool {
-    let ranges: &[Range] = match command {
-        b"stress" | b"walk" => &STRESS,
-        b"hunt" => &HUNT,
-        b"launch" => &LAUNCH,
-        b"node" => &NODE,
-        _ => &[],
-    };
-    for range in ranges {
-        if let Some(word) = words.get(range.place) {
-            if tell_number(*range, word.as_bytes(), out) {
-                return true;
+    for range in &RANGES {
+        if range.0 == command {
+            if let Some(word) = words.get(range.2) {
+                if tell_number(*range, word.as_bytes(), out) {
+                    return true;
+                }
             }
         }
     }
@@ -132,17 +51,17 @@ pub fn tell_more(word: &[u8], out: &mut Phrase) -> bool {
 
 // Tells that a word is no number within its range, and answers whether that is so.
 fn tell_number(range: Range, word: &[u8], out: &mut Phrase) -> bool {
-    if number_between(word, range.least, range.most).is_some() {
+    if number_between(word, range.3, range.4).is_some() {
         return false;
     }
-    out.put(range.name);
+    out.put(range.1);
     out.put(b" is a number from ");
-    out.number(range.least);
+    out.number(range.3);
     out.put(b" to ");
-    out.number(range.most);
+    out.number(range.4);
     out.put(b" without a 0 in front, and not ");
     out.quote_front(word);
-    if matches!(word, [.., b'.', b'd', b'a']) {
+    if word.ends_with(b".da".as_slice()) {
         out.put(b": PROG stands directly behind the command");
     }
     true

@@ -11,7 +11,7 @@ use crate::typing::enter_gen;
 use crate::walk::{Step, Wanted};
 use da_lang::{Expr, MainLine, Member, ScopeKind, Stmt, Tree, Ty};
 use da_values::List;
-use text_hints::{Nearest, said_of};
+use text_hints::{Nearest, said_in};
 
 /// A name that breaks a rule, or an expression where a name is wanted.
 #[derive(Clone, Copy)]
@@ -186,13 +186,11 @@ fn tell_callee(case: &mut Case<'_>) -> bool {
     case.tell(form, holder, name);
     blame_word(name, case);
     let called = !holder.is_empty();
-    match said_of(&CALLS, name) {
-        Some(cure) if called => case.note(cure),
-        _ => {
-            if !(called && note_tag(name, case)) {
-                note_names(name, names.as_slice(), called, case);
-            }
-        }
+    let cure = said_in(&CALLS, name);
+    if called && !cure.is_empty() {
+        case.note(cure);
+    } else if !(called && note_tag(name, case)) {
+        note_names(name, names.as_slice(), called, case);
     }
     true
 }
@@ -269,57 +267,18 @@ fn put_made<'t>(tree: &'t Tree, line: u32, names: &mut List<&'t [u8]>) {
     }
 }
 
-/// What is written in the place of printing.
-const PRINTS: &[u8] = b"write output(..): it takes one value, which may be a tuple";
-
-/// What is written in the place of waiting.
-const WAITS: &[u8] = b"write await and a condition";
-
-/// What is written in the place of an end.
-const ENDS: &[u8] = b"a process ends with the last line of run";
-
-/// What is written in the place of sending to all.
-const SENDS: &[u8] = b"write send ('ping', 5) to ps, where ps is a set of processes (set[proc])";
-
-/// What is written in the place of methods that put elements into a set.
-const ADDS: &[u8] = b"write s.add(e)";
-
-/// What is written in the place of methods that take elements out.
-const DELS: &[u8] = b"write s.del(e)";
-
 /// What is written in the place of calls of other languages.
-const CALLS: [(&[u8], &[u8]); 22] = [
-    (b"print", PRINTS),
-    (b"println", PRINTS),
-    (b"write", PRINTS),
-    (b"log", PRINTS),
-    (b"sleep", WAITS),
-    (b"wait", WAITS),
-    (
-        b"start",
-        b"a process starts by an event of the schedule, as move 1",
-    ),
-    (b"exit", ENDS),
-    (b"quit", ENDS),
-    (b"stop", ENDS),
-    (b"terminate", ENDS),
-    (b"broadcast", SENDS),
-    (b"multicast", SENDS),
-    (b"sendall", SENDS),
-    (b"send_all", SENDS),
-    (
-        b"assert",
-        b"write if not (..): and below it output(..), which a hunt can look for",
-    ),
-    (b"append", ADDS),
-    (b"add", ADDS),
-    (b"remove", DELS),
-    (b"del", DELS),
-    (
-        b"recv",
-        b"a handler takes messages: receive ('ping', k) from who:",
-    ),
-    (b"super", b"there is no inheritance"),
+const CALLS: [&[u8]; 10] = [
+    b"print|println|write|log ~ write output(..): it takes one value, which may be a tuple",
+    b"sleep|wait ~ write await and a condition",
+    b"start ~ a process starts by an event of the schedule, as move 1",
+    b"exit|quit|stop|terminate ~ a process ends with the last line of run",
+    b"broadcast|multicast|sendall|send_all ~ write send ('ping', 5) to ps, where ps is a set of processes (set[proc])",
+    b"assert ~ write if not (..): and below it output(..), which a hunt can look for",
+    b"append|add ~ write s.add(e)",
+    b"remove|del ~ write s.del(e)",
+    b"recv ~ a handler takes messages: receive ('ping', k) from who:",
+    b"super ~ there is no inheritance",
 ];
 
 const NOT_MADE: &[u8] = b"no line before this one makes $@ by new(..)";
@@ -346,17 +305,15 @@ fn tell_name<'t>(name: &'t [u8], wanted: Wanted, case: &mut Case<'t>) {
         b"there is no variable, parameter or pattern variable $@ here"
     };
     case.tell(form, b"", name);
-    match said_of(&VALUES, name) {
-        Some(cure) => case.note(cure),
-        None => {
-            if !note_otherwise(name, case)
-                && !note_quoted(name, case)
-                && !note_within(name, case)
-                && !note_elsewhere(name, case)
-            {
-                note_value(name, wanted, case);
-            }
-        }
+    let cure = said_in(&VALUES, name);
+    if !cure.is_empty() {
+        case.note(cure);
+    } else if !note_otherwise(name, case)
+        && !note_quoted(name, case)
+        && !note_within(name, case)
+        && !note_elsewhere(name, case)
+    {
+        note_value(name, wanted, case);
     }
 }
 
@@ -413,53 +370,15 @@ fn note_none(name: &[u8], case: &mut Case<'_>) {
     case.note_of(form, name, b"");
 }
 
-/// What is written in the place of what is true.
-const TRUTH: &[u8] = b"write true";
-
-/// What is written in the place of what is false.
-const FALSITY: &[u8] = b"write false";
-
-/// What is written in the place of nothing.
-const NOTHING: &[u8] =
-    b"there is no None: a set that is empty, or a variable of type bool, says that nothing is there";
-
-/// What is written in the place of the process itself.
-const ITSELF: &[u8] = b"write self for the process itself";
-
-/// What is written in the place of a message.
-const MESSAGES: &[u8] =
-    b"receive (..) from p: names the message's parts and its sender by patterns";
-
-/// What is written in the place of time.
-const CLOCK: &[u8] = b"the logical clock is logical_time()";
-
 /// What is written in the place of values of other languages.
-const VALUES: [(&[u8], &[u8]); 25] = [
-    (b"True", TRUTH),
-    (b"TRUE", TRUTH),
-    (b"False", FALSITY),
-    (b"FALSE", FALSITY),
-    (b"None", NOTHING),
-    (b"null", NOTHING),
-    (b"nil", NOTHING),
-    (b"this", ITSELF),
-    (b"me", ITSELF),
-    (b"myself", ITSELF),
-    (b"id", ITSELF),
-    (b"pid", ITSELF),
-    (b"msg", MESSAGES),
-    (b"message", MESSAGES),
-    (b"sender", MESSAGES),
-    (b"time", CLOCK),
-    (b"now", CLOCK),
-    (b"clock", CLOCK),
-    (b"all", SENDS),
-    (b"everyone", SENDS),
-    (b"everybody", SENDS),
-    (b"others", SENDS),
-    (b"NULL", NOTHING),
-    (b"undefined", NOTHING),
-    (b"Nil", NOTHING),
+const VALUES: [&[u8]; 7] = [
+    b"True|TRUE ~ write true",
+    b"False|FALSE ~ write false",
+    b"None|null|nil|NULL|undefined|Nil ~ there is no None: a set that is empty, or a variable of type bool, says that nothing is there",
+    b"this|me|myself|id|pid ~ write self for the process itself",
+    b"msg|message|sender ~ receive (..) from p: names the message's parts and its sender by patterns",
+    b"time|now|clock ~ the logical clock is logical_time()",
+    b"all|everyone|everybody|others ~ write send ('ping', 5) to ps, where ps is a set of processes (set[proc])",
 ];
 
 // An argument of an aggregate that is neither a name nor a comprehension.

@@ -8,7 +8,7 @@ use da_lang::{Expr, PatternTree};
 use da_lex::{Token, TokenKind, Tokens, lex};
 use da_values::List;
 use std::alloc::Global;
-use text_hints::{Phrase, slice_at};
+use text_hints::{Phrase, is_one_of, slice_at};
 
 /// The most bytes of a text that has tokens.
 const MOST_BYTES: usize = 1_048_576;
@@ -45,7 +45,7 @@ pub fn tokens_at(alloc: Global, text: &[u8], line: u32) -> List<Token> {
 
 /// Whether a token is a parenthesis, a bracket or a comma.
 pub fn is_passed(text: &[u8], token: &Token) -> bool {
-    matches!(slice_at(text, token), b"(" | b")" | b"[" | b"]" | b",")
+    is_one_of(slice_at(text, token), b"(|)|[|]|,")
 }
 
 /// Blames the first token with these bytes on the line.

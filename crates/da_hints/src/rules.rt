@@ -8,7 +8,7 @@ use da_bodies::{Body, Place, body_of};
 use da_lang::{ClassTree, Expr, MainLine, Member, Param, Stmt};
 use da_values::List;
 use std::alloc::Global;
-use text_hints::Nearest;
+use text_hints::{Nearest, is_one_of};
 
 /// Tells that a method calls itself.
 pub fn tell_recursive(case: &mut Case<'_>) {
@@ -223,9 +223,7 @@ fn nearly_run(alloc: Global, class: &ClassTree) -> Option<(&[u8], u32)> {
             let name = name.as_slice();
             let mut nearest = Nearest::new(alloc, name);
             nearest.offer(b"run");
-            if nearest.found().is_some()
-                || matches!(name, b"start" | b"begin" | b"go" | b"execute")
-            {
+            if nearest.found().is_some() || is_one_of(name, b"start|begin|go|execute") {
                 return Some((name, *line));
             }
         }
@@ -262,7 +260,7 @@ fn note_no_setup(class: &ClassTree, case: &mut Case<'_>) {
         if let Member::Method { name, line, .. } = member {
             let mut nearest = Nearest::new(case.alloc, name.as_slice());
             nearest.offer(b"setup");
-            if nearest.found().is_some() || is_initial(name.as_slice()) {
+            if nearest.found().is_some() || is_one_of(name.as_slice(), INITIAL) {
                 let line = case.digits(u64::from(*line));
                 let form = b"line $ defines @: first values are given by def setup(x: int):";
                 case.note_of(form, line.as_slice(), name.as_slice());
@@ -272,13 +270,8 @@ fn note_no_setup(class: &ClassTree, case: &mut Case<'_>) {
     }
 }
 
-// Whether a name stands for `setup` in other languages.
-fn is_initial(name: &[u8]) -> bool {
-    matches!(
-        name,
-        b"__init__" | b"init" | b"initialize" | b"initialise" | b"constructor" | b"create"
-    )
-}
+/// The names that stand for `setup` in other languages.
+const INITIAL: &[u8] = b"__init__|init|initialize|initialise|constructor|create";
 
 // How many arguments are wanted, and how many there are.
 fn put_arity(params: &[Param], count: usize, case: &mut Case<'_>) {

@@ -2,7 +2,7 @@
 use crate::words::put_meant;
 use crate::wrong_files::{tell_printed, tell_program_line};
 use std::alloc::Global;
-use text_hints::{Phrase, said_of};
+use text_hints::{Phrase, is_one_of, said_in, said_of};
 
 /// The events, each with the numbers after its word.
 const EVENTS: [(&[u8], &[u8]); 7] = [
@@ -21,7 +21,8 @@ pub fn explain_line(alloc: Global, line: &[u8]) -> Phrase {
     if tell_program_line(line, &mut told) || tell_printed(line, &mut told) {
         return told;
     }
-    if tell_spaces(line, &mut told) {
+    told.put(said_in(&SPACES, line));
+    if !told.is_empty() {
         return told;
     }
     let mut words = line.split(|byte| *byte == b' ');
@@ -46,7 +47,7 @@ pub fn explain_line(alloc: Global, line: &[u8]) -> Phrase {
 
 // A word of no event.
 fn tell_word(alloc: Global, word: &[u8], out: &mut Phrase) {
-    let cure = cure_of(word);
+    let cure = said_in(&CURES, word);
     if !cure.is_empty() {
         out.quote(word);
         out.put(b" is the word of no event: ");
@@ -58,200 +59,54 @@ fn tell_word(alloc: Global, word: &[u8], out: &mut Phrase) {
     put_meant(alloc, &EVENTS, word, out);
 }
 
-/// What is written in the place of a start.
-const STARTS: &[u8] = b"'move 1' starts process 1";
-
-/// What is written in the place of a step.
-const STEPS: &[u8] =
-    b"'move 1' goes on from a label, and 'move 1 2' takes alternative 2 of an await";
-
-/// What is written in the place of a loss.
-const LOSSES: &[u8] = b"'lose 1 2 1' loses message 1 from 1 to 2";
-
-/// What is written in the place of a copy.
-const COPIES: &[u8] = b"'repeat 1 2 1' doubles message 1 from 1 to 2";
-
-/// What is written in the place of a delivery.
-const DELIVERIES: &[u8] =
-    b"'deliver 1 2 1' delivers message 1 from 1 to 2; sending is part of a move";
-
-/// What is written in the place of waiting.
-const WAITS: &[u8] = b"'timeout 1' lets the time of process 1 run out, and nothing else takes time";
-
-/// What is written in the place of printing.
-const SHOWS: &[u8] = b"'show 1' prints what process 1 keeps";
-
-/// What is written in the place of counting.
-const STATS: &[u8] = b"'stat 1' prints how much process 1 keeps";
-
-/// What is written in the place of an end.
-const ENDS: &[u8] = b"no event ends a process: leave it without events";
-
-/// What is written in the place of a process that begins anew.
-const ANEW: &[u8] =
-    b"no event begins a process anew: it keeps what it has, and goes on by 'move 1'";
-
-/// What is written in the place of messages that are late.
-const LATE: &[u8] = b"a message that no 'deliver' names stays in its channel";
-
-/// What is written in the place of another order.
-const ORDER: &[u8] = b"'deliver 1 2 2' delivers message 2 from 1 to 2 before message 1";
-
-/// What is written in the place of loops and conditions.
-const LOOPS: &[u8] =
-    b"there are no loops and no conditions: each event stands on a line of its own";
-
-/// What is said of calls.
-const CALLS: &[u8] = b"this is a call, and no event: a line is as 'move 1'";
-
-/// What is said of what a call prints.
-const ANSWERS: &[u8] = b"this is what a call prints, and no schedule";
-
-/// What is said of remarks.
-const REMARKS: &[u8] = b"a remark begins with #";
-
 /// The words of no event, and what is written in the place of each.
-const CURES: [(&[u8], &[u8]); 78] = [
-    (b"start", STARTS),
-    (b"started", STARTS),
-    (b"run", STARTS),
-    (b"begin", STARTS),
-    (b"init", STARTS),
-    (b"launch", STARTS),
-    (b"new", STARTS),
-    (b"took", b"the event that lets process 1 act is 'move 1'"),
-    (b"step", STEPS),
-    (b"go", STEPS),
-    (b"next", STEPS),
-    (b"continue", STEPS),
-    (b"take", STEPS),
-    (b"choose", STEPS),
-    (b"await", STEPS),
-    (b"drop", LOSSES),
-    (b"loose", LOSSES),
-    (b"delete", LOSSES),
-    (b"del", LOSSES),
-    (b"dup", COPIES),
-    (b"double", COPIES),
-    (b"duplicate", COPIES),
-    (b"copy", COPIES),
-    (b"again", COPIES),
-    (b"send", DELIVERIES),
-    (b"recv", DELIVERIES),
-    (b"receive", DELIVERIES),
-    (b"dlv", DELIVERIES),
-    (b"transmit", DELIVERIES),
-    (b"wait", WAITS),
-    (b"sleep", WAITS),
-    (b"expire", WAITS),
-    (b"tick", WAITS),
-    (b"print", SHOWS),
-    (b"dump", SHOWS),
-    (b"state", SHOWS),
-    (b"answer", SHOWS),
-    (b"stats", STATS),
-    (b"count", STATS),
-    (b"memory", STATS),
-    (b"crash", ENDS),
-    (b"kill", ENDS),
-    (b"end", ENDS),
-    (b"exit", ENDS),
-    (b"time", b"'timeout 1' begins with one word"),
-    (b"restart", ANEW),
-    (b"recover", ANEW),
-    (b"resume", ANEW),
-    (b"reset", ANEW),
-    (b"delay", LATE),
-    (b"partition", LATE),
-    (b"hold", LATE),
-    (b"block", LATE),
-    (b"reorder", ORDER),
-    (b"swap", ORDER),
-    (b"shuffle", ORDER),
-    (b"for", LOOPS),
-    (b"while", LOOPS),
-    (b"loop", LOOPS),
-    (b"if", LOOPS),
-    (b"then", LOOPS),
-    (b"./dalgo", CALLS),
-    (b"dalgo", CALLS),
-    (b"replay", CALLS),
-    (b"$", CALLS),
-    (b"fail", ENDS),
-    (b"halt", ENDS),
-    (b"quit", ENDS),
-    (b"log", SHOWS),
-    (
-        b"inject",
-        b"no event makes a message: sending is part of a move",
-    ),
-    (b"output", b"what a process puts out is part of its moves"),
-    (b"ok", ANSWERS),
-    (b"refused", ANSWERS),
-    (b"//", REMARKS),
-    (b"--", REMARKS),
-    (b"/*", REMARKS),
-    (b";", REMARKS),
-    (b"%", REMARKS),
+const CURES: [&[u8]; 26] = [
+    b"start|started|run|begin|init|launch|new ~ 'move 1' starts process 1",
+    b"took ~ the event that lets process 1 act is 'move 1'",
+    b"step|go|next|continue|take|choose|await ~ 'move 1' goes on from a label, and 'move 1 2' takes alternative 2 of an await",
+    b"drop|loose|delete|del ~ 'lose 1 2 1' loses message 1 from 1 to 2",
+    b"dup|double|duplicate|copy|again ~ 'repeat 1 2 1' doubles message 1 from 1 to 2",
+    b"send|recv|receive|dlv|transmit ~ 'deliver 1 2 1' delivers message 1 from 1 to 2; sending is part of a move",
+    b"wait|sleep|expire|tick ~ 'timeout 1' lets the time of process 1 run out, and nothing else takes time",
+    b"print|dump|state|answer|log ~ 'show 1' prints what process 1 keeps",
+    b"stats|count|memory ~ 'stat 1' prints how much process 1 keeps",
+    b"crash|kill|end|exit|fail|halt|quit ~ no event ends a process: leave it without events",
+    b"time ~ 'timeout 1' begins with one word",
+    b"restart|recover|resume|reset ~ no event begins a process anew: it keeps what it has, and goes on by 'move 1'",
+    b"delay|partition|hold|block ~ a message that no 'deliver' names stays in its channel",
+    b"reorder|swap|shuffle ~ 'deliver 1 2 2' delivers message 2 from 1 to 2 before message 1",
+    b"for|while|loop|if|then ~ there are no loops and no conditions: each event stands on a line of its own",
+    b"./dalgo|dalgo|replay|$ ~ this is a call, and no event: a line is as 'move 1'",
+    b"inject ~ no event makes a message: sending is part of a move",
+    b"output ~ what a process puts out is part of its moves",
+    b"ok|refused ~ this is what a call prints, and no schedule",
+    b"//|--|/*|;|% ~ a remark begins with #",
+    b"//..|--.. ~ a remark begins with #",
+    b"\"..|'.. ~ the words have no quotes: move 1",
+    b"{.. ~ each event is a line of words: move 1",
+    b"0..|1..|2..|3..|4..|5..|6..|7..|8..|9..|[.. ~ a line begins with its word, as in 'move 1'",
+    b"..(.. ~ the numbers stand behind the word without brackets: move 1",
+    b"..:|..,|..; ~ the words are parted by single spaces alone: move 1",
 ];
 
-// What is written in the place of a word.
-fn cure_of(word: &[u8]) -> &'static [u8] {
-    match said_of(&CURES, word) {
-        Some(cure) => cure,
-        None => cure_of_form(word),
-    }
-}
-
-// The same of words that begin or end with a sign.
-fn cure_of_form(word: &[u8]) -> &'static [u8] {
-    match word {
-        [b'/', b'/', ..] | [b'-', b'-', ..] => REMARKS,
-        [b'"' | b'\'', ..] => b"the words have no quotes: move 1",
-        [b'{', ..] => b"each event is a line of words: move 1",
-        [b'0'..=b'9' | b'[', ..] => b"a line begins with its word, as in 'move 1'",
-        _ if word.contains(&b'(') => b"the numbers stand behind the word without brackets: move 1",
-        [.., b':' | b',' | b';'] => b"the words are parted by single spaces alone: move 1",
-        _ => b"",
-    }
-}
-
-// What stands between the words.
-fn tell_spaces(line: &[u8], out: &mut Phrase) -> bool {
-    let why = match line {
-        _ if line.contains(&b'#') => {
-            b"a remark stands on a line of its own, which begins with #".as_slice()
-        }
-        _ if line.contains(&b'\t') => b"a tab stands here: the words are parted by single spaces",
-        [b' ', ..] => b"a line begins with its word, and not with a space",
-        [.., b' '] => b"a space stands at the end of the line",
-        [.., b'\r'] => b"the last line ends with a carriage return (CR) alone",
-        _ if has_two_spaces(line) =>
-            b"two spaces stand together: the words are parted by single spaces",
-        _ => return false,
-    };
-    out.put(why);
-    true
-}
-
-fn has_two_spaces(line: &[u8]) -> bool {
-    let mut before = false;
-    for byte in line {
-        let space = *byte == b' ';
-        if space && before {
-            return true;
-        }
-        before = space;
-    }
-    false
-}
+/// What is said of the spaces of a line, and of what else stands between its words.
+const SPACES: [&[u8]; 6] = [
+    b"..#.. ~ a remark stands on a line of its own, which begins with #",
+    b"..\t.. ~ a tab stands here: the words are parted by single spaces",
+    b" .. ~ a line begins with its word, and not with a space",
+    b"..  ~ a space stands at the end of the line",
+    b"..\r ~ the last line ends with a carriage return (CR) alone",
+    b"..  .. ~ two spaces stand together: the words are parted by single spaces",
+];
 
 // Whether so many numbers may stand after a word.
 fn takes(word: &[u8], count: usize) -> bool {
-    match word {
-        b"move" => count == 1 || count == 2,
-        b"timeout" | b"show" | b"stat" => count == 1,
-        _ => count == 3,
+    if word == b"move".as_slice() {
+        count == 1 || count == 2
+    } else if is_one_of(word, b"timeout|show|stat") {
+        count == 1
+    } else {
+        count == 3
     }
 }
 
@@ -261,74 +116,45 @@ fn tell_number(line: &[u8], out: &mut Phrase) -> bool {
         if place != 0 && !is_number(word) {
             out.quote_front(word);
             out.put(b" is no number from 1 to 999999999 without a 0 in front");
-            let cure = match said_of(&BETWEEN, word) {
-                Some(cure) => cure,
-                None => cure_of_number(line, place, word),
-            };
-            out.put(cure);
+            out.put(cure_of_number(line, place, word));
             return true;
         }
     }
     false
 }
 
-/// What is said of words between the numbers.
-const PLAIN: &[u8] = b": the numbers alone stand behind the word, as in deliver 1 2 1";
-
-/// What is said of several events at once.
-const SINGLE: &[u8] = b": each event stands on a line of its own, for one process or one message";
-
-/// What is said of remarks behind an event.
-const BEHIND: &[u8] = b": a remark stands on a line of its own, which begins with #";
-
 /// The words that often stand among the numbers, and what is said of each.
-const BETWEEN: [(&[u8], &[u8]); 23] = [
-    (b"from", PLAIN),
-    (b"to", PLAIN),
-    (b"at", PLAIN),
-    (b"of", PLAIN),
-    (b"by", PLAIN),
-    (b"in", PLAIN),
-    (b"message", PLAIN),
-    (b"process", PLAIN),
-    (b"alternative", PLAIN),
-    (b"all", SINGLE),
-    (b"any", SINGLE),
-    (b"both", SINGLE),
-    (b"every", SINGLE),
-    (b"*", SINGLE),
-    (b"&&", SINGLE),
-    (b"and", SINGLE),
-    (b"then", SINGLE),
-    (b"move", SINGLE),
-    (b"deliver", SINGLE),
-    (b"times", SINGLE),
-    (b"--", BEHIND),
-    (b"//", BEHIND),
-    (b"%", BEHIND),
+const BETWEEN: [&[u8]; 3] = [
+    b"from|to|at|of|by|in|message|process|alternative ~ : the numbers alone stand behind the word, as in deliver 1 2 1",
+    b"all|any|both|every|*|&&|and|then|move|deliver|times ~ : each event stands on a line of its own, for one process or one message",
+    b"--|//|% ~ : a remark stands on a line of its own, which begins with #",
+];
+
+/// What is said of other words that are no numbers.
+const MARKED: [&[u8]; 4] = [
+    b"(..|'.. ~ : a message is named by its place in the channel, counted from 1",
+    b"..,.. ~ : the numbers are parted by single spaces",
+    b"..;.. ~ : each event stands on a line of its own",
+    b"..>.. ~ : the numbers are parted by single spaces, as in deliver 1 2 1",
 ];
 
 // What is to be written in the place of a word that is no number, so many words behind the first of a line.
 fn cure_of_number(line: &[u8], place: usize, word: &[u8]) -> &'static [u8] {
+    let cure = said_in(&BETWEEN, word);
     let is_letters = match word {
         [first, ..] => first.is_ascii_alphabetic(),
         [] => false,
     };
-    match word {
-        _ if is_letters && place == 3 =>
-            b": a message is named by its place in the channel, counted from 1",
-        _ if is_letters && place == 2 && line.starts_with(b"move ".as_slice()) => {
-            b": an alternative of an await is named by its number, and a label needs none"
-        }
-        [b'(' | b'\'', ..] => b": a message is named by its place in the channel, counted from 1",
-        [first, ..] if first.is_ascii_alphabetic() => {
-            b": processes are numbered from 1 on, in the order in which main makes them"
-        }
-        _ if word.contains(&b',') => b": the numbers are parted by single spaces",
-        _ if word.contains(&b';') => b": each event stands on a line of its own",
-        _ if word.contains(&b'>') =>
-            b": the numbers are parted by single spaces, as in deliver 1 2 1",
-        _ => b"",
+    if !cure.is_empty() {
+        cure
+    } else if !is_letters {
+        said_in(&MARKED, word)
+    } else if place == 3 {
+        b": a message is named by its place in the channel, counted from 1"
+    } else if place == 2 && line.starts_with(b"move ".as_slice()) {
+        b": an alternative of an await is named by its number, and a label needs none"
+    } else {
+        b": processes are numbered from 1 on, in the order in which main makes them"
     }
 }
 

@@ -3,7 +3,7 @@ use crate::words::put_meant;
 use da_values::read_value;
 use std::alloc::Global;
 use std::str;
-use text_hints::{Phrase, said_of};
+use text_hints::{Phrase, is_one_of, said_in, said_of};
 
 /// The lines of a trace, each with what stands after its word.
 const LINES: [(&[u8], &[u8]); 6] = [
@@ -15,16 +15,23 @@ const LINES: [(&[u8], &[u8]); 6] = [
     (b"fault", b"fault P KIND LINE"),
 ];
 
-/// The lines that a replay writes, and no node.
-const REPLAYED: [&[u8]; 5] = [b"lost", b"again", b"answer", b"kept", b"stop"];
-
-/// The first words of the lines of a schedule.
-const SCHEDULED: [&[u8]; 7] = [
-    b"move", b"timeout", b"deliver", b"lose", b"repeat", b"show", b"stat",
+/// What is said of the ends of a line.
+const ENDS: [&[u8]; 6] = [
+    b"\xEF\xBB\xBF.. ~ a byte order mark (BOM) stands before the first word: save the file without it",
+    b" ~ a trace has no empty lines",
+    b"..\r ~ it ends with a carriage return (CR), and lines of a trace with LF alone",
+    b" .. ~ a line begins with its word, and not with a space",
+    b"..  ~ a space stands at the end of the line",
+    b"#.. ~ a trace has no remarks",
 ];
 
-/// The first words of the lines of a program.
-const DECLARED: [&[u8]; 4] = [b"message", b"class", b"channel", b"def"];
+/// What is said of the first words of other lines.
+const OTHERS: [&[u8]; 4] = [
+    b"node|status ~ begins a line that launch prints: a trace is what stands between two of them, or './dalgo launch .. --traces DIR' writes it",
+    b"move|timeout|deliver|lose|repeat|show|stat ~ begins a line of a schedule: a trace is what a node prints, as 'took 1 0'",
+    b"message|class|channel|def ~ begins a line of a program: the program stands first, PROG TRACE ..",
+    b"lost|again|answer|kept|stop ~ is told by a replay, and by no node",
+];
 
 /// The line of this number of a trace, counted from 1, without its LF; after the last LF there is none where nothing follows.
 pub fn trace_line(text: &[u8], number: u64) -> Option<&[u8]> {
@@ -39,7 +46,8 @@ pub fn trace_line(text: &[u8], number: u64) -> Option<&[u8]> {
 /// Why a line is none of the trace of a process, in one sentence.
 pub fn explain_trace_line(alloc: Global, line: &[u8], process: u16) -> Phrase {
     let mut told = Phrase::new(alloc);
-    if tell_ends(line, &mut told) {
+    told.put(said_in(&ENDS, line));
+    if !told.is_empty() {
         return told;
     }
     let mut words = line.split(|byte| *byte == b' ');
@@ -69,45 +77,17 @@ pub fn explain_trace_line(alloc: Global, line: &[u8], process: u16) -> Phrase {
     told
 }
 
-// What stands at the ends of a line.
-fn tell_ends(line: &[u8], out: &mut Phrase) -> bool {
-    let why = match line {
-        _ if line.starts_with(b"\xEF\xBB\xBF".as_slice()) => {
-            b"a byte order mark (BOM) stands before the first word: save the file without it".as_slice()
-        }
-        [] => b"a trace has no empty lines".as_slice(),
-        [.., b'\r'] => b"it ends with a carriage return (CR), and lines of a trace with LF alone",
-        [b' ', ..] => b"a line begins with its word, and not with a space",
-        [.., b' '] => b"a space stands at the end of the line",
-        [b'#', ..] => b"a trace has no remarks",
-        _ => return false,
-    };
-    out.put(why);
-    true
-}
-
+// That a line begins with another word.
 fn tell_word(alloc: Global, word: &[u8], out: &mut Phrase) {
     out.quote_front(word);
-    if matches!(word, b"node" | b"status") {
-        out.put(
-            b" begins a line that launch prints: a trace is what stands between two of them, or './dalgo launch .. --traces DIR' writes it",
-        );
-        return;
+    let said = said_in(&OTHERS, word);
+    if said.is_empty() {
+        out.put(b" is the word of no line of a trace");
+        put_meant(alloc, &LINES, word, out);
+    } else {
+        out.put(b" ");
+        out.put(said);
     }
-    if SCHEDULED.iter().any(|known| *known == word) {
-        out.put(b" begins a line of a schedule: a trace is what a node prints, as 'took 1 0'");
-        return;
-    }
-    if DECLARED.iter().any(|known| *known == word) {
-        out.put(b" begins a line of a program: the program stands first, PROG TRACE ..");
-        return;
-    }
-    if REPLAYED.iter().any(|known| *known == word) {
-        out.put(b" is told by a replay, and by no node");
-        return;
-    }
-    out.put(b" is the word of no line of a trace");
-    put_meant(alloc, &LINES, word, out);
 }
 
 // That the line is of another process, or of none.
@@ -133,10 +113,12 @@ fn number_of(word: &[u8]) -> Option<u64> {
 
 // The bytes that stand where a line of this word has a value.
 fn value_of<'l>(word: &[u8], line: &'l [u8]) -> Option<&'l [u8]> {
-    let spaces = match word {
-        b"sent" | b"got" => 4u32,
-        b"out" => 2,
-        _ => return None,
+    let spaces = if is_one_of(word, b"sent|got") {
+        4u32
+    } else if word == b"out".as_slice() {
+        2
+    } else {
+        return None;
     };
     let mut rest = line;
     for _space in 0..spaces {

@@ -1,34 +1,40 @@
 //! Characters that a program may not hold, by name.
 use crate::hint::Hint;
-use crate::lines::between;
+use crate::lines::{behind, between};
 use crate::phrase::Phrase;
+use crate::words::said_in;
+use std::alloc::Global;
 use std::str;
 
 /// Tells of the byte at this place of the text, which only comments may hold.
-pub fn tell_byte(text: &[u8], place: usize, hint: &mut Hint) {
+pub fn tell_byte(alloc: Global, text: &[u8], place: usize, hint: &mut Hint) {
     hint.blame(place, 1);
-    if place == 0 && text.starts_with(b"\xEF\xBB\xBF".as_slice()) {
-        hint.say(b"a byte order mark (BOM) stands before the text: save the file without it");
-        return;
+    let mut said = said_in(&BYTES, behind(text, place));
+    if place == 0 && said.is_empty() {
+        said = said_in(&FRONTS, text);
     }
-    if place == 0
-        && (text.starts_with(b"\xFF\xFE".as_slice()) || text.starts_with(b"\xFE\xFF".as_slice()))
-    {
-        hint.say(b"the text is in UTF-16: save the file as ASCII or UTF-8");
+    if !said.is_empty() {
+        hint.say(said);
         return;
     }
     match text.get(place).copied() {
-        Some(b'\t') => {
-            hint.say(b"a tab stands here: use spaces, four for each level");
-        }
-        Some(b'\r') => {
-            hint.say(b"a carriage return (CR) stands here, and no line end (LF) follows it");
-        }
         Some(byte) if byte < 128 => tell_control(byte, hint),
-        Some(byte) => tell_outside(text, place, byte, hint),
+        Some(byte) => tell_outside(alloc, text, place, byte, hint),
         None => {}
     }
 }
+
+/// What is said of the front of a text.
+const FRONTS: [&[u8]; 2] = [
+    b"\xEF\xBB\xBF.. ~ a byte order mark (BOM) stands before the text: save the file without it",
+    b"\xFF\xFE..|\xFE\xFF.. ~ the text is in UTF-16: save the file as ASCII or UTF-8",
+];
+
+/// What is said of bytes of ASCII.
+const BYTES: [&[u8]; 2] = [
+    b"\t.. ~ a tab stands here: use spaces, four for each level",
+    b"\r.. ~ a carriage return (CR) stands here, and no line end (LF) follows it",
+];
 
 fn tell_control(byte: u8, hint: &mut Hint) {
     hint.say(b"the control character ");
@@ -37,7 +43,7 @@ fn tell_control(byte: u8, hint: &mut Hint) {
 }
 
 // A byte above 127.
-fn tell_outside(text: &[u8], place: usize, byte: u8, hint: &mut Hint) {
+fn tell_outside(alloc: Global, text: &[u8], place: usize, byte: u8, hint: &mut Hint) {
     let Some((number, length)) = character_at(text, place) else {
         hint.say(b"the byte ");
         hint.sentence.number(u64::from(byte));
@@ -46,10 +52,14 @@ fn tell_outside(text: &[u8], place: usize, byte: u8, hint: &mut Hint) {
     };
     hint.blame(place, length);
     hint.quote(between(text, place, place.saturating_add(length)));
-    hint.say(b" (U+");
-    put_hexadecimal(number, &mut hint.sentence);
-    hint.say(b") is not ASCII: only comments may hold it");
-    let note = note_on(number);
+    let mut digits = Phrase::new(alloc);
+    put_hexadecimal(number, &mut digits);
+    hint.sentence.fill(
+        b" (U+$) is not ASCII: only comments may hold it",
+        digits.as_slice(),
+        b"",
+    );
+    let note = said_in(&NOTES, digits.as_slice());
     if !note.is_empty() {
         hint.note(note);
     }
@@ -66,39 +76,32 @@ fn character_at(text: &[u8], place: usize) -> Option<(u32, usize)> {
     None
 }
 
-// What is written in the place of a character, where it is often meant.
-fn note_on(number: u32) -> &'static [u8] {
-    match number {
-        0x2018..=0x201E => {
-            b"it is a typographic quotation mark: a text stands in single quotes, 'ping'"
-        }
-        0x00AB | 0x00BB | 0x00B4 | 0x02B9 | 0x2032 => {
-            b"it is no quotation mark of a program: a text stands in single quotes, 'ping'"
-        }
-        0x2010..=0x2014 | 0x2212 => b"it is a dash: write -",
-        0x00A0 | 0x2007 | 0x202F | 0x2009 => b"it is a space that is none of ASCII: write a space",
-        0x200B | 0xFEFF => b"it is not seen on a screen: take it away",
-        0x2260 => b"write !=",
-        0x2264 => b"write <=",
-        0x2265 => b"write >=",
-        0x2208 => b"write in",
-        0x2209 => b"write not (x in s)",
-        0x2203 => b"write some x in s | ..",
-        0x2200 => b"write each x in s | ..",
-        0x2227 => b"write and",
-        0x2228 => b"write or",
-        0x00AC => b"write not",
-        0x222A => b"the union of two sets is s + t",
-        0x2229 => b"what two sets have in common is s * t",
-        0x2216 => b"what one set has and another has not is s - t",
-        0x2205 => b"the empty set is written {}",
-        0x21D2 | 0x2192 => b"write if, or for an implication not a or b",
-        0x2190 => b"a variable is set so: x = 3",
-        0x00D7 => b"write *",
-        0x2026 => b"it is one character, and no three dots",
-        _ => b"",
-    }
-}
+/// What is said of characters, which stand here by their numbers in base 16.
+const NOTES: [&[u8]; 23] = [
+    b"2018|2019|201A|201B|201C|201D|201E ~ it is a typographic quotation mark: a text stands in single quotes, 'ping'",
+    b"00AB|00BB|00B4|02B9|2032 ~ it is no quotation mark of a program: a text stands in single quotes, 'ping'",
+    b"2010|2011|2012|2013|2014|2212 ~ it is a dash: write -",
+    b"00A0|2007|202F|2009 ~ it is a space that is none of ASCII: write a space",
+    b"200B|FEFF ~ it is not seen on a screen: take it away",
+    b"2260 ~ write !=",
+    b"2264 ~ write <=",
+    b"2265 ~ write >=",
+    b"2208 ~ write in",
+    b"2209 ~ write not (x in s)",
+    b"2203 ~ write some x in s | ..",
+    b"2200 ~ write each x in s | ..",
+    b"2227 ~ write and",
+    b"2228 ~ write or",
+    b"00AC ~ write not",
+    b"222A ~ the union of two sets is s + t",
+    b"2229 ~ what two sets have in common is s * t",
+    b"2216 ~ what one set has and another has not is s - t",
+    b"2205 ~ the empty set is written {}",
+    b"21D2|2192 ~ write if, or for an implication not a or b",
+    b"2190 ~ a variable is set so: x = 3",
+    b"00D7 ~ write *",
+    b"2026 ~ it is one character, and no three dots",
+];
 
 // Adds a number in base 16, with four digits at least.
 fn put_hexadecimal(number: u32, out: &mut Phrase) {

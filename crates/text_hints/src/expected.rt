@@ -78,15 +78,6 @@ fn put_joint(left: &mut usize, count: usize, out: &mut Phrase) {
     *left = left.saturating_sub(1);
 }
 
-/// Whether it is a sign of a comparison.
-pub fn is_comparison(mark: Mark) -> bool {
-    match mark {
-        Mark::Equal | Mark::NotEqual | Mark::Less | Mark::LessEqual => true,
-        Mark::Greater | Mark::GreaterEqual => true,
-        _ => false,
-    }
-}
-
 // Adds a kind of token.
 fn put_mark(mark: Mark, spelling: &[u8], out: &mut Phrase) {
     match mark {

@@ -1,14 +1,17 @@
 //! Why the tokens of a text begin no program.
 use crate::brackets::open_brackets;
 use crate::expected::{has, put_expected};
-use crate::habits::tell_channel;
+use crate::firsts::FIRSTS;
+use crate::gaps::{HEADERS, LINES, QUERIES};
+use crate::habits::{MESSAGES, SIGNS, WORDS};
 use crate::hint::Hint;
 use crate::lines::{between, column_of, line_number};
 use crate::misspelt::{tell_first_word, tell_word_before, tell_word_here};
 use crate::phrase::Phrase;
-use crate::python::{tell_first, tell_python};
+use crate::python::{CHANNELS, OUTERMOST, STATEMENTS, VALUES};
 use crate::reading::{Source, next_marks, stop_in};
-use crate::slips::tell_slip;
+use crate::rules::tell;
+use crate::slips::{ACTIONS, PLACES, TAKEN};
 use crate::spot::Spot;
 use da_lex::lex;
 use da_values::Mark;
@@ -36,11 +39,7 @@ fn tell_in(alloc: Global, source: Source<'_>, hint: &mut Hint) {
     let Some(stop) = stop_in(alloc, source, list) else {
         return;
     };
-    let spot = Spot {
-        text,
-        tokens: list,
-        place: stop.place,
-    };
+    let spot = Spot::new(text, list, stop.place);
     blame_spot(spot, hint);
     if stop.deep {
         tell_deep(alloc, spot, hint);
@@ -58,14 +57,34 @@ fn tell_in(alloc: Global, source: Source<'_>, hint: &mut Hint) {
 
 // What is to be written, where that is known.
 fn tell_cure(alloc: Global, spot: Spot<'_>, loose: bool, marks: &[Mark], hint: &mut Hint) -> bool {
-    tell_first(spot, hint)
+    tell(&FIRSTS, spot, marks, hint)
         || tell_first_word(alloc, spot, loose, marks, hint)
         || (has(marks, Mark::Int) && tell_word_here(alloc, spot, marks, hint))
         || tell_slip(spot, marks, hint)
         || tell_word_before(alloc, spot, loose, hint)
         || tell_python(spot, marks, hint)
         || tell_word_here(alloc, spot, marks, hint)
-        || tell_channel(spot, hint)
+        || tell(&CHANNELS, spot, marks, hint)
+}
+
+// The same of what stands in the place of forms of this language.
+fn tell_slip(spot: Spot<'_>, marks: &[Mark], hint: &mut Hint) -> bool {
+    tell(&MESSAGES, spot, marks, hint)
+        || tell(&SIGNS, spot, marks, hint)
+        || tell(&WORDS, spot, marks, hint)
+        || tell(&QUERIES, spot, marks, hint)
+        || tell(&LINES, spot, marks, hint)
+        || tell(&HEADERS, spot, marks, hint)
+        || tell(&TAKEN, spot, marks, hint)
+        || tell(&PLACES, spot, marks, hint)
+        || tell(&ACTIONS, spot, marks, hint)
+}
+
+// The same of forms of other languages.
+fn tell_python(spot: Spot<'_>, marks: &[Mark], hint: &mut Hint) -> bool {
+    tell(&OUTERMOST, spot, marks, hint)
+        || tell(&STATEMENTS, spot, marks, hint)
+        || tell(&VALUES, spot, marks, hint)
 }
 
 // Blames the token at the spot, or the place where it should stand.

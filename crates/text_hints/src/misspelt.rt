@@ -17,7 +17,7 @@ pub fn tell_first_word(
     marks: &[Mark],
     hint: &mut Hint,
 ) -> bool {
-    let begin = spot.begin();
+    let begin = spot.begin;
     if !spot.is(begin, Mark::Name) {
         return false;
     }
@@ -43,7 +43,7 @@ pub fn tell_word_before(alloc: Global, spot: Spot<'_>, loose: bool, hint: &mut H
         return false;
     };
     let goes_on = spot.here(Mark::Name) || spot.here(Mark::OpenParen);
-    if !(goes_on && place > spot.begin() && spot.is(place, Mark::Name)) {
+    if !(goes_on && place > spot.begin && spot.is(place, Mark::Name)) {
         return false;
     }
     tell_at(alloc, spot, place, loose, hint)

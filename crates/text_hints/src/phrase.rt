@@ -24,6 +24,11 @@ impl Phrase {
         let _ = self.text.append(bytes);
     }
 
+    /// Adds one byte.
+    pub fn push(&mut self, byte: u8) {
+        let _ = self.text.push(byte);
+    }
+
     /// Adds bytes, in quotes where they have none.
     pub fn quote(&mut self, bytes: &[u8]) {
         if bytes.contains(&b'\'') {
@@ -56,7 +61,7 @@ impl Phrase {
         let mut is_first = true;
         for byte in form {
             if *byte != b'@' && *byte != b'$' {
-                let _ = self.text.push(*byte);
+                self.push(*byte);
                 continue;
             }
             let part = if is_first { first } else { second };

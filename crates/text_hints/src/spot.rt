@@ -4,15 +4,30 @@ use crate::reading::{mark_at, slice_at};
 use da_lex::Token;
 use da_values::Mark;
 
-/// A place among the tokens of a text: the token of this number, counted from 0, or the end after all of them.
+/// A place among the tokens of a text: the token of this number, counted from 0, or the end after all of them. The line of tokens
+/// that it is on begins at `begin`, and `opener` is the place of the innermost bracket that is open there.
 #[derive(Clone, Copy)]
 pub struct Spot<'t> {
     pub text: &'t [u8],
     pub tokens: &'t [Token],
     pub place: usize,
+    pub begin: usize,
+    pub opener: Option<usize>,
 }
 
 impl<'t> Spot<'t> {
+    /// The spot at a place among the tokens of a text.
+    pub fn new(text: &'t [u8], tokens: &'t [Token], place: usize) -> Spot<'t> {
+        let (front, _) = tokens.split_at(place.min(tokens.len()));
+        Spot {
+            text,
+            tokens,
+            place,
+            begin: begin_of(text, front),
+            opener: opener_of(text, front),
+        }
+    }
+
     /// The mark of the token at a place, or `None` where there is none.
     pub fn mark(&self, place: usize) -> Option<Mark> {
         Some(mark_at(self.text, self.tokens.get(place)?))
@@ -28,14 +43,9 @@ impl<'t> Spot<'t> {
         self.is(self.place, mark)
     }
 
-    /// Whether the token so many before the spot has this mark.
-    pub fn back(&self, count: usize, mark: Mark) -> bool {
-        count <= self.place && self.is(self.place - count, mark)
-    }
-
-    /// The bytes of the token so many before the spot, or none.
-    pub fn back_bytes(&self, count: usize) -> &'t [u8] {
-        match self.place.checked_sub(count) {
+    /// The bytes of the token before the spot, or none.
+    pub fn bytes_before(&self) -> &'t [u8] {
+        match self.place.checked_sub(1) {
             Some(place) => self.bytes(place),
             None => b"",
         }
@@ -49,63 +59,34 @@ impl<'t> Spot<'t> {
         }
     }
 
-    /// Whether the token at a place is the name of these bytes.
-    pub fn is_name(&self, place: usize, name: &[u8]) -> bool {
-        self.is(place, Mark::Name) && self.bytes(place) == name
+    /// Whether a token of this mark stands before a name of these bytes, somewhere in the text.
+    pub fn is_declared(&self, mark: Mark, name: &[u8]) -> bool {
+        for place in 0..self.tokens.len() {
+            let next = place.saturating_add(1);
+            if self.is(place, mark) && self.is(next, Mark::Name) && self.bytes(next) == name {
+                return true;
+            }
+        }
+        false
+    }
+
+    /// Whether the token at the spot begins directly after the last one with bytes before it.
+    pub fn is_joined(&self) -> bool {
+        match self.tokens.get(self.place) {
+            Some(token) => token.first as usize == self.end_before(),
+            None => false,
+        }
+    }
+
+    /// Whether there are no tokens, and carriage returns are all that ends a line of the text.
+    pub fn has_returns_alone(&self) -> bool {
+        self.tokens.is_empty() && self.text.contains(&b'\r') && !self.text.contains(&b'\n')
     }
 
     // The tokens before the spot.
     fn front(&self) -> &'t [Token] {
         let (front, _) = self.tokens.split_at(self.place.min(self.tokens.len()));
         front
-    }
-
-    /// The place of the first token of the line of tokens that the spot is on.
-    pub fn begin(&self) -> usize {
-        let mut begin = 0usize;
-        for (place, token) in self.front().iter().enumerate() {
-            match mark_at(self.text, token) {
-                Mark::Newline | Mark::Indent | Mark::Dedent => begin = place.saturating_add(1),
-                _ => {}
-            }
-        }
-        begin
-    }
-
-    // The place of the token that opened the innermost bracket which is open at the spot.
-    fn opener(&self) -> Option<usize> {
-        let mut depth = 0usize;
-        for (back, token) in self.front().iter().enumerate().rev() {
-            match mark_at(self.text, token) {
-                Mark::CloseParen | Mark::CloseBrace | Mark::CloseBracket => {
-                    depth = depth.saturating_add(1);
-                }
-                Mark::OpenParen | Mark::OpenBrace | Mark::OpenBracket => {
-                    if depth == 0 {
-                        return Some(back);
-                    }
-                    depth = depth.saturating_sub(1);
-                }
-                _ => {}
-            }
-        }
-        None
-    }
-
-    /// Whether the innermost bracket that is open at the spot stands after a token of this mark.
-    pub fn is_inside(&self, mark: Mark) -> bool {
-        match self.opener() {
-            Some(place) => place != 0 && self.is(place - 1, mark),
-            None => false,
-        }
-    }
-
-    /// Whether the innermost bracket that is open at the spot is a brace.
-    pub fn is_inside_braces(&self) -> bool {
-        match self.opener() {
-            Some(place) => self.is(place, Mark::OpenBrace),
-            None => false,
-        }
     }
 
     /// Whether no token with bytes stands at the spot or after it.
@@ -129,4 +110,36 @@ impl<'t> Spot<'t> {
             None => self.text,
         }
     }
+}
+
+// The place of the first token of the line of tokens that some tokens end on.
+fn begin_of(text: &[u8], front: &[Token]) -> usize {
+    let mut begin = 0usize;
+    for (place, token) in front.iter().enumerate() {
+        match mark_at(text, token) {
+            Mark::Newline | Mark::Indent | Mark::Dedent => begin = place.saturating_add(1),
+            _ => {}
+        }
+    }
+    begin
+}
+
+// The place of the token that opened the innermost bracket which is open after some tokens.
+fn opener_of(text: &[u8], front: &[Token]) -> Option<usize> {
+    let mut depth = 0usize;
+    for (back, token) in front.iter().enumerate().rev() {
+        match mark_at(text, token) {
+            Mark::CloseParen | Mark::CloseBrace | Mark::CloseBracket => {
+                depth = depth.saturating_add(1);
+            }
+            Mark::OpenParen | Mark::OpenBrace | Mark::OpenBracket => {
+                if depth == 0 {
+                    return Some(back);
+                }
+                depth = depth.saturating_sub(1);
+            }
+            _ => {}
+        }
+    }
+    None
 }

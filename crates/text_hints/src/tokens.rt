@@ -6,6 +6,7 @@ use crate::lines::{Line, between, line_of};
 use crate::phrase::Phrase;
 use crate::pieces::{Bad, bad_piece};
 use crate::reading::slice_at;
+use crate::words::said_in;
 use da_lex::{TokenKind, Tokens, lex};
 use da_values::{LexKind, List};
 use std::alloc::Global;
@@ -29,7 +30,7 @@ fn tell_piece(alloc: Global, text: &[u8], line: Line<'_>, hint: &mut Hint) {
     };
     let place = line.first.saturating_add(bad.place);
     match bad.kind {
-        LexKind::BadByte => tell_byte(text, place, hint),
+        LexKind::BadByte => tell_byte(alloc, text, place, hint),
         _ if is_loop(line.bytes, bad.place) => {
             hint.blame(place, bad.length);
             hint.say(b"no token begins with ;: write for i in range(0, 3):");
@@ -48,12 +49,9 @@ fn is_loop(line: &[u8], place: usize) -> bool {
 fn tell_spelling(alloc: Global, text: &[u8], place: usize, bad: Bad, hint: &mut Hint) {
     hint.blame(place, bad.length);
     let bytes = between(text, place, place.saturating_add(bad.length));
-    if between(text, place, place.saturating_add(3)) == b"\"\"\"".as_slice() {
-        hint.say(b"there are no docstrings: a comment begins with #");
-        return;
-    }
-    if between(text, place, place.saturating_add(2)) == b"/*".as_slice() {
-        hint.say(b"a comment begins with #, and ends with its line");
+    let said = said_in(&FRONTS, between(text, place, text.len()));
+    if !said.is_empty() {
+        hint.say(said);
         return;
     }
     if bytes == b"\\".as_slice() && !ends_line(text, place.saturating_add(1)) {
@@ -69,7 +67,7 @@ fn tell_spelling(alloc: Global, text: &[u8], place: usize, bad: Bad, hint: &mut 
         [b'1'..=b'9', ..] => b"@ is more than the greatest integer, 9223372036854775807",
         _ => b"no token begins with $: $",
     };
-    hint.sentence.fill(form, bytes, cure_of(bytes));
+    hint.sentence.fill(form, bytes, said_in(&CURES, bytes));
 }
 
 // Whether no more than spaces stand between a place and the end of its line.
@@ -81,24 +79,27 @@ fn ends_line(text: &[u8], place: usize) -> bool {
     }
 }
 
-// What is written in the place of a character.
-fn cure_of(bytes: &[u8]) -> &'static [u8] {
-    match bytes {
-        [b'"'] => b"a text stands in single quotes ('), as in 'ping'",
-        [b'/'] => b"the quotient of integers is written //",
-        [b'!'] => b"write not, or != for unequal",
-        [b'&'] => b"write and",
-        [b';'] => b"each statement stands on a line of its own",
-        [b'^'] => b"there are no powers",
-        [b'\\'] => b"a line goes on by itself while a bracket is open",
-        [b'@'] => b"there are no decorators",
-        [b'?'] => b"there is no value with an if inside: write an if with lines of its own",
-        [b'~'] => b"write not",
-        [b'`'] => b"a text stands in single quotes ('), as in 'ping'",
-        [b'$'] => b"a name has letters, digits and _ alone",
-        _ => b"only a text and a comment may hold it",
-    }
-}
+/// What is said of the front of what spells no token.
+const FRONTS: [&[u8]; 2] = [
+    b"\"\"\".. ~ there are no docstrings: a comment begins with #",
+    b"/*.. ~ a comment begins with #, and ends with its line",
+];
+
+/// What is written in the place of a character.
+const CURES: [&[u8]; 12] = [
+    b"\"|` ~ a text stands in single quotes ('), as in 'ping'",
+    b"/ ~ the quotient of integers is written //",
+    b"! ~ write not, or != for unequal",
+    b"& ~ write and",
+    b"; ~ each statement stands on a line of its own",
+    b"^ ~ there are no powers",
+    b"\\ ~ a line goes on by itself while a bracket is open",
+    b"@ ~ there are no decorators",
+    b"? ~ there is no value with an if inside: write an if with lines of its own",
+    b"~ ~ write not",
+    b"$ ~ a name has letters, digits and _ alone",
+    b".. ~ only a text and a comment may hold it",
+];
 
 // A line that is indented as no open block is.
 fn tell_indent(alloc: Global, text: &[u8], line: Line<'_>, hint: &mut Hint) {
