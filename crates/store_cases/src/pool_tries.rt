@@ -1,65 +1,45 @@
-//! Calls of a pool, as the rows of a file say, and pools with many values and with a deep one.
-use crate::long::{Found, deep_value, many_pairs};
-use crate::pool_rows::steps_reply;
-use anyhow::Context;
-use da_values::List;
-use std::{fs, rt};
+//! A pool of values, in which a tuple is put twice.
+use crate::holder::{give_back, intern};
+use da_values::{List, NoMemory, Value, read_value};
+use row_pool::Pool;
+use std::alloc::Global;
 
-/// How many pairs the long run puts in.
-const MANY: u32 = 100_000;
-
-/// How many tuples stand in one another in the deep value.
-const DEEP: u32 = 500;
-
-/// How many rows there were, and how many of them differ.
-#[derive(Drop)]
-struct Tally {
-    rows: u32,
-    differ: u32,
+/// Whether equal values got one id, and how many values there were: after both, after a part of them, and after both ids of the
+/// tuple were given back.
+#[derive(Clone, Copy)]
+struct Found {
+    same: bool,
+    both: usize,
+    part: usize,
+    rest: usize,
 }
 
-/// Prints how many rows there are and how many of them differ from what was expected, and before that what these gave; then
-/// how many values there were in each pool, and how many after all were given back.
-pub fn try_pool<R: rt::Files + Print + AllocGlobal>(rt: &R) -> anyhow::Result<()> {
-    let text = fs::read_to_string(rt, "pool.txt").context("reading pool.txt")?;
-    let mut tally = Tally { rows: 0, differ: 0 };
-    for line in text.lines() {
-        try_line(rt, line, &mut tally)?;
-    }
-    let Tally { rows, differ } = tally;
-    println!(rt; "{rows} cases, {differ} differ")?;
-    show_found(rt, "pairs", many_pairs(rt.alloc(), MANY)?)?;
-    show_found(rt, "deep", deep_value(rt.alloc(), DEEP)?)?;
+/// Prints what was found of (1, 'a') and 1.
+pub fn try_pool<R: Print + AllocGlobal>(rt: &R) -> anyhow::Result<()> {
+    let tuple = read_value(rt.alloc(), b"(1, 'a')")?;
+    let found = tuple_twice(rt.alloc(), &tuple)?;
+    println!(rt;
+        "one id: {}; {} values, {} with 1, {} at last",
+        found.same, found.both, found.part, found.rest
+    )?;
     Ok(())
 }
 
-// What a long run found.
-fn show_found<R: Print>(rt: &R, name: &str, found: Found) -> anyhow::Result<()> {
-    let Found { there, left } = found;
-    println!(rt; "{name}: {there} values, {left} left")?;
-    Ok(())
-}
-
-// Tries a line `STEPS ==> WANTED`. Other lines are remarks.
-fn try_line<R: Print + AllocGlobal>(rt: &R, line: &str, tally: &mut Tally) -> anyhow::Result<()> {
-    let Some((steps, wanted)) = line.split_once(" ==> ") else {
-        return Ok(());
-    };
-    tally.rows = tally.rows.saturating_add(1);
-    if !agrees(rt, steps, wanted).context(format_args!("{line}"))? {
-        tally.differ = tally.differ.saturating_add(1);
-    }
-    Ok(())
-}
-
-// Whether what steps give is what is expected. If not, it is printed.
-fn agrees<R: Print + AllocGlobal>(rt: &R, steps: &str, wanted: &str) -> anyhow::Result<bool> {
-    let mut found = List::new(rt.alloc());
-    steps_reply(rt.alloc(), steps, &mut found)?;
-    if found.as_slice() == wanted.as_bytes() {
-        return Ok(true);
-    }
-    let text = String::from_utf8_lossy(rt.alloc(), found.as_slice())?;
-    println!(rt; "{steps}\ngave:\n{text}\nwhere this was expected:\n{wanted}")?;
-    Ok(false)
+// Puts the tuple in twice and 1 once, and gives both ids of the tuple back.
+fn tuple_twice(alloc: Global, tuple: &Value) -> Result<Found, NoMemory> {
+    let mut pool = Pool::new(alloc);
+    let mut ids = List::new(alloc);
+    let first = intern(&mut pool, &mut ids, tuple)?;
+    let second = intern(&mut pool, &mut ids, tuple)?;
+    let both = pool.live();
+    intern(&mut pool, &mut ids, &Value::Int(1))?;
+    let part = pool.live();
+    give_back(&mut pool, &mut ids, 0);
+    give_back(&mut pool, &mut ids, 0);
+    Ok(Found {
+        same: first == second,
+        both,
+        part,
+        rest: pool.live(),
+    })
 }

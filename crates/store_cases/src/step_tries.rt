@@ -1,11 +1,10 @@
 //! The steps of a schedule, and what the system answers to each. With ample memory each is made but the last, which is not
 //! allowed. Where memory is refused in a step, all steps after it are answered as spent: `.ci/refused` of this repository runs
-//! the program so. Where it was not refused, it is printed besides how many values a process of another program holds.
+//! the program so.
 ghost use Rattle.da_core.specs.Compiled.{IsCompiled};
 ghost use Rattle.da_lang.specs.Accepted.{IsWritten};
 ghost use Rattle.std.specs.Prelude.{IfOk};
 
-use crate::held::tell_held;
 use anyhow::anyhow;
 use da_core::{Compiled, StepFault, compile};
 use da_lang::{Event, Tree};
@@ -24,24 +23,10 @@ const MOST_BYTES: usize = 1_048_576;
 
 /// Prints the answers.
 pub fn try_steps<R: rt::Files + Print + AllocGlobal>(rt: &R) -> anyhow::Result<()> {
-    if answer_schedule(rt)? {
-        tell_other(rt)?;
-    }
-    Ok(())
-}
-
-// Prints the answers to the steps of the schedule. Whether none of them found no memory.
-fn answer_schedule<R: rt::Files + Print + AllocGlobal>(rt: &R) -> anyhow::Result<bool> {
     let compiled = program_in(rt, "lamport.da")?;
     let schedule = fs::read_to_string(rt, "lamport.moves")?;
     let events = read_schedule(rt.alloc(), schedule.as_bytes())?;
     make_steps(rt, &compiled, events.as_slice())
-}
-
-// Prints how many values a process of the other program holds.
-fn tell_other<R: rt::Files + Print + AllocGlobal>(rt: &R) -> anyhow::Result<()> {
-    let compiled = program_in(rt, "ping.da")?;
-    tell_held(rt, &compiled)
 }
 
 // The program in a file.
@@ -74,25 +59,21 @@ fn tree_of(alloc: Global, text: &[u8]) -> anyhow::Result<Tree>
     Ok(parse(alloc, &tokens)?)
 }
 
-// Makes the steps, and prints the answers. Whether none of them found no memory.
+// Makes the steps, and prints the answers.
 fn make_steps<R: Print + AllocGlobal>(
     rt: &R,
     compiled: &Compiled,
     events: &[Event],
-) -> anyhow::Result<bool>
+) -> anyhow::Result<()>
     requires { IsCompiled compiled.now }
 {
     let mut system = System::new(rt.alloc(), compiled)?;
-    let mut is_ample = true;
     for event in events {
         let mut actions = List::new(rt.alloc());
         let step = system.step(event, &mut actions);
-        if matches!(step, Err(StepFault::Memory)) {
-            is_ample = false;
-        }
         println!(rt; "{}", answer_of(step))?;
     }
-    Ok(is_ample)
+    Ok(())
 }
 
 // What the system answers to a step, in a word.

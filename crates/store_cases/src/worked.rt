@@ -1,15 +1,13 @@
 //! The set of three rows of ids, of which one comes twice.
 ghost use Rattle.answer_index.specs.Answers.{IsSet, ids_of, keys_of};
-ghost use Rattle.row_pool.specs.Pool.{Holds, Trades};
-ghost use Rattle.std.specs.Prelude.{◌≡◌, ◌<◌, ◌++◌, OnOk, length};
+ghost use Rattle.row_pool.specs.Cells.{Cells};
+ghost use Rattle.row_pool.specs.Pool.{Holds};
+ghost use Rattle.std.specs.Prelude.{◌≡◌, ◌<◌, [], IfOk, OnOk, length};
 
 use crate::reading::group_of_ids;
-use crate::tables::keyed_set;
-use answer_index::{
-    AnswerSet, Change, IdRow, LentChoice, give_back_row, intern_row, row_values, settle_lent,
-};
-use da_values::{NoMemory, Row, Value};
-use row_pool::{Id, Pool};
+use answer_index::{AnswerSet, IdRow, KeyParts, give_back_row, intern_row, row_values};
+use da_values::{List, NoMemory, Row, Value};
+use row_pool::Pool;
 use std::alloc::Global;
 
 /// What was found: whether each row was new, what was read then, and whether each row was there when it was taken out.
@@ -22,18 +20,17 @@ pub struct Worked {
     pub live: usize,
 }
 
-/// The least row, how many rows the group of 1 has, and how many a set has to which the least row was lent.
+/// The least row, and how many rows the group of 1 has.
 #[derive(Clone, Copy)]
 pub struct Seen {
     pub least: (i128, i128),
     pub group: usize,
-    pub lent: usize,
 }
 
-/// Puts in (1, 2), (1, 3) and (1, 2), reads the group of 1, lends the least row to another set, and takes both rows out.
+/// Puts in (1, 2), (1, 3) and (1, 2), reads the group of 1, and takes both rows out.
 pub fn three_rows(alloc: Global) -> Result<Worked, NoMemory> {
     let mut pool = Pool::new(alloc);
-    let mut set = keyed_set(alloc, 2, &[0])?;
+    let mut set = set_of_pairs(alloc)?;
     let fresh = put_three(alloc, &mut set, &mut pool)?;
     let seen = read_three(alloc, &set, &mut pool)?;
     let gone = take_three(alloc, &mut set, &mut pool)?;
@@ -44,6 +41,17 @@ pub fn three_rows(alloc: Global) -> Result<Worked, NoMemory> {
         none: set.least().is_none(),
         live: pool.live(),
     })
+}
+
+// An empty set of rows of width 2, by the place 0.
+fn set_of_pairs(alloc: Global) -> Result<AnswerSet, NoMemory>
+    ensures set { IfOk result (λ set. (pool : Cells) → IsSet set pool) }
+    ensures key { IfOk result (λ set. 0 < length (keys_of set)) }
+    ensures ids { IfOk result (λ set. ids_of set ≡ []) }
+{
+    let mut parts = List::new(alloc);
+    parts.push(0)?;
+    AnswerSet::new(alloc, 2, &[KeyParts { parts }])
 }
 
 // Puts the rows in.
@@ -70,8 +78,7 @@ fn read_three(alloc: Global, set: &AnswerSet, pool: &mut Pool) -> Result<Seen, N
 {
     let least = least_pair(alloc, set, pool)?;
     let group = group_of_one(alloc, set, pool)?;
-    let lent = lend_least(alloc, set, pool)?;
-    Ok(Seen { least, group, lent })
+    Ok(Seen { least, group })
 }
 
 // Takes the rows out.
@@ -128,38 +135,6 @@ fn group_of_one(alloc: Global, set: &AnswerSet, pool: &mut Pool) -> Result<usize
     let group = group_of_ids(set, one.ids.as_slice(), pool);
     give_back_row(one, pool);
     Ok(group)
-}
-
-// Lends the least row to an empty set, and answers how many rows that set has then.
-fn lend_least(alloc: Global, set: &AnswerSet, pool: &mut Pool) -> Result<usize, NoMemory>
-    requires set { IsSet set.now pool.old }
-    requires held { Holds pool.old (ids_of set.now) }
-    ensures set { OnOk result (IsSet set.now pool.new) }
-    ensures held { OnOk result (Holds pool.new (ids_of set.now)) }
-{
-    let mut other = keyed_set(alloc, 2, &[1])?;
-    match set.least() {
-        Some(row) => {
-            lend(alloc, row.ids.as_slice(), &mut other, pool)?;
-            let size = other.len();
-            other.end(pool);
-            Ok(size)
-        }
-        None => Ok(0),
-    }
-}
-
-// Lends a row to a set.
-fn lend(alloc: Global, row: &[Id], other: &mut AnswerSet, pool: &mut Pool) -> Result<(), NoMemory>
-    requires set { IsSet other.old pool.old }
-    requires held { Holds pool.old (row.now ++ ids_of other.old) }
-    ensures { OnOk result (Trades pool.old (ids_of other.old) pool.new (ids_of other.new)) }
-{
-    let mut change = Change::new(alloc);
-    let lent = [LentChoice { row, keep: true }];
-    settle_lent(alloc, other, &mut change, &lent, pool)?;
-    change.end(pool);
-    Ok(())
 }
 
 // The numbers of the least row, and zeros where there is none.
