@@ -1,6 +1,6 @@
-//! The steps of a schedule, and what the system answers to each. With ample memory each is made but the last, which is not
-//! allowed. Where memory is refused in a step, all steps after it are answered as spent: `.ci/refused` of this repository runs
-//! the program so.
+//! Prints what a system answers to each step of a schedule. With ample memory each is made but the last, which is not allowed.
+//! Where memory is refused in a step, all steps after it are answered as spent: `.ci/refused` runs the program so.
+#![tactic(auto)]
 ghost use Rattle.da_core.specs.Compiled.{IsCompiled};
 ghost use Rattle.da_lang.specs.Accepted.{IsWritten};
 ghost use Rattle.std.specs.Prelude.{IfOk};
@@ -21,12 +21,11 @@ use std::{fs, rt};
 /// The most bytes of a program's text.
 const MOST_BYTES: usize = 1_048_576;
 
-/// Prints the answers.
-pub fn try_steps<R: rt::Files + Print + AllocGlobal>(rt: &R) -> anyhow::Result<()> {
-    let compiled = program_in(rt, "lamport.da")?;
-    let schedule = fs::read_to_string(rt, "lamport.moves")?;
+fn main(rt: HostRuntime) -> anyhow::Result<()> {
+    let compiled = program_in(&rt, "lamport.da")?;
+    let schedule = fs::read_to_string(&rt, "lamport.moves")?;
     let events = read_schedule(rt.alloc(), schedule.as_bytes())?;
-    make_steps(rt, &compiled, events.as_slice())
+    make_steps(&rt, &compiled, events.as_slice())
 }
 
 // The program in a file.
