@@ -89,7 +89,7 @@ fn cure_of(word: &[u8]) -> &'static [u8] {
     let cure = said_in(&CURES, word);
     match word {
         [b'-', _, ..] if cure.is_empty() => {
-            b"there are no options but --help, --version and --build"
+            b"there are no options but --help, --version and --build, and --traces DIR of launch"
         }
         _ => cure,
     }

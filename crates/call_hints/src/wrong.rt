@@ -59,7 +59,7 @@ fn tell_many(command: &[u8], count: usize, rest: &[String], out: &mut Phrase) {
         if word.starts_with(b"--traces".as_slice()) {
             out.put(b"; ./dalgo takes '--traces DIR' as the last two words of launch");
         } else if is_option(word) {
-            out.put(b", since there are no options");
+            out.put(b", since no option stands there");
         }
     }
 }

@@ -93,7 +93,7 @@ pub const MOST_EVENTS: u64 = 1_000_000;
 /// The most schedules of a hunt.
 pub const MOST_SCHEDULES: u64 = 1_000_000;
 
-/// The most outputs that a schedule may be looked for to have more of.
+/// The greatest K of `more K`.
 pub const MOST_OUTPUTS: u64 = 1_000_000_000;
 
 /// The first port that the link of a node may be asked for.

@@ -5,8 +5,8 @@ use crate::text::Text;
 use da_lang::{GenTree, PatternTree, PeerTree};
 use da_values::List;
 
-/// Remarks on the queries of a statement on this line, where this is what it holds, that go through two sets of which neither
-/// pattern names a part of the other.
+/// Remarks on the queries of a statement on this line, where this is what it holds, in which a generator behind the first names no
+/// variable of an earlier one.
 pub fn tell_products(text: Text<'_>, line: u32, parts: &[Part<'_>], out: &mut List<Remark>) {
     for part in parts {
         if let Part::Query(gens, word) = *part {

@@ -1,4 +1,4 @@
-//! The command `lint`, and the remarks that a hunt begins with. It is told of programs, and no contract speaks of it.
+//! The command `lint`, and the remarks that a hunt begins with. No contract speaks of them.
 use crate::report::tell_program;
 use call_hints::{TOLD, shown, shown_name, text_again};
 use da_commands::{Ending, refused_line};
@@ -127,7 +127,8 @@ fn tell_remarks<R: AllocGlobal + Eprint>(
     for (place, remark) in remarks.iter().enumerate() {
         if place == MOST_TOLD {
             let more = remarks.len().saturating_sub(MOST_TOLD);
-            return eprintln!(rt; "dalgo: {more} more remarks: 'dalgo lint' prints them all");
+            let noun = if more == 1 { "remark" } else { "remarks" };
+            return eprintln!(rt; "dalgo: {more} more {noun}: 'dalgo lint' prints them all");
         }
         let told = shown(rt.alloc(), remark.told.as_slice(), TOLD)?;
         let line = remark.line;
