@@ -6,7 +6,7 @@ use text_hints::{Nearest, Phrase, said_in};
 pub type Command = (&'static [u8], usize, &'static [u8]);
 
 /// The commands. More words may stand behind `join` and `hunt`, and behind no other.
-pub const COMMANDS: [Command; 13] = [
+const COMMANDS: [Command; 13] = [
     (b"check", 1, b"check PROG"),
     (b"replay", 2, b"replay PROG SCHED"),
     (b"plan", 1, b"plan PROG"),
@@ -22,9 +22,14 @@ pub const COMMANDS: [Command; 13] = [
     (b"join", 1, b"join PROG TRACE .."),
 ];
 
+// All of them. Each place that names the table is checked with all its rows, so there is one.
+fn commands() -> &'static [Command] {
+    &COMMANDS
+}
+
 /// How many words stand behind a command at least, or `None` where it is none.
 pub fn count_of(command: &[u8]) -> Option<usize> {
-    for known in &COMMANDS {
+    for known in commands() {
         if known.0 == command {
             return Some(known.1);
         }
@@ -34,7 +39,7 @@ pub fn count_of(command: &[u8]) -> Option<usize> {
 
 /// How a command is called, or nothing where it is none.
 pub fn form_of(command: &[u8]) -> &'static [u8] {
-    for known in &COMMANDS {
+    for known in commands() {
         if known.0 == command {
             return known.2;
         }
@@ -58,7 +63,7 @@ pub fn tell_command(alloc: Global, word: &[u8], out: &mut Phrase) {
         return;
     }
     let mut nearest = Nearest::new(alloc, word);
-    for known in &COMMANDS {
+    for known in commands() {
         nearest.offer(known.0);
     }
     if let Some(found) = nearest.found() {

@@ -1,6 +1,6 @@
 //! What could stand at a place, in few words.
 use crate::phrase::Phrase;
-use crate::spellings::{SPELLINGS, Spelling};
+use crate::spellings::{Spelling, spellings};
 use da_values::Mark;
 
 /// What stands for several kinds of tokens at once: the letter of these in the table of spellings, and its name.
@@ -42,7 +42,7 @@ pub fn put_expected(marks: &[Mark], out: &mut Phrase) {
         .iter()
         .filter(|group| is_there(group.0, marks))
         .count();
-    let tokens = SPELLINGS
+    let tokens = spellings()
         .iter()
         .filter(|entry| is_named(entry, marks))
         .count();
@@ -54,7 +54,7 @@ pub fn put_expected(marks: &[Mark], out: &mut Phrase) {
             out.put(group.1);
         }
     }
-    for entry in &SPELLINGS {
+    for entry in spellings() {
         if is_named(entry, marks) {
             put_joint(&mut left, count, out);
             put_mark(entry.1, entry.0, out);

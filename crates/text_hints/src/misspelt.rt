@@ -3,7 +3,7 @@ use crate::expected::has;
 use crate::hint::Hint;
 use crate::nearest::Nearest;
 use crate::reading::{Source, next_marks};
-use crate::spellings::{SPELLINGS, Spelling};
+use crate::spellings::{Spelling, spellings};
 use crate::spot::Spot;
 use da_values::Mark;
 use std::alloc::Global;
@@ -62,7 +62,7 @@ fn tell_at(alloc: Global, spot: Spot<'_>, place: usize, loose: bool, hint: &mut 
 // Asks whether the word of these marks is meant that is most like a name.
 fn tell_meant(alloc: Global, name: &[u8], marks: &[Mark], hint: &mut Hint) -> bool {
     let mut nearest = Nearest::new(alloc, name);
-    for entry in &SPELLINGS {
+    for entry in spellings() {
         if is_word(entry) && has(marks, entry.1) {
             nearest.offer(entry.0);
         }

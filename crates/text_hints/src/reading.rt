@@ -4,7 +4,7 @@
 //! each has its place among the tokens, counted from 1. After them stands one more, so that the end of the text has a number
 //! of its own.
 use crate::lines::between;
-use crate::spellings::{SPELLINGS, kind_of};
+use crate::spellings::{kind_of, spellings};
 use da_lex::{Token, Tokens};
 use da_parse::{ParseFault, parse, parse_loose};
 use da_values::{Buf, List, Mark, mark_of};
@@ -66,7 +66,7 @@ fn short(number: usize) -> u32 {
 fn with_spellings(alloc: Global, text: &[u8]) -> Option<Buf> {
     let mut whole = List::new(alloc);
     whole.append(text).ok()?;
-    for entry in &SPELLINGS {
+    for entry in spellings() {
         whole.append(b" ").ok()?;
         whole.append(entry.0).ok()?;
     }
@@ -77,7 +77,7 @@ fn with_spellings(alloc: Global, text: &[u8]) -> Option<Buf> {
 fn push_mark(mark: Mark, length: usize, list: &mut List<Token>) -> Option<()> {
     let mut first = length;
     let mut spelling = b"".as_slice();
-    for entry in &SPELLINGS {
+    for entry in spellings() {
         first = first.saturating_add(1);
         if entry.1 == mark {
             spelling = entry.0;
@@ -126,7 +126,7 @@ pub fn next_marks(alloc: Global, source: Source<'_>, front: &[Token]) -> Option<
         list,
     };
     let mut found = List::new(alloc);
-    for entry in &SPELLINGS {
+    for entry in spellings() {
         push_mark(entry.1, text.len(), &mut asked.list)?;
         push_mark(Mark::Channel, text.len(), &mut asked.list)?;
         let goes = match ask(alloc, &asked, loose) {

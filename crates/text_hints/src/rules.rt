@@ -14,7 +14,7 @@
 //! the token before the spot, `&` for that at the spot, and `@` for that at the spot in quotes.
 use crate::expected::has;
 use crate::hint::Hint;
-use crate::spellings::{SPELLINGS, kind_of};
+use crate::spellings::{kind_of, spellings};
 use crate::spot::Spot;
 use crate::words::{is_one_of, parts_of};
 use da_lex::TokenKind;
@@ -134,7 +134,7 @@ fn group_of(kind: TokenKind, bytes: &[u8]) -> &'static [u8] {
 
 // Whether a token of one of these names is expected.
 fn expects(marks: &[Mark], names: &[u8]) -> bool {
-    for entry in &SPELLINGS {
+    for entry in spellings() {
         if has(marks, entry.1) && has_name(kind_of(entry.1, entry.0), entry.0, names) {
             return true;
         }

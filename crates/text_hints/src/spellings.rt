@@ -7,7 +7,7 @@ use da_values::Mark;
 pub type Spelling = (&'static [u8], Mark, &'static [u8]);
 
 /// All kinds of tokens, in the order in which they are named to a person.
-pub const SPELLINGS: [Spelling; 84] = [
+const SPELLINGS: [Spelling; 84] = [
     (b"", Mark::Newline, b""),
     (b"", Mark::Indent, b""),
     (b"", Mark::Dedent, b""),
@@ -93,6 +93,11 @@ pub const SPELLINGS: [Spelling; 84] = [
     (b"//", Mark::Slashes, b"o"),
     (b"%", Mark::Percent, b"o"),
 ];
+
+/// All of them. Who goes through them asks for them here, since each place that names the table is checked with all its rows.
+pub fn spellings() -> &'static [Spelling] {
+    &SPELLINGS
+}
 
 /// The kind of a token with this mark.
 pub fn kind_of(mark: Mark, spelling: &[u8]) -> TokenKind {
