@@ -14,7 +14,7 @@ use Rattle.da_machine.specs.RunsTo.{AddsPrefix}
 use Rattle.da_machine.proofs.Prefixes.{IsPart, part_prefix, part_then, part_whole}
 use Rattle.query_plan.specs.Told.{IsPlanOf, TellsQuery}
 use Rattle.quant_norm.proofs.ClassLaw.{class_law}
-use Rattle.delta_rules.specs.Keeping.{Keeps}
+use Rattle.delta_rules.specs.Keeping.{Sees}
 use Rattle.delta_rules.specs.Told.{asked, least_found, set_listed}
 use Rattle.da_core.specs.declared.known.Known.{Known}
 use Rattle.da_core.specs.Known.{Each, Knows}
@@ -33,13 +33,13 @@ module _ (known : Known) (p : Program) (class : Class) (d : Data) (knows : Knows
 
   -- what its answers tell is so of the class
   module _ (q : ℕ) where
-    pub value_told : (v : Val) → ((e : Data) → Keeps known.answers known.pool known.plan.now.nodes e → v ≡ asked e known.plan.now q) → v ≡ query_value class.queries q d
+    pub value_told : (v : Val) → ((e : Data) → Sees known.answers known.pool known.stored.now known.plan.now.nodes e → v ≡ asked e known.plan.now q) → v ≡ query_value class.queries q d
     value_told v told = told_by_plan known p class d knows (λ e. v ≡ asked e known.plan.now q) told ∙ value_asked class known.plan.now of_class d q
 
-    pub row_told : (row : Option Row) → ((e : Data) → Keeps known.answers known.pool known.plan.now.nodes e → row ≡ least_found e known.plan.now q) → row ≡ least_row class.queries q d
+    pub row_told : (row : Option Row) → ((e : Data) → Sees known.answers known.pool known.stored.now known.plan.now.nodes e → row ≡ least_found e known.plan.now q) → row ≡ least_row class.queries q d
     row_told row told = told_by_plan known p class d knows (λ e. row ≡ least_found e known.plan.now q) told ∙ row_found class known.plan.now of_class d q
 
-    pub set_told : (set : List Val) → ((e : Data) → Keeps known.answers known.pool known.plan.now.nodes e → set ≡ set_listed e known.plan.now q) → set ≡ shown_set class.queries q d
+    pub set_told : (set : List Val) → ((e : Data) → Sees known.answers known.pool known.stored.now known.plan.now.nodes e → set ≡ set_listed e known.plan.now q) → set ≡ shown_set class.queries q d
     set_told set told = told_by_plan known p class d knows (λ e. set ≡ set_listed e known.plan.now q) told ∙ set_shown class known.plan.now of_class d q
 
 -- THE ANSWERS, ONE BY ONE

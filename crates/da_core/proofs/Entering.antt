@@ -42,7 +42,7 @@ use Rattle.da_core.specs.declared.place.Place.{Place}
 use Rattle.da_core.specs.declared.place.Place.TheVariants as place
 use Rattle.da_core.specs.declared.waits.Alternative.{Alternative}
 use Rattle.da_core.specs.declared.waits.Wait.{Wait}
-use Rattle.da_core.specs.Begins.{CanMove, MayRun, alternative_at, alternative_of, begin_at, behind_turn, bound_by, entry_after, entry_of, flag_told, if_flag, label_of, may_time_out, point_of, some_told, timeout_at, wait_at, wait_behind}
+use Rattle.da_core.specs.Begins.{CanMove, MayRun, alternative_at, alternative_of, begin_at, begin_at_await, behind_turn, bound_by, entry_after, entry_of, flag_told, if_flag, label_of, may_time_out, point_of, some_told, timeout_at, wait_at, wait_behind}
 use Rattle.da_core.specs.Compiled.{IsCodeFor, IsCompiled, code_at, code_of, program_of as compiled_program}
 use Rattle.da_core.specs.Known.{Each}
 use Rattle.da_core.specs.StandsFor.{Awaits, BeginsWith, IsAt, IsLabelled, IsPlace, IsWaiting, StandsFor, last_number, program_of}
@@ -209,8 +209,27 @@ next_untold class d all i x inside is none so_far =
     subst (λ k. some_told class d (drop k all) ≡ some_told class d all) next
     (ap (λ b. b || some_told class d (drop (suc i) all)) none ∙ sym (ap (some_told class d) (drop_at all i x inside is)) ∙ so_far)
 
+pub one_told : (class : Class) (d : Data) (all : List Alternative) (i : ℕ) (x : Alternative) → i < length all → x ≡ get_or all i x → true ≡ has_row (node_rows d (norm_class class).nodes x.flag)
+    → some_told class d (drop i all) ≡ some_told class d all → true ≡ some_told class d all
+one_told class d all i x inside is told so_far =
+    ap (λ b. b || some_told class d (drop (suc i) all)) told ∙ sym (ap (some_told class d) (drop_at all i x inside is)) ∙ so_far
+
 pub none_told : (class : Class) (d : Data) (all : List Alternative) (i : ℕ) → length all ≤ i → some_told class d (drop i all) ≡ some_told class d all → false ≡ some_told class d all
 none_told class d all i past so_far = sym (ap (some_told class d) (drop_past all i past)) ∙ so_far
+
+-- where the move of a number goes on at an `await`, by the flag of its alternative
+module _ (class : Class) (d : Data) (code : ClassCode) (at k n : ℕ) (x : Alternative) (next : k ≡ suc n) (there : Some x ≡ alternative_at code at k)
+    (b : Bool) (told : b ≡ has_row (node_rows d (norm_class class).nodes x.flag)) where
+  by_its_flag : begin_at_await class d code at k ≡ if_flag (Some b) (behind_turn (entry_after code.code at n))
+  by_its_flag = ap (begin_at_await class d code at) next
+      ∙ ap (λ o. if_flag (flag_told class d o) (behind_turn (entry_after code.code at n))) (sym (there ∙ ap (alternative_at code at) next))
+      ∙ ap (λ f. if_flag (Some f) (behind_turn (entry_after code.code at n))) (sym told)
+
+  pub flag_goes : b ≡ true → (found : Option Begin) → found ≡ behind_turn (entry_after code.code at n) → found ≡ begin_at_await class d code at k
+  flag_goes is found goes = goes ∙ sym (by_its_flag ∙ ap (λ f. if_flag (Some f) (behind_turn (entry_after code.code at n))) is)
+
+  pub flag_stays : b ≡ false → None ≡ begin_at_await class d code at k
+  flag_stays is = sym (by_its_flag ∙ ap (λ f. if_flag (Some f) (behind_turn (entry_after code.code at n))) is)
 
 -- where a timeout goes on, by the test of what is waited for
 module _ (class : Class) (d : Data) (code : ClassCode) (at count : ℕ) (own : Wait) (there : Some own ≡ wait_at code at) (told late : Bool)

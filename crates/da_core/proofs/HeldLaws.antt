@@ -1,16 +1,20 @@
 -- The values that the ids of answers name are those that the process has to keep.
-use Rattle.std.specs.Prelude.{◌≡◌, ◌⊎◌, ◌<◌, ℕ, zero, suc, List, [], ◌∷◌, ◌++◌, length, map, get_or, slice_get, Option, Some, None, refl}
+use Rattle.std.specs.Prelude.{◌≡◌, ◌⊎◌, ◌<◌, ℕ, zero, suc, Bool, true, false, if◌then◌else◌, List, [], ◌∷◌, ◌++◌, length, map, get_or, slice_get, Option, Some, None, refl}
 use Rattle.std.specs.List.{All}
 use Rattle.std.proofs.Common.{sym, ap, ◌∙◌, subst, inl, inr, arith}
 use Rattle.da_values.specs.Sets.{Has}
 use Rattle.da_values.specs.declared.val.Val.{Val}
 use Rattle.da_values.proofs.Members.{Has-append_left, Has-append_right, Has-map, of_append, of_map, place_of}
+use Rattle.da_lang.specs.declared.query.LivePattern.{LivePattern}
 use Rattle.da_lang.specs.declared.query.Node.{Node}
 use Rattle.da_lang.specs.Live.{live_rows}
 use Rattle.da_lang.specs.Matching.{Row}
 use Rattle.da_lang.specs.World.{Data}
+use Rattle.query_plan.specs.declared.stored.Seen.{Seen}
+use Rattle.query_plan.specs.declared.stored.Stored.{Stored}
 use Rattle.query_plan.specs.Nodes.{node_rows}
 use Rattle.query_plan.specs.PlanLive.{plan_live}
+use Rattle.query_plan.specs.Seen.{IsStored, are_met, given, given_if}
 use Rattle.row_pool.specs.Cells.{Cells}
 use Rattle.row_pool.specs.InUse.{AreHeld, InUse, IsCounted, Within}
 use Rattle.row_pool.specs.Pool.{HoldsAll, val_at}
@@ -159,3 +163,49 @@ module _ (answers : Answers) (pool : Cells) (nodes : List Node) (d : Data) (keep
 
     pub so_many : (n : ℕ) → ((set : List Val) → AreHeld pool set → n ≡ length set) → (set : List Val) × HeldCells nodes d set × (n ≡ length set)
     so_many n count = let (set, are) = all_values pool used in (set, cells_held set are, count set are)
+
+-- A plan, and what is stored of it: the values to be kept are the same.
+
+module _ (nodes : List Node) (s : Stored) (d : Data) (stored : IsStored nodes s) where
+  abbrev Kept : ℕ → List Row
+  Kept = node_rows d s.plan.nodes
+
+  in_given : (e : Seen) (row : Row) → Has (given Kept e) row → Has (Kept e.node) row
+  in_given e row there = go (are_met Kept e.tests) there
+    where
+      go : (b : Bool) → Has (if b then Kept e.node else []) row → Has (Kept e.node) row
+      go true h = h
+      go false h = absurd h
+
+  in_stored : (o : Option Seen) (row : Row) → Has (given_if Kept o) row → (k : ℕ) × Has (Kept k) row
+  in_stored None row there = absurd there
+  in_stored (Some e) row there = (e.node, in_given e row there)
+
+  stored_part : (x : Val) → IsNodePart nodes d x → IsNodePart s.plan.nodes d x
+  stored_part x p =
+      let (k, there) = in_stored (slice_get s.seen p.node) p.row (subst (λ (rows : List Row). Has rows p.row) (sym (stored.rows d p.node)) p.there) in
+      record { node = k; row = p.row; there = there; part = p.part }
+
+  node_part_of : (x : Val) → IsNodePart s.plan.nodes d x → IsNodePart nodes d x
+  node_part_of x p =
+      let (i, same) = stored.only d p.node in
+      record { node = i; row = p.row; there = subst (λ (rows : List Row). Has rows p.row) same p.there; part = p.part }
+
+  kept_stored : (x : Val) → IsKeptValue nodes d x → IsKeptValue s.plan.nodes d x
+  kept_stored x (inl slot) = inl slot
+  kept_stored x (inr (inl part)) = inr (inl (stored_part x part))
+  kept_stored x (inr (inr part)) =
+      inr (inr (record { pattern = part.pattern; row = part.row; of_plan = subst (λ (ps : List LivePattern). Has ps part.pattern) (sym stored.live) part.of_plan; there = part.there; part = part.part }))
+
+  kept_of_plan : (x : Val) → IsKeptValue s.plan.nodes d x → IsKeptValue nodes d x
+  kept_of_plan x (inl slot) = inl slot
+  kept_of_plan x (inr (inl part)) = inr (inl (node_part_of x part))
+  kept_of_plan x (inr (inr part)) =
+      inr (inr (record { pattern = part.pattern; row = part.row; of_plan = subst (λ (ps : List LivePattern). Has ps part.pattern) stored.live part.of_plan; there = part.there; part = part.part }))
+
+  pub cells_of : (set : List Val) → HeldCells s.plan.nodes d set → HeldCells nodes d set
+  cells_of set cells = record {
+    ascends = cells.ascends;
+    all = λ x y kept within. cells.all x y (kept_stored x kept) within;
+    only = λ y has. let (x, kept, within) = cells.only y has in (x, kept_of_plan x kept, within);
+  }

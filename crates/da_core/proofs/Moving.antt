@@ -30,7 +30,7 @@ use Rattle.da_core.specs.HeldCells.{AreHeldCells, HeldCells}
 use Rattle.da_core.specs.Made.{HasBegun, HasMade, phase_at, phase_of, stopped_at}
 use Rattle.da_core.specs.StandsFor.{IsAt, IsPlace, StandsFor, Whichever, program_of}
 use Rattle.da_core.specs.Told.{answers, answers_of, kept_of}
-use Rattle.da_core.proofs.HeldLaws.{so_many}
+use Rattle.da_core.proofs.HeldLaws.{cells_of, so_many}
 use Rattle.da_core.proofs.KeptLaw.{rows_are}
 use Rattle.da_core.proofs.KnownLaws.{with_actions}
 use Rattle.da_core.proofs.Laws.{keeps_shaped}
@@ -105,7 +105,9 @@ pub holds_cells : (core : Core) (w : World) → StandsFor core w → (n : ℕ) �
     → AreHeldCells (class_of (program_of core) w.data'.me) w.data' n
 holds_cells core w s n used counted count =
     let k = s.stands in
-    let so = so_many core.known.answers core.known.pool core.known.plan.now.nodes w.data' k.keeps k.laid k.held used counted n count in
+    let (set, cells, many) = so_many core.known.answers core.known.pool core.known.stored.now.plan.nodes w.data' k.keeps k.laid k.held used counted n count in
+    let so : (set : List Val) × HeldCells core.known.plan.now.nodes w.data' set × (n ≡ length set) =
+    (set, cells_of core.known.plan.now.nodes core.known.stored.now w.data' k.stored set cells, many) in
     subst (λ (c : Option Class). AreHeldCells c w.data' n) (sym s.knows.is_class) (subst (λ (x : Plan). (set : List Val) × HeldCells x.nodes w.data' set × (n ≡ length set)) k.plan so)
 
 -- what it tells of its queries is told of the process

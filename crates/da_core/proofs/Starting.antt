@@ -12,9 +12,11 @@ use Rattle.da_lang.specs.World.{Data, at_number, class_of, class_of_decl, first_
 use Rattle.da_machine.specs.CodeFor.{CodeFor}
 use Rattle.code_gen.specs.ClassCode.{numbered_from, processes_of}
 use Rattle.query_plan.specs.declared.plan.Plan.{Plan}
+use Rattle.query_plan.specs.declared.stored.Stored.{Stored}
 use Rattle.query_plan.specs.Nodes.{IsPlan}
 use Rattle.query_plan.specs.PlainNodes.{PlainNodes}
 use Rattle.query_plan.specs.Questions.{norm_class}
+use Rattle.query_plan.specs.Seen.{IsStored}
 use Rattle.row_pool.specs.Pool.{HoldsAll}
 use Rattle.delta_rules.specs.Holding.{ids_of_answers}
 use Rattle.delta_rules.specs.Keeping.{Keeps}
@@ -26,7 +28,7 @@ use Rattle.da_core.specs.declared.place.Place.TheVariants as place
 use Rattle.da_core.specs.Compiled.{IsCompiled, code_at, code_of, count_of, program_of, rank_in, start_at, start_in}
 use Rattle.da_core.specs.Known.{Knows}
 use Rattle.da_core.specs.StandsFor.{IsPlace, StandsFor}
-use Rattle.da_core.proofs.KnownLaws.{lower, opens, plain}
+use Rattle.da_core.proofs.KnownLaws.{opens}
 use Rattle.da_core.proofs.Laws.{has_class, keeps_shaped}
 
 -- THE START OF A PROCESS
@@ -59,6 +61,7 @@ pub record Begun (c : Compiled) (me : ℕ) : Type 0 where
   pub classed : class_of (program_of c) me ≡ Some class
   pub coded : code_of c me ≡ Some code
   pub plan : code.plan ≡ norm_class class
+  pub stored : IsStored (norm_class class).nodes code.stored
   pub starts : start_in (program_of c) (code_of c me) me ≡ Some entry
   pub code_for : CodeFor code.code class entry [] (first_tasks (program_of c) class me)
 
@@ -94,6 +97,7 @@ module _ (c : Compiled) (me : ℕ) (is : IsCompiled c) where
         classed = ap (class_of_decl p) there ∙ classed;
         coded = coded;
         plan = has.is.plan;
+        stored = has.is.stored;
         starts = ap (λ found. start_in p found me) coded ∙ ap (λ found. start_at (rank_in p found me) has.code) there ∙ at;
         code_for = starts.stands (count_of decl.class (take (me - 1) p.procs)) me entry stands at;
       }
@@ -105,15 +109,16 @@ module _ (c : Compiled) (me : ℕ) (is : IsCompiled c) where
   one_code : (b : Begun c me) (code : ClassCode) → code_of c me ≡ Some code → b.code ≡ code
   one_code b code coded = let codes : ◌≡◌ {A = Option ClassCode} (Some b.code) (Some code) = sym b.coded ∙ coded in cc
 
-  -- its plan is a plan, and plain
-  pub has_a_plan : IsProcess p me → (code : ClassCode) → code_of c me ≡ Some code → IsPlan code.plan.nodes × PlainNodes code.plan.nodes
-  has_a_plan there code coded =
-      let b = begun there in
-      let planned : code.plan ≡ norm_class b.class = ap (λ (x : ClassCode). x.plan) (sym (one_code b code coded)) ∙ b.plan in
-      (lower code.plan b.class planned, plain code.plan b.class planned)
+  -- what is stored of its plan
+  is_stored : (b : Begun c me) (code : ClassCode) → code_of c me ≡ Some code → IsStored (norm_class b.class).nodes code.stored
+  is_stored b code coded = subst (λ (x : ClassCode). IsStored (norm_class b.class).nodes x.stored) (one_code b code coded) b.stored
+
+  -- is a plan, and plain
+  pub has_a_plan : IsProcess p me → (code : ClassCode) → code_of c me ≡ Some code → IsPlan code.stored.plan.nodes × PlainNodes code.stored.plan.nodes
+  has_a_plan there code coded = let stored = is_stored (begun there) code coded in (stored.plan, stored.plain)
 
   -- A NEW CORE stands for the opening.
-  module _ (there : IsProcess p me) (core : Core) (of_c : core.compiled.now ≡ c) (code : ClassCode) (coded : code_of c me ≡ Some code) (planned : core.known.plan.now ≡ code.plan) where
+  module _ (there : IsProcess p me) (core : Core) (of_c : core.compiled.now ≡ c) (code : ClassCode) (coded : code_of c me ≡ Some code) (planned : core.known.plan.now ≡ code.plan) (kept : core.known.stored.now ≡ code.stored) where
     starts_as : core.spent ≡ false → core.place ≡ place.New → core.known.actions ≡ []
         → ((class : Class) → class_of p me ≡ Some class → core.known.plan.now ≡ norm_class class → Knows core.known p class (opening_data p me)) → core.machine.loops ≡ []
         → core.machine.stack ≡ [] → start_in p (code_of c me) me ≡ Some core.machine.place → StandsFor core (opening p me)
@@ -146,21 +151,27 @@ module _ (c : Compiled) (me : ℕ) (is : IsCompiled c) where
 
     -- where its parts are those of the opening
     pub starts_with : (class : Class) → class_of p me ≡ Some class → core.spent ≡ false → core.place ≡ place.New → core.known.actions ≡ [] → core.known.clock ≡ 0
-        → ((d : Data) → d.me ≡ me → d.slots ≡ map (first_value me) class.slots → d.sent ≡ [] → d.received ≡ [] → Keeps core.known.answers core.known.pool code.plan.nodes d)
-        → IsLaid core.known.answers core.known.pool code.plan.nodes → HoldsAll core.known.pool (ids_of_answers core.known.answers) → core.machine.loops ≡ [] → core.machine.stack ≡ []
+        → ((d : Data) → d.me ≡ me → d.slots ≡ map (first_value me) class.slots → d.sent ≡ [] → d.received ≡ [] → Keeps core.known.answers core.known.pool code.stored.plan.nodes d)
+        → IsLaid core.known.answers core.known.pool code.stored.plan.nodes → HoldsAll core.known.pool (ids_of_answers core.known.answers) → core.machine.loops ≡ [] → core.machine.stack ≡ []
         → start_in p (code_of c me) me ≡ Some core.machine.place → StandsFor core (opening p me)
     starts_with class classed unspent new no_actions early keeps laid held loops no_values entry =
         starts_as unspent new no_actions opened loops no_values entry
       where
-        keeps_first : (d : Data) → d.me ≡ me → d.slots ≡ map (first_value me) class.slots → d.sent ≡ [] → d.received ≡ [] → Keeps core.known.answers core.known.pool core.known.plan.now.nodes d
-        keeps_first d mine slots sent received = subst (λ (x : Plan). Keeps core.known.answers core.known.pool x.nodes d) (sym planned) (keeps d mine slots sent received)
+        keeps_first : (d : Data) → d.me ≡ me → d.slots ≡ map (first_value me) class.slots → d.sent ≡ [] → d.received ≡ [] → Keeps core.known.answers core.known.pool core.known.stored.now.plan.nodes d
+        keeps_first d mine slots sent received = subst (λ (x : Stored). Keeps core.known.answers core.known.pool x.plan.nodes d) (sym kept) (keeps d mine slots sent received)
 
         opened : (other : Class) → class_of p me ≡ Some other → core.known.plan.now ≡ norm_class other → Knows core.known p other (opening_data p me)
         opened other others plan =
             let both : ◌≡◌ {A = Option Class} (Some class) (Some other) = sym classed ∙ others in
             let same : class ≡ other = cc in
-            opens core.known p me other others plan early (λ d mine slots sent received. keeps_first d mine (slots ∙ ap (λ (k : Class). map (first_value me) k.slots) (sym same)) sent received)
-            (subst (λ (x : Plan). IsLaid core.known.answers core.known.pool x.nodes) (sym planned) laid) held
+            let b = begun there in
+            let ours : ◌≡◌ {A = Option Class} (Some b.class) (Some other) = sym b.classed ∙ others in
+            let mine : b.class ≡ other = cc in
+            let stored : IsStored core.known.plan.now.nodes core.known.stored.now =
+            subst (λ (x : Plan). IsStored x.nodes core.known.stored.now) (ap norm_class mine ∙ sym plan)
+            (subst (λ (x : Stored). IsStored (norm_class b.class).nodes x) (sym kept) (is_stored b code coded)) in
+            opens core.known p me other others plan stored early (λ d mine slots sent received. keeps_first d mine (slots ∙ ap (λ (k : Class). map (first_value me) k.slots) (sym same)) sent received)
+            (subst (λ (x : Stored). IsLaid core.known.answers core.known.pool x.plan.nodes) (sym kept) laid) held
 
   -- the class, its code and the start are there
   pub has_a_class : IsProcess p me → None ≡ class_of p me → ⊥

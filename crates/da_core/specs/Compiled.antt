@@ -8,6 +8,7 @@ use Rattle.da_lang.specs.World.{at_number}
 use Rattle.code_gen.specs.ClassCode.{IsCodeOf}
 use Rattle.query_plan.specs.PlanLive.{plan_live}
 use Rattle.query_plan.specs.Questions.{norm_class}
+use Rattle.query_plan.specs.Seen.{IsStored}
 use Rattle.da_core.specs.declared.compiled.ClassCode.{ClassCode}
 use Rattle.da_core.specs.declared.compiled.Compiled.{Compiled}
 use Rattle.da_core.specs.Opened.{opened}
@@ -16,11 +17,12 @@ use Rattle.da_core.specs.Waits.{waits_of}
 abbrev pub program_of : Compiled → Program
 program_of c = c.typed
 
--- the code of the class at this place of the program, its plan, what is waited for at each of its yield points, its live
--- patterns, and the opened patterns of its handlers
+-- the code of the class at this place of the program, its plan and what is stored of that, what is waited for at each of its
+-- yield points, its live patterns, and the opened patterns of its handlers
 pub record IsCodeFor (p : Program) (place : ℕ) (class : Class) (c : ClassCode) : Type 0 where
   pub code : IsCodeOf p place class c.code
   pub plan : c.plan ≡ norm_class class
+  pub stored : IsStored (norm_class class).nodes c.stored
   pub waits : c.waits ≡ waits_of class (norm_class class).flags
   pub live : c.live.patterns ≡ plan_live (norm_class class).nodes
   pub opened : c.opened ≡ map opened class.handlers

@@ -14,14 +14,18 @@ use da_values::{List, NoMemory, Row, SetVal, Value};
 pub fn ask(known: &Known<'_>, q: u32) -> Result<Value, NoMemory>
     ensures { IfOk result (λ v. Each known.now (λ p class d. val_of v ≡ query_value class.queries q d)) }
 {
-    known.answers.ask(known.alloc, known.plan, q, &known.pool)
+    known
+        .answers
+        .ask(known.alloc, known.plan, known.stored, q, &known.pool)
 }
 
 /// The least row of the query of this number, if it is a `some` that holds.
 pub fn found(known: &Known<'_>, q: u32) -> Result<Option<Row>, NoMemory>
     ensures { IfOk result (λ row. Each known.now (λ p class d. row ≡ least_row class.queries q d)) }
 {
-    known.answers.found(known.alloc, known.plan, q, &known.pool)
+    known
+        .answers
+        .found(known.alloc, known.plan, known.stored, q, &known.pool)
 }
 
 // The set of the rows of the query of this number.
@@ -31,7 +35,7 @@ fn listed(known: &Known<'_>, q: u32) -> Result<SetVal, NoMemory>
 {
     known
         .answers
-        .listed(known.alloc, known.plan, q, &known.pool)
+        .listed(known.alloc, known.plan, known.stored, q, &known.pool)
 }
 
 /// Tells the answers of all queries, ascending by number.
@@ -53,6 +57,13 @@ pub fn tell_answers(known: &Known<'_>, out: &mut List<Action>) -> Result<(), NoM
         })?;
     }
     Ok(())
+}
+
+/// Copies of the values of all slots.
+pub fn slot_values(known: &Known<'_>) -> Result<Row, NoMemory>
+    ensures { IfOk result (λ values. Each known.now (λ p class d. values ≡ d.slots)) }
+{
+    known.answers.slot_values(known.alloc, &known.pool)
 }
 
 // The number of the query at a place. No memory has room for more than 32 bits count.

@@ -19,15 +19,16 @@ use da_types::Typed;
 use da_values::{List, NoMemory};
 use history_live::{Live, live_patterns};
 use quant_norm::{PlanFault, normalise};
-use query_plan::Plan;
+use query_plan::{Plan, Stored, store};
 use std::alloc::Global;
 
-/// The code of a class, its plan, what is waited for at each of its yield points, its live patterns, and the opened patterns
-/// of its handlers.
+/// The code of a class, its plan and what is stored of that, what is waited for at each of its yield points, its live patterns,
+/// and the opened patterns of its handlers.
 #[derive(Drop)]
 pub struct ClassCode {
     pub code: Code,
     pub plan: Plan,
+    pub stored: Stored,
     pub waits: List<Wait>,
     pub live: Live,
     pub opened: List<Opened>,
@@ -98,6 +99,7 @@ fn code_with(alloc: Global, t: &Typed, place: usize, plan: Plan) -> Result<Class
     let code = generate(alloc, t, place)?;
     let opened = opened_in(alloc, t, place)?;
     let live = live_patterns(alloc, &plan)?;
+    let stored = store(alloc, &plan)?;
     let waits = match t.program().classes.get(place) {
         Some(class) => waits_of(alloc, class, plan.flags.as_slice())?,
         None => List::new(alloc),
@@ -105,6 +107,7 @@ fn code_with(alloc: Global, t: &Typed, place: usize, plan: Plan) -> Result<Class
     Ok(ClassCode {
         code,
         plan,
+        stored,
         waits,
         live,
         opened,

@@ -15,20 +15,21 @@ use crate::counted::{assign, insert, remove};
 use da_lang::{Action, Source};
 use da_values::{List, NoMemory, Row, Value, copy_value};
 use delta_rules::Answers;
-use query_plan::Plan;
+use query_plan::{Plan, Stored};
 use row_pool::Pool;
 use std::alloc::Global;
 
 /// The greatest time of a clock.
 const LAST_TIME: u64 = 9_223_372_036_854_775_807;
 
-/// What a process knows, the plan by which it answers the queries of its class, and the actions of the event that it carries
-/// out. Contracts see the processes for which it stands, by `Knows`. Each message and each change of a slot goes through the
-/// answers, and the values of slots and rows stand in the pool.
+/// What a process knows, the plan by which it answers the queries of its class, what is stored of that plan, and the actions of
+/// the event that it carries out. Contracts see the processes for which it stands, by `Knows`. Each message and each change of a
+/// slot goes through the answers, and the values of slots and rows stand in the pool.
 #[derive(Drop)]
 pub struct Known<'c> {
     pub alloc: Global,
     pub plan: &'c Plan,
+    pub stored: &'c Stored,
     pub clock: u64,
     pub answers: Answers,
     pub pool: Pool,
@@ -48,7 +49,7 @@ impl Known<'_> {
         let me = self.answers.me;
         insert(
             self.alloc,
-            self.plan,
+            &self.stored.plan,
             Source::Received,
             m,
             from,
@@ -94,7 +95,7 @@ impl Known<'_> {
         let time = later_time(self.clock);
         insert(
             self.alloc,
-            self.plan,
+            &self.stored.plan,
             Source::Sent,
             &m,
             to,
@@ -119,7 +120,7 @@ impl Known<'_> {
     {
         assign(
             self.alloc,
-            self.plan,
+            &self.stored.plan,
             s,
             v,
             &mut self.answers,
@@ -136,7 +137,7 @@ impl Known<'_> {
     {
         insert(
             self.alloc,
-            self.plan,
+            &self.stored.plan,
             Source::Slot(s),
             v,
             0,
@@ -154,7 +155,7 @@ impl Known<'_> {
     {
         remove(
             self.alloc,
-            self.plan,
+            &self.stored.plan,
             s,
             v,
             &mut self.answers,

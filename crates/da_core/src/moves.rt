@@ -6,6 +6,9 @@ ghost use Rattle.da_lang.specs.World.{Data, Task};
 ghost use Rattle.da_lang.specs.declared.program.Class.{Class};
 ghost use Rattle.da_lang.specs.declared.program.Program.{Program};
 ghost use Rattle.da_machine.specs.RunsTo.{AddsPrefix};
+ghost use Rattle.query_plan.specs.Nodes.{node_rows};
+ghost use Rattle.query_plan.specs.Questions.{norm_class};
+ghost use Rattle.query_plan.specs.Told.{has_row};
 ghost use Rattle.std.specs.Option.{option_copied};
 ghost use Rattle.std.specs.Prelude.{◌≡◌, ◌&&◌, ℕ, IfOk, List, OnErr, OnOk, not};
 
@@ -60,7 +63,7 @@ fn begin_at_await(code: &ClassCode, at: u64, k: u32, known: &Known<'_>) -> Optio
 {
     let n = k.checked_sub(1)? as usize;
     let alternative = alternative_at(code, at, k)?;
-    if known.answers.flag(alternative.flag) {
+    if is_flagged(known, alternative.flag) {
         begin_behind(&code.code, at, n)
     } else {
         None
@@ -88,12 +91,19 @@ fn is_late(has_timeout: bool, told: bool) -> bool
     has_timeout && !told
 }
 
+// Whether a node of the plan has a row.
+fn is_flagged(known: &Known<'_>, flag: u32) -> bool
+    ensures { Each known.now (λ p class d. result ≡ has_row (node_rows d (norm_class class).nodes flag)) }
+{
+    known.answers.flag(known.stored, flag)
+}
+
 // Whether some of these alternatives may be taken.
 fn some_flag(alternatives: &[Alternative], known: &Known<'_>) -> bool
     ensures { Each known.now (λ p class d. result ≡ some_told class d alternatives.now) }
 {
     for alternative in alternatives {
-        if known.answers.flag(alternative.flag) {
+        if is_flagged(known, alternative.flag) {
             return true;
         }
     }

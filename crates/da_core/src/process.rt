@@ -19,7 +19,7 @@ ghost use Rattle.da_machine.specs.RunsTo.{AddsPrefix};
 ghost use Rattle.std.specs.Option.{option_copied};
 ghost use Rattle.std.specs.Prelude.{◌≡◌, ◌↔◌, ◌++◌, ◌+◌, [], ℕ, IfOk, IsErrOf, IsSome, IsTrue, List as Seq, MatchOption, None, OnErr, OnOk, Option as Opt, Some, slice_get, slice_set, true, false};
 
-use crate::answers::tell_answers;
+use crate::answers::{slot_values, tell_answers};
 use crate::compiled::{ClassCode, Compiled};
 use crate::deliveries::{Delivery, take_in};
 use crate::known::Known;
@@ -30,7 +30,7 @@ use crate::place::{Place, StepFault, Stopped};
 use crate::waits::Alternative;
 use da_lang::{Action, Class};
 use da_machine::Machine;
-use da_values::{List, NoMemory, Steps, Value, copy_value};
+use da_values::{List, NoMemory, Row, Steps, Value, copy_value};
 use delta_rules::Answers;
 use row_pool::Pool;
 use std::alloc::Global;
@@ -72,8 +72,9 @@ impl<'c> Core<'c> {
         let known = Known {
             alloc,
             plan: &code.plan,
+            stored: &code.stored,
             clock: 0,
-            answers: Answers::new(alloc, &code.plan, me, &slots, &mut pool)?,
+            answers: Answers::new(alloc, &code.stored.plan, me, &slots, &mut pool)?,
             pool,
             actions: List::new(alloc),
         };
@@ -130,6 +131,13 @@ impl<'c> Core<'c> {
         self.known.pool.live()
     }
 
+    /// Copies of the values of the slots of the process, in the order of their numbers.
+    pub fn slots(&self) -> Result<Row, NoMemory>
+        ensures { IfOk result (λ values. Whichever self.now (λ w. values ≡ w.data'.slots)) }
+    {
+        slot_values(&self.known)
+    }
+
     /// Tells the answers of all queries of the process, ascending by number, in `out`. Where memory is refused, `out` has a
     /// prefix of them besides.
     pub fn answers(&self, out: &mut List<Action>) -> Result<(), NoMemory>
@@ -183,7 +191,7 @@ impl<'c> Core<'c> {
     {
         steps.tick();
         match self.alternative(k) {
-            Some(alternative) => self.known.answers.flag(alternative.flag),
+            Some(alternative) => self.known.answers.flag(self.known.stored, alternative.flag),
             None => false,
         }
     }
@@ -536,6 +544,7 @@ fn fields_are_whole(core: &Core<'_>) {
     let Known {
         alloc: _,
         plan: _,
+        stored: _,
         clock: _,
         answers: _,
         pool: _,

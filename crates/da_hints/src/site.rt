@@ -100,8 +100,8 @@ pub fn line_of_main(made: &MainLine) -> u32 {
     }
 }
 
-// The variables of a class come into scope.
-fn enter_variables<'t>(class: &'t ClassTree, scope: &mut Scope<'t>) {
+/// The variables of a class come into scope.
+pub fn enter_variables<'t>(class: &'t ClassTree, scope: &mut Scope<'t>) {
     for member in class.members.as_slice() {
         if let Member::Var { name, ty, line } = member {
             let ty = scope.copy(Some(ty));

@@ -16,6 +16,7 @@ use Rattle.da_core.specs.Told.{answers_of, kept_of}
 use Rattle.da_machine.proofs.Prefixes.{same_prefix}
 use Rattle.da_system.specs.declared.system.System.{System}
 use Rattle.da_system.specs.Channels.{Channels, MessageInFlight, channel, may_arrive, without_message}
+use Rattle.da_system.specs.Looking.{answers_at}
 use Rattle.da_system.specs.State.{HasBegun, HasStepped, Stands, StandsAt, program_of}
 use Rattle.da_system.specs.SystemStep.{SystemState, deliver, process_step, show, stat, step_of, stepped, sys_step, told}
 use Rattle.da_system.proofs.AcceptedStates.{never_steps}
@@ -101,6 +102,10 @@ module _ (system : System) (s : SystemState) (stands : Stands system s) where
       stands = stands;
       added = added its.0 its.2.stands ∙ ap (λ (xs : List Action). old ++ xs) answers_are;
     }
+
+    pub answers_told : (old new : List Action) → process.Whichever core (λ w. new ≡ old ++ answers_of w.data'.me (class_of (process.program_of core) w.data'.me) w.data') → new ≡ old ++ answers_at program p (at_number s.worlds p)
+    answers_told old new added =
+        added its.0 its.2.stands ∙ ap (λ (xs : List Action). old ++ xs) answers_are ∙ ap (λ (o : Option World). old ++ answers_at program p o) (sym its.1)
 
     pub begins_to_show : (old new : List Action) → process.Whichever core (λ w. AddsPrefix old new (answers_of w.data'.me (class_of (process.program_of core) w.data'.me) w.data')) → HasBegun (show program s p) old new
     begins_to_show old new front = record {

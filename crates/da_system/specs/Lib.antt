@@ -1,6 +1,7 @@
 pub mod Channels
 pub mod Choices
 pub mod FlatChannels
+pub mod Looking
 pub mod Picking
 pub mod Queued
 pub mod Queues

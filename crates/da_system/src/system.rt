@@ -20,7 +20,7 @@ use std::alloc::Global;
 /// for, by `Stands`.
 #[derive(Drop)]
 pub struct System<'c> {
-    alloc: Global,
+    pub(crate) alloc: Global,
     compiled: &'c Compiled,
     cores: Vec<Core<'c>>,
     pub(crate) channels: Channels,

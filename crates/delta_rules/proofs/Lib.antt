@@ -11,6 +11,7 @@ pub mod ListPlaces
 pub mod LiveTurns
 pub mod NamingAt
 pub mod ReadingLaws
+pub mod SeenLaws
 pub mod SlotIds
 pub mod SlotLaws
 pub mod Steadiness

@@ -10,12 +10,10 @@ use Rattle.std.proofs.lemmas.Option.{get_or_from_slice_get, none-some, slice_get
 use Rattle.da_values.specs.declared.val.Val.{Val}
 use Rattle.da_values.specs.Order.{row_cmp}
 use Rattle.da_values.specs.Sets.{Ascends}
-use Rattle.da_lang.specs.declared.query.Node.{Node}
 use Rattle.da_lang.specs.declared.query.Shape.{Shape}
 use Rattle.da_lang.specs.Matching.{Row}
 use Rattle.da_lang.specs.Queries.{first}
 use Rattle.da_lang.specs.World.{Data}
-use Rattle.query_plan.specs.Nodes.{node_rows}
 use Rattle.query_plan.specs.Told.{has_row, told_value}
 use Rattle.row_pool.specs.Cells.{Cells}
 use Rattle.answer_index.specs.Answers.{IsSet, rows_of}
@@ -23,7 +21,7 @@ use Rattle.answer_index.specs.declared.set.AnswerSet.{AnswerSet}
 use Rattle.row_terms.specs.declared.locals.Locals.{Locals}
 use Rattle.row_terms.specs.Locals.{data_of}
 use Rattle.row_terms.proofs.LocalsLaws.{told_there}
-use Rattle.delta_rules.specs.Keeping.{all_rows, set_rows}
+use Rattle.delta_rules.specs.Keeping.{set_rows}
 
 module _ (all : List Row) (i : ℕ) where
   pub read_one : (rows more : List Row) (row copy : Row) → Some row ≡ slice_get all i → copy ≡ row → more ≡ rows ++ copy ∷ [] → rows ≡ take i all → more ≡ take (i + 1) all
@@ -66,19 +64,17 @@ module _ (pool : Cells) (sets : List AnswerSet) (place n : ℕ) (set : AnswerSet
       ∙ ap (λ z. sum (map (length {A = Row}) (set_rows pool (take place sets))) + z) many
       ∙ sym (ap sum counts ∙ sum_by_push (λ x. x) (map (length {A = Row}) (set_rows pool (take place sets))) (length (rows_of set pool)))
 
-  pub flag_told : (found : List AnswerSet) (nodes : List Node) (d : Data) → found ≡ sets → (place < length found) × ((d' : AnswerSet) → set ≡ slice_index_or found place d') → set_rows pool sets ≡ all_rows d nodes
-      → nat_lt 0 n ≡ has_row (node_rows d nodes place)
-  flag_told found nodes d same there rows =
+-- The rows of the set that was found at a place.
+module _ (pool : Cells) (sets : List AnswerSet) (place : ℕ) (set : AnswerSet) where
+  pub set_there : (found : List AnswerSet) → found ≡ sets → (place < length found) × ((d' : AnswerSet) → set ≡ slice_index_or found place d') → get_or (set_rows pool sets) place [] ≡ rows_of set pool
+  set_there found same there =
       let here : slice_get sets place ≡ Some set = ap (λ zs. slice_get zs place) (sym same) ∙ slice_get-get_or found place set there.0 ∙ ap Some (sym (there.1 set)) in
-      has_one (node_rows d nodes place) n
-      (many
-      ∙ ap length
-      (sym (get_or_from_slice_get (set_rows pool sets) place (rows_of set pool) [] (slice_get-map (λ z. rows_of z pool) sets place ∙ ap (option_map (λ z. rows_of z pool)) here))
-      ∙ ap (λ (all : List (List Row)). get_or all place []) rows))
-    where
-      has_one : (rows : List Row) (m : ℕ) → m ≡ length rows → nat_lt 0 m ≡ has_row rows
-      has_one [] m is = ap (nat_lt 0) is
-      has_one (row ∷ rows) m is = ap (nat_lt 0) is ∙ grind (arith, nat_tests)
+      get_or_from_slice_get (set_rows pool sets) place (rows_of set pool) [] (slice_get-map (λ z. rows_of z pool) sets place ∙ ap (option_map (λ z. rows_of z pool)) here)
+
+-- whether there is a row, by how many there are
+pub one_told : (rows : List Row) (n : ℕ) → n ≡ length rows → nat_lt 0 n ≡ has_row rows
+one_told [] n is = ap (nat_lt 0) is
+one_told (row ∷ rows) n is = ap (nat_lt 0) is ∙ grind (arith, nat_tests)
 
 -- what is told of rows by the number and the slots alone
 pub value_told : (locals : Locals) (d : Data) (s : Shape) (v : Val) (rows seen whole : List Row) → v ≡ told_value (data_of locals) s seen → seen ≡ rows → told_value d s rows ≡ told_value d s whole

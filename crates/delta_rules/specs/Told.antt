@@ -8,15 +8,21 @@ use Rattle.da_lang.specs.declared.query.QueryNode.{QueryNode}
 use Rattle.da_lang.specs.Matching.{Row}
 use Rattle.da_lang.specs.World.{Data, at_number, nothing}
 use Rattle.query_plan.specs.declared.plan.Plan.{Plan}
+use Rattle.query_plan.specs.declared.stored.Stored.{Stored}
 use Rattle.query_plan.specs.Nodes.{node_rows}
+use Rattle.query_plan.specs.Seen.{seen_rows}
 use Rattle.query_plan.specs.Told.{told_least, told_shown, told_value}
 use Rattle.row_pool.specs.Cells.{Cells}
 use Rattle.delta_rules.specs.Keeping.{set_rows}
 use Rattle.delta_rules.specs.declared.answers.Answers.{Answers}
 
--- the rows of a node, as answers keep them
-abbrev pub kept_rows : Answers → Cells → ℕ → List Row
-kept_rows answers pool i = get_or (set_rows pool answers.nodes.items) i []
+-- the rows of a stored node, as answers keep them
+abbrev pub stored_rows : Answers → Cells → ℕ → List Row
+stored_rows answers pool i = get_or (set_rows pool answers.nodes.items) i []
+
+-- those of any node, as they are seen
+abbrev pub kept_rows : Answers → Cells → Stored → ℕ → List Row
+kept_rows answers pool stored i = seen_rows (stored_rows answers pool) stored.seen i
 
 abbrev pub value_of_node : Data → List Node → Option QueryNode → Val
 value_of_node d nodes None = nothing

@@ -14,9 +14,9 @@ use std::alloc::Global;
 use std::marker::Brand;
 use std::sync::ledger::Blank;
 
-/// What a process of a class has to know of its past: its number, its slots, the rows of each node of the plan and those of
-/// each live pattern. The values are those of a pool, of which the answers hold the ids of `ids_of_answers`; answers that are
-/// only dropped leave these counted.
+/// What a process of a class has to know of its past: its number, its slots, the rows of each node of the stored plan and those
+/// of each live pattern. A row is read by a question of this crate alone. The values are those of a pool, of which the answers
+/// hold the ids of `ids_of_answers`; answers that are only dropped leave these counted.
 ///
 /// Nobody else reaches the slots and the sets: a caller changes them by updates alone, learns of a node whether it has a row
 /// (`flag`), and reads rows only as what a query tells. Whoever has a counter of steps and no answers to change can read no
@@ -39,9 +39,8 @@ impl Answers {
     ghost use Rattle.delta_rules.specs.Holding.{ids_of_answers};
     ghost use Rattle.delta_rules.specs.Keeping.{Keeps, all_live, slots_of};
     ghost use Rattle.delta_rules.specs.Laid.{IsLaid};
-    ghost use Rattle.query_plan.specs.Nodes.{IsPlan, node_rows};
+    ghost use Rattle.query_plan.specs.Nodes.{IsPlan};
     ghost use Rattle.query_plan.specs.PlainNodes.{PlainNodes};
-    ghost use Rattle.query_plan.specs.Told.{has_row};
     ghost use Rattle.row_pool.specs.Cells.{Cells};
     ghost use Rattle.row_pool.specs.Pool.{HoldsAll};
     ghost use Rattle.std.specs.Prelude.{◌≡◌, [], IfOk, List as Seq, length, map, sum};
@@ -123,15 +122,5 @@ impl Answers {
             total += self.live[place].len() as u128;
         }
         total
-    }
-
-    /// Whether a node has a row. It takes no memory and no step.
-    pub fn flag(&self, node: u32) -> bool
-        ensures { (pool : Cells) (nodes : Seq Node) (d : Data) → Keeps self.now pool nodes d → result ≡ has_row (node_rows d nodes node) }
-    {
-        match self.nodes.get(node as usize) {
-            Some(set) => set.len() > 0,
-            None => false,
-        }
     }
 }

@@ -10,6 +10,7 @@ mod fixed;
 mod keys;
 mod laying;
 mod reading;
+mod seeing;
 mod slots;
 mod turn;
 mod turn_gen;

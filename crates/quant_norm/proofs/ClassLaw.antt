@@ -1,5 +1,5 @@
 -- The plan of a class tells each of its numbered queries and each condition of an `await`.
-use Rattle.std.specs.Prelude.{◌≡◌, ◌<◌, ℕ, zero, suc, List, [], ◌∷◌, ◌++◌, length, refl}
+use Rattle.std.specs.Prelude.{◌≡◌, ◌<◌, ℕ, zero, suc, List, [], ◌∷◌, ◌++◌, length, slice_get, Some, refl}
 use Rattle.std.specs.List.{AllZip}
 use Rattle.std.proofs.Common.{ap, sym, subst, ◌∙◌, append_assoc, append-nil}
 use Rattle.std.proofs.lemmas.Slice.Zip.{all_zipped_more}
@@ -115,6 +115,10 @@ module _ (d : Data) where
 -- a world of no process, where only the plan matters
 abbrev nowhere : Data
 nowhere = record { me = 0; slots = []; sent = []; received = []; clock = 0 }
+
+-- the plan begins with the root
+pub class_root : (class : Class) → slice_get (norm_class class).nodes 0 ≡ Some node.Root
+class_root class = (class_told nowhere class).begun.first
 
 pub class_law : (class : Class) → IsPlanOf class (norm_class class)
 class_law class = record {

@@ -1,8 +1,13 @@
 pub mod AgreeingLaws
 pub mod ChangeSizes
+pub mod EntryLaws
+pub mod FewerWork
 pub mod GenCovers
 pub mod GroupKeyLaws
+pub mod KeepLaws
+pub mod KeptLive
 pub mod NodeLaws
+pub mod PickedLaws
 pub mod PlainAt
 pub mod PlainReads
 pub mod PlanLiveLaws
@@ -11,8 +16,10 @@ pub mod PlanTextAt
 pub mod PlansAt
 pub mod ReadBounds
 pub mod ReadsFit
+pub mod Redirected
 pub mod SameRows
 pub mod SpelledLaws
+pub mod StoredLaws
 pub mod TouchedLaws
 pub mod UpdateLaws
 pub mod WidthLaws

@@ -1,2 +1,3 @@
 mod NodeExamples
+mod SeenExamples
 mod WorkExamples

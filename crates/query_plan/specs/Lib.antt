@@ -7,7 +7,9 @@ pub mod PlanText
 pub mod PlanTerms
 pub mod Plans
 pub mod Questions
+pub mod Seen
 pub mod Spelled
+pub mod Storing
 pub mod Told
 pub mod Updates
 pub mod Work

@@ -5,8 +5,8 @@ use da_lang::{Node, Term, copy_cond, copy_gen, copy_term};
 use da_values::{Boxed, List, NoMemory};
 use std::alloc::Global;
 
-// A copy of the term of another value, which `count` and `sum` have not.
-fn copy_other(alloc: Global, other: &Option<Term>) -> Result<Option<Term>, NoMemory>
+/// A copy of the term of another value, which `count` and `sum` have not.
+pub fn copy_other(alloc: Global, other: &Option<Term>) -> Result<Option<Term>, NoMemory>
     ensures { IfOk result (λ copy. copy ≡ other.now) }
 {
     match other {

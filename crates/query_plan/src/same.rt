@@ -4,8 +4,8 @@ ghost use Rattle.std.specs.Prelude.{◌≡◌, ◌↔◌, IsTrue};
 
 use da_lang::{Node, Term, same_cond, same_gen, same_term};
 
-// Whether two terms that may be left out are equal.
-fn same_other(a: &Option<Term>, b: &Option<Term>) -> bool
+/// Whether two terms that may be left out are equal.
+pub fn same_other(a: &Option<Term>, b: &Option<Term>) -> bool
     ensures { IsTrue result ↔ (a.now ≡ b.now) }
 {
     match (a, b) {

@@ -65,6 +65,19 @@ pub struct View<'r, 'c> {
     pub system: &'r System<'c>,
 }
 
+/// The line where process `p` of a program waits, or 0 where it does not wait or there is no such process.
+pub fn line_waited(alloc: Global, program: &Program, system: &System<'_>, p: u32) -> u32 {
+    let view = View {
+        alloc,
+        program,
+        system,
+    };
+    match view.point(p) {
+        Some(point) => point.line,
+        None => 0,
+    }
+}
+
 impl View<'_, '_> {
     /// How many processes there are.
     pub fn count(&self) -> u32 {

@@ -25,11 +25,13 @@ mod spot;
 mod tokens;
 mod words;
 
+pub use brackets::open_brackets;
 pub use grammar::{tell_grammar, tell_loose_grammar};
 pub use hint::Hint;
 pub use lines::{Line, between, line_number, line_of};
 pub use nearest::Nearest;
 pub use phrase::Phrase;
-pub use reading::slice_at;
+pub use reading::{Source, mark_at, next_marks, slice_at};
+pub use spellings::spellings as all_spellings;
 pub use tokens::tell_tokens;
 pub use words::{is_one_of, said_in, said_of};

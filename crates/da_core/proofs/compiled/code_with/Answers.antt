@@ -1,11 +1,19 @@
-use Rattle.std.proofs.Common.{◌≡◌, ◌∙◌, ap}
+use Rattle.std.proofs.Common.{◌≡◌, ◌∙◌, ap, subst}
 use Rattle.query_plan.specs.declared.plan.Plan.{Plan}
 use Rattle.query_plan.specs.PlanLive.{plan_live}
 use Rattle.query_plan.specs.Questions.{norm_class}
+use Rattle.query_plan.specs.Seen.{IsStored}
 use Rattle.da_core.specs.Waits.{waits_of}
-use Rattle.da_core.proofs.Compiling.{class_found, waits_found}
+use Rattle.da_core.proofs.Compiling.{class_found, member_there, waits_found}
+use Rattle.da_core.proofs.KnownLaws.{lower, plain, rooted}
 use Rattle.da_core.proofs.compiled.code_with.Goals as goal
 use Rattle.da_core.proofs.compiled.code_with.Goals.{in-Some+in_ok-waits-in-Some, in-None}
+
+pub store-requires : goal.store-requires
+store-requires c =
+    let (class, there) = member_there c.args.t.now.classes c.args.place c.requires.there in
+    let planned = c.requires.planned class there in
+    record { plan = lower c.args.plan class planned; plain = plain c.args.plan class planned; root = rooted c.args.plan class planned }
 
 pub returns : goal.returns
 returns c = λ class there.
@@ -21,6 +29,7 @@ returns c = λ class there.
     record {
       code = c.in_ok-code.ensures class there;
       plan = planned;
+      stored = subst (λ (x : Plan). IsStored x.nodes c.in_ok-stored.stored) planned c.in_ok-stored.ensures;
       waits = waits;
       opened = c.in_ok-opened.ensures class there;
       live = c.in_ok-live.ensures ∙ ap (λ (x : Plan). plan_live x.nodes) planned;

@@ -1,13 +1,18 @@
 use Rattle.std.proofs.Common.{◌∙◌, ◌≤◌, length, arith, sym}
-use Rattle.da_core.proofs.Entering.{next_untold, none_told}
-use Rattle.da_core.proofs.KnownLaws.{flag_is}
+use Rattle.da_core.proofs.Entering.{next_untold, none_told, one_told}
 use Rattle.da_core.proofs.moves.some_flag.Goals as goal
 
 pub loop-alternative-preserved : goal.loop-alternative-preserved
 loop-alternative-preserved c = λ p class d knows.
-    let flag = flag_is c.args.known.now c.alternative-item.result.flag c.flag.result c.flag.ensures p class d knows in
+    let flag = c.is_flagged.ensures p class d knows in
     next_untold class d c.args.alternatives.now c.loop-alternative.alternative-index c.alternative-item.result c.loop-alternative-test.true c.alternative-item.is
-    (sym c.if-flag.false ∙ flag) (c.loop-alternative.invariant p class d knows)
+    (sym c.if-is_flagged.false ∙ flag) (c.loop-alternative.invariant p class d knows)
+
+pub returns-then-is_flagged : goal.returns-then-is_flagged
+returns-then-is_flagged c = λ p class d knows.
+    let flag = c.is_flagged.ensures p class d knows in
+    one_told class d c.args.alternatives.now c.loop-alternative.alternative-index c.alternative-item.result c.loop-alternative-test.true c.alternative-item.is
+    (sym c.if-is_flagged.true ∙ flag) (c.loop-alternative.invariant p class d knows)
 
 pub returns : goal.returns
 returns c = λ p class d knows.

@@ -20,7 +20,7 @@ new-requires-clause-plain c = (has_a_plan c.args.compiled.now c.args.me c.requir
 
 pub returns-clause-stands : goal.returns-clause-stands
 returns-clause-stands c =
-    starts_with c.args.compiled.now c.args.me c.requires.compiled c.requires.there _ refl c.in-Some-code_of.code.now (sym c.in-Some-code_of.ensures) refl
+    starts_with c.args.compiled.now c.args.me c.requires.compiled c.requires.there _ refl c.in-Some-code_of.code.now (sym c.in-Some-code_of.ensures) refl refl
     c.in-Some.class.now (sym c.in-Some.ensures) refl refl c.new-2.ensures refl
     (λ d mine slots sent received. c.in_ok-new.ensures.kept d mine (slots ∙ ap (map (first_value c.args.me)) (sym c.as_slice.ensures) ∙ sym c.in_ok-slots.ensures) sent received)
     c.in_ok-new.ensures.laid c.in_ok-new.ensures.held c.new-3.ensures.loops c.new-3.ensures.stack (sym c.in-Some-start_of.ensures ∙ ap Some (sym c.new-3.ensures.place))

@@ -1,6 +1,13 @@
-use Rattle.delta_rules.proofs.ReadingLaws.{flag_told}
+use Rattle.std.proofs.Common.{ap, sym, ◌∙◌}
+use Rattle.query_plan.specs.Told.{has_row}
+use Rattle.delta_rules.proofs.ReadingLaws.{one_told}
+use Rattle.delta_rules.proofs.SeenLaws.{seen_told}
 use Rattle.delta_rules.proofs.answers.Answers.flag.Goals as goal
 
 pub returns-in-Some : goal.returns-in-Some
-returns-in-Some c pool nodes d keeps =
-    flag_told pool c.args.self.now.nodes.items c.args.node c.len.result c.in-Some.set.now (c.len.ensures pool) c.deref.result.now nodes d c.deref.ensures.value c.in-Some.ensures.lookup.3 keeps.rows
+returns-in-Some c pool nodes d sees =
+    one_told _ c.len.result (c.len.ensures pool) ∙ ap has_row (sym (c.in-Some.ensures pool)) ∙ ap has_row (seen_told c.args.self.now pool c.args.stored.now nodes d sees c.args.node)
+
+pub returns-in-None : goal.returns-in-None
+returns-in-None c pool nodes d sees =
+    ap has_row (sym (c.in-None.ensures pool)) ∙ ap has_row (seen_told c.args.self.now pool c.args.stored.now nodes d sees c.args.node)
