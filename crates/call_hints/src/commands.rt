@@ -6,7 +6,7 @@ use text_hints::{Nearest, Phrase, said_in};
 pub type Command = (&'static [u8], usize, &'static [u8]);
 
 /// The commands. More words may stand behind `join` and `hunt`, and behind no other.
-const COMMANDS: [Command; 13] = [
+const COMMANDS: [Command; 14] = [
     (b"check", 1, b"check PROG"),
     (b"replay", 2, b"replay PROG SCHED"),
     (b"plan", 1, b"plan PROG"),
@@ -15,6 +15,7 @@ const COMMANDS: [Command; 13] = [
     (b"stress", 3, b"stress PROG START N"),
     (b"walk", 3, b"walk PROG START N"),
     (b"next", 2, b"next PROG SCHED"),
+    (b"show", 2, b"show PROG SCHED"),
     (b"hunt", 4, b"hunt PROG START COUNT N WHAT"),
     (b"draw", 1, b"draw TRACE"),
     (b"node", 5, b"node PROG PORT ME IDLE TURNS"),
@@ -80,7 +81,7 @@ const CURES: [&[u8]; 12] = [
     b"build|--build|make ~ ./dalgo --build builds the programs",
     b"run|exec|start|simulate ~ replay runs a schedule, walk makes one, and launch runs all processes as nodes",
     b"test|fuzz|find|search|explore|analyze ~ stress counts what a generated schedule comes to, and hunt looks for a mistake",
-    b"trace|graph|show|view|debug|print ~ replay prints a run, and draw makes a page of what it prints",
+    b"trace|graph|view|debug|print ~ replay prints a run, show makes a page of it, and draw makes one of what replay or node printed",
     b"compile|parse|verify ~ check says whether a program is accepted",
     b"types|fmt|format ~ infer prints a program with its declarations",
     b"dalgo ~ the word dalgo stands once, and then a command: ./dalgo check PROG",

@@ -1,5 +1,5 @@
 //! Finds schedules of DistAlgo programs and draws their runs: generated schedules, the events that are allowed, schedules that
-//! show something, and pages of traces. It tells what is remarkable in a program besides.
+//! show something, and pages of traces and of runs. It tells what is remarkable in a program besides.
 #![tactic(auto)]
 
 mod linting;

@@ -29,7 +29,7 @@ fn tell_command<R: rt::Files + AllocGlobal + Eprint>(
 ) -> io::Result<()> {
     match command {
         Command::Search { program, .. } => tell_program(rt, *program, status),
-        Command::Next(names) => tell_next(rt, *names, status),
+        Command::Follow { names, .. } => tell_follow(rt, *names, status),
         Command::Draw { trace } => tell_trace(rt, *trace, status),
         Command::Other if matches!(status, Status::Words) => tell_words(rt, words),
         Command::Other => tell_common(rt, status),
@@ -55,7 +55,7 @@ pub fn tell_program<R: rt::Files + AllocGlobal + Eprint>(
 }
 
 // How a call ended that reads a program and a schedule.
-fn tell_next<R: rt::Files + AllocGlobal + Eprint>(
+fn tell_follow<R: rt::Files + AllocGlobal + Eprint>(
     rt: &R,
     names: Names<'_>,
     status: Status,

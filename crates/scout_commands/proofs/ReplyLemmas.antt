@@ -1,19 +1,21 @@
 -- The replies of the commands, from what their parts leave.
-use Rattle.std.proofs.Common.{◌≡◌, refl, sym, ◌∙◌, ap, subst, ℕ, ◌+◌, ◌<◌, ◌≤◌, inl, inr, ◌⊎◌, List, [], ◌++◌, take, length, append-nil}
+use Rattle.std.proofs.Common.{◌≡◌, refl, sym, ◌∙◌, ap, subst, ℕ, ◌+◌, inl, inr, ◌⊎◌, List, [], take, append-nil, arith}
+use Rattle.std.proofs.lemmas.List.{take_all}
 use Rattle.std.specs.Prelude.{Option, Some, None}
-use Rattle.std.specs.Str.Lines.{lines}
-use Rattle.da_commands.specs.Lines.{badline_text}
-use Rattle.da_front.specs.Verdict.{Accepts}
+use Rattle.da_front.specs.Verdict.{Accepts, HasTree, program_limit}
+use Rattle.da_commands.proofs.ToldLemmas.{take_within}
 use Rattle.da_lang.specs.declared.event.Event.{Event}
 use Rattle.da_lang.specs.declared.program.Program.{Program}
+use Rattle.da_lang.specs.declared.tree.Tree.{Tree}
 use Rattle.da_outside.specs.Outside.{Appends, AppendsPrefix}
 use Rattle.da_system.specs.declared.system.System.{System}
 use Rattle.da_system.specs.State.{Stands, Whichever}
 use Rattle.da_system.specs.SystemStep.{start}
 use Rattle.replay_run.specs.declared.outcome.Outcome.{Outcome}
 use Rattle.replay_run.specs.declared.outcome.Outcome.TheVariants as run
-use Rattle.replay_run.specs.Replay.{HasEnded}
-use Rattle.sched_text.specs.ScheduleText.{SpellsSchedule}
+use Rattle.replay_run.specs.Replay.{HasEnded, outcome_of, run_on}
+use Rattle.run_page.specs.Outcome.{Asked, HasBegun as HasBegunPage, HasShown, IsPage}
+use Rattle.sched_text.specs.ScheduleText.{SpellsSchedule, schedule_limit}
 use Rattle.schedule_hunt.specs.declared.hunting.HuntOutcome.{HuntOutcome}
 use Rattle.schedule_hunt.specs.declared.hunting.HuntOutcome.TheVariants as hunt
 use Rattle.schedule_hunt.specs.declared.what.What.{What}
@@ -23,16 +25,17 @@ use Rattle.schedule_walk.specs.declared.outcome.NextOutcome.TheVariants as next
 use Rattle.schedule_walk.specs.Next as after
 use Rattle.schedule_walk.specs.Walk.{HasWalked, walk_text}
 use Rattle.scout_commands.specs.declared.status.Status.{Status}
-use Rattle.scout_commands.specs.declared.status.Status.TheVariants.{BadLine, Done, Found, Memory, Unspelled, WriteFault}
+use Rattle.scout_commands.specs.declared.status.Status.TheVariants.{Done, Found, Memory, WriteFault}
+use Rattle.scout_commands.specs.declared.words.Question.TheVariants.{Next, Show}
 use Rattle.scout_commands.specs.declared.words.Search.TheVariants.{Walk, Hunt}
 use Rattle.scout_commands.specs.Endings.{status_of_hunt, status_of_next, status_of_run}
-use Rattle.scout_commands.specs.Replies.{DrawReply, NextReply, SearchReply, answered, bad_trace, drawn, found, none, unspelled, walked}
+use Rattle.scout_commands.specs.Replies.{DrawReply, RunReply, SearchReply, answered, drawn, found, none, shown, unspelled, walked}
 use Rattle.scout_commands.specs.Told.{Answers, HasReplied, HasSaid, IsAnswer, IsCut, begun, nothing, unread, whole}
 use Rattle.trace_page.specs.declared.outcome.DrawOutcome.{DrawOutcome}
 use Rattle.trace_page.specs.declared.outcome.DrawOutcome.TheVariants as draw
-use Rattle.trace_page.specs.Outcome.{HasDrawn, SaysOf}
-use Rattle.trace_page.specs.PageText.{IsPage}
-use Rattle.trace_page.specs.TraceText.{IsBadTrace, IsTrace}
+use Rattle.trace_page.specs.Outcome.{HasBegun as Begun, HasDrawn, HasWritten, SaysOf}
+use Rattle.trace_page.specs.PageText.{page_of}
+use Rattle.trace_page.specs.TraceText.{IsBadTrace, SpellsTrace}
 
 -- WHAT WAS SAID is the reply
 pub said_as : (Reply : Status → List ℕ → Type 0) (Due : List ℕ → Type 0) (status : Status) (bytes : List ℕ) (result : Status) (before after : Option (List ℕ))
@@ -95,11 +98,48 @@ module _ (t : List ℕ) (program p : Program) (opened : System) (same : p ≡ pr
 
 -- THE EVENTS AFTER A SCHEDULE
 pub next_replied : (t s : List ℕ) (program : Program) (events : List Event) (how : NextOutcome) (before now : Option (List ℕ)) → Accepts t program → SpellsSchedule s events
-    → after.HasAnswered (after.NextReply program events) how before now → Answers (NextReply t s) (status_of_next how) before now
+    → after.HasAnswered (after.NextReply program events) how before now → Answers (RunReply t s Next) (status_of_next how) before now
 next_replied t s program events how before now accepts spells (after.whole ended bytes reply gained) = whole (ended_answer how ended) bytes (answered program events how bytes accepts spells reply) gained
 next_replied t s program events how before now accepts spells (after.begun cut said bytes reply front) =
     begun (cut_short how cut) bytes (status_of_next said, answered program events said bytes accepts spells reply) front
 next_replied t s program events how before now accepts spells (after.nothing cut gained) = nothing (cut_short how cut) (none_more before now gained)
+
+-- THE PAGE OF A RUN
+module _ (t s : List ℕ) (program : Program) (tree : Tree) (events : List Event) (accepts : Accepts t program) (has : HasTree t tree) (spells : SpellsSchedule s events) where
+  abbrev asked : Asked
+  asked = record { program = program; tree = tree; text = t; schedule = s; events = events }
+
+  reply : (page : List ℕ) → IsPage asked page → RunReply t s Show (status_of_run (outcome_of (run_on program (start program) events).stop)) page
+  reply page is = shown program tree events page accepts has spells is
+
+  ended_run : (stop : Option ℕ) → IsAnswer (status_of_run (outcome_of stop))
+  ended_run None = tt
+  ended_run (Some i) = tt
+
+  whole_page : (how : Outcome) (before after : Option (List ℕ)) → HasShown asked how before after → Answers (RunReply t s Show) (status_of_run how) before after
+  whole_page how before after (is, page, paged, gained) =
+      subst (λ o. Answers (RunReply t s Show) (status_of_run o) before after) (sym is)
+      (whole (ended_run (run_on program (start program) events).stop) page (reply page paged) gained)
+
+  cut_page : (status : Status) → IsCut status → (before after : Option (List ℕ)) → HasBegunPage asked before after → Answers (RunReply t s Show) status before after
+  cut_page status cut before after (inl same) = nothing cut same
+  cut_page status cut before after (inr (page, paged, front)) = begun cut page (status_of_run (outcome_of (run_on program (start program) events).stop), reply page paged) front
+
+  pub show_replied : (how : Outcome) (before after : Option (List ℕ)) → (HasEnded how → HasShown asked how before after) → HasBegunPage asked before after → Answers (RunReply t s Show) (status_of_run how) before after
+  show_replied run.Done before after ended begins = whole_page run.Done before after (ended tt)
+  show_replied (run.Forbidden i) before after ended begins = whole_page (run.Forbidden i) before after (ended tt)
+  show_replied run.WriteFault before after ended begins = cut_page WriteFault tt before after begins
+  show_replied run.Memory before after ended begins = cut_page Memory tt before after begins
+
+-- what was answered to the texts that were read is answered to the whole texts
+pub shown_of : (t s text schedule : List ℕ) → text ≡ take (program_limit + 1) t → schedule ≡ take (schedule_limit + 1) s → (program : Program) → Accepts t program
+    → (events : List Event) → SpellsSchedule schedule events → (status : Status) (before after : Option (List ℕ))
+    → (Accepts text program → SpellsSchedule schedule events → Answers (RunReply text schedule Show) status before after) → Answers (RunReply t s Show) status before after
+shown_of t s text schedule is also program accepts events spells status before after replies =
+    let first : text ≡ t = is ∙ take_all (program_limit + 1) t (omega (arith, accepts.has.size)) in
+    let second : schedule ≡ s = take_within schedule_limit schedule s also spells.size in
+    subst (λ x. Answers (RunReply x s Show) status before after) first (subst (λ x. Answers (RunReply text x Show) status before after) second
+    (replies (subst (λ x. Accepts x program) (sym first) accepts) spells))
 
 -- A HUNT
 module _ (t : List ℕ) (program : Program) (what : What) (first count most : ℕ) (before after : Option (List ℕ)) (accepts : Accepts t program) where
@@ -129,17 +169,16 @@ module _ (text t : List ℕ) (same : text ≡ t) (how : DrawOutcome) (before aft
 
   pub draw_done : how ≡ draw.Done → Drew Done
   draw_done is =
-      let trace : IsTrace text = subst (SaysOf text) is says in
-      let (page, paged, gained) : (page : List ℕ) × IsPage (lines text) page × Appends before after page = subst (λ o. HasDrawn text o before after) is has in
-      whole tt page (drawn page (subst IsTrace same trace) (subst (λ x. IsPage (lines x) page) same paged)) gained
+      let (actions, spells, gained) : HasWritten text before after = subst (λ o. HasDrawn text o before after) is has in
+      whole tt (page_of actions) (drawn actions (subst (λ x. SpellsTrace x actions) same spells)) gained
 
-  begun_page : (status : Status) → IsCut status → IsTrace text × (page : List ℕ) × IsPage (lines text) page × AppendsPrefix before after page → Drew status
-  begun_page status cut (trace, page, paged, front) = begun cut page (Done, drawn page (subst IsTrace same trace) (subst (λ x. IsPage (lines x) page) same paged)) front
+  begun_page : (status : Status) → IsCut status → Begun text before after → Drew status
+  begun_page status cut (actions, spells, front) = begun cut (page_of actions) (Done, drawn actions (subst (λ x. SpellsTrace x actions) same spells)) front
 
   pub draw_unwritten : how ≡ draw.WriteFault → Drew WriteFault
   draw_unwritten is = begun_page WriteFault tt (subst (λ o. HasDrawn text o before after) is has)
 
-  refused : (after ≡ before) ⊎ (IsTrace text × (page : List ℕ) × IsPage (lines text) page × AppendsPrefix before after page) → Drew Memory
+  refused : (after ≡ before) ⊎ Begun text before after → Drew Memory
   refused (inl unwritten) = nothing tt unwritten
   refused (inr page) = begun_page Memory tt page
 

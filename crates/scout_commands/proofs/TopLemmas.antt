@@ -1,16 +1,18 @@
 -- Which words are answered so.
-use Rattle.std.proofs.Common.{◌≡◌, refl, sym, ◌∙◌, ap, subst, ℕ, ◌+◌, ◌^◌, ◌<◌, ◌≤◌, inl, inr, List, arith, codes}
+use Rattle.std.proofs.Common.{◌≡◌, sym, ◌∙◌, subst, ℕ, ◌^◌, ◌<◌, ◌≤◌, List, arith}
 use Rattle.std.specs.Prelude.{Option, Some, None}
 use Rattle.da_commands.specs.Told.{OfTold}
+use Rattle.da_system.specs.SystemStep.{start}
+use Rattle.replay_run.specs.Replay.{outcome_of, run_on}
 use Rattle.schedule_walk.specs.declared.outcome.NextOutcome.{NextOutcome}
 use Rattle.schedule_walk.specs.declared.outcome.NextOutcome.TheVariants as next
-use Rattle.schedule_walk.specs.Next as after
 use Rattle.scout_commands.specs.declared.status.Status.{Status}
 use Rattle.scout_commands.specs.declared.status.Status.TheVariants.{BadLine, Done, Forbidden, Found, Memory, ReadFault, Refused, Unspelled, Words, WriteFault}
+use Rattle.scout_commands.specs.declared.words.Question.{Question}
 use Rattle.scout_commands.specs.declared.words.Search.{Search}
 use Rattle.scout_commands.specs.declared.words.Search.TheVariants.{Walk, Hunt}
-use Rattle.scout_commands.specs.Endings.{status_of_next}
-use Rattle.scout_commands.specs.Replies.{DrawReply, HasAnswered, NextReply, SearchReply}
+use Rattle.scout_commands.specs.Endings.{status_of_next, status_of_run}
+use Rattle.scout_commands.specs.Replies.{DrawReply, HasAnswered, RunReply, SearchReply}
 use Rattle.scout_commands.specs.Replies as reply
 use Rattle.scout_commands.specs.Told.{Answers, HasReplied, IsCut, begun, nothing, unread, whole}
 use Rattle.scout_commands.specs.Words.{HasNumbers, IsOther, IsSearch}
@@ -37,14 +39,19 @@ answer_words next.Unspelled is = let clash : Unspelled ≡ Words = is in cc
 answer_words next.WriteFault is = let clash : WriteFault ≡ Words = is in cc
 answer_words next.Memory is = let clash : Memory ≡ Words = is in cc
 
-next_words : (t s : List ℕ) (status : Status) (bytes : List ℕ) → NextReply t s status bytes → status ≡ Words → ⊥
-next_words t s _ _ (NextReply.declined kind line refuses) is = let clash : Refused kind line ≡ Words = is in cc
-next_words t s _ _ (NextReply.bad_schedule program line accepts bad) is = let clash : BadLine line ≡ Words = is in cc
-next_words t s _ _ (NextReply.answered program events how bytes accepts spells said) is = answer_words how is
+run_words : (stop : Option ℕ) → status_of_run (outcome_of stop) ≡ Words → ⊥
+run_words None is = let clash : Done ≡ Words = is in cc
+run_words (Some i) is = let clash : Forbidden i ≡ Words = is in cc
+
+follow_words : (t s : List ℕ) (question : Question) (status : Status) (bytes : List ℕ) → RunReply t s question status bytes → status ≡ Words → ⊥
+follow_words t s _ _ _ (RunReply.declined question kind line refuses) is = let clash : Refused kind line ≡ Words = is in cc
+follow_words t s _ _ _ (RunReply.bad_schedule question program line accepts bad) is = let clash : BadLine line ≡ Words = is in cc
+follow_words t s _ _ _ (RunReply.answered program events how bytes accepts spells said) is = answer_words how is
+follow_words t s _ _ _ (RunReply.shown program tree events page accepts has spells paged) is = run_words (run_on program (start program) events).stop is
 
 draw_words : (t : List ℕ) (status : Status) (bytes : List ℕ) → DrawReply t status bytes → status ≡ Words → ⊥
 draw_words t _ _ (DrawReply.bad_trace line bad) is = let clash : BadLine line ≡ Words = is in cc
-draw_words t _ _ (DrawReply.drawn page trace paged) is = let clash : Done ≡ Words = is in cc
+draw_words t _ _ (DrawReply.drawn actions spells) is = let clash : Done ≡ Words = is in cc
 
 module _ (Reply : Status → List ℕ → Type 0) (Due : List ℕ → Type 0) (before after : Option (List ℕ)) where
   pub replied_words : ((status : Status) (bytes : List ℕ) → Reply status bytes → status ≡ Words → ⊥) → (result : Status) → HasReplied Reply Due result before after → result ≡ Words → ⊥
@@ -61,9 +68,9 @@ module _ (words : List (List ℕ)) (told : List ℕ → Option (List ℕ)) (stat
   pub only_others : HasAnswered words told status before after → status ≡ Words → IsOther words
   only_others (reply.searched search p asked replies) is =
       absurd (of_none (told p) (λ t. Answers (SearchReply t search) status before after) (λ t held. replied_words (SearchReply t search) _ before after (search_words t search) status held is) replies)
-  only_others (reply.followed p q asked replies) is =
-      absurd (of_none (told p) (λ t. OfTold (told q) (λ s. Answers (NextReply t s) status before after))
-      (λ t each. of_none (told q) (λ s. Answers (NextReply t s) status before after) (λ s held. replied_words (NextReply t s) _ before after (next_words t s) status held is) each) replies)
+  only_others (reply.followed question p q asked replies) is =
+      absurd (of_none (told p) (λ t. OfTold (told q) (λ s. Answers (RunReply t s question) status before after))
+      (λ t each. of_none (told q) (λ s. Answers (RunReply t s question) status before after) (λ s held. replied_words (RunReply t s question) _ before after (follow_words t s question) status held is) each) replies)
   only_others (reply.drew p asked replies) is =
       absurd (of_none (told p) _ (λ t held. replied_words (DrawReply t) _ before after (draw_words t) status held is) replies)
   only_others (reply.other asked said) is = asked

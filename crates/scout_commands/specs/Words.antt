@@ -8,6 +8,8 @@ use Rattle.schedule_hunt.specs.declared.what.What.{What}
 use Rattle.schedule_hunt.specs.declared.what.What.TheVariants.{Fault, Stuck, Overlap, Differ, More}
 use Rattle.scout_commands.specs.declared.words.Command.{Command}
 use Rattle.scout_commands.specs.declared.words.Command.TheVariants as command
+use Rattle.scout_commands.specs.declared.words.Question.{Question}
+use Rattle.scout_commands.specs.declared.words.Question.TheVariants.{Next, Show}
 use Rattle.scout_commands.specs.declared.words.Search.{Search}
 use Rattle.scout_commands.specs.declared.words.Search.TheVariants.{Walk, Hunt}
 
@@ -30,9 +32,10 @@ IsSearch words (Hunt start count most what) program =
     (others : List (List ℕ)) × (words ≡ codes "hunt" ∷ program ∷ decimal start ∷ decimal count ∷ decimal most ∷ others)
     × IsGenerated start most × ((1 ≤ count) × (count ≤ 1000000)) × IsWhat others what
 
--- they ask which events are allowed after a schedule, and to draw a trace
-abbrev pub IsNext : List (List ℕ) → List ℕ → List ℕ → Type 0
-IsNext words program schedule = words ≡ codes "next" ∷ program ∷ schedule ∷ []
+-- they ask which events are allowed after a schedule, or for the page of its run; and to draw a trace
+abbrev pub IsFollow : List (List ℕ) → Question → List ℕ → List ℕ → Type 0
+IsFollow words Next program schedule = words ≡ codes "next" ∷ program ∷ schedule ∷ []
+IsFollow words Show program schedule = words ≡ codes "show" ∷ program ∷ schedule ∷ []
 
 abbrev pub IsDraw : List (List ℕ) → List ℕ → Type 0
 IsDraw words trace = words ≡ codes "draw" ∷ trace ∷ []
@@ -40,12 +43,12 @@ IsDraw words trace = words ≡ codes "draw" ∷ trace ∷ []
 -- they ask for nothing that is known
 pub record IsOther (words : List (List ℕ)) : Type 0 where
   pub search : (search : Search) (program : List ℕ) → IsSearch words search program → ⊥
-  pub next : (program schedule : List ℕ) → IsNext words program schedule → ⊥
+  pub follow : (question : Question) (program schedule : List ℕ) → IsFollow words question program schedule → ⊥
   pub draw : (trace : List ℕ) → IsDraw words trace → ⊥
 
 abbrev pub IsAsked : List (List ℕ) → Command → Type 0
 IsAsked words (command.Search search program) = IsSearch words search program.now
-IsAsked words (command.Next names) = IsNext words names.program.now names.schedule.now
+IsAsked words (command.Follow question names) = IsFollow words question names.program.now names.schedule.now
 IsAsked words (command.Draw trace) = IsDraw words trace.now
 IsAsked words command.Other = IsOther words
 

@@ -1,4 +1,4 @@
-//! The commands that find schedules and draw runs: what each call of the second program answers.
+//! The commands that find schedules, and draw and show runs: what each call of the second program answers.
 #![tactic(auto)]
 
 mod drawing;
@@ -11,4 +11,4 @@ mod words;
 
 pub use status::Status;
 pub use top::scout;
-pub use words::{Command, Names, Search, command_of};
+pub use words::{Command, Names, Question, Search, command_of};

@@ -48,7 +48,7 @@ pub fn scout<F: Files, K: Sink, P: Progress>(
         Command::Search { search, program } => {
             search_over(alloc, &search, program, files, out, progress)
         }
-        Command::Next(names) => follow(alloc, names.program, names.schedule, files, out),
+        Command::Follow { question, names } => follow(alloc, question, names, files, out),
         Command::Draw { trace } => draw_trace(alloc, trace, files, out),
         Command::Other => say(out, b"words\n", Status::Words),
     }

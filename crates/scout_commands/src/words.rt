@@ -26,15 +26,32 @@ pub enum Search {
     },
 }
 
+/// What is asked of the run of a schedule.
+#[derive(Clone, Copy)]
+pub enum Question {
+    /// Which events are allowed after it.
+    Next,
+    /// The page of it.
+    Show,
+}
+
 /// What the program is asked to do.
 #[derive(Drop)]
 pub enum Command<'a> {
     /// To look for something over the program of this name.
-    Search { search: Search, program: &'a str },
-    /// To say which events are allowed after a schedule.
-    Next(Names<'a>),
+    Search {
+        search: Search,
+        program: &'a str,
+    },
+    /// To run the program by the schedule of these names, for an answer.
+    Follow {
+        question: Question,
+        names: Names<'a>,
+    },
     /// To draw the trace of this name.
-    Draw { trace: &'a str },
+    Draw {
+        trace: &'a str,
+    },
     /// Nothing that it knows.
     Other,
 }
@@ -53,7 +70,7 @@ pub fn command_of(alloc: Global, words: &[String]) -> Result<Command<'_>, NoMemo
     match words {
         [command, trace] => Ok(draw_of(command.as_str(), trace.as_str())),
         [command, program, schedule] => {
-            Ok(next_of(command.as_str(), program.as_str(), schedule.as_str()))
+            Ok(follow_of(command.as_str(), program.as_str(), schedule.as_str()))
         }
         [command, program, start, most] => Ok(walk_of(
             command.as_str(),
@@ -86,11 +103,20 @@ fn draw_of<'a>(command: &str, trace: &'a str) -> Command<'a>
 }
 
 // What three words ask for.
-fn next_of<'a>(command: &str, program: &'a str, schedule: &'a str) -> Command<'a>
+fn follow_of<'a>(command: &str, program: &'a str, schedule: &'a str) -> Command<'a>
     ensures { IsAsked (command.now ∷ program.now ∷ schedule.now ∷ []) result }
 {
+    let names = Names { program, schedule };
     if command == "next" {
-        Command::Next(Names { program, schedule })
+        Command::Follow {
+            question: Question::Next,
+            names,
+        }
+    } else if command == "show" {
+        Command::Follow {
+            question: Question::Show,
+            names,
+        }
     } else {
         Command::Other
     }

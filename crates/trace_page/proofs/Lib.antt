@@ -1,3 +1,15 @@
+pub mod ArrowLemmas
+pub mod ChainLemmas
+pub mod ColumnLemmas
+pub mod DrawLemmas
+pub mod FormLemmas
+pub mod LabelLemmas
+pub mod LineLemmas
+pub mod MarkLemmas
 pub mod PageLemmas
+pub mod RowLemmas
 pub mod SafetyLaws
+pub mod SheetLemmas
+pub mod SpotLemmas
 pub mod TraceLemmas
+pub mod TracingLemmas

@@ -2,7 +2,7 @@
 use Rattle.std.proofs.Common.{◌≡◌, refl, ℕ, true, false, Bool, List, [], ◌∷◌, ◌++◌}
 use Rattle.std.specs.List.{list_all}
 use Rattle.std.specs.Prelude.{◌==◌, ◌&&◌, if◌then◌else◌, not, codes}
-use Rattle.trace_page.specs.PageText.{entity, escaped}
+use Rattle.trace_page.specs.Parts.{entity, escaped}
 
 -- a byte that is none of `<`, `>`, `"` and `'`
 abbrev pub is_plain : ℕ → Bool

@@ -1,5 +1,12 @@
+pub mod Arrows
+pub mod LastLine
+pub mod Layout
 pub mod Markup
 pub mod Outcome
 pub mod PageText
+pub mod Parts
+pub mod Rows
+pub mod Shapes
+pub mod Sheets
 pub mod Steps
 pub mod TraceText

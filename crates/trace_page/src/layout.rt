@@ -1,183 +1,94 @@
 //! Where on the drawing everything stands, in pixels from the left and from the top.
-use crate::matching::{Matching, match_steps};
-use crate::rows::{column_of, put_at, rows_of};
-use crate::step::Step;
-use da_values::{List, NoMemory};
-use sched_text::Kind;
-use std::alloc::Global;
-use std::collections::BTreeSet;
+ghost use Rattle.std.specs.Prelude.{◌≡◌, ◌<◌, ◌≤◌, ◌^◌, if◌then◌else◌, length, nat_lt};
+ghost use Rattle.trace_page.specs.Layout.{beside as beside_def, column_in, height_of as height_def, left as left_def, top_of as top_def, width_of as width_def, x_of as x_def, y_of as y_def};
+ghost use Rattle.trace_page.specs.Sheets.{IsNarrow, IsSheet};
 
-/// How far the first row lies below the top, and how high a row is.
-const TOP: u64 = 26;
+use crate::page::{Column, Kind, Page};
+use crate::sheet::Sheet;
 
-const ROW: u64 = 34;
+/// How far a message that did not arrive is drawn aside.
+const ASIDE: u64 = 32;
 
 /// How far the first column lies from the left.
-const LEFT: u64 = 60;
-
-/// The widths that a column may have.
-const NARROWEST: u64 = 120;
-
-const WIDEST: u64 = 240;
-
-/// The most bytes of a label that are shown.
-pub(crate) const LABEL_MOST: usize = 26;
-
-/// A point of the drawing.
-#[derive(Clone, Copy)]
-pub(crate) struct Point {
-    pub x: u64,
-    pub y: u64,
-}
-
-/// The places of the steps of a trace.
-#[derive(Drop)]
-pub(crate) struct Layout {
-    processes: List<u16>,
-    rows: List<u32>,
-    matching: Matching,
-    /// Of each column, the row where its process ended.
-    ends: List<Option<u32>>,
-    depth: u64,
-    column_width: u64,
-}
-
-impl Layout {
-    /// The processes, in ascending order.
-    pub fn processes(&self) -> &[u16] {
-        self.processes.as_slice()
-    }
-
-    /// Which step sent the message of which other one.
-    pub fn matching(&self) -> &Matching {
-        &self.matching
-    }
-
-    /// The width of the drawing.
-    pub fn width(&self) -> u64 {
-        let columns = (self.processes.len() as u64).max(1);
-        columns
-            .saturating_mul(self.column_width)
-            .saturating_add(LEFT)
-    }
-
-    /// The height of the drawing.
-    pub fn height(&self) -> u64 {
-        height_of(self.depth).saturating_add(TOP)
-    }
-
-    /// Where the line of a process stands.
-    pub fn x(&self, process: u16) -> u64 {
-        let column = column_of(self.processes.as_slice(), process) as u64;
-        column
-            .saturating_mul(self.column_width)
-            .saturating_add(LEFT)
-    }
-
-    /// How far down a step stands.
-    pub fn y(&self, place: usize) -> u64 {
-        height_of(u64::from(self.rows.get(place).copied().unwrap_or(0)))
-    }
-
-    /// Where a step stands.
-    pub fn point(&self, place: usize, process: u16) -> Point {
-        Point {
-            x: self.x(process),
-            y: self.y(place),
-        }
-    }
-
-    /// How far down a process ended, if it did.
-    pub fn end(&self, process: u16) -> Option<u64> {
-        let column = column_of(self.processes.as_slice(), process);
-        let row = self.ends.get(column).copied().flatten()?;
-        Some(height_of(u64::from(row)))
+fn left(kind: Kind) -> u64
+    ensures value { result ≡ left_def kind }
+    ensures few { result ≤ 300 }
+{
+    match kind {
+        Kind::Trace => 190,
+        Kind::Run => 300,
     }
 }
 
-// How far down a row stands.
-fn height_of(row: u64) -> u64 {
-    row.saturating_mul(ROW).saturating_add(TOP)
+/// How many columns of a page stand before that of a process.
+pub(crate) fn column_of(page: &Page, p: u16) -> u64
+    ensures value { result ≡ column_in page.now.columns p }
+    ensures within { result ≤ length page.now.columns }
+{
+    let mut before = 0;
+    for column in page.columns.as_slice() {
+        before += stands_before(column, p);
+    }
+    before
 }
 
-/// Lays a trace out.
-pub(crate) fn layout_of(alloc: Global, steps: &[Step<'_>]) -> Result<Layout, NoMemory> {
-    let processes = processes_of(alloc, steps)?;
-    let matching = match_steps(alloc, steps)?;
-    let rows = rows_of(alloc, steps, processes.as_slice(), &matching)?;
-    let ends = ends_of(alloc, steps, processes.as_slice(), rows.as_slice())?;
-    let depth = depth_of(rows.as_slice());
-    let column_width = column_width_of(steps);
-    Ok(Layout {
-        processes,
-        rows,
-        matching,
-        ends,
-        depth,
-        column_width,
-    })
+// 1 for a column before that of a process, and 0 for any other.
+fn stands_before(column: &Column, p: u16) -> u64
+    ensures value { result ≡ (if nat_lt column.now.process p then 1 else 0) }
+    ensures few { result ≤ 1 }
+{
+    if column.process < p { 1 } else { 0 }
 }
 
-// The processes that a trace names.
-fn processes_of(alloc: Global, steps: &[Step<'_>]) -> Result<List<u16>, NoMemory> {
-    let mut found = BTreeSet::new(alloc);
-    for step in steps {
-        if step.kind != Kind::Stop && found.insert(step.process).is_err() {
-            return Err(NoMemory);
-        }
-        if has_peer(step.kind) && found.insert(step.peer).is_err() {
-            return Err(NoMemory);
-        }
-    }
-    let mut processes = List::new(alloc);
-    for process in &found {
-        processes.push(*process)?;
-    }
-    Ok(processes)
+/// Where the line of a process stands.
+pub(crate) fn x_of(page: &Page, p: u16) -> u64
+    requires { IsNarrow page.now }
+    ensures value { result ≡ x_def page.now p }
+    ensures few { result ≤ 16777216 }
+{
+    left(page.kind) + 160 * column_of(page, p)
 }
 
-fn has_peer(kind: Kind) -> bool {
-    matches!(kind, Kind::Sent | Kind::Got | Kind::Lost | Kind::Again)
+/// The top of a line.
+pub(crate) fn top_of(line: u32) -> u64
+    ensures value { result ≡ top_def line }
+    ensures few { result < 2 ^ 40 }
+{
+    20 + 18 * u64::from(line)
 }
 
-// The row where each process ended.
-fn ends_of(
-    alloc: Global,
-    steps: &[Step<'_>],
-    processes: &[u16],
-    rows: &[u32],
-) -> Result<List<Option<u32>>, NoMemory> {
-    let mut ends = List::new(alloc);
-    for _process in processes {
-        ends.push(None)?;
-    }
-    for (step, row) in steps.iter().zip(rows) {
-        if matches!(step.kind, Kind::End | Kind::Fault) {
-            put_at(&mut ends, column_of(processes, step.process), Some(*row));
-        }
-    }
-    Ok(ends)
+/// The middle of a line.
+pub(crate) fn y_of(line: u32) -> u64
+    ensures value { result ≡ y_def line }
+    ensures few { result < 2 ^ 40 }
+{
+    29 + 18 * u64::from(line)
 }
 
-// How many rows there are.
-fn depth_of(rows: &[u32]) -> u64 {
-    let mut depth = 0;
-    for row in rows {
-        depth = u64::from(*row).saturating_add(1).max(depth);
-    }
-    depth
+/// The width of the drawing.
+pub(crate) fn width_of(page: &Page) -> u64
+    requires { IsNarrow page.now }
+    ensures { result ≡ width_def page.now }
+{
+    left(page.kind) + 160 * page.columns.len() as u64 + 30
 }
 
-// A column is as wide as its longest label asks for.
-fn column_width_of(steps: &[Step<'_>]) -> u64 {
-    let mut longest = 0usize;
-    for step in steps {
-        longest = longest.max(step.label.len());
+/// The height of the drawing.
+pub(crate) fn height_of(sheet: &Sheet<'_>) -> u64
+    requires { IsSheet sheet.now }
+    ensures { result ≡ height_def sheet.now.page.now }
+{
+    40 + 18 * u64::from(sheet.lines)
+}
+
+/// A little way from one column to another.
+pub(crate) fn beside(from: u64, to: u64) -> u64
+    requires { from ≤ 16777216 }
+    ensures { result ≡ beside_def from to }
+{
+    if to < from {
+        from.saturating_sub(ASIDE)
+    } else {
+        from + ASIDE
     }
-    let shown = longest.min(LABEL_MOST) as u64;
-    shown
-        .saturating_mul(7)
-        .saturating_add(40)
-        .max(NARROWEST)
-        .min(WIDEST)
 }

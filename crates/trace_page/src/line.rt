@@ -2,6 +2,7 @@
 ghost use Rattle.std.specs.List.{All};
 ghost use Rattle.std.specs.Prelude.{◌≡◌, ◌≢◌, ◌∷◌, ◌++◌, ◌<◌, length, IfSome, MatchOption};
 ghost use Rattle.std.specs.Str.Lines.{lines, strip_carriage_return};
+ghost use Rattle.trace_page.specs.LastLine.{last_of};
 
 /// The first line of a text without its end, and what follows it.
 pub(crate) fn split_line(text: &[u8]) -> (&[u8], &[u8])
@@ -13,6 +14,20 @@ pub(crate) fn split_line(text: &[u8]) -> (&[u8], &[u8])
         Some((line, rest)) => (without_return(line), rest),
         None => (text, b"".as_slice()),
     }
+}
+
+/// The last line of a text without its end, which is empty where there is no line.
+pub fn last_line(text: &[u8]) -> &[u8]
+    ensures { result.now ≡ last_of (lines text.now) }
+{
+    let mut last = b"".as_slice();
+    let mut rest = text;
+    'lines: while rest.len() > 0 {
+        let (line, others) = split_line(rest);
+        last = line;
+        rest = others;
+    }
+    last
 }
 
 // The bytes before the first LF and those after it, or nothing exactly where there is no LF.

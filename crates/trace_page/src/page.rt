@@ -1,45 +1,46 @@
-//! Pages.
-ghost use Rattle.std.specs.List.{enumerate_from, flat_map};
-ghost use Rattle.std.specs.Prelude.{◌≡◌, ◌++◌, OnOk};
-ghost use Rattle.trace_page.specs.PageText.{item_text};
-ghost use Rattle.trace_page.specs.Outcome.{IsPageOf};
-ghost use Rattle.trace_page.specs.Steps.{lines_of};
+//! What a page shows.
+use da_lang::Action;
+use da_values::{Buf, List};
 
-use crate::diagram::put_diagram;
-use crate::piece::put_escaped;
-use crate::step::Step;
-use crate::trace::{TraceFault, read_trace};
-use da_values::{Buf, List, NoMemory, write_number};
-use std::alloc::Global;
-
-/// The page of the trace that a text is.
-pub(crate) fn page_of(alloc: Global, text: &[u8]) -> Result<Buf, TraceFault>
-    ensures { IsPageOf text.now result }
-{
-    let steps = read_trace(alloc, text)?;
-    let mut page = List::new(alloc);
-    put_diagram(alloc, steps.as_slice(), &mut page)?;
-    put_items(steps.as_slice(), &mut page)?;
-    page.append(b"</ol>\n</body>\n</html>\n")?;
-    Ok(page)
+/// Whether the rows of a page are those of a trace, or the events of a run, of which the first row is the opening.
+#[derive(Clone, Copy)]
+pub enum Kind {
+    Trace,
+    Run,
 }
 
-// Appends the lines of the steps, each with its number.
-fn put_items(steps: &[Step<'_>], out: &mut Buf) -> Result<(), NoMemory>
-    ensures { OnOk result (out.new ≡ out.old ++ flat_map item_text (enumerate_from 1 (lines_of steps.now))) }
-{
-    for (place, step) in steps.iter().enumerate() {
-        put_item(place as u64 + 1, step.line, out)?;
-    }
-    Ok(())
+/// What a page shows, but for the text of a program.
+#[derive(Drop)]
+pub struct Page {
+    pub kind: Kind,
+    /// What was remarked of the run, each on a line.
+    pub remarks: List<Buf>,
+    /// The columns, by the ascending numbers of their processes. There are at most 65,536.
+    pub columns: List<Column>,
+    pub rows: List<Row>,
 }
 
-fn put_item(number: u64, line: &[u8], out: &mut Buf) -> Result<(), NoMemory>
-    ensures { OnOk result (out.new ≡ out.old ++ item_text (number, line.now)) }
-{
-    out.append(b"<li id='n")?;
-    write_number(number, out)?;
-    out.append(b"'>")?;
-    put_escaped(line, out)?;
-    out.append(b"</li>\n")
+/// A column: its process, and the name that stands before its number.
+#[derive(Drop)]
+pub struct Column {
+    pub process: u16,
+    pub name: Buf,
+}
+
+/// A row: the words of its event, if they are known, what it does, what it changes, and whether it is marked.
+#[derive(Drop)]
+pub struct Row {
+    pub words: Buf,
+    pub actions: List<Action>,
+    pub changes: List<Change>,
+    pub is_marked: bool,
+}
+
+/// The new value of a thing that belongs to a process, which is one of its things by its place, counted from 0.
+#[derive(Drop)]
+pub struct Change {
+    pub process: u16,
+    pub place: u32,
+    pub name: Buf,
+    pub value: Buf,
 }

@@ -1,11 +1,10 @@
 //! Traces, read line by line.
-ghost use Rattle.sched_text.specs.ActionText.{action_line};
-ghost use Rattle.std.specs.Prelude.{◌≡◌, ℕ, ◌≤◌, ◌++◌, ◌∷◌, [], length, IfErr, OnOk};
+ghost use Rattle.std.specs.Prelude.{◌≤◌, length, IfErr, OnOk};
 ghost use Rattle.trace_page.specs.Steps.{Adds, IsFaultAt, IsRead};
 ghost use Rattle.trace_page.specs.TraceText.{trace_limit};
 
 use crate::line::split_line;
-use crate::step::{Step, step_of};
+use da_lang::Action;
 use da_values::{List, NoMemory, ValueFault};
 use sched_text::read_action;
 use std::alloc::Global;
@@ -37,48 +36,46 @@ impl From<NoMemory> for TraceFault {
     }
 }
 
-/// The steps of a trace, one for each line, in their order.
-pub(crate) fn read_trace(alloc: Global, text: &[u8]) -> Result<List<Step<'_>>, TraceFault>
+/// The actions of a trace, one for each line, in their order.
+pub(crate) fn read_trace(alloc: Global, text: &[u8]) -> Result<List<Action>, TraceFault>
     ensures { IsRead text.now result }
 {
     if text.len() > TRACE_LIMIT {
         return Err(TraceFault::BadLine(0));
     }
-    read_steps(alloc, text)
+    read_actions(alloc, text)
 }
 
-// The steps of a text within the limit.
-fn read_steps(alloc: Global, text: &[u8]) -> Result<List<Step<'_>>, TraceFault>
+// The actions of a text within the limit.
+fn read_actions(alloc: Global, text: &[u8]) -> Result<List<Action>, TraceFault>
     requires { length text.now ≤ trace_limit }
     ensures { IsRead text.now result }
 {
-    let mut steps = List::new(alloc);
+    let mut actions = List::new(alloc);
     let mut rest = text;
     let mut number = 1;
     'lines: while rest.len() > 0 {
         let (line, others) = split_line(rest);
-        read_line(alloc, line, number, &mut steps)?;
+        read_line(alloc, line, number, &mut actions)?;
         rest = others;
         number += 1;
     }
-    Ok(steps)
+    Ok(actions)
 }
 
-// Adds the step of the line of this number.
-fn read_line<'t>(
+// Adds the action of the line of this number.
+fn read_line(
     alloc: Global,
-    line: &'t [u8],
+    line: &[u8],
     number: u64,
-    steps: &mut List<Step<'t>>,
+    actions: &mut List<Action>,
 ) -> Result<(), TraceFault>
-    ensures ok { OnOk result (Adds line.now steps.old steps.new) }
+    ensures ok { OnOk result (Adds line.now actions.old actions.new) }
     ensures err { IfErr result (λ fault. IsFaultAt line.now number fault) }
 {
     match read_action(alloc, line) {
         Ok(action) => {
-            let step = step_of(&action, line);
-            drop(action);
-            steps.push(step)?;
+            actions.push(action)?;
             Ok(())
         }
         Err(ValueFault::Unread) => Err(TraceFault::BadLine(number)),

@@ -2,21 +2,23 @@ use Rattle.std.proofs.Common.{subst, sym}
 use Rattle.std.specs.Prelude.{Err}
 use Rattle.da_core.specs.Compiled.{program_of}
 use Rattle.da_commands.specs.Lines.{badline_text}
-use Rattle.da_commands.proofs.ReplyLemmas.{bad_within, schedule_within}
+use Rattle.da_commands.proofs.ReplyLemmas.{bad_within}
 use Rattle.sched_text.specs.Reading.{IsRead}
 use Rattle.sched_text.specs.ScheduleText.{IsBadSchedule, SpellsSchedule}
 use Rattle.scout_commands.specs.declared.status.Status.TheVariants.{BadLine}
-use Rattle.scout_commands.specs.Replies.{NextReply}
-use Rattle.scout_commands.proofs.ReplyLemmas.{said_answers}
+use Rattle.scout_commands.specs.Replies.{RunReply}
+use Rattle.scout_commands.proofs.ReplyLemmas.{memory_replied, said_answers}
 use Rattle.scout_commands.proofs.following.answer_schedule.Goals as goal
 
 pub returns-in-Ok-clause-replies : goal.returns-in-Ok-clause-replies
-returns-in-Ok-clause-replies g c = λ t s accepts is.
-    c.answer_events.ensures.replies t s accepts (schedule_within _ s _ is (subst (SpellsSchedule c.args.schedule.now) (sym c.as_slice.ensures) c.in-Ok.ensures.read))
+returns-in-Ok-clause-replies g c = λ t s whole accepts is. c.answer_run.ensures.replies t s whole accepts is (subst (SpellsSchedule c.args.schedule.now) (sym c.as_slice.ensures) c.in-Ok.ensures.read)
 
 pub returns-in-Err-BadLine-clause-replies : goal.returns-in-Err-BadLine-clause-replies
-returns-in-Err-BadLine-clause-replies g c = λ t s accepts is.
+returns-in-Err-BadLine-clause-replies g c = λ t s whole accepts is.
     let read : IsRead c.args.schedule.now (Err c.in-Err-BadLine.field-0) = c.in-Err-BadLine.ensures.read in
     let line = c.in-Err-BadLine.line in
     let wrong : IsBadSchedule s line = bad_within _ s _ is (subst (λ e. IsRead c.args.schedule.now (Err e)) c.in-Err-BadLine.field-0-is read) in
-    said_answers (NextReply t s) (BadLine line) (badline_text line) _ _ _ (NextReply.bad_schedule (program_of c.args.compiled.now) line accepts wrong) c.refuse_line.ensures.said
+    said_answers (RunReply t s c.args.question) (BadLine line) (badline_text line) _ _ _ (RunReply.bad_schedule c.args.question (program_of c.args.compiled.now) line accepts wrong) (rw c.in-Err-BadLine.field-0-is at c.refuse_line.ensures.said)
+
+pub returns-in-Err-Memory-clause-replies : goal.returns-in-Err-Memory-clause-replies
+returns-in-Err-Memory-clause-replies g c = λ t s whole accepts is. memory_replied (RunReply t s c.args.question) _ _

@@ -13,8 +13,8 @@ returns-in-Search-clause-only_words g c =
     only_others (map string_bytes c.args.words.now) (g.F.Files.told c.args.files.now) c.search.result (g.K.Sink.taken c.args.out.now) (g.K.Sink.taken c.search.new.out)
     (searched c.in-Search.search c.in-Search.program.now (subst (IsAsked (map string_bytes c.args.words.now)) c.in-Search.is c.in-Ok.ensures) c.search.ensures.replies)
 
-pub returns-in-Next-clause-replies : goal.returns-in-Next-clause-replies
-returns-in-Next-clause-replies g c = followed c.in-Next.names.program.now c.in-Next.names.schedule.now (subst (IsAsked _) c.in-Next.is c.in-Ok.ensures) c.follow.ensures.replies
+pub returns-in-Follow-clause-replies : goal.returns-in-Follow-clause-replies
+returns-in-Follow-clause-replies g c = followed c.in-Follow.question c.in-Follow.names.program.now c.in-Follow.names.schedule.now (subst (IsAsked _) c.in-Follow.is c.in-Ok.ensures) c.follow.ensures.replies
 
 pub returns-in-Draw-clause-replies : goal.returns-in-Draw-clause-replies
 returns-in-Draw-clause-replies g c = drew c.in-Draw.trace.now (subst (IsAsked _) c.in-Draw.is c.in-Ok.ensures) c.draw_trace.ensures.replies

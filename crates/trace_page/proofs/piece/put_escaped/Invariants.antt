@@ -1,5 +1,5 @@
 use Rattle.std.proofs.Common.{◌≡◌, ◌++◌, take}
-use Rattle.trace_page.specs.PageText.{escaped}
+use Rattle.trace_page.specs.Parts.{escaped}
 use Rattle.trace_page.proofs.piece.put_escaped.Given as goal
 
 abbrev pub invariant-loop-byte : goal.invariant-loop-byte

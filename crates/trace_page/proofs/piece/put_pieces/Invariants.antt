@@ -1,5 +1,5 @@
 use Rattle.std.proofs.Common.{◌≡◌, ◌++◌, take}
-use Rattle.trace_page.specs.PageText.{pieces_text}
+use Rattle.trace_page.specs.Parts.{pieces_text}
 use Rattle.trace_page.proofs.piece.put_pieces.Given as goal
 
 abbrev pub invariant-loop-piece : goal.invariant-loop-piece

@@ -1,0 +1,8 @@
+use Rattle.std.proofs.Common.{◌≡◌, ◌++◌, take}
+use Rattle.std.proofs.Common.{map}
+use Rattle.da_values.specs.Text.{separated, value_text}
+use Rattle.da_values.specs.Value.{vals}
+use Rattle.trace_page.proofs.label.put_separated.Given as goal
+
+abbrev pub invariant-loop-place : goal.invariant-loop-place
+invariant-loop-place l = l.out ≡ l.fn.out ++ separated (map value_text (vals (take l.place l.values)))
