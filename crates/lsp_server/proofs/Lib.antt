@@ -1,0 +1,9 @@
+pub mod AskLemmas
+pub mod CauseLemmas
+pub mod ChangeLemmas
+pub mod HeardLemmas
+pub mod JsonLemmas
+pub mod LetterLemmas
+pub mod NoticeLemmas
+pub mod RepliedLemmas
+pub mod SessionLemmas

@@ -1,0 +1,11 @@
+use Rattle.std.proofs.Common.{ap, ◌∙◌}
+use Rattle.serde_json.specs.View.{members_view, view}
+use Rattle.serde_json.proofs.Views.{view-Object}
+use Rattle.lsp_server.proofs.LetterLemmas.{made_refusal}
+use Rattle.lsp_server.proofs.letters.refusal_value.Goals as goal
+
+pub returns : goal.returns
+returns c =
+    view-Object c.put_text.new.members
+    ∙ made_refusal (view c.args.id.now) _ _ c.args.fault _ _ _ _ (ap members_view c.new-members.ensures.empty)
+    c.in_ok-error_value.ensures c.in_ok-put_member.ensures c.in_ok-copy_of.ensures c.in_ok-put_member-2.ensures c.in_ok-put_text.ensures

@@ -1,0 +1,9 @@
+pub mod DueView
+pub mod ExitCode
+pub mod Faults
+pub mod Heard
+pub mod Letters
+pub mod Message
+pub mod Notices
+pub mod Session
+pub mod Turns
