@@ -6,7 +6,7 @@ use text_hints::{Nearest, Phrase, said_in};
 pub type Command = (&'static [u8], usize, &'static [u8]);
 
 /// The commands. More words may stand behind `join` and `hunt`, and behind no other.
-const COMMANDS: [Command; 14] = [
+const COMMANDS: [Command; 15] = [
     (b"check", 1, b"check PROG"),
     (b"replay", 2, b"replay PROG SCHED"),
     (b"plan", 1, b"plan PROG"),
@@ -17,6 +17,7 @@ const COMMANDS: [Command; 14] = [
     (b"next", 2, b"next PROG SCHED"),
     (b"show", 2, b"show PROG SCHED"),
     (b"hunt", 4, b"hunt PROG START COUNT N WHAT"),
+    (b"watch", 3, b"watch WATCH PROG SCHED"),
     (b"draw", 1, b"draw TRACE"),
     (b"node", 5, b"node PROG PORT ME IDLE TURNS"),
     (b"launch", 4, b"launch PROG PORT IDLE TURNS"),

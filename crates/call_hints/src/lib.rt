@@ -7,6 +7,7 @@ mod commands;
 mod drawn;
 mod hunts;
 mod numbers;
+mod options;
 mod terminal;
 mod unread;
 mod usage;

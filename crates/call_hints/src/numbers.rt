@@ -30,6 +30,15 @@ const RANGES: [Range; 14] = [
 /// The number behind `more`.
 const MORE: Range = (b"hunt", b"K", 6, 0, MOST_OUTPUTS);
 
+/// The numbers behind the options of a hunt. Their places are not fixed.
+const LOSSES: Range = (b"hunt", b"L", 0, 0, 255);
+
+const REPETITIONS: Range = (b"hunt", b"R", 0, 0, 255);
+
+const FALLS: Range = (b"hunt", b"D", 0, 0, 255);
+
+const JOBS: Range = (b"hunt", b"J", 0, 1, 64);
+
 /// Tells the first number of a call that is not within its range, and answers whether there is one.
 pub fn tell_numbers(command: &[u8], words: &[String], out: &mut Phrase) -> bool {
     for range in &RANGES {
@@ -47,6 +56,16 @@ pub fn tell_numbers(command: &[u8], words: &[String], out: &mut Phrase) -> bool 
 /// Tells that the word behind `more` is no number within its range, and answers whether that is so.
 pub fn tell_more(word: &[u8], out: &mut Phrase) -> bool {
     tell_number(MORE, word, out)
+}
+
+/// Tells that the word behind an option is no number within its range, and answers whether that is so.
+pub fn tell_option_number(option: &[u8], word: &[u8], out: &mut Phrase) -> bool {
+    match option {
+        b"lose" => tell_number(LOSSES, word, out),
+        b"repeat" => tell_number(REPETITIONS, word, out),
+        b"jobs" => tell_number(JOBS, word, out),
+        _ => tell_number(FALLS, word, out),
+    }
 }
 
 // Tells that a word is no number within its range, and answers whether that is so.

@@ -9,7 +9,7 @@ use text_hints::Phrase;
 const USAGE: &str = "\
 usage: dalgo COMMAND .., where './dalgo --help' says more, and './dalgo COMMAND --help' shows one:
   check PROG, infer PROG, lint PROG, plan PROG, replay PROG SCHED, next PROG SCHED, show PROG SCHED, draw TRACE
-  join PROG TRACE .., stress PROG START N, walk PROG START N, hunt PROG START COUNT N WHAT
+  join PROG TRACE .., stress PROG START N, walk PROG START N, hunt PROG START COUNT N WHAT, watch WATCH PROG SCHED
   node PROG PORT ME IDLE TURNS, launch PROG PORT IDLE TURNS
 status: 0 done, 1 refused or remarks, 2 words, 3 forbidden, 4 bad line, 5 read, 6 write, 7 memory, 8 link, 9 idle,
   10 spent or found, 11 fault, 12 child, 13 child status, 14 bad trace, 15 no join, 16 no schedule, 20 no words";

@@ -4,7 +4,7 @@ use Rattle.std.specs.List.{flat_map}
 use Rattle.da_lang.specs.declared.event.Event.{Event}
 use Rattle.sched_text.specs.EventText.{event_line}
 use Rattle.da_front.specs.declared.refusal.RefusedKind.{RefusedKind}
-use Rattle.da_front.specs.declared.refusal.RefusedKind.TheVariants.{Size, Byte, Indent, Token, Unclosed, Syntax, Deep, Unknown, Twice, Shadow, Recursive, Yield, Setup, NoRun, Arity, Classes, Processes, Items, Blocks, Variables, Parts, Generators, Types, Nodes, Infer, Me, Traces}
+use Rattle.da_front.specs.declared.refusal.RefusedKind.TheVariants.{Size, Byte, Indent, Token, Unclosed, Syntax, Deep, Unknown, Twice, Shadow, Recursive, Yield, Setup, NoRun, Arity, Classes, Processes, Items, Blocks, Variables, Parts, Generators, Types, Nodes, Infer, Me, Traces, Watch}
 
 abbrev pub refused_word : RefusedKind → List ℕ
 refused_word Size = codes "size"
@@ -34,6 +34,7 @@ refused_word Nodes = codes "nodes"
 refused_word Infer = codes "infer"
 refused_word Me = codes "me"
 refused_word Traces = codes "traces"
+refused_word Watch = codes "watch"
 
 -- the line of a refusal, and that of a bad schedule
 abbrev pub refused_text : RefusedKind → ℕ → List ℕ

@@ -43,6 +43,7 @@ fn refused_word(kind: RefusedKind) -> &'static [u8]
         RefusedKind::Infer => b"infer",
         RefusedKind::Me => b"me",
         RefusedKind::Traces => b"traces",
+        RefusedKind::Watch => b"watch",
     }
 }
 

@@ -1,2 +1,3 @@
 pub mod ProgramLemmas
 pub mod VerdictLemmas
+pub mod WatchLemmas

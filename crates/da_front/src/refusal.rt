@@ -92,6 +92,9 @@ pub enum RefusedKind {
     /// There are not as many traces as the program has processes.
     #[error("a join takes one trace for each process of the program")]
     Traces,
+    /// The `main` of a watch makes another number of processes than one.
+    #[error("the main of a watch makes one process, as w = new(Watch), and may set it up; the program that is watched makes the others")]
+    Watch,
 }
 
 /// Why a text gives no program.

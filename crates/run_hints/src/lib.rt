@@ -24,6 +24,7 @@ pub use counts::process_count;
 pub use faults::{Fault, explain_fault};
 pub use following::explain_events;
 pub use lines::explain_line;
+pub use points::{Point, point_in};
 pub use reached::line_waited;
 pub use stop::explain_stop;
 pub use trace_lines::{explain_trace_line, trace_line};

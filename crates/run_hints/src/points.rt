@@ -1,10 +1,11 @@
 //! The places to wait of a class: labels and `await`s, numbered from 0 in the order of the text of `run` with calls inlined.
 use da_lang::{Alt, Item, ItemKind, RBranch};
 
-/// A place to wait: its line, and whether it is an `await` with a block for a timeout.
+/// A place to wait: its line, how many alternatives it has, and whether it is an `await` with a block for a timeout.
 #[derive(Clone, Copy)]
 pub struct Point {
     pub line: u32,
+    pub alternatives: u32,
     pub times_out: bool,
 }
 
@@ -39,7 +40,7 @@ fn find_in(item: &Item, left: &mut u32) -> Option<Point> {
             alts,
             timeout,
             label: _,
-        } => match pass(item.line, timeout.is_some(), left) {
+        } => match pass(item.line, alts.len(), timeout.is_some(), left) {
             Some(found) => Some(found),
             None => match find_in_alternatives(alts.as_slice(), left) {
                 Some(found) => Some(found),
@@ -49,7 +50,7 @@ fn find_in(item: &Item, left: &mut u32) -> Option<Point> {
                 },
             },
         },
-        ItemKind::Label(_) => pass(item.line, false, left),
+        ItemKind::Label(_) => pass(item.line, 0, false, left),
         _ => None,
     }
 }
@@ -75,9 +76,13 @@ fn find_in_alternatives(alternatives: &[Alt], left: &mut u32) -> Option<Point> {
 }
 
 // A place to wait, where none is left before the one that is looked for.
-fn pass(line: u32, times_out: bool, left: &mut u32) -> Option<Point> {
+fn pass(line: u32, alternatives: usize, times_out: bool, left: &mut u32) -> Option<Point> {
     match left.checked_sub(1) {
-        None => Some(Point { line, times_out }),
+        None => Some(Point {
+            line,
+            alternatives: u32::try_from(alternatives).unwrap_or(u32::MAX),
+            times_out,
+        }),
         Some(rest) => {
             *left = rest;
             None

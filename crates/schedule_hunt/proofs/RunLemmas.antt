@@ -1,28 +1,32 @@
 -- Runs in code, event by event.
-use Rattle.std.proofs.Common.{◌≡◌, refl, sym, ◌∙◌, ap, subst, ℕ, suc, ◌+◌, ◌-◌, ◌<◌, ◌≤◌, List, [], ◌∷◌, ◌++◌, drop, length, add-one, append-nil, append_assoc, arith, get_or, Bool, true, false, length-append}
-use Rattle.std.specs.Prelude.{Option, Some, None, Result, Ok, Err, ◌↔◌, IfOk, IsSome, IsTrue, is_some, slice_get}
+use Rattle.std.proofs.Common.{◌≡◌, refl, sym, ◌∙◌, ap, subst, ℕ, zero, suc, ◌+◌, ◌-◌, ◌<◌, ◌≤◌, List, [], ◌∷◌, ◌++◌, drop, length, add-one, append-nil, append_assoc, arith, get_or, Bool, true, false}
+use Rattle.std.specs.Prelude.{Option, Some, None, Result, Ok, Err, ◌↔◌, IfOk, IsSome, IsTrue, is_some}
 use Rattle.std.proofs.Math.Seq.{drop-cons}
 use Rattle.std.proofs.lemmas.Bool.{false≢true}
 use Rattle.std.proofs.lemmas.List.{drop_all}
 use Rattle.da_lang.specs.declared.event.Action.{Action}
-use Rattle.da_lang.specs.declared.event.Action.TheVariants.{Stop}
 use Rattle.da_lang.specs.declared.event.Event.{Event}
 use Rattle.da_lang.specs.declared.program.Program.{Program}
-use Rattle.da_system.specs.Choices.{choices}
 use Rattle.da_system.specs.SourceRun.{SrcRun, and_then, at_event, src_run, src_run_from}
-use Rattle.da_system.specs.declared.system.System.{System}
-use Rattle.da_system.specs.State.{IsReady, Stands, is_spent, program_of}
-use Rattle.da_system.specs.StressRun.{StressRun, next_number, pick, place_in, stress_from}
+use Rattle.da_system.specs.State.{Stands, program_of}
+use Rattle.da_system.specs.StressRun.{state_after}
 use Rattle.da_system.specs.SystemStep.{AfterEvent, SystemState, start, sys_step}
-use Rattle.da_system.proofs.StressLaws.{picks_none, picks_one, run_more}
+use Rattle.da_system.proofs.StressLaws.{run_more}
+use Rattle.schedule_pick.specs.declared.budget.Budget.{Budget}
+use Rattle.schedule_pick.specs.declared.picker.Picker.{Picker}
+use Rattle.schedule_pick.specs.Budgets.{pickable}
+use Rattle.schedule_pick.specs.Picked.{at_event as at_pick, falls_of, first_picker, picked, picked_from, picker_after, picker_by}
+use Rattle.schedule_walk.specs.Rest.{IsAtRest}
 use Rattle.schedule_hunt.specs.declared.runs.Run.{Run}
 use Rattle.schedule_hunt.specs.declared.runs.Trial.{Trial}
+use Rattle.schedule_hunt.specs.declared.what.Goal.{Goal}
+use Rattle.schedule_hunt.specs.declared.what.Trials.{Trials}
 use Rattle.schedule_hunt.specs.declared.what.What.{What}
 use Rattle.schedule_hunt.specs.Hunt.{IsShownBy, generated}
-use Rattle.schedule_hunt.specs.Runs.{HasRun, IsExecuted, IsPicked, IsRunOf, IsTrial, StandsAfter, WasPicked}
+use Rattle.schedule_hunt.specs.Runs.{HasRun, IsExecuted, IsPicked, IsTrial, StandsAfter, WasPicked}
 use Rattle.schedule_hunt.specs.declared.what.What.TheVariants.{Stuck}
-use Rattle.schedule_hunt.specs.Shown.{HasEnded, IsStuck, Shows}
-use Rattle.schedule_hunt.specs.ShownSteps.{HasUnended, IsAtRest}
+use Rattle.schedule_hunt.specs.Shown.{HasEnded, IsStuck, Reaches, Shows}
+use Rattle.schedule_hunt.specs.ShownSteps.{HasUnended}
 
 -- GIVEN EVENTS
 
@@ -89,67 +93,100 @@ module _ (program : Program) (events : List Event) (place : ℕ) (old : Run) (ca
 
 -- GENERATED EVENTS
 
--- these events before those of a run
-abbrev after_events : List Event → StressRun → StressRun
-after_events events run = record run { events = events ++ run.events }
-
 abbrev ran_to : List Action → SystemState → SrcRun
 ran_to told s = record { actions = told; stop = None; state = s }
 
--- So many events were picked and carried out; the last number is this one.
-pub record CameBy (program : Program) (x most place : ℕ) (trial : Trial) (last : ℕ) : Type 0 where
+-- what is picked first, and what then
+picks_one : (program : Program) (m n : ℕ) (picker : Picker) (s : SystemState) (e : Event) (after : AfterEvent) → m ≡ suc n → picked picker (pickable program s picker.budget) ≡ Some e
+    → sys_step program s e ≡ Some after → picked_from program m picker s ≡ e ∷ picked_from program n (picker_after picker (pickable program s picker.budget) e) after.state
+picks_one program m n picker s e after is picks step =
+    ap (λ k. picked_from program k picker s) is
+    ∙ ap (λ o. at_pick o (λ e. picked_from program n (picker_after picker (pickable program s picker.budget) e) (state_after s (sys_step program s e)))) picks
+    ∙ ap (λ step. e ∷ picked_from program n (picker_after picker (pickable program s picker.budget) e) (state_after s step)) step
+
+picks_none : (program : Program) (m : ℕ) (picker : Picker) (s : SystemState) → picked picker (pickable program s picker.budget) ≡ None → picked_from program m picker s ≡ []
+picks_none program zero picker s none = refl
+picks_none program (suc n) picker s none =
+    ap (λ o. at_pick o (λ e. picked_from program n (picker_after picker (pickable program s picker.budget) e) (state_after s (sys_step program s e)))) none
+
+-- So many events were picked and carried out; what is left is picked so.
+pub record CameBy (program : Program) (trials : Trials) (x place : ℕ) (trial : Trial) (picker : Picker) : Type 0 where
   pub now : SystemState
-  pub picks : stress_from program most x (start program) ≡ after_events trial.events (stress_from program (most - place) last now)
+  pub picks : generated program trials x ≡ trial.events ++ picked_from program (trials.most - place) picker now
   pub does : src_run program trial.events ≡ ran_to trial.run.actions now
   pub stands : Stands trial.run.system now
   pub same : program_of trial.run.system ≡ program
+  pub turn : picker.place ≡ place
 
-pub by_first : (program : Program) (x most : ℕ) (trial : Trial) → program_of trial.run.system ≡ program → Stands trial.run.system (start program) → trial.run.actions ≡ [] → trial.events ≡ []
-    → CameBy program x most 0 trial x
-by_first program x most trial same stands none empty = record {
+first_place : (falls : Option ℕ) (count : ℕ) (budget : Budget) (most number : ℕ) → (picker_by falls count budget most number).place ≡ 0
+first_place None count budget most number = refl
+first_place (Some n) count budget most number = refl
+
+-- a schedule of no events
+pub none_tried : (program : Program) (trials : Trials) (x : ℕ) (trial : Trial) → trials.most ≡ 0 → program_of trial.run.system ≡ program → Stands trial.run.system (start program) → trial.run.actions ≡ [] → trial.events ≡ []
+    → IsTrial program trials x trial
+none_tried program trials x trial is same stands none empty = record {
+  events = empty ∙ sym (ap (λ n. picked_from program n (first_picker (length program.procs) trials.setting trials.most x) (start program)) is);
+  run = record {
+    goes = ap (λ es. (src_run program es).stop) empty;
+    behind = record {
+      program_is = same;
+      actions = none ∙ sym (ap (λ es. (src_run program es).actions) empty);
+      stands = subst (λ es. Stands trial.run.system (src_run program es).state) (sym empty) stands;
+    };
+  };
+}
+
+pub by_first : (program : Program) (trials : Trials) (x count : ℕ) (trial : Trial) (picker : Picker) → count ≡ length program.procs → picker ≡ first_picker count trials.setting trials.most x
+    → program_of trial.run.system ≡ program → Stands trial.run.system (start program) → trial.run.actions ≡ [] → trial.events ≡ [] → CameBy program trials x 0 trial picker
+by_first program trials x count trial picker counted picker_is same stands none empty = record {
   now = start program;
-  picks = ap (λ k. stress_from program k x (start program)) (let all : most ≡ most - 0 = omega arith in all)
-      ∙ ap (λ events. after_events events (stress_from program (most - 0) x (start program))) (sym empty);
+  picks = ap (λ p. picked_from program trials.most p (start program)) (ap (λ n. first_picker n trials.setting trials.most x) (sym counted) ∙ sym picker_is)
+      ∙ ap (λ k. picked_from program k picker (start program)) (let all : trials.most ≡ trials.most - 0 = omega arith in all)
+      ∙ ap (λ events. events ++ picked_from program (trials.most - 0) picker (start program)) (sym empty);
   does = ap (src_run program) empty ∙ ap (λ told. ran_to told (start program)) (sym none);
   stands = stands;
   same = same;
+  turn = ap (λ (p : Picker). p.place) picker_is ∙ first_place (falls_of trials.setting.strategy x) count trials.setting.budget trials.most x;
 }
 
-module _ (program : Program) (x most place : ℕ) (old : Trial) (last : ℕ) (came : CameBy program x most place old last) where
-  by_one : (new : Trial) (number : ℕ) → place < most → WasPicked program came.now last number old new → program_of new.run.system ≡ program → CameBy program x most (place + 1) new number
-  by_one new number inside picked same = record {
+module _ (program : Program) (trials : Trials) (x place : ℕ) (old : Trial) (picker : Picker) (came : CameBy program trials x place old picker) where
+  by_one : (new : Trial) (following : Picker) → place < trials.most → WasPicked program came.now picker following old new → program_of new.run.system ≡ program
+      → CameBy program trials x (place + 1) new following
+  by_one new following inside was same = record {
     now = after.state;
-    picks = came.picks ∙ ap (after_events old.events) one
-        ∙ ap (λ (events : List Event). let run : StressRun = record rest { events = events } in run) (sym (append_assoc old.events (picked.event ∷ []) rest.events))
-        ∙ ap (λ events. after_events events rest) (sym picked.events);
-    does = ap (src_run program) picked.events
-        ∙ run_more program old.events 1 (start program) picked.event after (ap (λ (run : SrcRun). run.stop) came.does) (ap (λ (run : SrcRun). sys_step program run.state picked.event) came.does ∙ picked.stepped.is)
+    picks = came.picks ∙ ap (λ es. old.events ++ es) one
+        ∙ sym (append_assoc old.events (was.event ∷ []) rest)
+        ∙ ap (λ events. events ++ rest) (sym was.events);
+    does = ap (src_run program) was.events
+        ∙ run_more program old.events 1 (start program) was.event after (ap (λ (run : SrcRun). run.stop) came.does) (ap (λ (run : SrcRun). sys_step program run.state was.event) came.does ∙ was.stepped.is)
         ∙ ap (λ (run : SrcRun). ran_to (run.actions ++ after.actions) after.state) came.does
-        ∙ ap (λ told. ran_to told after.state) (sym picked.stepped.added);
-    stands = picked.stepped.stands;
+        ∙ ap (λ told. ran_to told after.state) (sym was.stepped.added);
+    stands = was.stepped.stands;
     same = same;
+    turn = ap (λ (p : Picker). p.place) was.following_is ∙ ap (λ n. n + 1) came.turn;
   }
     where
       after : AfterEvent
-      after = picked.stepped.after
+      after = was.stepped.after
 
-      rest : StressRun
-      rest = stress_from program (most - (place + 1)) number after.state
+      rest : List Event
+      rest = picked_from program (trials.most - (place + 1)) following after.state
 
-      one : stress_from program (most - place) last came.now ≡ record rest { events = picked.event ∷ rest.events }
+      one : picked_from program (trials.most - place) picker came.now ≡ was.event ∷ rest
       one =
-          picks_one program (most - place) (most - (place + 1)) last came.now picked.event after (omega (arith, inside)) (ap (pick (choices program came.now)) (sym picked.number_is) ∙ picked.picks) picked.stepped.is
-          ∙ ap (λ y. let run = stress_from program (most - (place + 1)) y after.state in let all : StressRun = record run { events = picked.event ∷ run.events } in all) (sym picked.number_is)
+          picks_one program (trials.most - place) (trials.most - (place + 1)) picker came.now was.event after (omega (arith, inside)) was.picks was.stepped.is
+          ∙ ap (λ p. was.event ∷ picked_from program (trials.most - (place + 1)) p after.state) (sym was.following_is)
 
-  pub by_next : (new : Trial) (number : ℕ) → place < most → IsPicked (program_of old.run.system) came.now last old (Some number) new → program_of new.run.system ≡ program_of old.run.system
-      → CameBy program x most (place + 1) new number
-  by_next new number inside picked still = by_one new number inside (subst (λ p. WasPicked p came.now last number old new) came.same picked) (still ∙ came.same)
+  pub by_next : (new : Trial) (following : Picker) → place < trials.most → IsPicked (program_of old.run.system) came.now picker old true following new → program_of new.run.system ≡ program_of old.run.system
+      → CameBy program trials x (place + 1) new following
+  by_next new following inside was still = by_one new following inside (subst (λ p. WasPicked p came.now picker following old new) came.same was) (still ∙ came.same)
 
   -- THE END
 
-  is_trial : stress_from program (most - place) last came.now ≡ record { events = []; last = last } → IsTrial program most x old
+  is_trial : picked_from program (trials.most - place) picker came.now ≡ [] → IsTrial program trials x old
   is_trial none = record {
-    events = append_nil_of ∙ sym (ap (λ (run : StressRun). run.events) (came.picks ∙ ap (after_events old.events) none));
+    events = sym (append-nil old.events) ∙ sym (came.picks ∙ ap (λ es. old.events ++ es) none);
     run = record {
       goes = ap (λ (run : SrcRun). run.stop) came.does;
       behind = record {
@@ -159,39 +196,28 @@ module _ (program : Program) (x most place : ℕ) (old : Trial) (last : ℕ) (ca
       };
     };
   }
-    where
-      append_nil_of : old.events ≡ old.events ++ []
-      append_nil_of = sym (append-nil old.events)
 
-  pub ends_early : (new : Trial) → IsPicked (program_of old.run.system) came.now last old None new → IsTrial program most x new
-  ends_early new over =
-      let none = subst (λ p. pick (choices p came.now) (next_number last) ≡ None) came.same over.none in
-      subst (IsTrial program most x) (sym over.same) (is_trial (picks_none program (most - place) last came.now none))
+  pub ends_early : (new : Trial) (following : Picker) → IsPicked (program_of old.run.system) came.now picker old false following new → IsTrial program trials x new
+  ends_early new following over =
+      let none = subst (λ p. picked picker (pickable p came.now picker.budget) ≡ None) came.same over.none in
+      subst (IsTrial program trials x) (sym over.same) (is_trial (picks_none program (trials.most - place) picker came.now none))
 
-  pub ends_last : most ≤ place → IsTrial program most x old
-  ends_last all = is_trial (ap (λ k. stress_from program k last came.now) (let none : most - place ≡ 0 = omega (arith, all) in none))
+  pub ends_last : trials.most ≤ place → IsTrial program trials x old
+  ends_last all = is_trial (ap (λ k. picked_from program k picker came.now) (let none : trials.most - place ≡ 0 = omega (arith, all) in none))
 
 -- ONE EVENT THAT IS PICKED
 
-pub picked_here : (program : Program) (s : SystemState) (last number count place : ℕ) (event : Event) (old new : Trial) (allowed : Bool) → number ≡ next_number last → count ≡ length (choices program s) → place ≡ place_in count number
-    → slice_get (choices program s) place ≡ Some event → allowed ≡ true → IsExecuted (sys_step program s event) old.run allowed new.run → new.events ≡ old.events ++ event ∷ []
-    → WasPicked program s last number old new
-picked_here program s last number count place event old new true number_is count_is place_is there is done added = record {
+pub picked_here : (program : Program) (s : SystemState) (picker following : Picker) (event : Event) (found : Option Event) (old new : Trial) (allowed : Bool) → found ≡ Some event
+    → found ≡ picked picker (pickable program s picker.budget) → following ≡ picker_after picker (pickable program s picker.budget) event
+    → allowed ≡ true → IsExecuted (sys_step program s event) old.run allowed new.run → new.events ≡ old.events ++ event ∷ [] → WasPicked program s picker following old new
+picked_here program s picker following event found old new true is picks follows yes' done added = record {
   event = event;
-  number_is = number_is;
-  picks = ap (slice_get (choices program s)) (sym (place_is ∙ ap (λ n. place_in n number) count_is)) ∙ there;
+  picks = sym picks ∙ is;
+  following_is = follows;
   stepped = done;
   events = added;
 }
-picked_here program s last number count place event old new false number_is count_is place_is there is done added = absurd (false≢true is)
-
--- a system that may pick something stands for some state
-pub picking_state : (system : System) (count : ℕ) → IsReady system → (is_spent system ≡ true → count ≡ 0) → (count ≡ 0 → ⊥) → (s : SystemState) × Stands system s
-picking_state system count ready none some = of (is_spent system) refl
-  where
-    of : (spent : Bool) → is_spent system ≡ spent → (s : SystemState) × Stands system s
-    of true is = absurd (some (none is))
-    of false is = ready is
+picked_here program s picker following event found old new false is picks follows yes' done added = absurd (false≢true yes')
 
 -- an event that is allowed is not refused
 pub not_refused : (step : Option AfterEvent) (old new : Run) (allowed : Bool) → IsSome step → allowed ≡ false → IsExecuted step old allowed new → ⊥
@@ -229,11 +255,11 @@ shown_stuck program what run actions (Ok b) is told_is same told = λ source beh
     (stuck_by program run actions b told_is (λ s stands. subst (λ q. IsTrue b ↔ IsAtRest q s × HasUnended (length q.procs) actions) same (told s stands)) source behind)
 shown_stuck program what run actions (Err fault) is told_is same told = told
 
-pub shown_by_run : (program : Program) (what : What) (events : List Event) (run : Run) (r : Bool) → HasRun program events run
-    → ((source : SrcRun) → StandsAfter program source run → IsTrue r ↔ Shows program what source) → IsTrue r ↔ IsShownBy program what events
+pub shown_by_run : (program : Program) (what : Goal) (events : List Event) (run : Run) (r : Bool) → HasRun program events run
+    → ((source : SrcRun) → StandsAfter program source run → IsTrue r ↔ Reaches program what source) → IsTrue r ↔ IsShownBy program what events
 shown_by_run program what events run r ran told =
     let both = told (src_run program events) ran.behind in
     (λ is. record { allowed = ran.goes; shows = both.0 is }, λ shown. both.1 shown.shows)
 
-pub not_shown : (program : Program) (what : What) (events : List Event) → ((src_run program events).stop ≡ None → ⊥) → IsTrue false ↔ IsShownBy program what events
+pub not_shown : (program : Program) (what : Goal) (events : List Event) → ((src_run program events).stop ≡ None → ⊥) → IsTrue false ↔ IsShownBy program what events
 not_shown program what events stops = (λ no. absurd (false≢true no), λ shown. absurd (stops shown.allowed))

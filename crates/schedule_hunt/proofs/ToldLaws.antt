@@ -10,7 +10,7 @@ use Rattle.da_lang.specs.declared.program.Program.{Program}
 use Rattle.sched_text.specs.EventText.{HasNames, event_line}
 use Rattle.sched_text.specs.ScheduleText.{SpellsLines, SpellsSchedule, schedule_limit}
 use Rattle.schedule_walk.proofs.SpelledLaws.{event_then, remark_spells}
-use Rattle.schedule_hunt.specs.declared.what.What.{What}
+use Rattle.schedule_hunt.specs.declared.what.Goal.{Goal}
 use Rattle.schedule_hunt.specs.Hunt.{IsPart, IsShort, IsTold, found_text, remark_line}
 use Rattle.schedule_hunt.specs.Seeking.{IsShortText}
 
@@ -44,7 +44,7 @@ found_spells events words text is names few = record {
 
 -- THE TEXT OF A SCHEDULE THAT IS MADE SHORT
 
-pub short_told : {E : Type 0} (program : Program) (what : What) (whole events shown : List Event) (r : Result (Option (List ℕ)) E) → IsPart events whole → IsShort program what events → shown ≡ events
+pub short_told : {E : Type 0} (program : Program) (what : Goal) (whole events shown : List Event) (r : Result (Option (List ℕ)) E) → IsPart events whole → IsShort program what events → shown ≡ events
     → IfOk r (IsTold shown) → IfOk r (IsShortText program what whole)
 short_told program what whole events shown (Ok (Some text)) part short same (words, is, spells) = record {
   events = events;

@@ -3,35 +3,40 @@ use Rattle.std.specs.Prelude.{◌≡◌, ℕ, ◌+◌, ◌<◌, ◌≤◌, ◌==
 use Rattle.std.specs.List.{filter, flat_map, remove}
 use Rattle.da_lang.specs.declared.event.Event.{Event}
 use Rattle.da_lang.specs.declared.program.Program.{Program}
-use Rattle.da_outside.specs.Outside.{Appends, AppendsPrefix}
+use Rattle.da_outside.specs.Outside.{AppendsPrefix}
 use Rattle.da_system.specs.SourceRun.{src_run}
-use Rattle.da_system.specs.StressRun.{stress_run}
 use Rattle.sched_text.specs.EventText.{event_line}
 use Rattle.sched_text.specs.ScheduleText.{SpellsSchedule}
-use Rattle.schedule_hunt.specs.declared.what.What.{What}
-use Rattle.schedule_hunt.specs.Shown.{Shows}
+use Rattle.schedule_pick.specs.Picked.{hunted}
+use Rattle.schedule_hunt.specs.declared.what.Goal.{Goal}
+use Rattle.schedule_hunt.specs.declared.what.Trials.{Trials}
+use Rattle.schedule_hunt.specs.Shown.{Reaches}
 
 -- the events run with no stop, and their whole run shows it
-pub record IsShownBy (program : Program) (what : What) (events : List Event) : Type 0 where
+pub record IsShownBy (program : Program) (what : Goal) (events : List Event) : Type 0 where
   pub allowed : (src_run program events).stop ≡ None
-  pub shows : Shows program what (src_run program events)
+  pub shows : Reaches program what (src_run program events)
 
 -- WHICH SCHEDULE
 
--- the schedule of at most so many events that is generated from a number
-abbrev pub generated : Program → ℕ → ℕ → List Event
-generated program most number = (stress_run program number most).events
+-- the schedule that is generated from a number
+abbrev pub generated : Program → Trials → ℕ → List Event
+generated program trials number = hunted program trials.setting trials.most number
 
 -- none of so many numbers from the start on gives a schedule that shows it
-abbrev pub ShowsNone : Program → What → ℕ → ℕ → ℕ → Type 0
-ShowsNone program what most start count = (number : ℕ) → start ≤ number → number < start + count → IsShownBy program what (generated program most number) → ⊥
+abbrev pub ShowsNoneOf : Program → Goal → Trials → ℕ → Type 0
+ShowsNoneOf program what trials count =
+    (number : ℕ) → trials.start ≤ number → number < trials.start + count → IsShownBy program what (generated program trials number) → ⊥
+
+abbrev pub ShowsNone : Program → Goal → Trials → Type 0
+ShowsNone program what trials = ShowsNoneOf program what trials trials.count
 
 -- this number gives one that shows it, and none of those before it does
-pub record IsLeast (program : Program) (what : What) (most start count number : ℕ) : Type 0 where
-  pub from : start ≤ number
-  pub to : number < start + count
-  pub shown : IsShownBy program what (generated program most number)
-  pub least : (earlier : ℕ) → start ≤ earlier → earlier < number → IsShownBy program what (generated program most earlier) → ⊥
+pub record IsLeast (program : Program) (what : Goal) (trials : Trials) (number : ℕ) : Type 0 where
+  pub from : trials.start ≤ number
+  pub to : number < trials.start + trials.count
+  pub shown : IsShownBy program what (generated program trials number)
+  pub least : (earlier : ℕ) → trials.start ≤ earlier → earlier < number → IsShownBy program what (generated program trials earlier) → ⊥
 
 -- HOW SHORT
 
@@ -42,7 +47,7 @@ pub data IsPart : List Event → List Event → Type 0 where
   left : (e : Event) (part whole : List Event) → IsPart part whole → IsPart part (e ∷ whole)
 
 -- the events show it, and without any one of them they stop or do not
-pub record IsShort (program : Program) (what : What) (events : List Event) : Type 0 where
+pub record IsShort (program : Program) (what : Goal) (events : List Event) : Type 0 where
   pub shown : IsShownBy program what events
   pub needed : (place : ℕ) → place < length events → IsShownBy program what (remove events place) → ⊥
 
@@ -62,7 +67,7 @@ IsTold events (Some text) = (words : List ℕ) × (text ≡ found_text events wo
 IsTold events None = SpellsSchedule (found_text events []) events → ⊥
 
 -- a text of a schedule that is made short, which is a schedule itself
-pub record IsTextOf (program : Program) (what : What) (whole : List Event) (text : List ℕ) : Type 0 where
+pub record IsTextOf (program : Program) (what : Goal) (whole : List Event) (text : List ℕ) : Type 0 where
   pub events : List Event
   pub part : IsPart events whole
   pub short : IsShort program what events
@@ -71,33 +76,33 @@ pub record IsTextOf (program : Program) (what : What) (whole : List Event) (text
   pub spells : SpellsSchedule text events
 
 -- a schedule that is made short, of which there is no such text
-pub record IsUnspelled (program : Program) (what : What) (whole : List Event) : Type 0 where
+pub record IsUnspelled (program : Program) (what : Goal) (whole : List Event) : Type 0 where
   pub events : List Event
   pub part : IsPart events whole
   pub short : IsShort program what events
   pub never : SpellsSchedule (found_text events []) events → ⊥
 
 -- the text of the schedule of the least number that shows it
-pub record IsFound (program : Program) (what : What) (most start count : ℕ) (text : List ℕ) : Type 0 where
+pub record IsFound (program : Program) (what : Goal) (trials : Trials) (text : List ℕ) : Type 0 where
   pub number : ℕ
-  pub least : IsLeast program what most start count number
-  pub told : IsTextOf program what (generated program most number) text
+  pub least : IsLeast program what trials number
+  pub told : IsTextOf program what (generated program trials number) text
 
 -- the schedule of the least number that shows it has no such text
-pub record IsFoundUnspelled (program : Program) (what : What) (most start count : ℕ) : Type 0 where
+pub record IsFoundUnspelled (program : Program) (what : Goal) (trials : Trials) : Type 0 where
   pub number : ℕ
-  pub least : IsLeast program what most start count number
-  pub unspelled : IsUnspelled program what (generated program most number)
+  pub least : IsLeast program what trials number
+  pub unspelled : IsUnspelled program what (generated program trials number)
 
 -- the line that says that none of so many shows it
 abbrev pub none_line : ℕ → List ℕ
 none_line count = codes "none " ++ decimal count ++ codes "\n"
 
 -- the text that answers
-abbrev pub IsReply : Program → What → ℕ → ℕ → ℕ → List ℕ → Type 0
-IsReply program what most start count text = IsFound program what most start count text ⊎ (ShowsNone program what most start count × (text ≡ none_line count))
+abbrev pub IsReply : Program → Goal → Trials → List ℕ → Type 0
+IsReply program what trials text = IsFound program what trials text ⊎ (ShowsNone program what trials × (text ≡ none_line trials.count))
 
 -- nothing was written, or a prefix of a text that answers
-abbrev pub HasBegun : Program → What → ℕ → ℕ → ℕ → Option (List ℕ) → Option (List ℕ) → Type 0
-HasBegun program what most start count before after =
-    (after ≡ before) ⊎ ((text : List ℕ) × IsReply program what most start count text × AppendsPrefix before after text)
+abbrev pub HasBegun : Program → Goal → Trials → Option (List ℕ) → Option (List ℕ) → Type 0
+HasBegun program what trials before after =
+    (after ≡ before) ⊎ ((text : List ℕ) × IsReply program what trials text × AppendsPrefix before after text)

@@ -1,5 +1,5 @@
 -- What a run shows, by its actions and the state after it.
-use Rattle.std.specs.Prelude.{◌≡◌, ℕ, ◌<◌, ◌⊎◌, Bool, true, false, List, [], ◌∷◌, None, IsTrue, count_by}
+use Rattle.std.specs.Prelude.{◌≡◌, ℕ, ◌<◌, ◌⊎◌, true, List, ◌∷◌, None, IsTrue, count_by}
 use Rattle.std.specs.List.{list_any}
 use Rattle.da_values.specs.declared.val.Val.{Val, out-Val}
 use Rattle.da_values.specs.declared.val.Val.TheOpen.{Val-F, Tuple}
@@ -8,12 +8,17 @@ use Rattle.da_values.specs.Value.{val_of}
 use Rattle.da_lang.specs.declared.event.Action.{Action}
 use Rattle.da_lang.specs.declared.event.Action.TheVariants.{Out, End}
 use Rattle.da_lang.specs.declared.event.Event.{Event}
-use Rattle.da_lang.specs.declared.event.Event.TheVariants as event
 use Rattle.da_lang.specs.declared.program.Program.{Program}
 use Rattle.da_lang.specs.Shaped.{IsProcess}
+use Rattle.da_core.specs.Compiled.{program_of}
 use Rattle.da_system.specs.SourceRun.{SrcRun}
 use Rattle.da_system.specs.StressRun.{is_fault, is_out}
 use Rattle.da_system.specs.SystemStep.{sys_step}
+use Rattle.run_watch.specs.Beside.{IsWatchOf}
+use Rattle.run_watch.specs.Watching.{Complains, at_quiet, beside}
+use Rattle.schedule_walk.specs.Rest.{IsAtRest, goes_on}
+use Rattle.schedule_hunt.specs.declared.what.Goal.{Goal}
+use Rattle.schedule_hunt.specs.declared.what.Goal.TheVariants.{Shown, Watched}
 use Rattle.schedule_hunt.specs.declared.what.What.{What}
 use Rattle.schedule_hunt.specs.declared.what.What.TheVariants.{Fault, Stuck, Overlap, Differ, More}
 
@@ -73,20 +78,18 @@ pub record OutputsDiffer (actions : List Action) : Type 0 where
 abbrev pub HasEnded : ℕ → List Action → Type 0
 HasEnded p actions = AnyOf (λ a. a ≡ End p) actions
 
--- a move, a timeout or a delivery: by such an event a run goes on
-abbrev pub goes_on : Event → Bool
-goes_on (event.Move p) = true
-goes_on (event.Take p k) = true
-goes_on (event.Timeout p) = true
-goes_on (event.Deliver p q i) = true
-goes_on _ = false
-
 -- no move, no timeout and no delivery is allowed after the run, whatever the process and the message; and a process has not ended
 pub record IsStuck (program : Program) (run : SrcRun) : Type 0 where
   pub none : (e : Event) → IsTrue (goes_on e) → sys_step program run.state e ≡ None
   pub process : ℕ
   pub there : IsProcess program process
   pub unended : HasEnded process run.actions → ⊥
+
+-- WATCHES
+
+-- a watch has something to say of what the run puts out; or all is quiet after it, and the watch has something to say then
+abbrev pub IsBroken : Program → Program → SrcRun → Type 0
+IsBroken program watch run = Complains (beside watch run.actions) ⊎ (IsAtRest program run.state × Complains (at_quiet watch run.actions))
 
 -- WHAT IS LOOKED FOR
 
@@ -96,3 +99,12 @@ Shows program Stuck run = IsStuck program run
 Shows program (Overlap enter leave) run = Overlaps (val_of enter) (val_of leave) run.actions
 Shows program Differ run = OutputsDiffer run.actions
 Shows program (More k) run = k < count_by is_out run.actions
+
+abbrev pub Reaches : Program → Goal → SrcRun → Type 0
+Reaches program (Shown what) run = Shows program what.now run
+Reaches program (Watched watch) run = IsBroken program (program_of watch.now) run
+
+-- the compiled program of a watch is one beside the program
+abbrev pub IsReady : Program → Goal → Type 0
+IsReady program (Shown what) = Unit {0}
+IsReady program (Watched watch) = IsWatchOf program watch.now

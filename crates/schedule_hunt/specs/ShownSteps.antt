@@ -1,14 +1,11 @@
 -- How it is found what the actions of a run show.
-use Rattle.std.specs.Prelude.{◌≡◌, ℕ, false, List, None, IsTrue}
+use Rattle.std.specs.Prelude.{◌≡◌, ℕ, List}
 use Rattle.da_values.specs.declared.val.Val.{Val}
 use Rattle.da_values.specs.declared.value.Value.{Value}
 use Rattle.da_values.specs.Value.{val_of}
 use Rattle.da_lang.specs.declared.event.Action.{Action}
-use Rattle.da_lang.specs.declared.event.Event.{Event}
-use Rattle.da_lang.specs.declared.program.Program.{Program}
 use Rattle.da_system.specs.Queues.{IsAmong}
-use Rattle.da_system.specs.SystemStep.{SystemState, sys_step}
-use Rattle.schedule_hunt.specs.Shown.{HasEnded, IsMet, PutsOut, Says, goes_on}
+use Rattle.schedule_hunt.specs.Shown.{HasEnded, IsMet, PutsOut, Says}
 
 -- a process puts out something
 abbrev pub IsOutput : Action → Type 0
@@ -21,14 +18,6 @@ IsOtherOutput value a = (v : Value) × PutsOut v a × (val_of v ≡ val_of value
 -- a process enters, and another one meets it in what follows
 abbrev pub EntersAndIsMet : Val → Val → Action → List Action → Type 0
 EntersAndIsMet enter leave a others = (q : ℕ) × Says enter q a × IsMet enter leave q others
-
--- an event is none of these
-abbrev pub IsIdle : Event → Type 0
-IsIdle e = goes_on e ≡ false
-
--- no move, no timeout and no delivery is allowed in this state
-abbrev pub IsAtRest : Program → SystemState → Type 0
-IsAtRest program s = (e : Event) → IsTrue (goes_on e) → sys_step program s e ≡ None
 
 -- one of so many processes has not ended
 abbrev pub HasUnended : ℕ → List Action → Type 0

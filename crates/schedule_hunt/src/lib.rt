@@ -9,5 +9,5 @@ mod shown;
 mod told;
 mod what;
 
-pub use hunting::{HuntOutcome, Progress, hunt};
-pub use what::What;
+pub use hunting::{Attempt, End, HuntOutcome, Progress, hunt};
+pub use what::{Goal, Trials, What};

@@ -1,12 +1,16 @@
 //! What a remark says: what is shown by which actions. No contract speaks of the words.
-ghost use Rattle.da_core.specs.Compiled.{IsCompiled};
+ghost use Rattle.da_core.specs.Compiled.{IsCompiled, program_of};
+ghost use Rattle.run_watch.specs.Beside.{IsThere};
+ghost use Rattle.schedule_hunt.specs.Shown.{IsReady};
+ghost use Rattle.std.specs.Prelude.{◌<◌, OnOk, length};
 
 use crate::runs::{begin, execute};
 use crate::shown::{has_ended, sayer};
-use crate::what::What;
+use crate::what::{Goal, What};
 use da_core::Compiled;
 use da_lang::{Action, Event};
 use da_values::{Buf, List, NoMemory, Value, write_number};
+use run_watch::{Watcher, is_said, says_any};
 use sched_text::write_action;
 use std::alloc::Global;
 
@@ -29,20 +33,109 @@ pub(crate) fn words_of(
     alloc: Global,
     compiled: &Compiled,
     events: &[Event],
-    what: &What,
+    what: &Goal<'_>,
 ) -> Result<Buf, NoMemory>
-    requires { IsCompiled compiled.now }
+    requires compiled { IsCompiled compiled.now }
+    requires goal { IsReady (program_of compiled.now) what.now }
 {
     let told = tell(alloc, compiled, events)?;
+    match what {
+        Goal::Shown(what) => words_of_run(alloc, compiled, *what, &told),
+        Goal::Watched(watch) => words_of_watch(alloc, *watch, &told),
+    }
+}
+
+// By which actions a run shows something.
+fn words_of_run(
+    alloc: Global,
+    compiled: &Compiled,
+    what: &What,
+    told: &Told,
+) -> Result<Buf, NoMemory> {
     let mut out = List::new(alloc);
     match what {
-        What::Fault => put_fault(alloc, &told, &mut out)?,
-        What::Stuck => put_stuck(compiled.program().procs.len(), &told, &mut out)?,
-        What::Overlap { enter, leave } => put_overlap(alloc, enter, leave, &told, &mut out)?,
-        What::Differ => put_differ(alloc, &told, &mut out)?,
-        What::More(_) => put_more(alloc, &told, &mut out)?,
+        What::Fault => put_fault(alloc, told, &mut out)?,
+        What::Stuck => put_stuck(compiled.program().procs.len(), told, &mut out)?,
+        What::Overlap { enter, leave } => put_overlap(alloc, enter, leave, told, &mut out)?,
+        What::Differ => put_differ(alloc, told, &mut out)?,
+        What::More(_) => put_more(alloc, told, &mut out)?,
     }
     Ok(out)
+}
+
+// What a watch says first, and after which event, or at the end.
+fn words_of_watch(alloc: Global, watch: &Compiled, told: &Told) -> Result<Buf, NoMemory>
+    requires compiled { IsCompiled watch.now }
+    requires some { 0 < length (program_of watch.now).procs }
+{
+    let mut said = List::new(alloc);
+    let mut watcher = Watcher::begin(alloc, watch, &mut said)?;
+    let place = first_complaint(&mut watcher, told.actions.as_slice(), &mut said)?;
+    if place.is_none() {
+        watcher.hear_quiet(&mut said)?;
+    }
+    complaint(alloc, told, place, said.as_slice())
+}
+
+// The words of the first action by which a watch says something, and after which event, or at the end.
+fn complaint(
+    alloc: Global,
+    told: &Told,
+    place: Option<usize>,
+    said: &[Action],
+) -> Result<Buf, NoMemory> {
+    let mut out = List::new(alloc);
+    out.append(b"watch: ")?;
+    put_complaint(alloc, said, &mut out)?;
+    match place {
+        Some(place) => put_event(told, place, &mut out)?,
+        None => out.append(b" (at the end)")?,
+    }
+    Ok(out)
+}
+
+// Hands a watch one action after the other until it has said something, and answers the place of that action.
+fn first_complaint(
+    watcher: &mut Watcher<'_>,
+    actions: &[Action],
+    said: &mut List<Action>,
+) -> Result<Option<usize>, NoMemory>
+    requires { IsThere watcher.old }
+    ensures { OnOk result (IsThere watcher.new) }
+{
+    if says_any(said.as_slice()) {
+        return Ok(Some(0));
+    }
+    for place in 0..actions.len() {
+        hand(watcher, &actions[place..place + 1], said)?;
+        if says_any(said.as_slice()) {
+            return Ok(Some(place));
+        }
+    }
+    Ok(None)
+}
+
+// Hands a watch some actions.
+fn hand(
+    watcher: &mut Watcher<'_>,
+    actions: &[Action],
+    said: &mut List<Action>,
+) -> Result<(), NoMemory>
+    requires { IsThere watcher.old }
+    ensures { OnOk result (IsThere watcher.new) }
+{
+    watcher.hear(actions, said)?;
+    Ok(())
+}
+
+// Appends the words of the first action by which a watch says something.
+fn put_complaint(alloc: Global, actions: &[Action], out: &mut Buf) -> Result<(), NoMemory> {
+    for action in actions {
+        if is_said(action) {
+            return put_words(alloc, action, out);
+        }
+    }
+    Ok(())
 }
 
 // Runs the events, and keeps how many actions there were after each.
@@ -204,10 +297,20 @@ fn put_action(alloc: Global, told: &Told, place: usize, out: &mut Buf) -> Result
     let Some(action) = told.actions.get(place) else {
         return Ok(());
     };
+    put_words(alloc, action, out)?;
+    put_event(told, place, out)
+}
+
+// Appends the words of an action.
+fn put_words(alloc: Global, action: &Action, out: &mut Buf) -> Result<(), NoMemory> {
     let mut line = List::new(alloc);
     write_action(action, &mut line)?;
     let _end = line.pop();
-    out.append(line.as_slice())?;
+    out.append(line.as_slice())
+}
+
+// Appends the number of the event of the action at a place.
+fn put_event(told: &Told, place: usize, out: &mut Buf) -> Result<(), NoMemory> {
     out.append(b" (event ")?;
     write_number(event_of(told.behind.as_slice(), place), out)?;
     out.append(b")")

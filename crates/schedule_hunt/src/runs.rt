@@ -1,23 +1,26 @@
 //! Runs of schedules, those that are given and those that numbers generate.
 ghost use Rattle.da_core.specs.Compiled.{IsCompiled, program_of as compiled_program};
 ghost use Rattle.da_system.specs.SourceRun.{SrcRun};
+ghost use Rattle.run_watch.specs.Beside.{IsWatchOf};
 ghost use Rattle.da_system.specs.State.{IsReady, Stands, Whichever, is_spent, program_of};
 ghost use Rattle.da_system.specs.SystemStep.{start as start_def, sys_step};
 ghost use Rattle.schedule_hunt.specs.Hunt.{IsShownBy, generated};
 ghost use Rattle.schedule_hunt.specs.Runs.{IsExecuted, IsPicked, IsRunOf, IsTrial, StandsAfter};
-ghost use Rattle.schedule_hunt.specs.Shown.{Shows, goes_on};
-ghost use Rattle.schedule_hunt.specs.ShownSteps.{HasUnended, IsAtRest, IsIdle};
-ghost use Rattle.std.specs.List.{All};
-ghost use Rattle.std.specs.Prelude.{◌≡◌, ◌↔◌, [], IfOk, IsTrue, MatchOption, false, length, not};
+ghost use Rattle.schedule_hunt.specs.Shown.{IsBroken, IsReady as IsReadyGoal, Reaches, Shows};
+ghost use Rattle.schedule_hunt.specs.ShownSteps.{HasUnended};
+ghost use Rattle.schedule_walk.specs.Rest.{IsAtRest};
+ghost use Rattle.std.specs.Prelude.{◌≡◌, ◌↔◌, ◌+◌, ◌<◌, ◌^◌, [], IfOk, IsTrue, MatchOption, false, length};
 
+use crate::hunting::{Attempt, End, Progress};
 use crate::shown::{has_ended, has_fault, has_more, outputs_differ, overlaps};
-use crate::what::What;
+use crate::what::{Goal, Trials, What};
 use da_core::Compiled;
 use da_lang::{Action, Event};
 use da_system::{StepFault, System};
 use da_values::{List, NoMemory};
-use replay_run::{next_number, place_in};
-use schedule_walk::allowed_events;
+use run_watch::{Watcher, says_any};
+use schedule_pick::{Picker, first_picker};
+use schedule_walk::is_at_rest;
 use std::alloc::Global;
 
 /// The system after a run that was not stopped, and all actions of the run.
@@ -39,9 +42,10 @@ pub(crate) fn is_shown(
     alloc: Global,
     compiled: &Compiled,
     events: &[Event],
-    what: &What,
+    what: &Goal<'_>,
 ) -> Result<bool, NoMemory>
-    requires { IsCompiled compiled.now }
+    requires compiled { IsCompiled compiled.now }
+    requires goal { IsReadyGoal (compiled_program compiled.now) what.now }
     ensures { IfOk result (λ shown.
         IsTrue shown ↔ IsShownBy (compiled_program compiled.now) what.now events.now) }
 {
@@ -49,30 +53,49 @@ pub(crate) fn is_shown(
     let Some(run) = found else {
         return Ok(false);
     };
-    let shown = shows(alloc, compiled, what, &run)?;
+    let shown = reaches(alloc, compiled, what, &run)?;
     Ok(shown)
 }
 
-/// The schedule of at most `most` events that is generated from a number, where its run shows this.
-pub(crate) fn try_number(
+/// The schedule that is generated from a number, where its run shows this. `progress` is told of it.
+pub(crate) fn try_number<P: Progress>(
     alloc: Global,
     compiled: &Compiled,
     number: u64,
-    most: u64,
-    what: &What,
+    trials: Trials,
+    what: &Goal<'_>,
+    progress: &mut P,
 ) -> Result<Option<List<Event>>, NoMemory>
-    requires { IsCompiled compiled.now }
+    requires compiled { IsCompiled compiled.now }
+    requires goal { IsReadyGoal (compiled_program compiled.now) what.now }
     ensures { IfOk result (λ found. MatchOption found
-        (IsShownBy (compiled_program compiled.now) what.now (generated (compiled_program compiled.now) most number) → ⊥)
-        (λ events. (events ≡ generated (compiled_program compiled.now) most number)
+        (IsShownBy (compiled_program compiled.now) what.now (generated (compiled_program compiled.now) trials number) → ⊥)
+        (λ events. (events ≡ generated (compiled_program compiled.now) trials number)
         × IsShownBy (compiled_program compiled.now) what.now events)) }
 {
-    let trial = generate(alloc, compiled, number, most)?;
-    let shown = shows(alloc, compiled, what, &trial.run)?;
+    let trial = generate(alloc, compiled, number, trials)?;
+    let shown = reaches(alloc, compiled, what, &trial.run)?;
+    progress.tell_attempt(&Attempt {
+        number,
+        events: trial.events.as_slice(),
+        end: end_of(compiled.program().procs.len(), &trial, trials.most),
+        shown,
+    });
     if shown {
         Ok(Some(trial.events))
     } else {
         Ok(None)
+    }
+}
+
+// How a generated schedule of so many processes ended.
+fn end_of(count: usize, trial: &Trial<'_>, most: u64) -> End {
+    if trial.events.len() as u64 >= most {
+        End::Cut
+    } else if has_unended(count, trial.run.actions.as_slice()) {
+        End::Stuck
+    } else {
+        End::Ended
     }
 }
 
@@ -122,50 +145,114 @@ pub(crate) fn execute(run: &mut Run<'_>, event: &Event) -> Result<bool, NoMemory
     }
 }
 
-// The schedule of at most `most` events that is generated from a number, with its run.
+// The schedule that is generated from a number, with its run.
 fn generate<'c>(
     alloc: Global,
     compiled: &'c Compiled,
     number: u64,
-    most: u64,
+    trials: Trials,
 ) -> Result<Trial<'c>, NoMemory>
     requires { IsCompiled compiled.now }
-    ensures { IfOk result (λ trial. IsTrial (compiled_program compiled.now) most number trial) }
+    ensures { IfOk result (λ trial. IsTrial (compiled_program compiled.now) trials number trial) }
 {
-    let mut trial = Trial {
-        run: begin(alloc, compiled)?,
-        events: List::new(alloc),
-    };
-    let mut last = number;
+    let run = begin(alloc, compiled)?;
+    let events = List::new(alloc);
+    let mut trial = Trial { run, events };
+    let most = trials.most;
+    if most == 0 {
+        return Ok(trial);
+    }
+    let processes = compiled.program().procs.len() as u32;
+    let mut picker = first_picker(alloc, processes, trials.setting, most, number)?;
     for _place in 0..most {
-        let next = pick_next(&mut trial, last)?;
-        let Some(following) = next else {
+        let picked = pick_next(alloc, &mut trial, &mut picker, processes)?;
+        if !picked {
             return Ok(trial);
-        };
-        last = following;
+        }
     }
     Ok(trial)
 }
 
-// Carries out the event that the number after `last` picks. It answers that number, or `None` where there is no event to
-// pick.
-fn pick_next(trial: &mut Trial<'_>, last: u64) -> Result<Option<u64>, NoMemory>
-    requires { IsReady trial.old.run.system }
-    ensures picked { IfOk result (λ number. Whichever trial.old.run.system (λ s.
-        IsPicked (program_of trial.old.run.system) s last trial.old number trial.new)) }
+// Carries out the event that is picked next, and says whether there is one.
+fn pick_next(
+    alloc: Global,
+    trial: &mut Trial<'_>,
+    picker: &mut Picker,
+    processes: u32,
+) -> Result<bool, NoMemory>
+    requires ready { IsReady trial.old.run.system }
+    requires unspent { is_spent trial.old.run.system ≡ false }
+    requires count { processes ≡ length (program_of trial.old.run.system).procs }
+    requires room { picker.old.place + 1 < 2 ^ 64 }
+    ensures picked { IfOk result (λ found. Whichever trial.old.run.system (λ s.
+        IsPicked (program_of trial.old.run.system) s picker.old trial.old found picker.new trial.new)) }
     ensures program { program_of trial.new.run.system ≡ program_of trial.old.run.system }
 {
-    let choices = trial.run.system.choices();
-    if choices == 0 {
-        return Ok(None);
-    }
-    let number = next_number(last);
-    let event = trial.run.system.choice(place_in(choices, number));
+    let found = picker.pick(alloc, &trial.run.system, processes)?;
+    let Some(event) = found else {
+        return Ok(false);
+    };
     if !execute(&mut trial.run, &event)? {
         unreachable!()
     }
     trial.events.push(event)?;
-    Ok(Some(number))
+    Ok(true)
+}
+
+// Whether a run reaches this.
+fn reaches(
+    alloc: Global,
+    compiled: &Compiled,
+    goal: &Goal<'_>,
+    run: &Run<'_>,
+) -> Result<bool, NoMemory>
+    requires compiled { IsCompiled compiled.now }
+    requires goal { IsReadyGoal (compiled_program compiled.now) goal.now }
+    requires program { program_of run.now.system ≡ compiled_program compiled.now }
+    requires ready { IsReady run.now.system }
+    requires unspent { is_spent run.now.system ≡ false }
+    ensures { IfOk result (λ shown. (source : SrcRun) → StandsAfter (compiled_program compiled.now) source run.now
+        → IsTrue shown ↔ Reaches (compiled_program compiled.now) goal.now source) }
+{
+    match goal {
+        Goal::Shown(what) => shows(alloc, compiled, *what, run),
+        Goal::Watched(watch) => is_broken(alloc, compiled, *watch, run),
+    }
+}
+
+// Whether a watch says something beside a run.
+fn is_broken(
+    alloc: Global,
+    compiled: &Compiled,
+    watch: &Compiled,
+    run: &Run<'_>,
+) -> Result<bool, NoMemory>
+    requires compiled { IsCompiled compiled.now }
+    requires watch { IsWatchOf (compiled_program compiled.now) watch.now }
+    requires program { program_of run.now.system ≡ compiled_program compiled.now }
+    requires ready { IsReady run.now.system }
+    requires unspent { is_spent run.now.system ≡ false }
+    ensures { IfOk result (λ shown. (source : SrcRun) → StandsAfter (compiled_program compiled.now) source run.now
+        → IsTrue shown ↔ IsBroken (compiled_program compiled.now) (compiled_program watch.now) source) }
+{
+    let actions = run.actions.as_slice();
+    let mut said = List::new(alloc);
+    let mut watcher = Watcher::begin(alloc, watch, &mut said)?;
+    watcher.hear(actions, &mut said)?;
+    let told = said.as_slice();
+    let complains = says_any(told);
+    if complains {
+        return Ok(true);
+    }
+    let rests = is_at_rest(alloc, &run.system, compiled)?;
+    if !rests {
+        return Ok(false);
+    }
+    let mut last = List::new(alloc);
+    watcher.hear_quiet(&mut last)?;
+    let late = last.as_slice();
+    let ends = says_any(late);
+    Ok(ends)
 }
 
 // Whether a run shows this.
@@ -206,45 +293,6 @@ fn is_stuck(
         return Ok(false);
     }
     is_at_rest(alloc, system, compiled)
-}
-
-// Whether no move, no timeout and no delivery is allowed.
-fn is_at_rest(alloc: Global, system: &System<'_>, compiled: &Compiled) -> Result<bool, NoMemory>
-    requires compiled { IsCompiled compiled.now }
-    requires program { program_of system.now ≡ compiled_program compiled.now }
-    requires ready { IsReady system.now }
-    requires unspent { is_spent system.now ≡ false }
-    ensures { IfOk result (λ rests. Whichever system.now (λ s. IsTrue rests ↔ IsAtRest (program_of system.now) s)) }
-{
-    let choices = system.choices();
-    if choices > 0 {
-        return Ok(false);
-    }
-    let processes = compiled.program().procs.len() as u32;
-    let events = allowed_events(alloc, system, processes)?;
-    Ok(none_goes_on(events.as_slice()))
-}
-
-// Whether none of some events is a move, a timeout or a delivery.
-fn none_goes_on(events: &[Event]) -> bool
-    ensures { IsTrue result ↔ All IsIdle events.now }
-{
-    for event in events {
-        if !is_idle(event) {
-            return false;
-        }
-    }
-    true
-}
-
-// Whether an event is no move, no timeout and no delivery.
-fn is_idle(event: &Event) -> bool
-    ensures { result ≡ not (goes_on event.now) }
-{
-    !matches!(
-        event,
-        Event::Move { .. } | Event::Take { .. } | Event::Timeout { .. } | Event::Deliver { .. }
-    )
 }
 
 // Whether one of so many processes has not ended.

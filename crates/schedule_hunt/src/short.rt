@@ -1,11 +1,12 @@
 //! How a schedule that shows something is made short.
 ghost use Rattle.da_core.specs.Compiled.{IsCompiled, program_of};
 ghost use Rattle.schedule_hunt.specs.Hunt.{IsPart, IsShort, IsShownBy};
+ghost use Rattle.schedule_hunt.specs.Shown.{IsReady};
 ghost use Rattle.schedule_hunt.specs.Shortening.{HasShortened, HasTried, IsShownPart, without_some};
 ghost use Rattle.std.specs.Prelude.{◌≡◌, ◌++◌, ◌<◌, ◌≤◌, drop, length, IfOk, OnOk};
 
 use crate::runs::is_shown;
-use crate::what::What;
+use crate::what::Goal;
 use da_core::Compiled;
 use da_lang::Event;
 use da_values::{List, NoMemory};
@@ -17,9 +18,10 @@ pub(crate) fn shorten(
     alloc: Global,
     compiled: &Compiled,
     events: &mut List<Event>,
-    what: &What,
+    what: &Goal<'_>,
 ) -> Result<(), NoMemory>
     requires compiled { IsCompiled compiled.now }
+    requires goal { IsReady (program_of compiled.now) what.now }
     requires shown { IsShownBy (program_of compiled.now) what.now events.old }
     ensures short { OnOk result (IsShort (program_of compiled.now) what.now events.new) }
     ensures part { OnOk result (IsPart events.new events.old) }
@@ -37,9 +39,10 @@ fn leave_out_many(
     alloc: Global,
     compiled: &Compiled,
     events: &mut List<Event>,
-    what: &What,
+    what: &Goal<'_>,
 ) -> Result<(), NoMemory>
     requires compiled { IsCompiled compiled.now }
+    requires goal { IsReady (program_of compiled.now) what.now }
     requires shown { IsShownBy (program_of compiled.now) what.now events.old }
     ensures { OnOk result (IsShownPart (program_of compiled.now) what.now events.new events.old) }
 {
@@ -57,9 +60,10 @@ fn leave_out_runs(
     compiled: &Compiled,
     events: &mut List<Event>,
     size: usize,
-    what: &What,
+    what: &Goal<'_>,
 ) -> Result<(), NoMemory>
     requires compiled { IsCompiled compiled.now }
+    requires goal { IsReady (program_of compiled.now) what.now }
     requires some { 0 < size }
     requires shown { IsShownBy (program_of compiled.now) what.now events.old }
     ensures { OnOk result (IsShownPart (program_of compiled.now) what.now events.new events.old) }
@@ -77,9 +81,10 @@ fn leave_out_single(
     alloc: Global,
     compiled: &Compiled,
     events: &mut List<Event>,
-    what: &What,
+    what: &Goal<'_>,
 ) -> Result<bool, NoMemory>
     requires compiled { IsCompiled compiled.now }
+    requires goal { IsReady (program_of compiled.now) what.now }
     requires shown { IsShownBy (program_of compiled.now) what.now events.old }
     ensures part { OnOk result (IsShownPart (program_of compiled.now) what.now events.new events.old) }
     ensures shortened { IfOk result (λ some.
@@ -103,9 +108,10 @@ fn try_without(
     events: &mut List<Event>,
     place: usize,
     size: usize,
-    what: &What,
+    what: &Goal<'_>,
 ) -> Result<bool, NoMemory>
     requires compiled { IsCompiled compiled.now }
+    requires goal { IsReady (program_of compiled.now) what.now }
     requires inside { place ≤ length events.old }
     ensures { IfOk result (λ left_out. HasTried (program_of compiled.now) what.now left_out
         (without_some events.old place size) events.old events.new) }

@@ -1,12 +1,13 @@
 //! The texts that answer.
-ghost use Rattle.da_core.specs.Compiled.{IsCompiled};
+ghost use Rattle.da_core.specs.Compiled.{IsCompiled, program_of};
 ghost use Rattle.sched_text.specs.EventText.{HasNames, event_line};
 ghost use Rattle.schedule_hunt.specs.Hunt.{IsTold, found_text as found_def, none_line, remark_line};
+ghost use Rattle.schedule_hunt.specs.Shown.{IsReady};
 ghost use Rattle.std.specs.List.{All, filter, flat_map};
 ghost use Rattle.std.specs.Prelude.{◌≡◌, ◌++◌, ◌==◌, IfOk, OnOk, not};
 
 use crate::remark::words_of;
-use crate::what::What;
+use crate::what::Goal;
 use da_core::Compiled;
 use da_lang::Event;
 use da_values::{Buf, List, NoMemory, write_number};
@@ -20,9 +21,10 @@ pub(crate) fn found_text(
     alloc: Global,
     compiled: &Compiled,
     events: &[Event],
-    what: &What,
+    what: &Goal<'_>,
 ) -> Result<Option<Buf>, NoMemory>
-    requires { IsCompiled compiled.now }
+    requires compiled { IsCompiled compiled.now }
+    requires goal { IsReady (program_of compiled.now) what.now }
     ensures { IfOk result (IsTold events.now) }
 {
     if !all_named(events) {

@@ -1,5 +1,7 @@
-//! What a schedule may be looked for.
+//! What a schedule may be looked for, and among which ones.
+use da_core::Compiled;
 use da_values::Value;
+use schedule_pick::Setting;
 
 /// What the run of a schedule may show.
 #[derive(Drop)]
@@ -16,4 +18,24 @@ pub enum What {
     Differ,
     /// There are more outputs than so many.
     More(u64),
+}
+
+/// What is looked for.
+#[derive(Clone, Copy)]
+pub enum Goal<'g> {
+    /// A run that shows this.
+    Shown(&'g What),
+    /// A run beside which this watch says something. Its program has as many processes as the other one, and one more, which
+    /// watches.
+    Watched(&'g Compiled),
+}
+
+/// Which schedules are tried: those that are generated from `count` numbers, `start` and those after it, each of at most `most`
+/// events, by a setting.
+#[derive(Clone, Copy)]
+pub struct Trials {
+    pub start: u64,
+    pub count: u64,
+    pub most: u64,
+    pub setting: Setting,
 }

@@ -16,7 +16,7 @@ use Rattle.da_system.specs.Choices.{alternatives_at, choices, deliveries_from, d
 use Rattle.da_system.specs.SystemStep.{SystemState}
 use Rattle.da_system.proofs.FindLemmas.{single_pieces}
 use Rattle.schedule_walk.specs.declared.allowed.Deed.{Deed}
-use Rattle.schedule_walk.specs.Allowed.{deed_event, deeds_to, is_move, moves}
+use Rattle.schedule_walk.specs.Allowed.{deed_event, deeds, deeds_if, deeds_to, is_move, moves}
 
 -- what is not enabled is not allowed
 pub not_allowed : (b allowed : Bool) → (IsTrue b ↔ (allowed ≡ true)) → b ≡ false → allowed ≡ false
@@ -28,7 +28,7 @@ range_last : (a n : ℕ) → range_with_len a (suc n) ≡ range_with_len a n ++ 
 range_last a zero = ap (λ k. k ∷ []) (let here : a ≡ a + 0 = omega arith in here)
 range_last a (suc n) = ap (λ ns. a ∷ ns) (range_last (a + 1) n) ∙ ap (λ k. a ∷ range_with_len (a + 1) n ++ k ∷ []) (let here : a + 1 + n ≡ a + suc n = omega arith in here)
 
-numbers_last : (n : ℕ) → numbers_to (n + 1) ≡ numbers_to n ++ (n + 1) ∷ []
+pub numbers_last : (n : ℕ) → numbers_to (n + 1) ≡ numbers_to n ++ (n + 1) ∷ []
 numbers_last n = ap numbers_to (let here : n + 1 ≡ suc n = omega arith in here) ∙ range_last 1 n ∙ ap (λ k. numbers_to n ++ k ∷ []) (let here : 1 + n ≡ n + 1 = omega arith in here)
 
 module _ (test : Event → Bool) (pieces : ℕ → List Event) where
@@ -56,6 +56,16 @@ pub adds_four : (test : Event → Bool) (ms ds ls rs a b c d : List Event) → a
 adds_four test ms ds ls rs a b c d first second third fourth =
     fourth ∙ ap (λ es. es ++ filter test rs) (third ∙ ap (λ es. es ++ filter test ls) (second ∙ ap (λ es. es ++ filter test ds) first))
     ∙ sym (filter-append test (ms ++ ds ++ ls) rs ∙ ap (λ es. es ++ filter test rs) (filter-append test (ms ++ ds) ls ∙ ap (λ es. es ++ filter test ls) (filter-append test ms ds)))
+
+-- those that are wanted, or none
+module _ (test : Event → Bool) (deed : Deed) (s : SystemState) where
+  pub unwanted : (wanted : Bool) (old : List Event) → wanted ≡ false → old ≡ old ++ filter test (deeds_if wanted deed s)
+  unwanted true old is = absurd (false≢true (sym is))
+  unwanted false old is = sym (append-nil old)
+
+  pub wanted_added : (wanted : Bool) (old new : List Event) → wanted ≡ true → new ≡ old ++ filter test (deeds deed s) → new ≡ old ++ filter test (deeds_if wanted deed s)
+  wanted_added true old new is added = added
+  wanted_added false old new is added = absurd (false≢true is)
 
 -- THE MESSAGES OF A CHANNEL
 

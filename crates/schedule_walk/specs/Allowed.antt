@@ -1,6 +1,6 @@
 -- All events that are allowed in a state but for `show` and `stat`, in their order: the moves and timeouts, and then what may be
 -- done with the messages in flight.
-use Rattle.std.specs.Prelude.{◌≡◌, ◌↔◌, ℕ, Bool, true, false, List, ◌++◌, length, map, IsSome}
+use Rattle.std.specs.Prelude.{◌≡◌, ◌↔◌, ℕ, if◌then◌else◌, Bool, true, false, List, [], ◌++◌, length, map, IsSome}
 use Rattle.std.specs.List.{filter, flat_map}
 use Rattle.da_core.specs.Told.{numbers_to}
 use Rattle.da_values.specs.Sets.{Has}
@@ -39,6 +39,13 @@ candidates s = moves s ++ deeds Deliver s ++ deeds Lose s ++ deeds Repeat s
 
 abbrev pub allowed : Program → SystemState → List Event
 allowed program s = filter (is_allowed program s) (candidates s)
+
+-- the same without the losses, and without the repetitions, unless they are wanted
+abbrev pub deeds_if : Bool → Deed → SystemState → List Event
+deeds_if wanted deed s = if wanted then deeds deed s else []
+
+abbrev pub allowed_with : Bool → Bool → Program → SystemState → List Event
+allowed_with losses repetitions program s = filter (is_allowed program s) (moves s ++ deeds Deliver s ++ deeds_if losses Lose s ++ deeds_if repetitions Repeat s)
 
 -- THE LIST IS ALL THERE IS: these are the events that are allowed in a state, in their order; and whatever event is no `show` or
 -- `stat` is among them exactly where it has a step

@@ -1,3 +1,4 @@
 pub mod Allowed
 pub mod Next
+pub mod Rest
 pub mod Walk

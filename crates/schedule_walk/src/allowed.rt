@@ -1,7 +1,7 @@
 //! The events that are allowed in the state of a system.
 ghost use Rattle.da_system.specs.Choices.{is_allowed};
 ghost use Rattle.da_system.specs.State.{IsReady, Whichever, is_spent, program_of};
-ghost use Rattle.schedule_walk.specs.Allowed.{ListsAllowed, allowed, deed_event, deeds, deeds_from, deeds_to, is_move as is_move_def, moves};
+ghost use Rattle.schedule_walk.specs.Allowed.{ListsAllowed, allowed, allowed_with as allowed_with_def, deed_event, deeds, deeds_from, deeds_if, deeds_to, is_move as is_move_def, moves};
 ghost use Rattle.std.specs.List.{filter};
 ghost use Rattle.std.specs.Prelude.{◌≡◌, ◌++◌, ◌∷◌, [], IfOk, OnOk, false, length};
 
@@ -65,6 +65,44 @@ fn collect(alloc: Global, system: &System, processes: u32) -> Result<List<Event>
     add_deeds(system, Deed::Lose, processes, &mut events)?;
     add_deeds(system, Deed::Repeat, processes, &mut events)?;
     Ok(events)
+}
+
+/// The same without the losses, and without the repetitions, unless they are wanted.
+pub fn allowed_with(
+    alloc: Global,
+    system: &System,
+    processes: u32,
+    losses: bool,
+    repetitions: bool,
+) -> Result<List<Event>, NoMemory>
+    requires ready { IsReady system.now }
+    requires count { processes ≡ length (program_of system.now).procs }
+    ensures { IfOk result (λ events. Whichever system.now (λ s. events ≡ allowed_with_def losses repetitions (program_of system.now) s)) }
+{
+    let mut events = List::new(alloc);
+    add_moves(system, &mut events)?;
+    add_deeds(system, Deed::Deliver, processes, &mut events)?;
+    add_wanted(system, losses, Deed::Lose, processes, &mut events)?;
+    add_wanted(system, repetitions, Deed::Repeat, processes, &mut events)?;
+    Ok(events)
+}
+
+// Adds what may be done in this way with the messages of all channels, if it is wanted.
+fn add_wanted(
+    system: &System,
+    wanted: bool,
+    deed: Deed,
+    processes: u32,
+    out: &mut List<Event>,
+) -> Result<(), NoMemory>
+    requires { processes ≡ length (program_of system.now).procs }
+    ensures { OnOk result (Whichever system.now (λ s. out.new ≡ out.old ++ filter (is_allowed (program_of system.now) s) (deeds_if wanted deed s))) }
+{
+    if !wanted {
+        return Ok(());
+    }
+    add_deeds(system, deed, processes, out)?;
+    Ok(())
 }
 
 // Adds the moves and timeouts that are allowed. They are the first of the events that may be picked.

@@ -7,9 +7,11 @@ mod generated;
 mod naming;
 mod outcome;
 mod remarked;
+mod resting;
 
-pub use allowed::allowed_events;
+pub use allowed::{allowed_events, allowed_with};
 pub use following::next;
 pub use generated::{pick_events, walk};
 pub use naming::{all_named, schedule_of};
 pub use outcome::NextOutcome;
+pub use resting::is_at_rest;

@@ -4,7 +4,7 @@ use call_hints::{
     SHOWN, TOLD, explain_drawn, line_at, shown, shown_name, tell_unread, tell_words, text_again,
 };
 use da_front::RefusedKind;
-use scout_commands::{Command, Names, Status, command_of};
+use scout_commands::{Aim, Command, Names, Search, Status, command_of};
 use std::io::Eprint;
 use std::{io, rt};
 
@@ -28,11 +28,54 @@ fn tell_command<R: rt::Files + AllocGlobal + Eprint>(
     status: Status,
 ) -> io::Result<()> {
     match command {
-        Command::Search { program, .. } => tell_program(rt, *program, status),
+        Command::Search { search, program } => match watch_of(search) {
+            Some(watch) => tell_watched(rt, *program, watch, status),
+            None => tell_program(rt, *program, status),
+        },
         Command::Follow { names, .. } => tell_follow(rt, *names, status),
+        Command::Watch { watch, names } => match status {
+            Status::WatchRefused { .. } => tell_watched(rt, names.program, *watch, status),
+            Status::ReadFault => {
+                if tell_unread(rt, names.program)? || tell_unread(rt, *watch)? {
+                    return Ok(());
+                }
+                tell_follow(rt, *names, status)
+            }
+            _ => tell_follow(rt, *names, status),
+        },
         Command::Draw { trace } => tell_trace(rt, *trace, status),
         Command::Other if matches!(status, Status::Words) => tell_words(rt, words),
         Command::Other => tell_common(rt, status),
+    }
+}
+
+// The name of the watch that a search asks for.
+fn watch_of<'s>(search: &'s Search<'_>) -> Option<&'s str> {
+    match search {
+        Search::Hunt {
+            aim: Aim::Watched(watch),
+            ..
+        } => Some(*watch),
+        _ => None,
+    }
+}
+
+// How a call ended that reads a program and a watch.
+fn tell_watched<R: rt::Files + AllocGlobal + Eprint>(
+    rt: &R,
+    program: &str,
+    watch: &str,
+    status: Status,
+) -> io::Result<()> {
+    match status {
+        Status::WatchRefused { kind, line } => tell_refused(rt, watch, kind, line),
+        Status::ReadFault => {
+            if tell_unread(rt, program)? || tell_unread(rt, watch)? {
+                return Ok(());
+            }
+            tell_common(rt, status)
+        }
+        status => tell_program(rt, program, status),
     }
 }
 
@@ -141,6 +184,9 @@ fn tell_refused<R: AllocGlobal + Eprint>(
         return eprintln!(rt; "{named}: {kind}");
     }
     eprintln!(rt; "{named}:{line}: {kind}")?;
+    if matches!(kind, RefusedKind::Watch) {
+        return Ok(());
+    }
     eprintln!(rt; "'dalgo check' shows the place, and what helps")
 }
 

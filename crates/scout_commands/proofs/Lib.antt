@@ -1,2 +1,4 @@
+pub mod OptionLemmas
 pub mod ReplyLemmas
 pub mod TopLemmas
+pub mod WordLemmas

@@ -1,5 +1,6 @@
 pub mod Endings
 pub mod ExitCode
+pub mod Options
 pub mod Replies
 pub mod Told
 pub mod Words

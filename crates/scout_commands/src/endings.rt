@@ -64,6 +64,18 @@ pub fn refuse<K: Sink>(alloc: Global, out: &mut K, kind: RefusedKind, line: u32)
     say(out, text.as_slice(), Status::Refused { kind, line })
 }
 
+/// Refuses the watch.
+pub fn refuse_watch<K: Sink>(alloc: Global, out: &mut K, kind: RefusedKind, line: u32) -> Status
+    ensures said { HasSaid (Status.WatchRefused kind line) (refused_text kind line) result (K.taken out.old) (K.taken out.new) }
+    ensures read { result ≡ Status.ReadFault → ⊥ }
+    ensures write { HasCause (K.faults out.old) (K.faults out.new) (result ≡ Status.WriteFault) }
+{
+    let Ok(text) = refused_line(alloc, kind, line) else {
+        return Status::Memory;
+    };
+    say(out, text.as_slice(), Status::WatchRefused { kind, line })
+}
+
 /// Refuses the schedule or the trace.
 pub fn refuse_line<K: Sink>(alloc: Global, out: &mut K, line: u64) -> Status
     ensures said { HasSaid (Status.BadLine line) (badline_text line) result (K.taken out.old) (K.taken out.new) }

@@ -4,11 +4,14 @@
 mod drawing;
 mod endings;
 mod following;
+mod options;
 mod searching;
 mod status;
 mod top;
+mod watching;
 mod words;
 
+pub use options::Options;
 pub use status::Status;
 pub use top::scout;
-pub use words::{Command, Names, Question, Search, command_of};
+pub use words::{Aim, Command, Names, Question, Search, command_of};

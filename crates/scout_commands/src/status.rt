@@ -10,6 +10,8 @@ pub enum Status {
     Done,
     /// The program is refused, at this line, or at 0 where no line is to blame.
     Refused { kind: RefusedKind, line: u32 },
+    /// The watch is refused, at this line, or at 0 where no line is to blame.
+    WatchRefused { kind: RefusedKind, line: u32 },
     /// The words have no form that the program knows.
     Words,
     /// The event of this number, counted from 1, is not allowed.
@@ -38,6 +40,7 @@ impl Ending for Status {
         match self {
             Status::Done => 0,
             Status::Refused { .. } => 1,
+            Status::WatchRefused { .. } => 1,
             Status::Words => 2,
             Status::Forbidden { .. } => 3,
             Status::BadLine { .. } => 4,

@@ -10,6 +10,7 @@ use crate::endings::say;
 use crate::following::follow;
 use crate::searching::search as search_over;
 use crate::status::Status;
+use crate::watching::run_beside;
 use crate::words::{Command, command_of};
 use da_outside::{Files, Sink};
 use schedule_hunt::Progress;
@@ -49,6 +50,7 @@ pub fn scout<F: Files, K: Sink, P: Progress>(
             search_over(alloc, &search, program, files, out, progress)
         }
         Command::Follow { question, names } => follow(alloc, question, names, files, out),
+        Command::Watch { watch, names } => run_beside(alloc, watch, names, files, out),
         Command::Draw { trace } => draw_trace(alloc, trace, files, out),
         Command::Other => say(out, b"words\n", Status::Words),
     }

@@ -1,6 +1,6 @@
 use Rattle.da_core.specs.Compiled.{program_of}
-use Rattle.schedule_hunt.specs.Hunt.{ShowsNone}
+use Rattle.schedule_hunt.specs.Hunt.{ShowsNoneOf}
 use Rattle.schedule_hunt.proofs.hunting.seek.Given as goal
 
 abbrev pub invariant-loop-place : goal.invariant-loop-place
-invariant-loop-place g l = ShowsNone (program_of l.compiled) l.what l.most l.start l.place
+invariant-loop-place g l = ShowsNoneOf (program_of l.compiled) l.what l.trials l.place

@@ -1,7 +1,7 @@
-use Rattle.std.proofs.Common.{◌≡◌, ◌∙◌, ap, length, sym}
+use Rattle.std.proofs.Common.{◌∙◌, ap, length, sym}
 use Rattle.da_lang.specs.declared.program.Program.{Program}
 use Rattle.da_system.specs.State.{program_of}
-use Rattle.schedule_hunt.proofs.RestLaws.{not_stuck, stuck_as}
+use Rattle.schedule_hunt.proofs.StuckLaws.{not_stuck, stuck_as}
 use Rattle.schedule_hunt.proofs.runs.is_stuck.Goals as goal
 
 pub returns-then-not-has_unended : goal.returns-then-not-has_unended

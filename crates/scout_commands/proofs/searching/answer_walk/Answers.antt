@@ -10,6 +10,6 @@ pub walk-requires : goal.walk-requires
 walk-requires g c = record { ready = c.in-Ok.ensures.ready; unspent = c.in-Ok.ensures.start.unspent }
 
 pub returns-clause-replies : goal.returns-clause-replies
-returns-clause-replies g c = λ t accepts.
-    subst (λ s. Answers (SearchReply t (Walk c.args.start c.args.most)) s (g.K.Sink.taken c.args.out.now) (g.K.Sink.taken c.walk.new.sink)) (sym c.status_of_run.ensures)
-    (walk_replied t (program_of c.args.compiled.now) _ _ c.in-Ok.ensures.program c.in-Ok.ensures.start accepts c.args.start c.args.most c.walk.new.system _ _ c.walk.result c.walk.ensures.ran c.walk.ensures.done c.walk.ensures.prefix)
+returns-clause-replies g c = λ t w accepts.
+    subst (λ s. Answers (SearchReply t w (Walk c.args.start c.args.most)) s (g.K.Sink.taken c.args.out.now) (g.K.Sink.taken c.walk.new.sink)) (sym c.status_of_run.ensures)
+    (walk_replied t w (program_of c.args.compiled.now) _ _ c.in-Ok.ensures.program c.in-Ok.ensures.start accepts c.args.start c.args.most c.walk.new.system _ _ c.walk.result c.walk.ensures.ran c.walk.ensures.done c.walk.ensures.prefix)

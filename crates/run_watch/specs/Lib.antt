@@ -1,0 +1,4 @@
+pub mod Beside
+pub mod Telling
+pub mod TellingSteps
+pub mod Watching

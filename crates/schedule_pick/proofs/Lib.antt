@@ -1,0 +1,4 @@
+pub mod AmongLaws
+pub mod OrderLemmas
+pub mod PickLemmas
+pub mod ShuffleLemmas

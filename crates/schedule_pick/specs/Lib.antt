@@ -1,0 +1,4 @@
+pub mod Budgets
+pub mod OrderSteps
+pub mod Orders
+pub mod Picked
