@@ -1,4 +1,5 @@
-//! The end of a page: the script that steps through its rows. Without it the page can be read and printed as it is.
+//! The end of a page: the script that steps through its rows. Without it the page can be read and printed as it is. With it only
+//! the rows near those in sight are drawn on a screen, so that a long run opens quickly; the picture waits for it while it is read.
 
 /// The end of the table, the script, and the end of the page. The script reads the page alone, and asks for nothing outside it.
 pub(crate) const FOOT: &[u8] = b"\
@@ -19,7 +20,7 @@ return at;\n\
 };\n\
 const rows = all('tbody.events > tr'), diagram = one('.diagram'), picture = one('.picture');\n\
 if (!rows.length || !diagram) return;\n\
-document.documentElement.classList.add('on');\n\
+document.documentElement.classList.replace('wait', 'on');\n\
 const bands = all('.band'), marks = all('.marks > g'), ways = all('.arrows > path'), lines = all('.prog li');\n\
 const names = all('.names text').map((t) => t.textContent);\n\
 const places = new Map(rows.map((row, k) => [row.id, k]));\n\
@@ -36,10 +37,17 @@ const marksAt = new Map(), waysAt = new Map();\n\
 for (const g of marks) put(marksAt, g.dataset.e, g);\n\
 for (const a of ways) for (const e of new Set([a.dataset.from, a.dataset.to])) put(waysAt, e, a);\n\
 // what each row changes: process, number of the thing, its name, its value\n\
-const has = Boolean(one('tbody.events li'));\n\
-const changes = !has ? [] : rows.map((row) => all('li', row).map((li) => ({ p: li.dataset.p, n: Number(li.dataset.n), k: li.querySelector('b').textContent, v: li.querySelector('code').textContent })));\n\
+const has = Boolean(one('tbody.events li')), changed = [];\n\
+const changesAt = (k) => (changed[k] ??= all('li', rows[k]).map((li) => ({ p: li.dataset.p, n: Number(li.dataset.n), k: li.querySelector('b').textContent, v: li.querySelector('code').textContent })));\n\
 const w0 = diagram.viewBox.baseVal.width, h0 = diagram.viewBox.baseVal.height;\n\
 let at = 0;\n\
+// the table in parts of a hundred rows, each with its headings, of which a browser lays out those near what is in sight\n\
+const parts = [], whole = one('.all table');\n\
+for (let k = 100; k < rows.length; k += 100) {\n\
+const some = rows.slice(k, k + 100), div = make('div', { class: 'all' }), table = make('table', { class: whole.className, 'aria-label': 'Events from ' + some[0].id + ' to ' + some.at(-1).id }), body = make('tbody', { class: 'events' });\n\
+body.append(...some); table.append(whole.tHead.cloneNode(true), body); div.append(table); parts.push(div);\n\
+}\n\
+one('.all').after(...parts);\n\
 \n\
 // THE TOOLS\n\
 const tools = make('nav', { class: 'tools', 'aria-label': 'Steps of the run' });\n\
@@ -80,7 +88,7 @@ const side = one('.side'), panel = make('section', { class: 'state', 'aria-label
 if (has) side.prepend(panel);\n\
 const stateAt = (k) => {\n\
 const state = new Map();\n\
-for (let i = 0; i <= k; i += 1) for (const c of changes[i]) {\n\
+for (let i = 0; i <= k; i += 1) for (const c of changesAt(i)) {\n\
 if (!state.has(c.p)) state.set(c.p, new Map());\n\
 state.get(c.p).set(c.n, { ...c, i });\n\
 }\n\
@@ -123,12 +131,34 @@ const l = now || was, box = one('.prog');\n\
 if (l) box.scrollTop += l.getBoundingClientRect().top - box.getBoundingClientRect().top - box.clientHeight / 2;\n\
 };\n\
 \n\
+// WHAT IS DRAWN ON A SCREEN: the picture in parts of fifty rows, of which those near what is in sight, and the arrows that begin, end or pass there\n\
+const tops = bands.map((b) => Number(b.firstChild.getAttribute('y'))), highs = bands.map((b) => Number(b.firstChild.getAttribute('height')));\n\
+const spans = ways.map((a) => [places.get(a.dataset.from), places.get(a.dataset.to)].sort((x, y) => x - y));\n\
+const inParts = (things, row) => {\n\
+const made = [];\n\
+for (const g of things) {\n\
+const n = Math.floor(places.get(row(g)) / 50);\n\
+if (!made[n]) { made[n] = make('svg'); g.before(made[n]); }\n\
+made[n].append(g);\n\
+}\n\
+return made;\n\
+};\n\
+const bandParts = inParts(bands, (b) => b.id.slice(1)), markParts = inParts(marks, (g) => g.dataset.e);\n\
+const scale = () => Number(diagram.getAttribute('height')) / h0;\n\
+const show = () => {\n\
+const z = scale(), above = (picture.scrollTop - 300) / z, below = (picture.scrollTop + picture.clientHeight + 300) / z;\n\
+const draw = (g, top, end) => g?.classList.toggle('near', top < below && end > above);\n\
+bandParts.forEach((part, n) => { for (const g of [part, markParts[n]]) draw(g, tops[50 * n], tops[50 * n + 50] ?? h0); });\n\
+ways.forEach((a, n) => draw(a, tops[spans[n][0]], tops[spans[n][1]] + highs[spans[n][1]]));\n\
+};\n\
+addEventListener('resize', show);\n\
+\n\
 // OPENING AN EVENT\n\
 const look = (k) => {\n\
-const b = band.get(rows[k].id);\n\
-if (!b) return;\n\
-const r = b.firstChild.getBoundingClientRect(), p = picture.getBoundingClientRect(), top = p.top + 40, end = Math.min(p.bottom, innerHeight) - 30;\n\
-if (r.top < top || r.bottom > end) picture.scrollTop += r.top - Math.max(top, (top + end - r.height) / 2);\n\
+const p = picture.getBoundingClientRect(), top = p.top + 40, end = Math.min(p.bottom, innerHeight) - 30, high = highs[k] * scale();\n\
+const y = diagram.getBoundingClientRect().top + tops[k] * scale();\n\
+if (y < top || y + high > end) picture.scrollTop += y - Math.max(top, (top + end - high) / 2);\n\
+show();\n\
 const g = (marksAt.get(rows[k].id) || []).find((m) => columnOf(m) > 0);\n\
 if (!g) return;\n\
 const x = pointOf(g)[0] * Number(diagram.getAttribute('width')) / w0, wide = picture.clientWidth;\n\
@@ -185,7 +215,7 @@ if (has) tell(at);\n\
 };\n\
 who.onchange = sift; tag.onchange = sift;\n\
 const heads = one('.names');\n\
-const texts = bands.map((b) => b.querySelector('text')), whole = texts.map((t) => t.textContent);\n\
+const texts = bands.map((b) => b.querySelector('text')), said = texts.map((t) => t.textContent);\n\
 zoom.oninput = () => {\n\
 const z = Number(zoom.value) / 100, k = rows[at] && band.get(rows[at].id);\n\
 diagram.setAttribute('width', w0 * z); diagram.setAttribute('height', h0 * z);\n\
@@ -196,11 +226,11 @@ diagram.classList.toggle('small', z < 0.7);\n\
 all('text', heads).forEach((t, n) => { t.textContent = z < 0.5 ? names[n].split(' ').pop() : names[n]; });\n\
 // of rows that are low only some keep their words\n\
 const most = Math.ceil(14 / (18 * z));\n\
-texts.forEach((t, n) => { t.classList.toggle('few', most > 1 && n % most > 0); t.textContent = z < 0.7 ? whole[n].split(' ')[0] : whole[n]; });\n\
+texts.forEach((t, n) => { t.classList.toggle('few', most > 1 && n % most > 0); t.textContent = z < 0.7 ? said[n].split(' ')[0] : said[n]; });\n\
 if (k) look(at);\n\
 };\n\
 // the words of rows stay in sight\n\
-picture.addEventListener('scroll', () => diagram.style.setProperty('--x', picture.scrollLeft * w0 / Number(diagram.getAttribute('width')) + 'px'));\n\
+picture.addEventListener('scroll', () => { show(); diagram.style.setProperty('--x', picture.scrollLeft * w0 / Number(diagram.getAttribute('width')) + 'px'); });\n\
 \n\
 // THE STRIP OF THE WHOLE RUN, AND INTERVALS AS BARS\n\
 strip.setAttribute('viewBox', '0 0 ' + h0 + ' ' + (names.length + 1));\n\

@@ -1,6 +1,7 @@
 //! The beginning of a page, and the key of its picture.
 
-/// The head of a page with its style, and its body up to the remarks.
+/// The head of a page with its style and a script that hides the picture and the table until they are read, and its body up to the
+/// remarks.
 pub(crate) const HEAD: &[u8] = b"\
 <!DOCTYPE html>\n\
 <html lang='en'>\n\
@@ -69,9 +70,10 @@ svg .out text{font-weight:700;fill:var(--good)}\n\
 svg .fault text,svg .stop text{font-weight:700;fill:var(--bad)}\n\
 .hid{opacity:.12}\n\
 .small .marks text{display:none}\n\
+@media screen{.wait .all,.wait .diagram,.on .diagram svg:not(.near),.on .arrows>path:not(.near){display:none}}\n\
 a{color:inherit;cursor:pointer;text-decoration:none}\n\
 a:hover text{text-decoration:underline}\n\
-.marks>g,.arrows>path{cursor:pointer}\n\
+.marks g,.arrows>path{cursor:pointer}\n\
 .lit.arrow,.lit.broken,.lit.stub,.arrows>path:hover{stroke-width:3.5}\n\
 .prog{margin:0;padding:.2rem 0 .2rem 3rem;font:13px/1.5 ui-monospace,monospace}\n\
 .prog li{white-space:pre-wrap;overflow-wrap:anywhere;padding-left:.3rem}\n\
@@ -79,6 +81,7 @@ a:hover text{text-decoration:underline}\n\
 .prog li.was{background:var(--was)}\n\
 .prog li.lit{background:var(--lit);font-weight:700}\n\
 .all{content-visibility:auto;contain-intrinsic-size:auto 40rem}\n\
+.all+.all{contain-intrinsic-size:auto 160rem}\n\
 table{border-collapse:collapse;width:100%}\n\
 .all table{table-layout:fixed}\n\
 .all th:first-child{width:7%}\n\
@@ -101,6 +104,7 @@ td b{font-weight:700}\n\
 @page{size:A4;margin:12mm}\n\
 @media print{:root{--page:#fff;--ink:#000;--soft:#444;--line:#777;--faint:#ccc;--band:#f2f2f2;--lit:#eee;--was:#eee;--message:#0072b2;--bad:#b83c00;--good:#00704f;--move:#9a6700;--query:#a0468a}*{print-color-adjust:exact;-webkit-print-color-adjust:exact}body{margin:0;font-size:11px}.tools,.state{display:none}.run{display:block}.picture{overflow:visible;max-height:none;border:0}svg.names{position:static;max-width:100%}svg.diagram{max-width:100%;height:auto}.side{position:static;display:block;max-width:none;max-height:none}.prog{overflow:visible;border:0;font-size:10px}.prog li.lit,.prog li.was,tr.open,.band.open rect{background:none;font-weight:400}.all{content-visibility:visible}th,td{font-size:10px}tr{break-inside:avoid}thead{display:table-header-group}}\n\
 </style>\n\
+<script>document.documentElement.classList.add('wait'); addEventListener('load', () => document.documentElement.classList.remove('wait'));</script>\n\
 </head>\n\
 <body>\n\
 <svg width='0' height='0' style='position:absolute' aria-hidden='true'>\n\
