@@ -41,13 +41,20 @@ const has = Boolean(one('tbody.events li')), changed = [];\n\
 const changesAt = (k) => (changed[k] ??= all('li', rows[k]).map((li) => ({ p: li.dataset.p, n: Number(li.dataset.n), k: li.querySelector('b').textContent, v: li.querySelector('code').textContent })));\n\
 const w0 = diagram.viewBox.baseVal.width, h0 = diagram.viewBox.baseVal.height;\n\
 let at = 0;\n\
-// the table in parts of a hundred rows, each with its headings, of which a browser lays out those near what is in sight\n\
+// what is made when the page is open\n\
+const later = [];\n\
+addEventListener('load', () => setTimeout(() => later.forEach((go) => go())));\n\
+// the table in parts of a hundred rows, each with its headings, of which a browser lays out those near what is in sight; it is hidden till then\n\
+document.documentElement.classList.add('late');\n\
+later.push(() => {\n\
 const parts = [], whole = one('.all table');\n\
 for (let k = 100; k < rows.length; k += 100) {\n\
 const some = rows.slice(k, k + 100), div = make('div', { class: 'all' }), table = make('table', { class: whole.className, 'aria-label': 'Events from ' + some[0].id + ' to ' + some.at(-1).id }), body = make('tbody', { class: 'events' });\n\
 body.append(...some); table.append(whole.tHead.cloneNode(true), body); div.append(table); parts.push(div);\n\
 }\n\
 one('.all').after(...parts);\n\
+document.documentElement.classList.remove('late');\n\
+});\n\
 \n\
 // THE TOOLS\n\
 const tools = make('nav', { class: 'tools', 'aria-label': 'Steps of the run' });\n\
@@ -62,8 +69,8 @@ return s;\n\
 const named = (text, what) => { const l = make('label', {}, text); l.append(what); return l; };\n\
 const slider = make('input', { type: 'range', min: 0, max: rows.length - 1, value: 0, 'aria-label': 'Event' });\n\
 const who = choice('Process', 'all processes', names.map((n, k) => [String(k + 1), n]));\n\
-const tags = [...new Set(marks.map(tagOf))].filter((t) => t).sort();\n\
-const tag = choice('Messages and outputs of a tag', 'all tags', tags.map((t) => [t, t]));\n\
+const tag = choice('Messages and outputs of a tag', 'all tags', []);\n\
+later.push(() => { for (const t of [...new Set(marks.map(tagOf))].filter((t) => t).sort()) tag.append(make('option', { value: t }, t)); });\n\
 const zoom = make('input', { type: 'range', min: 20, max: 200, value: 100, step: 5, 'aria-label': 'Zoom' });\n\
 const outs = marks.filter((g) => kindOf(g) === 'out');\n\
 const outWords = [...new Set(outs.map(wordOf))].slice(0, 50);\n\
@@ -206,7 +213,7 @@ if (k !== undefined && k !== null) open(k);\n\
 // WHAT IS SHOWN\n\
 // of an event, the tag of what it got, and of the first message that it sent\n\
 const tagAt = new Map();\n\
-for (const g of marks) { const k = kindOf(g) + g.dataset.e; if (!tagAt.has(k)) tagAt.set(k, tagOf(g)); }\n\
+later.push(() => { for (const g of marks) { const k = kindOf(g) + g.dataset.e; if (!tagAt.has(k)) tagAt.set(k, tagOf(g)); } });\n\
 const sift = () => {\n\
 const other = (g) => who.value && !g.classList.contains('c' + who.value);\n\
 for (const g of marks) g.classList.toggle('hid', Boolean(other(g) || (tag.value && tagOf(g) !== tag.value)));\n\
@@ -237,12 +244,14 @@ strip.setAttribute('viewBox', '0 0 ' + h0 + ' ' + (names.length + 1));\n\
 const colours = { out: 'good', fault: 'bad', lost: 'bad', took: 'move', end: 'ink', answer: 'query', kept: 'query' };\n\
 const cursor = make('rect', { class: 'cursor', y: 0, height: names.length + 1 }), pieces = new Map();\n\
 strip.append(cursor);\n\
+later.push(() => {\n\
 for (const g of marks) {\n\
 const kind = kindOf(g), big = kind === 'out' || kind === 'fault', high = big ? 0.8 : 0.4;\n\
 if (kind !== 'stop') put(pieces, colours[kind] || 'message', 'M' + (pointOf(g)[1] - 9) + ' ' + (columnOf(g) - high / 2 - 0.5) + 'h18v' + high + 'h-18z');\n\
 }\n\
 for (const [colour, d] of pieces) strip.append(make('path', { d: d.join(''), style: 'fill:var(--' + colour + ')' }));\n\
 for (const b of bands) if (b.classList.contains('marked')) { const r = b.firstChild; strip.append(make('rect', { class: 'spot', x: r.getAttribute('y'), y: 0, width: r.getAttribute('height'), height: names.length + 1 })); }\n\
+});\n\
 strip.addEventListener('click', (e) => { const r = strip.getBoundingClientRect(), y = ((e.clientX - r.left) / r.width) * h0; let k = 0; for (const b of bands) if (Number(b.firstChild.getAttribute('y')) <= y) k = places.get(b.id.slice(1)); open(k); });\n\
 const bars = () => {\n\
 for (const b of all('.bar')) b.remove();\n\

@@ -70,7 +70,7 @@ svg .out text{font-weight:700;fill:var(--good)}\n\
 svg .fault text,svg .stop text{font-weight:700;fill:var(--bad)}\n\
 .hid{opacity:.12}\n\
 .small .marks text{display:none}\n\
-@media screen{.wait .all,.wait .diagram,.on .diagram svg:not(.near),.on .arrows>path:not(.near){display:none}}\n\
+@media screen{.wait .all,.wait .diagram,.late .all,.on .diagram svg:not(.near),.on .arrows>path:not(.near){display:none}}\n\
 a{color:inherit;cursor:pointer;text-decoration:none}\n\
 a:hover text{text-decoration:underline}\n\
 .marks g,.arrows>path{cursor:pointer}\n\
