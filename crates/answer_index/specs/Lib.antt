@@ -1,6 +1,8 @@
 pub mod Answers
 pub mod Choices
+pub mod Cuts
 pub mod Groups
+pub mod Leaving
 pub mod Orders
 pub mod Rows
 pub mod Settle

@@ -1,6 +1,8 @@
 pub mod AnewLaws
 pub mod BindLaws
 pub mod CodeLemmas
+pub mod EndLaws
+pub mod FreshLaws
 pub mod NoteLaws
 pub mod PartLaws
 pub mod ReadLaws

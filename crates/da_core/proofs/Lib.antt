@@ -2,6 +2,7 @@ pub mod Arriving
 pub mod Asking
 pub mod Binding
 pub mod Carrying
+pub mod ClockLaws
 pub mod Compiling
 pub mod DefaultForms
 pub mod Delivering
@@ -13,6 +14,9 @@ pub mod HeldIds
 pub mod HeldLaws
 pub mod Laws
 pub mod Letting
+pub mod LiveLaws
+pub mod LocalLaws
+pub mod LocalParts
 pub mod MessageForms
 pub mod Moving
 pub mod PlanLaws

@@ -1,8 +1,10 @@
 pub mod Arrivals
 pub mod Begins
+pub mod Clocks
 pub mod Compiled
 pub mod HeldCells
 pub mod Known
+pub mod LocalState
 pub mod Made
 pub mod Opened
 pub mod PlanLimit

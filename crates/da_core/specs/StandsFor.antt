@@ -17,12 +17,16 @@ use Rattle.da_machine.specs.declared.code.Code.{Code}
 use Rattle.da_machine.specs.declared.machine.Machine.{Machine}
 use Rattle.da_machine.specs.CodeFor.{Has, CodeFor}
 use Rattle.da_core.specs.declared.compiled.ClassCode.{ClassCode}
+use Rattle.da_core.specs.declared.compiled.Compiled.{Compiled}
 use Rattle.da_core.specs.declared.process.Core.{Core}
 use Rattle.da_core.specs.declared.place.Place.{Place}
 use Rattle.da_core.specs.declared.place.Place.TheVariants as place
 use Rattle.da_core.specs.Compiled.{IsCompiled, code_of}
 use Rattle.da_core.specs.Compiled as compiled
 use Rattle.da_core.specs.Known.{Knows}
+
+abbrev pub compiled_of : Core → Compiled
+compiled_of core = core.compiled.now
 
 abbrev pub program_of : Core → Program
 program_of core = compiled.program_of core.compiled.now

@@ -9,6 +9,7 @@ ghost use Rattle.std.specs.Prelude.{◌≡◌, ◌+◌, ◌++◌, IfOk, OnErr, O
 use crate::known::Known;
 use da_lang::Action;
 use da_values::{List, NoMemory, Row, SetVal, Value};
+use row_terms::copy_row;
 
 /// The value of the query of this number, or process 0, which is no process, where there is no such query.
 pub fn ask(known: &Known<'_>, q: u32) -> Result<Value, NoMemory>
@@ -63,7 +64,7 @@ pub fn tell_answers(known: &Known<'_>, out: &mut List<Action>) -> Result<(), NoM
 pub fn slot_values(known: &Known<'_>) -> Result<Row, NoMemory>
     ensures { IfOk result (λ values. Each known.now (λ p class d. values ≡ d.slots)) }
 {
-    known.answers.slot_values(known.alloc, &known.pool)
+    copy_row(known.alloc, known.answers.slot_values())
 }
 
 // The number of the query at a place. No memory has room for more than 32 bits count.

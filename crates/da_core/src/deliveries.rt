@@ -21,6 +21,7 @@ use da_lang::{Class, FaultKind, Handler, Instr};
 use da_machine::{Code, Machine, Stop, run_code};
 use da_pattern::match_pattern;
 use da_values::{NoMemory, Row, Value};
+use std::alloc::Global;
 
 /// The turns that one event may take.
 const MOST_TURNS: u32 = 1_000_000;
@@ -190,14 +191,33 @@ fn row_for(
     ensures { IfOk result (λ row. Each known.now (λ p class d. row
         ≡ matched_entry d handler.now.message handler.now.from (val_of m.now) from [])) }
 {
-    let alloc = known.alloc;
+    matched_row(
+        known.alloc,
+        handler,
+        m,
+        from,
+        known.answers.slot_values(),
+        known.answers.me,
+    )
+}
+
+// The same with the slots and the number of the process.
+fn matched_row(
+    alloc: Global,
+    handler: &Handler,
+    m: &Value,
+    from: u16,
+    slots: &Row,
+    me: u16,
+) -> Result<Option<Row>, NoMemory>
+    ensures { IfOk result (λ row. (d : Data) → d.me ≡ me → d.slots ≡ slots.now → row
+        ≡ matched_entry d handler.now.message handler.now.from (val_of m.now) from []) }
+{
     let none = Row::new(alloc);
-    let slots = known.answers.slot_values(alloc, &known.pool)?;
-    let me = known.answers.me;
-    let first = match_pattern(alloc, &handler.message, m, &none, &slots, me)?;
+    let first = match_pattern(alloc, &handler.message, m, &none, slots, me)?;
     let Some(row) = first else {
         return Ok(None);
     };
     let sender = Value::Proc(from);
-    match_pattern(alloc, &handler.from, &sender, &row, &slots, me)
+    match_pattern(alloc, &handler.from, &sender, &row, slots, me)
 }

@@ -7,6 +7,7 @@ mod compiled;
 mod counted;
 mod deliveries;
 mod known;
+mod local;
 mod messages;
 mod moves;
 mod opened;
@@ -17,6 +18,7 @@ mod store;
 mod waits;
 
 pub use compiled::{Compiled, compile};
+pub use local::{alternatives_at, has_alternatives, local_decides};
 pub use messages::well_typed;
 pub use place::{Place, StepFault, Stopped};
 pub use process::Core;

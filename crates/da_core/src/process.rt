@@ -5,7 +5,7 @@ ghost use Rattle.da_core.specs.Compiled.{IsCompiled, code_of, program_of as comp
 ghost use Rattle.da_core.specs.HeldCells.{AreHeldCells};
 ghost use Rattle.da_core.specs.Made.{HasBegun, HasMade, phase_at, stopped_at as stopped_def};
 ghost use Rattle.da_core.specs.declared.compiled.ClassCode.{ClassCode as ClassCodeOf};
-ghost use Rattle.da_core.specs.StandsFor.{BeginsWith, IsPlace, IsReady, StandsFor, Whichever, is_spent, program_of};
+ghost use Rattle.da_core.specs.StandsFor.{BeginsWith, IsPlace, IsReady, StandsFor, Whichever, compiled_of, is_spent, program_of};
 ghost use Rattle.da_core.specs.Told.{answers_of, kept_of};
 ghost use Rattle.da_lang.specs.declared.program.Alt.{Alt as AltOf};
 ghost use Rattle.da_lang.specs.declared.program.Item.{Item as ItemOf};
@@ -40,11 +40,11 @@ use std::sync::ledger::Ledger;
 /// A process of a compiled program. Contracts see the worlds that it stands for, by `StandsFor`.
 #[derive(Drop)]
 pub struct Core<'c> {
-    alloc: Global,
+    pub(crate) alloc: Global,
     compiled: &'c Compiled,
-    known: Known<'c>,
-    machine: Machine,
-    place: Place,
+    pub(crate) known: Known<'c>,
+    pub(crate) machine: Machine,
+    pub(crate) place: Place,
     spent: bool,
 }
 
@@ -55,6 +55,7 @@ impl<'c> Core<'c> {
         requires compiled { IsCompiled compiled.now }
         requires there { IsProcess (compiled_program compiled.now) me }
         ensures program { IfOk result (λ core. program_of core ≡ compiled_program compiled.now) }
+        ensures compiled { IfOk result (λ core. compiled_of core ≡ compiled.now) }
         ensures stands { IfOk result (λ core.
             StandsFor core (opening (compiled_program compiled.now) me)) }
     {
@@ -203,6 +204,7 @@ impl<'c> Core<'c> {
         requires { IsReady self.old }
         ensures ready { IsReady self.new }
         ensures program { program_of self.new ≡ program_of self.old }
+        ensures compiled { compiled_of self.new ≡ compiled_of self.old }
         ensures moves { IfOk result (λ stopped. Whichever self.old (λ w.
             HasMade self.old w (move_step k) self.new stopped out.old out.new)) }
         ensures spent { is_spent self.old ≡ true → IsErrOf result StepFault.Spent }
@@ -235,6 +237,7 @@ impl<'c> Core<'c> {
         requires { IsReady self.old }
         ensures ready { IsReady self.new }
         ensures program { program_of self.new ≡ program_of self.old }
+        ensures compiled { compiled_of self.new ≡ compiled_of self.old }
         ensures moves { IfOk result (λ stopped. Whichever self.old (λ w.
             HasMade self.old w TimeOut self.new stopped out.old out.new)) }
         ensures spent { is_spent self.old ≡ true → IsErrOf result StepFault.Spent }
@@ -273,6 +276,7 @@ impl<'c> Core<'c> {
         requires { (w : World) × (step : Step) × StandsFor self.old w × CanMove self.old w step k code.now begin }
         ensures ready { IsReady self.new }
         ensures program { program_of self.new ≡ program_of self.old }
+        ensures compiled { compiled_of self.new ≡ compiled_of self.old }
         ensures moves { IfOk result (λ stopped. Whichever self.old (λ w. (step : Step) → CanMove self.old w step k code.now begin
             → HasMade self.old w step self.new stopped out.old out.new)) }
         ensures memory { OnErr result (is_spent self.new ≡ true) }
@@ -310,6 +314,7 @@ impl<'c> Core<'c> {
         requires arrives { MayArrive (program_of self.old) m.now from time }
         ensures ready { IsReady self.new }
         ensures program { program_of self.new ≡ program_of self.old }
+        ensures compiled { compiled_of self.new ≡ compiled_of self.old }
         ensures delivers { IfOk result (λ stopped. Whichever self.old (λ w.
             HasMade self.old w (arrival m.now from time) self.new stopped out.old out.new)) }
         ensures spent { is_spent self.old ≡ true → IsErrOf result StepFault.Spent }
@@ -352,6 +357,7 @@ impl<'c> Core<'c> {
         requires arrives { MayArrive (program_of self.old) m from time }
         ensures ready { IsReady self.new }
         ensures program { program_of self.new ≡ program_of self.old }
+        ensures compiled { compiled_of self.new ≡ compiled_of self.old }
         ensures delivers { IfOk result (λ stopped. Whichever self.old (λ w.
             HasMade self.old w (arrival m from time) self.new stopped out.old out.new)) }
         ensures spent { is_spent self.old ≡ true → IsErrOf result StepFault.Spent }
@@ -393,6 +399,7 @@ impl<'c> Core<'c> {
         requires taken { Whichever self.old (λ w. IsSome (proc_step (program_of self.old) w (arrival m from time))) }
         ensures ready { IsReady self.new }
         ensures program { program_of self.new ≡ program_of self.old }
+        ensures compiled { compiled_of self.new ≡ compiled_of self.old }
         ensures delivers { IfOk result (λ stopped. Whichever self.old (λ w.
             HasMade self.old w (arrival m from time) self.new stopped out.old out.new)) }
         ensures memory { OnErr result (is_spent self.new ≡ true) }

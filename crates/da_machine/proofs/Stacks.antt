@@ -2,6 +2,7 @@
 use Rattle.std.proofs.Common.{◌≡◌, ℕ, zero, suc, ◌+◌, ◌-◌, ◌<◌, ◌≤◌, List, [], ◌∷◌, ◌++◌, length, take, drop, Some, None, refl, sym, ap, ◌∙◌, arith, append_assoc}
 use Rattle.std.specs.Prelude.{get_or, slice_get, slice_set, reverse}
 use Rattle.std.proofs.Common.{length-append}
+use Rattle.std.proofs.lemmas.List.{drop-map, drop_all, drop_more}
 use mathlib.Core.List.{append-nil, reverse-append}
 use Rattle.da_values.specs.declared.val.Val.{Val}
 use Rattle.da_values.specs.declared.value.Value.{Value}
@@ -50,6 +51,18 @@ dropped_none [] zero le = refl
 dropped_none [] (suc k) le = refl
 dropped_none (x ∷ xs) zero le = absurd (omega (arith, le))
 dropped_none (x ∷ xs) (suc k) le = dropped_none xs k (omega (arith, le))
+
+-- the values from a place on are copied: those that were and those that are left are all of them
+pub left_on : (values : List Value) (at : ℕ) (x : Value) (row next all : List Val) → at < length values → x ≡ get_or values at x → row ++ vals (drop at values) ≡ all → next ≡ row ++ val_of x ∷ [] → next ++ vals (drop (at + 1) values) ≡ all
+left_on values at x row next all inside is so_far added =
+    ap (λ r. r ++ vals (drop (at + 1) values)) added
+    ∙ append_assoc row (val_of x ∷ []) (vals (drop (at + 1) values))
+    ∙ ap (λ vs. row ++ vs) (sym (ap vals (drop_more values at x inside ∙ ap (λ y. y ∷ drop (at + 1) values) (sym is))))
+    ∙ so_far
+
+pub left_done : (values : List Value) (place at : ℕ) (row : List Val) → length values ≤ at → row ++ vals (drop at values) ≡ vals (drop place values) → row ≡ drop place (vals values)
+left_done values place at row end so_far =
+    sym (append-nil row) ∙ ap (λ vs. row ++ vals vs) (sym (drop_all at values end)) ∙ so_far ∙ sym (drop-map val_of place values)
 
 -- a loop that takes values off down to some that it keeps, and puts them upon another stack
 pub record Turning (old now turned : List Val) (keep : ℕ) : Type 0 where

@@ -8,10 +8,10 @@ ghost use Rattle.da_values.specs.declared.val.Val.TheVariants as Val;
 ghost use Rattle.std.specs.Option.{option_map};
 ghost use Rattle.std.specs.Prelude.{◌≡◌, [], ◌+◌, ◌<◌, ◌≤◌, ◌^◌, length, IfOk, OnOk};
 
-use crate::stack::{Rest, Stack};
+use crate::stack::{Rest, Stack, lefts};
 use crate::values::truth;
 use da_lang::FaultKind;
-use da_values::{List, NoMemory, Value};
+use da_values::{List, NoMemory, Row, Value};
 use std::alloc::Global;
 
 /// Where a run stops.
@@ -54,6 +54,14 @@ impl Machine {
             stack: Stack::new(alloc),
             loops: List::new(alloc),
         }
+    }
+
+    /// Copies of what is left of each loop that it is in, the innermost one last.
+    pub fn rests(&self, alloc: Global) -> Result<List<Row>, NoMemory>
+        ensures { IfOk result (λ rests. rests ≡ self.now.loops) }
+    {
+        let rests = lefts(alloc, self.loops.as_slice())?;
+        Ok(rests)
     }
 
     /// Puts a value on the stack, and goes on.

@@ -5,7 +5,7 @@ ghost use Rattle.da_values.specs.Sets.{canon};
 ghost use Rattle.da_values.specs.Value.{val_of, vals};
 ghost use Rattle.da_values.specs.Views.{elements_of, int_of};
 ghost use Rattle.da_values.specs.declared.val.Val.TheVariants as Val;
-ghost use Rattle.std.specs.Prelude.{◌≡◌, ◌≤◌, [], ◌∷◌, ◌++◌, length, reverse, true, IfOk, MatchOption, OnOk};
+ghost use Rattle.std.specs.Prelude.{◌≡◌, ◌≤◌, [], ◌∷◌, ◌++◌, drop, length, reverse, true, IfOk, MatchOption, OnOk};
 
 use crate::sets::{add_value, set_of_all};
 use crate::values::set_of;
@@ -255,4 +255,34 @@ impl Rest {
             }
         }
     }
+
+    /// Copies of the elements that are left.
+    pub fn left(&self, alloc: Global) -> Result<Row, NoMemory>
+        ensures { IfOk result (λ left. left ≡ self.now) }
+    {
+        let left = copies_from(alloc, self.set.as_slice(), self.taken)?;
+        Ok(left)
+    }
+}
+
+/// Copies of what is left of each of some loops.
+pub fn lefts(alloc: Global, loops: &[Rest]) -> Result<List<Row>, NoMemory>
+    ensures { IfOk result (λ copies. copies ≡ loops.now) }
+{
+    let mut copies = List::new(alloc);
+    for rest in loops {
+        copies.push(rest.left(alloc)?)?;
+    }
+    Ok(copies)
+}
+
+// Copies of the values from a place on.
+fn copies_from(alloc: Global, values: &[Value], place: usize) -> Result<Row, NoMemory>
+    ensures { IfOk result (λ row. row ≡ drop place (vals values.now)) }
+{
+    let mut row = Row::new(alloc);
+    for at in place..values.len() {
+        row.push(copy_value(alloc, &values[at])?)?;
+    }
+    Ok(row)
 }

@@ -1,4 +1,4 @@
--- The events that may be picked in a state for which a system stands.
+-- The events that may be picked in a state for which a network stands.
 use Rattle.std.proofs.Common.{◌≡◌, refl, sym, ◌∙◌, ap, subst, ℕ, zero, suc, ◌+◌, Bool, true, false, cond, List, [], ◌∷◌, ◌++◌, length, map, arith}
 use Rattle.std.specs.Prelude.{◌↔◌, Some, Result, Ok, Err, IsSome, IsTrue, is_some, slice_get}
 use Rattle.std.specs.List.{filter, flat_map, range_with_len}
@@ -10,11 +10,11 @@ use Rattle.da_lang.specs.World.{Task, Phase, New, Waiting, Ended, Faulted, at_nu
 use Rattle.da_core.specs.declared.place.Place.{Place}
 use Rattle.da_core.specs.declared.place.Place.TheVariants as place
 use Rattle.da_core.specs.StandsFor.{IsPlace}
-use Rattle.da_system.specs.declared.system.System.{System}
+use Rattle.da_system.specs.declared.network.Network.{Network}
 use Rattle.da_system.specs.Channels.{channel}
 use Rattle.da_system.specs.Choices.{alternatives, alternatives_in, alternatives_at, candidates, choices, deliveries_from, deliveries_to, is_allowed, moves_of, processes}
 use Rattle.da_system.specs.Picking.{Finds, alternatives_of}
-use Rattle.da_system.specs.State.{Stands, program_of}
+use Rattle.da_system.specs.Network.{Stands, program_of}
 use Rattle.da_system.specs.SystemStep.{SystemState, sys_step}
 use Rattle.da_system.proofs.FindLemmas.{Leads, LeadsFrom, leads_all, leads_here, leads_on, left_all, pieces_start, single_pieces}
 use Rattle.da_system.proofs.MessageLemmas.{none_in_flight}
@@ -95,10 +95,10 @@ filter_none : (allowed : Event → Bool) (f : ℕ → Event) (ns : List ℕ) →
 filter_none allowed f [] none = refl
 filter_none allowed f (n ∷ ns) none = let rest = filter allowed (map f ns) in ap (λ b. cond b (f n ∷ rest) rest) (none n) ∙ filter_none allowed f ns none
 
-pub no_messages : (system : System) (s : SystemState) → Stands system s → (p q j number : ℕ) → number ≡ length (channel s.channels p q) → number ≡ 0
-    → Finds (filter (is_allowed (program_of system) s) (deliveries_to p q)) j (Err j)
-no_messages system s stands p q j number counted none =
-    subst (λ es. Finds es j (Err j)) (sym (filter_none (is_allowed (program_of system) s) (Deliver p q) (range_with_len 1 4) (λ i. ap is_some (none_in_flight system s stands p q i (sym counted ∙ none)))))
+pub no_messages : (network : Network) (s : SystemState) → Stands network s → (p q j number : ℕ) → number ≡ length (channel s.channels p q) → number ≡ 0
+    → Finds (filter (is_allowed (program_of network) s) (deliveries_to p q)) j (Err j)
+no_messages network s stands p q j number counted none =
+    subst (λ es. Finds es j (Err j)) (sym (filter_none (is_allowed (program_of network) s) (Deliver p q) (range_with_len 1 4) (λ i. ap is_some (none_in_flight network s stands p q i (sym counted ∙ none)))))
     (let here : j ≡ 0 + j = omega arith in here)
 
 -- AN EVENT THAT WAS FOUND

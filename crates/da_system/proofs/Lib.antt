@@ -3,12 +3,17 @@ pub mod AnswerLemmas
 pub mod ChoiceExamples
 pub mod ChoiceLaws
 pub mod ChoiceLemmas
+pub mod CountLaws
 pub mod FindLemmas
 pub mod FlatLemmas
+pub mod FollowLaws
 pub mod MadeLemmas
 pub mod MessageLemmas
+pub mod NumberLaws
 pub mod PlaceLemmas
+pub mod PostLemmas
 pub mod QueueLaws
+pub mod RenewLaws
 pub mod SoundLaws
 pub mod StandLemmas
 pub mod StepLemmas
@@ -16,5 +21,6 @@ pub mod StopLaws
 pub mod StressLaws
 pub mod SystemExamples
 pub mod SystemLaws
+pub mod SystemLemmas
 pub mod Tested
 pub mod WorldLemmas

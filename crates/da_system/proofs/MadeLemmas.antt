@@ -1,6 +1,6 @@
--- The step of a process in code, within the system: its core stands for the world after it, and what it sent has to go into
+-- The step of a process in code, within the network: its core stands for the world after it, and what it sent has to go into
 -- the channels. These may be other ones than before, as where a message was taken out.
-use Rattle.std.proofs.Common.{◌≡◌, refl, sym, ◌∙◌, ap, subst, ℕ, zero, suc, ◌≤◌, false, List, [], ◌∷◌, ◌++◌, length, drop, append-nil, arith}
+use Rattle.std.proofs.Common.{◌≡◌, refl, sym, ◌∙◌, ap, subst, ℕ, zero, suc, ◌≤◌, false, List, [], ◌∷◌, ◌++◌, length, drop, arith}
 use Rattle.std.specs.Prelude.{Option, Some, None, IfSome}
 use Rattle.std.specs.List.{All}
 use Rattle.std.proofs.lemmas.List.Elements.{All-head, All-tail}
@@ -19,12 +19,12 @@ use Rattle.da_core.specs.declared.place.Stopped.{Stopped}
 use Rattle.da_core.specs.declared.process.Core.{Core}
 use Rattle.da_core.specs.Made as made
 use Rattle.da_core.specs.StandsFor as process
-use Rattle.da_system.specs.declared.system.System.{System}
+use Rattle.da_system.specs.declared.network.Network.{Network}
 use Rattle.da_system.specs.Channels.{Channels, after_actions, put_numbered}
 use Rattle.da_system.specs.Queues.{AreSent, IsSent}
 use Rattle.da_system.specs.Queues as queues
 use Rattle.da_system.specs.SoundState.{IsSoundState, LeadsOn}
-use Rattle.da_system.specs.State.{HasBegun, HasStepped, StandFrom, Stands, StandsAt, program_of}
+use Rattle.da_system.specs.Network.{HasBegun, HasStepped, StandFrom, Stands, StandsAt, program_of}
 use Rattle.da_system.specs.SystemStep.{AfterEvent, SystemState, process_step, step_of, stepped, sys_step}
 use Rattle.da_system.proofs.AcceptedStates.{sound_steps}
 use Rattle.da_system.proofs.PlaceLemmas.{numbered_within}
@@ -51,25 +51,25 @@ not_less [] ys = omega arith
 not_less (x ∷ xs) ys = let rest : length xs ≤ length (xs ++ ys) = not_less xs ys in omega (arith, rest)
 
 -- each event that is allowed leads to a sound state
-pub sound_after : (system : System) (s : SystemState) → Stands system s → (e : Event) (after : AfterEvent) → sys_step (program_of system) s e ≡ Some after → IsSoundState (program_of system) after.state
-sound_after system s stands e after is =
-    (subst (λ (o : Option AfterEvent). IfSome o (LeadsOn (program_of system) s e)) is (sound_steps (program_of system) stands.compiled.accepted s e stands.sound)).sound
+pub sound_after : (network : Network) (s : SystemState) → Stands network s → (e : Event) (after : AfterEvent) → sys_step (program_of network) s e ≡ Some after → IsSoundState (program_of network) after.state
+sound_after network s stands e after is =
+    (subst (λ (o : Option AfterEvent). IfSome o (LeadsOn (program_of network) s e)) is (sound_steps (program_of network) stands.compiled.accepted s e stands.sound)).sound
 
-pub move_sound : (system : System) (s : SystemState) → Stands system s → (p k : ℕ) (after : AfterEvent) → process_step (program_of system) s p (move_step k) ≡ Some after → IsSoundState (program_of system) after.state
-move_sound system s stands p zero after is = sound_after system s stands (event.Move p) after is
-move_sound system s stands p (suc k) after is = sound_after system s stands (event.Take p (suc k)) after is
+pub move_sound : (network : Network) (s : SystemState) → Stands network s → (p k : ℕ) (after : AfterEvent) → process_step (program_of network) s p (move_step k) ≡ Some after → IsSoundState (program_of network) after.state
+move_sound network s stands p zero after is = sound_after network s stands (event.Move p) after is
+move_sound network s stands p (suc k) after is = sound_after network s stands (event.Take p (suc k)) after is
 
 pub move_may : (program : Program) (k : ℕ) → MayStep program (move_step k)
 move_may program zero = tt
 move_may program (suc k) = tt
 
-module _ (system : System) (s : SystemState) (stands : Stands system s) (target : Option AfterEvent) (base : Channels) (p : ℕ) (step : Step)
-    (is : target ≡ process_step (program_of system) (record s { channels = base }) p step) (core : Core) (there : at_number system.cores.items p ≡ Some core) where
+module _ (network : Network) (s : SystemState) (stands : Stands network s) (target : Option AfterEvent) (base : Channels) (p : ℕ) (step : Step)
+    (is : target ≡ process_step (program_of network) (record s { channels = base }) p step) (core : Core) (there : at_number network.cores.items p ≡ Some core) where
   abbrev program : Program
-  program = program_of system
+  program = program_of network
 
   its : (w : World) × (at_number s.worlds p ≡ Some w) × StandsAt program p core w
-  its = core_at program system.cores.items s.worlds p core stands.cores there
+  its = core_at program network.cores.items s.worlds p core stands.cores there
 
   step_is : target ≡ stepped (record s { channels = base }) p (proc_step (process.program_of core) its.0 step)
   step_is =
@@ -116,22 +116,22 @@ module _ (system : System) (s : SystemState) (stands : Stands system s) (target 
         let shaped : Shaped program its.0 = subst (λ (o : Option World). IfSome o (Shaped program)) its.1 (all_numbered (Shaped program) s.worlds p stands.sound.worlds) in
         let leads : proc_step program its.0 step ≡ Some has.after = ap (λ (q : Program). proc_step q its.0 step) (sym its.2.same) ∙ has.leads in
         let stays : StepsShaped program its.0.data'.me has.after = (keeps_shaped program stands.compiled.accepted).steps its.0 step has.after shaped may leads in
-        let within = numbered_within system.cores.items p core there in
+        let within = numbered_within network.cores.items p core there in
         let is_there : IsProcess program p = (within.0, subst (λ k. p ≤ k) stands.each within.1) in
         subst (λ k. AreSent k (drop n new)) (sym all) (subst (AreSent (length program.procs)) (sym (told_are n same))
         (all_sent program its.0.data'.me (subst (IsProcess program) (sym its.2.number) is_there) has.after.actions stays.tells))
 
-    -- and once it is there, the system stands for the state after the step
+    -- and once it is there, the network stands for the state after the step
     pub made_stands : process.program_of next ≡ process.program_of core → ((after : AfterEvent) → target ≡ Some after → IsSoundState program after.state)
-        → (n : ℕ) → n ≡ length old → (left : System) → left.spent ≡ false → left.compiled.now ≡ system.compiled.now → left.cores.items ≡ put_numbered system.cores.items p next
-        → queues.count_of left.channels ≡ queues.count_of system.channels → queues.StandsFor left.channels (after_actions base (drop n new)) → HasStepped target left old new
+        → (n : ℕ) → n ≡ length old → (left : Network) → left.spent ≡ false → left.compiled.now ≡ network.compiled.now → left.cores.items ≡ put_numbered network.cores.items p next
+        → queues.count_of left.channels ≡ queues.count_of network.channels → queues.StandsFor left.channels (after_actions base (drop n new)) → HasStepped target left old new
     made_stands same sound n told left unspent compiled put count channels =
         let at : StandsAt program p next has.after.world = record { same = same ∙ its.2.same; number = has.same ∙ its.2.number; stands = has.stands } in
-        let here : StandFrom program 1 (put_numbered system.cores.items p next) (put_numbered s.worlds p has.after.world) = core_put program system.cores.items s.worlds p next has.after.world stands.cores at in
+        let here : StandFrom program 1 (put_numbered network.cores.items p next) (put_numbered s.worlds p has.after.world) = core_put program network.cores.items s.worlds p next has.after.world stands.cores at in
         record {
           after = after_it;
           is = after_is;
-          stands = stands_on system left s after_it.state stands unspent compiled (sound after_it after_is) (ap length put ∙ length-put system.cores.items p next)
+          stands = stands_on network left s after_it.state stands unspent compiled (sound after_it after_is) (ap length put ∙ length-put network.cores.items p next)
               (subst (λ xs. StandFrom program 1 xs (put_numbered s.worlds p has.after.world)) (sym put) here) count
               (subst (λ xs. queues.StandsFor left.channels (after_actions base xs)) (told_are n told) channels);
           added = has.added;

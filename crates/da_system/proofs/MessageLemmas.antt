@@ -1,4 +1,4 @@
--- The messages of a system, and the events that are about one.
+-- The messages of a network, and the events that are about one.
 use Rattle.std.proofs.Common.{◌≡◌, ◌<◌, ◌^◌, arith, refl, sym, ◌∙◌, ap, subst, ℕ, Bool, true, false, cond, List, [], ◌∷◌, ◌++◌, length, ◌≤◌}
 use Rattle.std.specs.Prelude.{◌&&◌, Option, Some, None, IfSome, IsSome, is_some}
 use Rattle.std.proofs.lemmas.Bool.{false≢true}
@@ -12,12 +12,12 @@ use Rattle.da_lang.specs.Steps.{Deliver, Step, Stepped}
 use Rattle.da_lang.specs.World.{World, at_number}
 use Rattle.da_types.proofs.sound.AcceptedLaws.{is_sound}
 use Rattle.da_machine.proofs.Prefixes.{same_prefix, full_prefix}
-use Rattle.da_system.specs.declared.system.System.{System}
+use Rattle.da_system.specs.declared.network.Network.{Network}
 use Rattle.da_system.specs.Channels.{Channels, MessageInFlight, channel, may_arrive, may_lose, may_repeat, with_message, without_message}
 use Rattle.da_system.specs.Queues.{HasPlace, IsAmong}
 use Rattle.da_system.specs.Queues as queues
 use Rattle.da_system.specs.SoundState.{IsMessageOf, IsSoundState, IsSquare}
-use Rattle.da_system.specs.State.{HasBegun, HasStepped, StandFrom, Stands, program_of}
+use Rattle.da_system.specs.Network.{HasBegun, HasStepped, StandFrom, Stands, program_of}
 use Rattle.da_system.specs.SystemStep.{AfterEvent, SystemState, arrive, copy_message, deliver, drop_message, lose, process_step, repeat, step_of, stepped}
 use Rattle.da_system.proofs.AcceptedStates.{stays_shaped}
 use Rattle.da_system.proofs.MadeLemmas.{sound_after}
@@ -31,9 +31,9 @@ pub stepped_some : (s : SystemState) (p : ℕ) (step : Option Stepped) → is_so
 stepped_some s p None = refl
 stepped_some s p (Some step) = refl
 
-module _ (system : System) (s : SystemState) (stands : Stands system s) where
+module _ (network : Network) (s : SystemState) (stands : Stands network s) where
   abbrev program : Program
-  program = program_of system
+  program = program_of network
 
   -- what the kind allows
   pub kind_arrives : (b : Bool) (kind : ChannelKind) (i : ℕ) → kind ≡ program.kind → b ≡ may_arrive kind i → may_arrive s.kind i ≡ b
@@ -117,20 +117,20 @@ module _ (system : System) (s : SystemState) (stands : Stands system s) where
       pub may_come : may_arrive s.kind i ≡ true
       may_come = parts.0.0
 
-      pub core_there : is_some (at_number system.cores.items q) ≡ true
-      core_there = sym (world_there program system.cores.items s.worlds q stands.cores) ∙ parts.1
+      pub core_there : is_some (at_number network.cores.items q) ≡ true
+      core_there = sym (world_there program network.cores.items s.worlds q stands.cores) ∙ parts.1
 
       -- there is the message, and both processes
-      whose : (o : Option MessageInFlight) → found ≡ o → is_some o ≡ true → HasPlace (queues.count_of system.channels) p q i
+      whose : (o : Option MessageInFlight) → found ≡ o → is_some o ≡ true → HasPlace (queues.count_of network.channels) p q i
       whose None is none = absurd (false≢true none)
       whose (Some message) is there =
           let both = message_there s p q i message (subst (λ n. IsSquare n s.channels) (sym stands.sound.each) stands.sound.square) is in
-          let all : length s.worlds ≡ queues.count_of system.channels = stands.sound.each ∙ sym stands.count in
+          let all : length s.worlds ≡ queues.count_of network.channels = stands.sound.each ∙ sym stands.count in
           let from = within_numbers s.worlds p both.0 in
           let to = within_numbers s.worlds q both.1 in
           ((from.0, subst (λ n. p ≤ n) all from.1), (to.0, subst (λ n. q ≤ n) all to.1), (within_numbers (channel s.channels p q) i (ap is_some is)).0)
 
-      pub both_there : HasPlace (queues.count_of system.channels) p q i
+      pub both_there : HasPlace (queues.count_of network.channels) p q i
       both_there = whose found refl parts.0.1
 
       pub message_found : found ≡ None → ⊥
@@ -147,7 +147,7 @@ module _ (system : System) (s : SystemState) (stands : Stands system s) where
           (all_numbered (IsMessageOf program) (channel s.channels p q) i (messages_in program (stays_shaped program stands.compiled.accepted) s.channels p q stands.sound.messages))
 
       -- it may arrive
-      pub message_may : IsAmong (queues.count_of system.channels) p → IsEntry program (record { message = message.message; peer = p; time = message.time })
+      pub message_may : IsAmong (queues.count_of network.channels) p → IsEntry program (record { message = message.message; peer = p; time = message.time })
       message_may among = record { proper = is_message_of.proper; typed = is_message_of.typed; peer = (among.0, subst (λ n. p ≤ n) stands.count among.1) }
 
       pub arrives_is : may_arrive s.kind i ≡ true
@@ -155,13 +155,13 @@ module _ (system : System) (s : SystemState) (stands : Stands system s) where
       arrives_is may = ap (λ b. cond b (arrive program s p q i found) None) may ∙ ap (arrive program s p q i) there
 
       -- and may not where there is no receiver
-      pub no_receiver : at_number system.cores.items q ≡ None → deliver program s p q i ≡ None
+      pub no_receiver : at_number network.cores.items q ≡ None → deliver program s p q i ≡ None
       no_receiver none =
           cond_none (may_arrive s.kind i) _
-          (ap (arrive program s p q i) there ∙ ap (λ (o : Option World). step_of program (record s { channels = without_message s.channels p q i }) q o (Deliver message.message p message.time)) (none_at program system.cores.items s.worlds q stands.cores none))
+          (ap (arrive program s p q i) there ∙ ap (λ (o : Option World). step_of program (record s { channels = without_message s.channels p q i }) q o (Deliver message.message p message.time)) (none_at program network.cores.items s.worlds q stands.cores none))
 
       pub arrives_sound : (after : AfterEvent) → deliver program s p q i ≡ Some after → IsSoundState program after.state
-      arrives_sound after is = sound_after system s stands (event.Deliver p q i) after is
+      arrives_sound after is = sound_after network s stands (event.Deliver p q i) after is
 
       -- it is lost
       lost_is : may_lose s.kind ≡ true → lose s p q i ≡ Some (record { state = record s { channels = without_message s.channels p q i }; actions = Lost p q message.time ∷ [] })
@@ -170,12 +170,12 @@ module _ (system : System) (s : SystemState) (stands : Stands system s) where
       pub lost_begun : may_lose s.kind ≡ true → (old new : List Action) → new ≡ old → HasBegun (lose s p q i) old new
       lost_begun may old new same = record { after = _; is = lost_is may; front = same_prefix old new (Lost p q message.time ∷ []) same }
 
-      pub lost_stands : may_lose s.kind ≡ true → (left : System) (old new : List Action) → left.spent ≡ system.spent → left.compiled.now ≡ system.compiled.now → left.cores.items ≡ system.cores.items
-          → queues.count_of left.channels ≡ queues.count_of system.channels → queues.StandsFor left.channels (without_message s.channels p q i) → new ≡ old ++ Lost p q message.time ∷ [] → HasStepped (lose s p q i) left old new
+      pub lost_stands : may_lose s.kind ≡ true → (left : Network) (old new : List Action) → left.spent ≡ network.spent → left.compiled.now ≡ network.compiled.now → left.cores.items ≡ network.cores.items
+          → queues.count_of left.channels ≡ queues.count_of network.channels → queues.StandsFor left.channels (without_message s.channels p q i) → new ≡ old ++ Lost p q message.time ∷ [] → HasStepped (lose s p q i) left old new
       lost_stands may left old new spent compiled cores count channels added = record {
         after = _;
         is = lost_is may;
-        stands = stands_on system left s _ stands (spent ∙ stands.unspent) compiled (sound_after system s stands (event.Lose p q i) _ (lost_is may)) (ap length cores)
+        stands = stands_on network left s _ stands (spent ∙ stands.unspent) compiled (sound_after network s stands (event.Lose p q i) _ (lost_is may)) (ap length cores)
             (subst (λ xs. StandFrom program 1 xs s.worlds) (sym cores) stands.cores) count channels;
         added = added;
       }
@@ -190,12 +190,12 @@ module _ (system : System) (s : SystemState) (stands : Stands system s) where
       pub doubled_whole : may_repeat s.kind ≡ true → (old new : List Action) → new ≡ old ++ Again p q message.time ∷ [] → HasBegun (repeat s p q i) old new
       doubled_whole may old new added = record { after = _; is = doubled_is may; front = full_prefix old new (Again p q message.time ∷ []) added }
 
-      pub doubled_stands : may_repeat s.kind ≡ true → (left : System) (old new : List Action) → left.spent ≡ system.spent → left.compiled.now ≡ system.compiled.now → left.cores.items ≡ system.cores.items
-          → queues.count_of left.channels ≡ queues.count_of system.channels → IfSome found (λ (l : MessageInFlight). queues.StandsFor left.channels (with_message s.channels p q l)) → new ≡ old ++ Again p q message.time ∷ [] → HasStepped (repeat s p q i) left old new
+      pub doubled_stands : may_repeat s.kind ≡ true → (left : Network) (old new : List Action) → left.spent ≡ network.spent → left.compiled.now ≡ network.compiled.now → left.cores.items ≡ network.cores.items
+          → queues.count_of left.channels ≡ queues.count_of network.channels → IfSome found (λ (l : MessageInFlight). queues.StandsFor left.channels (with_message s.channels p q l)) → new ≡ old ++ Again p q message.time ∷ [] → HasStepped (repeat s p q i) left old new
       doubled_stands may left old new spent compiled cores count channels added = record {
         after = _;
         is = doubled_is may;
-        stands = stands_on system left s _ stands (spent ∙ stands.unspent) compiled (sound_after system s stands (event.Repeat p q i) _ (doubled_is may)) (ap length cores)
+        stands = stands_on network left s _ stands (spent ∙ stands.unspent) compiled (sound_after network s stands (event.Repeat p q i) _ (doubled_is may)) (ap length cores)
             (subst (λ xs. StandFrom program 1 xs s.worlds) (sym cores) stands.cores) count
             (subst (λ (o : Option MessageInFlight). IfSome o (λ (l : MessageInFlight). queues.StandsFor left.channels (with_message s.channels p q l))) there channels);
         added = added;

@@ -109,7 +109,7 @@ after_then : (channels : Channels) (done more : List Action) → after_actions c
 after_then channels [] more = refl
 after_then channels (a ∷ done) more = after_then (after_action channels a) done more
 
-take_next : {A : Type 0} (xs : List A) (i : ℕ) (x : A) → slice_get xs i ≡ Some x → take (i + 1) xs ≡ take i xs ++ x ∷ []
+pub take_next : {A : Type 0} (xs : List A) (i : ℕ) (x : A) → slice_get xs i ≡ Some x → take (i + 1) xs ≡ take i xs ++ x ∷ []
 take_next [] i x there = absurd (false≢true (ap is_some there))
 take_next (y ∷ ys) zero x there = ap (λ z. z ∷ []) (let same : y ≡ x = cc in same)
 take_next (y ∷ ys) (suc i) x there = ap (λ n. take n (y ∷ ys)) (let same : suc i + 1 ≡ suc (i + 1) = omega arith in same) ∙ ap (λ t. y ∷ t) (take_next ys i x there)

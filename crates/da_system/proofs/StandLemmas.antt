@@ -12,11 +12,11 @@ use Rattle.da_core.specs.StandsFor as process
 use Rattle.da_core.specs.declared.compiled.Compiled.{Compiled}
 use Rattle.da_core.specs.Compiled.{IsCompiled}
 use Rattle.da_core.specs.Compiled as compiled
-use Rattle.da_system.specs.declared.system.System.{System}
+use Rattle.da_system.specs.declared.network.Network.{Network}
 use Rattle.da_system.specs.Channels.{no_messages, put_numbered}
 use Rattle.da_system.specs.Queues as queues
 use Rattle.da_system.specs.SoundState.{IsSoundState}
-use Rattle.da_system.specs.State.{StandFrom, Stands, StandsAt, program_of}
+use Rattle.da_system.specs.Network.{StandFrom, Stands, StandsAt, program_of}
 use Rattle.da_system.specs.SystemStep.{SystemState, start}
 use Rattle.da_system.proofs.AcceptedStates.{sound_start}
 use Rattle.da_system.proofs.SystemLaws.{length-opened}
@@ -99,28 +99,28 @@ module _ (program : Program) where
       subst (λ k. StandFrom program 1 (cores ++ core ∷ []) (map (opening program) (range_with_len 1 k))) (let next : suc n ≡ n + 1 = omega arith in next)
       (opened_from 1 n cores core stand (subst (λ k. StandsAt program k core (opening program k)) here at))
 
--- a system stands for the state before any event, where each core is that of a new process and nothing is in flight
-pub opened_stands : (system : System) (n : ℕ) → system.spent ≡ false → IsCompiled system.compiled.now → n ≡ length (program_of system).procs
-    → StandFrom (program_of system) 1 system.cores.items (map (opening (program_of system)) (range_with_len 1 n))
-    → queues.count_of system.channels ≡ length (program_of system).procs → queues.StandsFor system.channels (no_messages (length (program_of system).procs)) → Stands system (start (program_of system))
-opened_stands system n unspent compiled all stand count channels =
-    let here : StandFrom (program_of system) 1 system.cores.items (map (opening (program_of system)) (range_with_len 1 (length (program_of system).procs))) =
-    subst (λ k. StandFrom (program_of system) 1 system.cores.items (map (opening (program_of system)) (range_with_len 1 k))) all stand in
+-- a network stands for the state before any event, where each core is that of a new process and nothing is in flight
+pub opened_stands : (network : Network) (n : ℕ) → network.spent ≡ false → IsCompiled network.compiled.now → n ≡ length (program_of network).procs
+    → StandFrom (program_of network) 1 network.cores.items (map (opening (program_of network)) (range_with_len 1 n))
+    → queues.count_of network.channels ≡ length (program_of network).procs → queues.StandsFor network.channels (no_messages (length (program_of network).procs)) → Stands network (start (program_of network))
+opened_stands network n unspent compiled all stand count channels =
+    let here : StandFrom (program_of network) 1 network.cores.items (map (opening (program_of network)) (range_with_len 1 (length (program_of network).procs))) =
+    subst (λ k. StandFrom (program_of network) 1 network.cores.items (map (opening (program_of network)) (range_with_len 1 k))) all stand in
     record {
       unspent = unspent;
       compiled = compiled;
-      sound = sound_start (program_of system) compiled.accepted;
-      each = stand_length (program_of system) 1 system.cores.items _ here ∙ length-opened (program_of system) 1 (length (program_of system).procs);
+      sound = sound_start (program_of network) compiled.accepted;
+      each = stand_length (program_of network) 1 network.cores.items _ here ∙ length-opened (program_of network) 1 (length (program_of network).procs);
       cores = here;
       count = count;
       channels = channels;
     }
 
 -- what stands beside the flag, the cores and the channels is the same
-pub stands_on : (system left : System) (s next : SystemState) → Stands system s → left.spent ≡ false → left.compiled.now ≡ system.compiled.now → IsSoundState (program_of system) next
-    → length left.cores.items ≡ length system.cores.items → StandFrom (program_of system) 1 left.cores.items next.worlds
-    → queues.count_of left.channels ≡ queues.count_of system.channels → queues.StandsFor left.channels next.channels → Stands left next
-stands_on system left s next stands unspent same sound many cores count channels = record {
+pub stands_on : (network left : Network) (s next : SystemState) → Stands network s → left.spent ≡ false → left.compiled.now ≡ network.compiled.now → IsSoundState (program_of network) next
+    → length left.cores.items ≡ length network.cores.items → StandFrom (program_of network) 1 left.cores.items next.worlds
+    → queues.count_of left.channels ≡ queues.count_of network.channels → queues.StandsFor left.channels next.channels → Stands left next
+stands_on network left s next stands unspent same sound many cores count channels = record {
   unspent = unspent;
   compiled = subst IsCompiled (sym same) stands.compiled;
   sound = subst (λ (c : Compiled). IsSoundState (compiled.program_of c) next) (sym same) sound;

@@ -1,4 +1,4 @@
--- The moves of a system in code, and what it tells, by the cores of its processes.
+-- The moves of a network in code, and what it tells, by the cores of its processes.
 use Rattle.std.proofs.Common.{◌≡◌, refl, sym, ◌∙◌, ap, subst, ℕ, ◌<◌, ◌^◌, arith, Bool, true, false, List, [], ◌∷◌, ◌++◌}
 use Rattle.std.specs.Prelude.{◌↔◌, Option, Some, None, IsSome, IsTrue, is_some}
 use Rattle.std.proofs.lemmas.Bool.{false≢true}
@@ -14,21 +14,21 @@ use Rattle.da_core.specs.declared.process.Core.{Core}
 use Rattle.da_core.specs.StandsFor as process
 use Rattle.da_core.specs.Told.{answers_of, kept_of}
 use Rattle.da_machine.proofs.Prefixes.{same_prefix}
-use Rattle.da_system.specs.declared.system.System.{System}
+use Rattle.da_system.specs.declared.network.Network.{Network}
 use Rattle.da_system.specs.Channels.{Channels, MessageInFlight, channel, may_arrive, without_message}
 use Rattle.da_system.specs.Looking.{answers_at}
-use Rattle.da_system.specs.State.{HasBegun, HasStepped, Stands, StandsAt, program_of}
+use Rattle.da_system.specs.Network.{HasBegun, HasStepped, Stands, StandsAt, program_of}
 use Rattle.da_system.specs.SystemStep.{SystemState, deliver, process_step, show, stat, step_of, stepped, sys_step, told}
 use Rattle.da_system.proofs.AcceptedStates.{never_steps}
 use Rattle.da_system.proofs.MessageLemmas.{arrives_is, stepped_some}
 use Rattle.da_system.proofs.StandLemmas.{core_at, none_at, within, world_there}
 
-module _ (system : System) (s : SystemState) (stands : Stands system s) where
+module _ (network : Network) (s : SystemState) (stands : Stands network s) where
   abbrev program : Program
-  program = program_of system
+  program = program_of network
 
   abbrev cores : List Core
-  cores = system.cores.items
+  cores = network.cores.items
 
   -- THE MOVE OF A PROCESS
 
@@ -64,7 +64,7 @@ module _ (system : System) (s : SystemState) (stands : Stands system s) where
       → process.Whichever core (λ w. IsTrue b ↔ IsSome (proc_step (process.program_of core) w (Deliver message.message p message.time))) → (IsTrue b ↔ IsSome (deliver program s p q i))
   takes_as p q i message core there found may b takes =
       let both = may_as (without_message s.channels p q i) q (Deliver message.message p message.time) core there b takes in
-      let same = ap is_some (arrives_is system s stands p q i message found may) in
+      let same = ap is_some (arrives_is network s stands p q i message found may) in
       (λ yes. same ∙ both.0 yes, λ some. both.1 (sym same ∙ some))
 
   -- WHAT IS TOLD
@@ -95,7 +95,7 @@ module _ (system : System) (s : SystemState) (stands : Stands system s) where
     pub unspent_there : process.is_spent core ≡ false
     unspent_there = its.2.stands.unspent
 
-    pub shows : (old new : List Action) → process.Whichever core (λ w. new ≡ old ++ answers_of w.data'.me (class_of (process.program_of core) w.data'.me) w.data') → HasStepped (show program s p) system old new
+    pub shows : (old new : List Action) → process.Whichever core (λ w. new ≡ old ++ answers_of w.data'.me (class_of (process.program_of core) w.data'.me) w.data') → HasStepped (show program s p) network old new
     shows old new added = record {
       after = record { state = s; actions = answers_of p (class_of program p) its.0.data' };
       is = told_is (answers_of p (class_of program p));
@@ -120,7 +120,7 @@ module _ (system : System) (s : SystemState) (stands : Stands system s) where
           told_is (λ d. Kept p (kept_of (class_of program p) d) ∷ [])
           ∙ ap (λ rows. Some (record { state = s; actions = Kept p rows ∷ [] })) (sym (is its.0 its.2.stands ∙ kept_is))
 
-      pub keeps : (old new : List Action) → new ≡ old ++ Kept p n ∷ [] → HasStepped (stat program s p) system old new
+      pub keeps : (old new : List Action) → new ≡ old ++ Kept p n ∷ [] → HasStepped (stat program s p) network old new
       keeps old new added = record { after = record { state = s; actions = Kept p n ∷ [] }; is = keeps_so; stands = stands; added = added }
 
       pub begins_to_keep : (old new : List Action) → new ≡ old → HasBegun (stat program s p) old new

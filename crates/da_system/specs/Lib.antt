@@ -1,7 +1,10 @@
 pub mod Channels
 pub mod Choices
+pub mod Counted
+pub mod Counts
 pub mod FlatChannels
 pub mod Looking
+pub mod Network
 pub mod Picking
 pub mod Queued
 pub mod Queues

@@ -1,5 +1,5 @@
 -- How a system in code finds the events that may be picked.
-use Rattle.std.specs.Prelude.{◌≡◌, ℕ, ◌+◌, ◌<◌, ◌≤◌, List, length, slice_get, Some, Result, Ok, Err}
+use Rattle.std.specs.Prelude.{◌≡◌, ℕ, ◌+◌, ◌<◌, ◌≤◌, List, length, slice_get, Option, Some, None, Result, Ok, Err}
 use Rattle.da_lang.specs.declared.event.Event.{Event}
 use Rattle.da_core.specs.declared.place.Place.{Place}
 use Rattle.da_core.specs.declared.place.Place.TheVariants.{Await}
@@ -21,6 +21,11 @@ Finds events j (Err past) = j ≡ length events + past
 abbrev pub IsOfAtMost : ℕ → ℕ → Result Event ℕ → Type 0
 IsOfAtMost most j (Ok e) = j < most
 IsOfAtMost most j (Err past) = j ≤ past + most
+
+-- j is by so much past a number of events, where that is known
+abbrev pub IsPast : ℕ → Option ℕ → ℕ → Type 0
+IsPast j None past = ⊥
+IsPast j (Some count) past = j ≡ count + past
 
 -- the alternatives that a process may have to take which stands there
 abbrev pub alternatives_of : Place → ℕ

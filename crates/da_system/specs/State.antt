@@ -1,51 +1,26 @@
 -- The states that a system in code stands for.
-use Rattle.std.specs.Prelude.{◌≡◌, ◌↔◌, ℕ, ◌+◌, Bool, true, false, List, [], ◌∷◌, ◌++◌, length, Option, Some, None, Result, Ok, Err}
+use Rattle.std.specs.Prelude.{◌≡◌, ◌↔◌, Bool, true, false, List, ◌++◌, Option, Some, None, Result, Ok, Err}
 use Rattle.da_lang.specs.declared.event.Action.{Action}
 use Rattle.da_lang.specs.declared.program.Program.{Program}
-use Rattle.da_lang.specs.World.{World}
-use Rattle.da_machine.specs.RunsTo.{AddsPrefix}
 use Rattle.da_core.specs.declared.place.StepFault.{StepFault}
 use Rattle.da_core.specs.declared.place.StepFault.TheVariants.{Forbidden, Memory, Spent}
-use Rattle.da_core.specs.declared.process.Core.{Core}
-use Rattle.da_core.specs.Compiled.{IsCompiled}
-use Rattle.da_core.specs.Compiled as compiled
-use Rattle.da_core.specs.StandsFor.{StandsFor}
-use Rattle.da_core.specs.StandsFor as process
 use Rattle.da_system.specs.declared.system.System.{System}
-use Rattle.da_system.specs.Channels.{after_actions}
-use Rattle.da_system.specs.Queues as queues
-use Rattle.da_system.specs.SoundState.{IsSoundState}
+use Rattle.da_system.specs.Counts.{AreCounts}
+use Rattle.da_system.specs.Network.{HasBegun}
+use Rattle.da_system.specs.Network as network
 use Rattle.da_system.specs.SystemStep.{AfterEvent, SystemState}
 
 abbrev pub program_of : System → Program
-program_of system = compiled.program_of system.compiled.now
+program_of system = network.program_of system.network
 
 -- an earlier step found no memory
 abbrev pub is_spent : System → Bool
-is_spent system = system.spent
+is_spent system = network.is_spent system.network
 
--- a core of the program stands for a world, which is that of the process of this number
-pub record StandsAt (program : Program) (me : ℕ) (core : Core) (w : World) : Type 0 where
-  pub same : process.program_of core ≡ program
-  pub number : w.data'.me ≡ me
-  pub stands : StandsFor core w
-
--- cores stand for the worlds of processes that are numbered from the first, in their order
-abbrev pub StandFrom : Program → ℕ → List Core → List World → Type 0
-StandFrom program first [] [] = Unit {0}
-StandFrom program first (core ∷ cores) (w ∷ ws) = StandsAt program first core w × StandFrom program (first + 1) cores ws
-StandFrom program first _ _ = ⊥
-
--- The system stands for this state of a compiled program, which is sound: it is not spent, each of its cores stands for the
--- world of its process, and each of its queues for the channel of two processes.
+-- The system stands for this state: its processes with their channels do, and it has counted the events that may be picked.
 pub record Stands (system : System) (s : SystemState) : Type 0 where
-  pub unspent : system.spent ≡ false
-  pub compiled : IsCompiled system.compiled.now
-  pub sound : IsSoundState (program_of system) s
-  pub each : length system.cores.items ≡ length (program_of system).procs
-  pub cores : StandFrom (program_of system) 1 system.cores.items s.worlds
-  pub count : queues.count_of system.channels ≡ length (program_of system).procs
-  pub channels : queues.StandsFor system.channels s.channels
+  pub runs : network.Stands system.network s
+  pub counts : AreCounts (program_of system) s system.counts
 
 -- it holds of each state that the system stands for
 abbrev pub Whichever : System → (SystemState → Type 0) → Type 0
@@ -57,7 +32,7 @@ StandAlike system other = (s : SystemState) → Stands system s ↔ Stands other
 
 -- a system that is not spent stands for some state
 abbrev pub IsReady : System → Type 0
-IsReady system = system.spent ≡ false → (s : SystemState) × Stands system s
+IsReady system = is_spent system ≡ false → (s : SystemState) × Stands system s
 
 -- the event was allowed, and the system stands for the state that its step leads to; its actions were added
 pub record HasStepped (step : Option AfterEvent) (system : System) (old new : List Action) : Type 0 where
@@ -66,23 +41,9 @@ pub record HasStepped (step : Option AfterEvent) (system : System) (old new : Li
   pub stands : Stands system after.state
   pub added : new ≡ old ++ after.actions
 
--- the event was allowed, and a prefix of its actions was added
-pub record HasBegun (step : Option AfterEvent) (old new : List Action) : Type 0 where
-  pub after : AfterEvent
-  pub is : step ≡ Some after
-  pub front : AddsPrefix old new after.actions
-
 -- what a system that is not spent answers to an event with this step, and what it leaves
 abbrev pub Answers : (SystemState → Option AfterEvent) → System → Result (Unit {0}) StepFault → System → List Action → List Action → Type 0
 Answers step system (Ok done) left old new = Whichever system (λ s. HasStepped (step s) left old new)
 Answers step system (Err Forbidden) left old new = Whichever system (λ s. step s ≡ None) × StandAlike system left × (new ≡ old)
 Answers step system (Err Memory) left old new = (is_spent left ≡ true) × Whichever system (λ s. HasBegun (step s) old new)
 Answers step system (Err Spent) left old new = ⊥
-
--- the messages of these actions were posted, and nothing else has changed
-pub record HasPosted (system : System) (actions : List Action) (left : System) : Type 0 where
-  pub spent : left.spent ≡ system.spent
-  pub compiled : left.compiled.now ≡ system.compiled.now
-  pub cores : left.cores.items ≡ system.cores.items
-  pub count : queues.count_of left.channels ≡ queues.count_of system.channels
-  pub channels : queues.Each system.channels (λ channels. queues.StandsFor left.channels (after_actions channels actions))

@@ -1,21 +1,16 @@
 //! The events that may be picked in the state of a system.
 //!
-//! To find one of them, and to count them, the processes are walked for their moves and timeouts, and then the pairs of
-//! processes for the messages between them.
-ghost use Rattle.da_lang.specs.World.{at_number};
-ghost use Rattle.da_system.specs.Choices.{alternatives_at as alternatives_at_def, choices, deliveries_from, deliveries_to, is_allowed, moves_of, processes};
-ghost use Rattle.da_system.specs.Picking.{Finds, HasChoice, IsOfAtMost, alternatives_of as alternatives_def};
+//! To find one of them, and to count them, the kept counts of the processes are walked, and then those of the senders. Only
+//! the process or the channel that has the event is looked at itself.
+ghost use Rattle.da_system.specs.Choices.{choices, deliveries_from, deliveries_to, is_allowed, moves_of, processes};
+ghost use Rattle.da_system.specs.Picking.{Finds, HasChoice, IsOfAtMost, IsPast};
 ghost use Rattle.da_system.specs.State.{Whichever, is_spent, program_of};
 ghost use Rattle.da_system.specs.SystemStep.{sys_step};
 ghost use Rattle.std.specs.List.{filter, flat_map};
-ghost use Rattle.std.specs.Prelude.{◌≡◌, ◌+◌, ◌^◌, ◌∷◌, [], Some, IsSome, length, slice_get, true};
+ghost use Rattle.std.specs.Prelude.{◌≡◌, ◌+◌, ◌^◌, Some, IfSome, IsSome, length, slice_get, true};
 
 use crate::system::System;
-use da_core::Place;
 use da_lang::Event;
-
-/// How many messages of a channel may be picked, at most: the first ones.
-const PICKED: u32 = 4;
 
 impl System<'_> {
     /// How many events may be picked: the moves and timeouts of the processes that are allowed, and the deliveries that are
@@ -25,7 +20,8 @@ impl System<'_> {
         ensures number { Whichever self.now (λ s.
             result ≡ length (choices (program_of self.now) s)) }
     {
-        if self.spent {
+        let spent = self.network.spent;
+        if spent {
             return 0;
         }
         match self.find(usize::MAX) {
@@ -68,7 +64,7 @@ impl System<'_> {
         ensures few { IsOfAtMost (2 ^ 48) j result }
     {
         let mut left = j;
-        for place in 0..self.channels.processes() {
+        for place in 0..self.network.channels.processes() {
             match self.find_move_of(place + 1, left) {
                 Ok(event) => return Ok(event),
                 Err(past) => left = past,
@@ -83,17 +79,10 @@ impl System<'_> {
             Finds (filter (is_allowed (program_of self.now) s) (moves_of s p)) j result) }
         ensures few { IsOfAtMost (2 ^ 32 + 1) j result }
     {
-        let mut left = match self.find_one(Event::Move { p }, j) {
-            Ok(event) => return Ok(event),
-            Err(past) => past,
-        };
-        for place in 0..self.alternatives(p) {
-            match self.find_one(Event::Take { p, k: place + 1 }, left) {
-                Ok(event) => return Ok(event),
-                Err(past) => left = past,
-            }
+        match past(j, self.counts.moves(p)) {
+            Some(past) => Err(past),
+            None => self.network.find_move_of(p, j),
         }
-        self.find_one(Event::Timeout { p }, left)
     }
 
     // The same among the deliveries.
@@ -103,7 +92,7 @@ impl System<'_> {
         ensures few { IsOfAtMost (2 ^ 34) j result }
     {
         let mut left = j;
-        for place in 0..self.channels.processes() {
+        for place in 0..self.network.channels.processes() {
             match self.find_delivery_from(place + 1, left) {
                 Ok(event) => return Ok(event),
                 Err(past) => left = past,
@@ -118,8 +107,20 @@ impl System<'_> {
             Finds (filter (is_allowed (program_of self.now) s) (deliveries_from s p)) j result) }
         ensures few { IsOfAtMost (2 ^ 18) j result }
     {
+        match past(j, self.counts.deliveries_from(p)) {
+            Some(past) => Err(past),
+            None => self.find_recipient(p, j),
+        }
+    }
+
+    // The same, where the recipients are walked.
+    fn find_recipient(&self, p: u32, j: usize) -> Result<Event, usize>
+        ensures found { Whichever self.now (λ s.
+            Finds (filter (is_allowed (program_of self.now) s) (deliveries_from s p)) j result) }
+        ensures few { IsOfAtMost (2 ^ 18) j result }
+    {
         let mut left = j;
-        for place in 0..self.channels.processes() {
+        for place in 0..self.network.channels.processes() {
             match self.find_delivery_to(p, place + 1, left) {
                 Ok(event) => return Ok(event),
                 Err(past) => left = past,
@@ -134,51 +135,19 @@ impl System<'_> {
             Finds (filter (is_allowed (program_of self.now) s) (deliveries_to p q)) j result) }
         ensures few { IsOfAtMost 4 j result }
     {
-        if self.in_flight(p, q) == 0 {
-            return Err(j);
-        }
-        let mut left = j;
-        for place in 0..PICKED {
-            match self.find_one(Event::Deliver { p, q, i: place + 1 }, left) {
-                Ok(event) => return Ok(event),
-                Err(past) => left = past,
-            }
-        }
-        Err(left)
-    }
-
-    // The same where this is the only event.
-    fn find_one(&self, e: Event, j: usize) -> Result<Event, usize>
-        ensures found { Whichever self.now (λ s.
-            Finds (filter (is_allowed (program_of self.now) s) (e ∷ [])) j result) }
-        ensures few { IsOfAtMost 1 j result }
-    {
-        if !self.may_step(&e) {
-            return Err(j);
-        }
-        match j.checked_sub(1) {
+        match past(j, self.counts.deliveries(p, q)) {
             Some(past) => Err(past),
-            None => Ok(e),
-        }
-    }
-
-    // How many alternatives process `p` may have to take: those of the `await` at which it waits.
-    fn alternatives(&self, p: u32) -> u32
-        ensures { Whichever self.now (λ s. result ≡ alternatives_at_def (at_number s.worlds p)) }
-    {
-        match self.core(p) {
-            Some(core) => alternatives_at(core.place()),
-            None => 0,
+            None => self.network.find_delivery_to(p, q, j),
         }
     }
 }
 
-// The alternatives of the `await` at which a process stands.
-fn alternatives_at(place: Place) -> u32
-    ensures { result ≡ alternatives_def place }
+// By how much `j` is past so many events, if it is none of them.
+fn past(j: usize, count: Option<usize>) -> Option<usize>
+    ensures { IfSome result (λ past. IsPast j count past) }
 {
-    match place {
-        Place::Await(count) => count,
-        Place::New | Place::Label | Place::Ended | Place::Faulted => 0,
+    match count {
+        Some(number) => j.checked_sub(number),
+        None => None,
     }
 }

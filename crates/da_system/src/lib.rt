@@ -3,8 +3,12 @@
 
 mod channels;
 mod choices;
+mod counts;
 mod looking;
+mod network;
+mod picking;
 mod queue;
+mod renewal;
 mod system;
 
 pub use channels::{may_arrive, may_lose, may_repeat};

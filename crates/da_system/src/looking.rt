@@ -20,7 +20,7 @@ impl System<'_> {
         ensures { Whichever self.now (λ s.
             option_map (λ (w : World). w.phase) (at_number s.worlds p) ≡ option_map phase_at result) }
     {
-        match self.core(p) {
+        match self.network.core(p) {
             Some(core) => Some(core.place()),
             None => None,
         }
@@ -29,7 +29,7 @@ impl System<'_> {
     /// The number of the label or `await` where process `p` waits, counted from 0 in the order of the text of `run` with calls
     /// inlined; `None` where there is no such process, or where it does not wait. It takes no memory.
     pub fn yield_number(&self, p: u32) -> Option<u32> {
-        let core = self.core(p)?;
+        let core = self.network.core(p)?;
         core.yield_number()
     }
 
@@ -37,9 +37,9 @@ impl System<'_> {
     pub fn slots(&self, p: u32) -> Result<Row, NoMemory>
         ensures { IfOk result (λ values. Whichever self.now (λ s. values ≡ slots_at (at_number s.worlds p))) }
     {
-        match self.core(p) {
+        match self.network.core(p) {
             Some(core) => core.slots(),
-            None => Ok(Row::new(self.alloc)),
+            None => Ok(Row::new(self.network.alloc)),
         }
     }
 
@@ -51,7 +51,7 @@ impl System<'_> {
         ensures { OnOk result (Whichever self.now (λ s.
             out.new ≡ out.old ++ answers_at (program_of self.now) p (at_number s.worlds p))) }
     {
-        match self.core(p) {
+        match self.network.core(p) {
             Some(core) => core.answers(out),
             None => Ok(()),
         }
@@ -63,6 +63,6 @@ impl System<'_> {
         ensures { Whichever self.now (λ s.
             option_map message_of (option_copied result) ≡ at_number (channel s.channels p q) i) }
     {
-        self.channels.message(p, q, i)
+        self.network.channels.message(p, q, i)
     }
 }

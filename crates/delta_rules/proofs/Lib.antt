@@ -1,4 +1,5 @@
 pub mod CountLaws
+pub mod ElementIds
 pub mod EmptyLaws
 pub mod EntryLaws
 pub mod FirstLaws
@@ -10,7 +11,9 @@ pub mod LayingLaws
 pub mod ListPlaces
 pub mod LiveTurns
 pub mod NamingAt
+pub mod RangeLaws
 pub mod ReadingLaws
+pub mod RestLaws
 pub mod SeenLaws
 pub mod SlotIds
 pub mod SlotLaws
@@ -22,5 +25,7 @@ pub mod UnusedLaws
 pub mod UpdateCounts
 pub mod UpdateHeld
 pub mod UpdateLaws
+pub mod UpdateRest
 pub mod UpdateSteps
 pub mod UseLaws
+pub mod ValueLaws

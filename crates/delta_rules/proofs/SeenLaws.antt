@@ -24,7 +24,6 @@ use Rattle.query_plan.specs.Seen.{are_met, given, given_if, is_met, seen_rows}
 use Rattle.query_plan.specs.Told.{told_least, told_shown, told_value}
 use Rattle.row_pool.specs.Cells.{Cells}
 use Rattle.answer_index.specs.Answers.{IsSet}
-use Rattle.answer_index.specs.Rows.{row_in}
 use Rattle.delta_rules.specs.declared.answers.Answers.{Answers}
 use Rattle.delta_rules.specs.Keeping.{Sees}
 use Rattle.delta_rules.specs.Told.{asked, kept_rows, least_found, least_of_node, set_listed, shown_of_node, stored_rows, value_of_node}
@@ -111,13 +110,13 @@ module _ (answers : Answers) (pool : Cells) (stored : Stored) (plan : Plan) (q :
   rows_are : kept_rows answers pool stored query.node ≡ node_rows d plan.nodes query.node
   rows_are = seen_told answers pool stored plan.nodes d sees query.node
 
-  pub value_seen : (v : Val) → ((e : Data) → e.me ≡ answers.me → e.slots ≡ row_in pool answers.slots → v ≡ told_value e query.shape (kept_rows answers pool stored query.node)) → v ≡ asked d plan q
-  value_seen v told = told d (sym sees.keeps.me) (sym sees.keeps.slots) ∙ ap (told_value d query.shape) rows_are ∙ ap (value_of_node d plan.nodes) there
+  pub value_seen : (v : Val) → ((e : Data) → e.me ≡ answers.me → e.slots ≡ answers.values → v ≡ told_value e query.shape (kept_rows answers pool stored query.node)) → v ≡ asked d plan q
+  value_seen v told = told d (sym sees.keeps.me) (sym sees.keeps.values) ∙ ap (told_value d query.shape) rows_are ∙ ap (value_of_node d plan.nodes) there
 
   pub least_seen : (row : Option Row) → row ≡ told_least query.shape (kept_rows answers pool stored query.node) → row ≡ least_found d plan q
   least_seen row told = told ∙ ap (told_least query.shape) rows_are ∙ ap (least_of_node d plan.nodes) there
 
-  pub set_seen : (set : List Val) → ((e : Data) → e.me ≡ answers.me → e.slots ≡ row_in pool answers.slots → set ≡ map val.Tuple (told_shown e query.shape (kept_rows answers pool stored query.node))) → set ≡ set_listed d plan q
+  pub set_seen : (set : List Val) → ((e : Data) → e.me ≡ answers.me → e.slots ≡ answers.values → set ≡ map val.Tuple (told_shown e query.shape (kept_rows answers pool stored query.node))) → set ≡ set_listed d plan q
   set_seen set told =
-      told d (sym sees.keeps.me) (sym sees.keeps.slots) ∙ ap (λ rows. map val.Tuple (told_shown d query.shape rows)) rows_are
+      told d (sym sees.keeps.me) (sym sees.keeps.values) ∙ ap (λ rows. map val.Tuple (told_shown d query.shape rows)) rows_are
       ∙ ap (λ o. map val.Tuple (shown_of_node d plan.nodes o)) there

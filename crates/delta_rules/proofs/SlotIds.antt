@@ -1,10 +1,9 @@
 -- Slots as ids of a pool: a value that is put into one, and the old one given back.
-use Rattle.std.specs.Prelude.{◌≡◌, ℕ, zero, suc, ◌-◌, ◌<◌, ◌≤◌, List, [], ◌∷◌, length, slice_get, slice_set, Option, Some, option_map, refl}
+use Rattle.std.specs.Prelude.{◌≡◌, ℕ, zero, suc, ◌<◌, ◌≤◌, List, [], ◌∷◌, length, slice_get, slice_set, Some, refl}
 use Rattle.std.proofs.Common.{ap, sym, ◌∙◌, arith}
 use Rattle.std.proofs.lemmas.List.{length-map}
-use Rattle.std.proofs.lemmas.Option.{slice_get-map}
 use Rattle.da_values.specs.declared.val.Val.{Val}
-use Rattle.da_lang.specs.World.{at_number, with_slot}
+use Rattle.da_lang.specs.World.{with_slot}
 use Rattle.row_pool.specs.Cells.{Cells, count, value_at}
 use Rattle.row_pool.specs.Pool.{Holds, Trades, or_no_value, val_at}
 use Rattle.row_pool.proofs.CountLaws.{count_more}
@@ -39,13 +38,6 @@ put_count (i ∷ ids) (suc place) id out there k =
       count_more k i ids,
       count_more k id ids,
     )
-
--- the id in slot s
-pub slot_read : (ids : List ℕ) (s at place : ℕ) (found : Option ℕ) → (1 ≤ s) × (at ≡ s - 1) → place ≡ at → found ≡ slice_get ids place
-    → (pool : Cells) → option_map (val_at pool) found ≡ at_number (row_of pool ids) s
-slot_read ids s at place found above same is pool =
-    let number : suc place ≡ s = omega (arith, above.0, above.1, same) in
-    ap (option_map (val_at pool)) is ∙ sym (slice_get-map (val_at pool) ids place) ∙ ap (at_number (row_of pool ids)) number
 
 -- there is a slot, as ids and as values
 pub slot_there : (pool : Cells) (ids : List ℕ) (s : ℕ) → (0 < s) × (s ≤ length ids) → (0 < s) × (s ≤ length (row_of pool ids))

@@ -9,6 +9,8 @@ pub mod Laid
 pub mod Laying
 pub mod Naming
 pub mod Passing
+pub mod Ranging
+pub mod Resting
 pub mod SlotUse
 pub mod Told
 pub mod Turning

@@ -4,12 +4,12 @@ use crate::first::first_rows;
 use crate::fixed::Fixed;
 use crate::slots::slot_id;
 use crate::uses::{all_named, used_slots};
-use answer_index::{AnswerSet, IdRow, intern_row, row_values};
+use answer_index::{AnswerSet, IdRow, intern_row};
 use da_values::{NoMemory, Row, Value};
 use history_live::live_patterns;
 use query_plan::Plan;
 use row_pool::Pool;
-use row_terms::Locals;
+use row_terms::{Locals, copy_row};
 use std::alloc::Global;
 use std::marker::Brand;
 use std::sync::ledger::Blank;
@@ -26,6 +26,8 @@ pub struct Answers {
     /// The number of the process.
     pub me: u16,
     pub(crate) slots: IdRow,
+    // The values of the slots beside the pool.
+    pub(crate) values: Row,
     pub(crate) nodes: Vec<AnswerSet>,
     pub(crate) live: Vec<AnswerSet>,
     pub(crate) fixed: Fixed,
@@ -71,6 +73,7 @@ impl Answers {
         let used = used_slots(alloc, nodes)?;
         let locals = Locals { alloc, me, slots };
         let ids = intern_row(alloc, slots.as_slice(), pool)?;
+        let values = copy_row(alloc, slots)?;
         first_rows::<Brand>(
             &locals,
             nodes,
@@ -84,6 +87,7 @@ impl Answers {
         Ok(Answers {
             me,
             slots: ids,
+            values,
             nodes: laid.nodes,
             live: laid.live,
             fixed: Fixed {
@@ -105,11 +109,11 @@ impl Answers {
         }
     }
 
-    /// Copies of the values of all slots.
-    pub fn slot_values(&self, alloc: Global, pool: &Pool) -> Result<Row, NoMemory>
-        ensures { IfOk result (λ values. values ≡ slots_of self.now pool.now) }
+    /// The values of all slots. It takes no memory.
+    pub fn slot_values(&self) -> &Row
+        ensures { result.now ≡ self.now.values }
     {
-        row_values(alloc, self.slots.ids.as_slice(), pool)
+        &self.values
     }
 
     /// How many rows the live patterns have, together. It takes no memory. The sum has fewer than 2^64 terms below 2^64, so a

@@ -24,7 +24,6 @@ fn query_node(plan: &Plan, q: u32) -> Option<&QueryNode>
 
 impl Answers {
     ghost use Rattle.answer_index.specs.Answers.{IsSet};
-    ghost use Rattle.answer_index.specs.Rows.{row_in};
     ghost use Rattle.da_lang.specs.Queries.{first};
     ghost use Rattle.da_lang.specs.World.{Data};
     ghost use Rattle.da_values.specs.declared.val.Val.TheVariants as val;
@@ -89,15 +88,15 @@ impl Answers {
         }
     }
 
-    // The number, and these slots.
-    fn locals<'s>(&self, alloc: Global, slots: &'s Row) -> Locals<'s>
+    // The number, and the slots.
+    fn locals(&self, alloc: Global) -> Locals<'_>
         ensures me { result.me ≡ self.now.me }
-        ensures slots { result.slots.now ≡ slots.now }
+        ensures slots { result.slots.now ≡ self.now.values }
     {
         Locals {
             alloc,
             me: self.me,
-            slots,
+            slots: &self.values,
         }
     }
 
@@ -176,12 +175,11 @@ impl Answers {
         query: &QueryNode,
         pool: &Pool,
     ) -> Result<Value, NoMemory>
-        ensures { IfOk result (λ v. (d : Data) → d.me ≡ self.now.me → d.slots ≡ row_in pool.now self.now.slots
+        ensures { IfOk result (λ v. (d : Data) → d.me ≡ self.now.me → d.slots ≡ self.now.values
             → val_of v ≡ told_value_def d query.now.shape (kept_rows self.now pool.now stored.now query.now.node)) }
     {
         let rows = self.rows_for(alloc, stored, query, pool)?;
-        let slots = self.slot_values(alloc, pool)?;
-        let locals = self.locals(alloc, &slots);
+        let locals = self.locals(alloc);
         let v = told_value(&locals, &query.shape, rows.as_slice())?;
         Ok(v)
     }
@@ -195,12 +193,11 @@ impl Answers {
         pool: &Pool,
     ) -> Result<SetVal, NoMemory>
         requires { All (λ set. IsSet set pool.now) self.now.nodes.items }
-        ensures { IfOk result (λ set. (d : Data) → d.me ≡ self.now.me → d.slots ≡ row_in pool.now self.now.slots
+        ensures { IfOk result (λ set. (d : Data) → d.me ≡ self.now.me → d.slots ≡ self.now.values
             → set ≡ map val.Tuple (told_shown d query.now.shape (kept_rows self.now pool.now stored.now query.now.node))) }
     {
         let rows = self.rows_at(alloc, stored, query.node, pool)?;
-        let slots = self.slot_values(alloc, pool)?;
-        let locals = self.locals(alloc, &slots);
+        let locals = self.locals(alloc);
         let set = told_listed(&locals, &query.shape, rows.as_slice())?;
         Ok(set)
     }

@@ -3,6 +3,7 @@
 
 mod answers;
 mod asks;
+mod copies;
 mod empty;
 mod entries;
 mod first;
@@ -10,14 +11,17 @@ mod fixed;
 mod keys;
 mod laying;
 mod reading;
+mod resting;
 mod seeing;
 mod slots;
 mod turn;
 mod turn_gen;
 mod turn_node;
+mod turn_range;
 mod turn_sides;
 mod updates;
 mod uses;
+mod values;
 mod whole;
 
 pub use answers::Answers;

@@ -1,21 +1,20 @@
 //! The slots of a process, and what moves in their sets.
 ghost use Rattle.da_lang.specs.World.{at_number, or_nothing, value_in, with_slot};
-ghost use Rattle.da_values.specs.declared.val.Val.{Val};
 ghost use Rattle.da_values.specs.declared.val.Val.TheVariants as val;
 ghost use Rattle.da_values.specs.Order.{val_cmp};
-ghost use Rattle.da_values.specs.Sets.{Distinct, set_insert as insert_def, set_remove as remove_def};
+ghost use Rattle.da_values.specs.Sets.{Ascends, Distinct, Has, set_insert as insert_def, set_remove as remove_def};
 ghost use Rattle.da_values.specs.Value.{val_of, vals};
 ghost use Rattle.da_values.specs.Views.{elements_of as elements_def};
 ghost use Rattle.answer_index.specs.Rows.{row_in, row_of};
 ghost use Rattle.delta_rules.specs.Passing.{IsSwap, lacking};
-ghost use Rattle.row_pool.specs.Cells.{Cells, count};
+ghost use Rattle.row_pool.specs.Cells.{Cells, count, value_at};
 ghost use Rattle.row_pool.specs.Pool.{Holds, Trades, val_at};
 ghost use Rattle.std.specs.Option.{option_copied, option_map};
-ghost use Rattle.std.specs.Prelude.{◌≡◌, ◌<◌, ◌≤◌, ℕ, [], ◌∷◌, IfOk, MatchBool, None, OnOk, if◌then◌else◌, length};
+ghost use Rattle.std.specs.Prelude.{◌≡◌, ◌<◌, ◌≤◌, ℕ, [], ◌∷◌, IfOk, MatchBool, None, OnOk, Some, if◌then◌else◌, length};
 
 use answer_index::IdRow;
-use da_values::{List, NoMemory, SetVal, Value, copy_value, set_has, set_insert, set_remove};
-use row_pool::{Id, Pool};
+use da_values::{List, NoMemory, SetVal, Value, copy_value, set_has};
+use row_pool::{Exchanged, Id, Pool};
 use std::alloc::Global;
 
 // Whether there is a slot with this number.
@@ -28,6 +27,13 @@ fn is_slot(slots: &IdRow, s: u16) -> bool
 /// The id in a slot, numbered from 1, or `None` where there is no such slot. It takes no memory.
 pub fn slot_id(slots: &IdRow, s: u16) -> Option<&Id>
     ensures { (pool : Cells) → option_map (val_at pool) (option_copied result) ≡ at_number (row_in pool slots.now) s }
+{
+    held_id(slots, s)
+}
+
+// The same, as an id alone.
+fn held_id(slots: &IdRow, s: u16) -> Option<&Id>
+    ensures { option_copied result ≡ at_number slots.now.ids s }
 {
     match s.checked_sub(1) {
         Some(at) => slots.ids.get(usize::from(at)),
@@ -49,6 +55,7 @@ fn slot_value(slots: &IdRow, s: u16, pool: &Pool) -> Result<Option<Value>, NoMem
 fn exchange(ids: &mut List<Id>, s: u16, id: Id) -> Id
     ensures values { (pool : Cells) → row_of pool ids.new ≡ with_slot (row_of pool ids.old) s (val_at pool id) }
     ensures same { (k : ℕ) → count k (result ∷ ids.new) ≡ count k (id ∷ ids.old) }
+    ensures out { (old : ℕ) → at_number ids.old s ≡ Some old → result ≡ old }
 {
     match usize::from(s).checked_sub(1) {
         Some(place) => {
@@ -85,9 +92,9 @@ fn set_of(alloc: Global, found: Option<Value>) -> SetVal
     }
 }
 
-// The set that a value is, or the empty one where it is none.
+/// The set that a value is, or the empty one where it is none.
 #[tactic(auto, using(crate::proofs::SlotLaws::viewing))]
-fn set_in(alloc: Global, v: Value) -> SetVal
+pub fn set_in(alloc: Global, v: Value) -> SetVal
     ensures { result ≡ elements_def (val_of v) }
 {
     match v {
@@ -96,14 +103,23 @@ fn set_in(alloc: Global, v: Value) -> SetVal
     }
 }
 
+// The id of the set in a slot with a value in it, for which the id in the slot is given back.
+fn joined(slots: &IdRow, s: u16, v: &Value, pool: &mut Pool) -> Result<Exchanged, NoMemory>
+    requires { Holds pool.old slots.now.ids }
+    ensures value { IfOk result (λ to. value_at pool.new to.id ≡ Some (val.Set (insert_def val_cmp (elements_def (value_in (row_in pool.old slots.now) s)) (val_of v.now)))) }
+    ensures fresh { IfOk result (λ to. MatchBool to.moved
+        (Has (elements_def (value_in (row_in pool.old slots.now) s)) (val_of v.now) → ⊥)
+        (Has (elements_def (value_in (row_in pool.old slots.now) s)) (val_of v.now))) }
+    ensures trades { IfOk result (λ to. (id : ℕ) → at_number slots.now.ids s ≡ Some id → Trades pool.old (id ∷ []) pool.new (to.id ∷ [])) }
+{
+    match held_id(slots, s) {
+        Some(id) => pool.with_element(id, v),
+        None => Err(NoMemory),
+    }
+}
+
 /// Puts a value into the set in a slot, and answers whether it came into it.
-pub fn add_to(
-    alloc: Global,
-    slots: &mut IdRow,
-    s: u16,
-    v: &Value,
-    pool: &mut Pool,
-) -> Result<bool, NoMemory>
+pub fn add_to(slots: &mut IdRow, s: u16, v: &Value, pool: &mut Pool) -> Result<bool, NoMemory>
     requires held { Holds pool.old slots.old.ids }
     ensures slots { OnOk result (row_in pool.new slots.new ≡ with_slot (row_in pool.old slots.old) s (val.Set (insert_def val_cmp (elements_def (value_in (row_in pool.old slots.old) s)) (val_of v.now)))) }
     ensures swap { IfOk result (λ fresh. IsSwap (elements_def (value_in (row_in pool.old slots.old) s)) (elements_def (value_in (row_in pool.new slots.new) s)) (if fresh then val_of v.now ∷ [] else []) []) }
@@ -112,21 +128,30 @@ pub fn add_to(
     if !is_slot(slots, s) {
         return Ok(false);
     }
-    let found = slot_value(slots, s, pool)?;
-    let mut set = set_of(alloc, found);
-    let fresh = set_insert(&mut set, copy_value(alloc, v)?)?;
-    put(slots, s, &Value::Set(set), pool)?;
-    Ok(fresh)
+    let to = joined(slots, s, v, pool)?;
+    let moved = to.moved;
+    let _ = exchange(&mut slots.ids, s, to.id);
+    Ok(moved)
+}
+
+// The id of the set in a slot without a value, for which the id in the slot is given back.
+fn parted(slots: &IdRow, s: u16, v: &Value, pool: &mut Pool) -> Result<Exchanged, NoMemory>
+    requires { Holds pool.old slots.now.ids }
+    ensures value { IfOk result (λ to. value_at pool.new to.id ≡ Some (val.Set (remove_def val_cmp (elements_def (value_in (row_in pool.old slots.now) s)) (val_of v.now)))) }
+    ensures there { IfOk result (λ to. MatchBool to.moved
+        (Has (elements_def (value_in (row_in pool.old slots.now) s)) (val_of v.now))
+        (Has (elements_def (value_in (row_in pool.old slots.now) s)) (val_of v.now) → ⊥)) }
+    ensures ascends { OnOk result (Ascends val_cmp (elements_def (value_in (row_in pool.old slots.now) s))) }
+    ensures trades { IfOk result (λ to. (id : ℕ) → at_number slots.now.ids s ≡ Some id → Trades pool.old (id ∷ []) pool.new (to.id ∷ [])) }
+{
+    match held_id(slots, s) {
+        Some(id) => pool.without_element(id, v),
+        None => Err(NoMemory),
+    }
 }
 
 /// Takes a value out of the set in a slot, and answers whether it left it.
-pub fn take_from(
-    alloc: Global,
-    slots: &mut IdRow,
-    s: u16,
-    v: &Value,
-    pool: &mut Pool,
-) -> Result<bool, NoMemory>
+pub fn take_from(slots: &mut IdRow, s: u16, v: &Value, pool: &mut Pool) -> Result<bool, NoMemory>
     requires held { Holds pool.old slots.old.ids }
     ensures slots { OnOk result (row_in pool.new slots.new ≡ with_slot (row_in pool.old slots.old) s (val.Set (remove_def val_cmp (elements_def (value_in (row_in pool.old slots.old) s)) (val_of v.now)))) }
     ensures swap { IfOk result (λ there. IsSwap (elements_def (value_in (row_in pool.old slots.old) s)) (elements_def (value_in (row_in pool.new slots.new) s)) [] (if there then val_of v.now ∷ [] else [])) }
@@ -135,13 +160,10 @@ pub fn take_from(
     if !is_slot(slots, s) {
         return Ok(false);
     }
-    let found = slot_value(slots, s, pool)?;
-    let mut set = set_of(alloc, found);
-    // (that a set ascends is needed here)
-    let _ = set.as_slice();
-    let there = set_remove(&mut set, v);
-    put(slots, s, &Value::Set(set), pool)?;
-    Ok(there)
+    let to = parted(slots, s, v, pool)?;
+    let moved = to.moved;
+    let _ = exchange(&mut slots.ids, s, to.id);
+    Ok(moved)
 }
 
 /// The elements that came into a set, and those that left it.

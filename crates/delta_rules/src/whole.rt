@@ -7,6 +7,7 @@ fn fields_are_whole(answers: &Answers) {
     let Answers {
         me: _,
         slots: _,
+        values: _,
         nodes: _,
         live: _,
         fixed,

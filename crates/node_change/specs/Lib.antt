@@ -1,3 +1,4 @@
+pub mod Between
 pub mod Filtered
 pub mod Joined
 pub mod Lending

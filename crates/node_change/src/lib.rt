@@ -6,12 +6,14 @@
 //! own set; then it settles them, and answers the change of its own set. The rows are those of a pool.
 #![tactic(auto)]
 
+mod between;
 mod filter;
 mod fronts;
 mod lend;
 mod sides;
 mod union;
 
+pub use between::{Bounded, filter_between};
 pub use filter::{filter_anew, filter_change};
 pub use fronts::front;
 pub use sides::{Sides, anti_change, semi_change};

@@ -17,6 +17,7 @@ pub mod NormLaw
 pub mod PlaceLaws
 pub mod PlainLaw
 pub mod PlanSteps
+pub mod PrintLaws
 pub mod PutOn
 pub mod QueryLaw
 pub mod QuerySteps

@@ -1,13 +1,13 @@
 //! The plan of a class, in the order of its inlined text.
 ghost use Rattle.quant_norm.specs.Making.{MakesPlan, Puts, alt_met, args_ask, awaited_met, block_met, branch_met, handler_met, kind_met, made_with};
-ghost use Rattle.query_plan.specs.Questions.{asks, item_met, norm_class, opening_plan, with_asked};
-ghost use Rattle.std.specs.Prelude.{◌≡◌, ◌+◌, IfOk, drop, flat_map};
+ghost use Rattle.query_plan.specs.Questions.{asks, item_met, norm_class, with_asked};
+ghost use Rattle.std.specs.Prelude.{◌+◌, drop, flat_map};
 
 use crate::counts::{asked_in, asked_in_args, asked_in_both, asked_in_cond};
+use crate::draft::Draft;
 use crate::limit::Halt;
 use crate::queries::{put_flag, put_query};
-use da_lang::{Alt, BindArg, Class, Cond, Handler, Item, ItemKind, Node, Query, RBranch, RExpr};
-use da_values::{List, NoMemory};
+use da_lang::{Alt, BindArg, Class, Cond, Handler, Item, ItemKind, Query, RBranch, RExpr};
 use query_plan::Plan;
 use std::alloc::Global;
 
@@ -17,7 +17,7 @@ fn put_asked(
     count: usize,
     queries: &[Query],
     taken: usize,
-    plan: &mut Plan,
+    plan: &mut Draft,
 ) -> Result<usize, Halt>
     ensures { Puts (with_asked count (drop taken queries.now) plan.old)
         (λ next. (plan.new, drop next queries.now)) result }
@@ -39,7 +39,7 @@ fn put_items(
     items: &[Item],
     queries: &[Query],
     taken: usize,
-    plan: &mut Plan,
+    plan: &mut Draft,
 ) -> Result<usize, Halt>
     ensures { Puts (made_with (flat_map item_met items.now) (plan.old, drop taken queries.now))
         (λ next. (plan.new, drop next queries.now)) result }
@@ -58,7 +58,7 @@ fn put_expr(
     expr: &RExpr,
     queries: &[Query],
     taken: usize,
-    plan: &mut Plan,
+    plan: &mut Draft,
 ) -> Result<usize, Halt>
     ensures { Puts (with_asked (asks expr.now) (drop taken queries.now) plan.old)
         (λ next. (plan.new, drop next queries.now)) result }
@@ -74,7 +74,7 @@ fn put_both(
     to: &RExpr,
     queries: &[Query],
     taken: usize,
-    plan: &mut Plan,
+    plan: &mut Draft,
 ) -> Result<usize, Halt>
     ensures { Puts (with_asked (asks message.now + asks to.now) (drop taken queries.now) plan.old)
         (λ next. (plan.new, drop next queries.now)) result }
@@ -89,7 +89,7 @@ fn put_args(
     args: &[BindArg],
     queries: &[Query],
     taken: usize,
-    plan: &mut Plan,
+    plan: &mut Draft,
 ) -> Result<usize, Halt>
     ensures { Puts (with_asked (args_ask args.now) (drop taken queries.now) plan.old)
         (λ next. (plan.new, drop next queries.now)) result }
@@ -104,7 +104,7 @@ fn put_awaited(
     cond: &Cond,
     queries: &[Query],
     taken: usize,
-    plan: &mut Plan,
+    plan: &mut Draft,
 ) -> Result<usize, Halt>
     ensures { Puts (made_with (awaited_met cond.now) (plan.old, drop taken queries.now))
         (λ next. (plan.new, drop next queries.now)) result }
@@ -122,7 +122,7 @@ fn put_kind(
     kind: &ItemKind,
     queries: &[Query],
     taken: usize,
-    plan: &mut Plan,
+    plan: &mut Draft,
 ) -> Result<usize, Halt>
     ensures { Puts (made_with (kind_met kind.now) (plan.old, drop taken queries.now))
         (λ next. (plan.new, drop next queries.now)) result }
@@ -169,7 +169,7 @@ fn put_block(
     expr: &RExpr,
     queries: &[Query],
     taken: usize,
-    plan: &mut Plan,
+    plan: &mut Draft,
 ) -> Result<usize, Halt>
     ensures { Puts (made_with (block_met expr.now body.now) (plan.old, drop taken queries.now))
         (λ next. (plan.new, drop next queries.now)) result }
@@ -185,7 +185,7 @@ fn put_branches(
     branches: &[RBranch],
     queries: &[Query],
     taken: usize,
-    plan: &mut Plan,
+    plan: &mut Draft,
 ) -> Result<usize, Halt>
     ensures { Puts (made_with (flat_map branch_met branches.now)
         (plan.old, drop taken queries.now)) (λ next. (plan.new, drop next queries.now)) result }
@@ -204,7 +204,7 @@ fn put_branch(
     branch: &RBranch,
     queries: &[Query],
     taken: usize,
-    plan: &mut Plan,
+    plan: &mut Draft,
 ) -> Result<usize, Halt>
     ensures { Puts (made_with (branch_met branch.now) (plan.old, drop taken queries.now))
         (λ next. (plan.new, drop next queries.now)) result }
@@ -226,7 +226,7 @@ fn put_alts(
     alts: &[Alt],
     queries: &[Query],
     taken: usize,
-    plan: &mut Plan,
+    plan: &mut Draft,
 ) -> Result<usize, Halt>
     ensures { Puts (made_with (flat_map alt_met alts.now) (plan.old, drop taken queries.now))
         (λ next. (plan.new, drop next queries.now)) result }
@@ -245,7 +245,7 @@ fn put_alt(
     alt: &Alt,
     queries: &[Query],
     taken: usize,
-    plan: &mut Plan,
+    plan: &mut Draft,
 ) -> Result<usize, Halt>
     ensures { Puts (made_with (alt_met alt.now) (plan.old, drop taken queries.now))
         (λ next. (plan.new, drop next queries.now)) result }
@@ -260,7 +260,7 @@ fn put_handlers(
     handlers: &[Handler],
     queries: &[Query],
     taken: usize,
-    plan: &mut Plan,
+    plan: &mut Draft,
 ) -> Result<usize, Halt>
     ensures { Puts (made_with (flat_map handler_met handlers.now)
         (plan.old, drop taken queries.now)) (λ next. (plan.new, drop next queries.now)) result }
@@ -273,29 +273,14 @@ fn put_handlers(
     Ok(next)
 }
 
-// Node 0, the node of the one empty row.
-fn open(alloc: Global) -> Result<Plan, NoMemory>
-    ensures { IfOk result (λ plan. plan ≡ opening_plan) }
-{
-    let mut nodes = List::new(alloc);
-    nodes.push(Node::Root)?;
-    let queries = List::new(alloc);
-    let flags = List::new(alloc);
-    Ok(Plan {
-        nodes,
-        queries,
-        flags,
-    })
-}
-
 /// The plan of a class. It is full where it has more nodes than a plan may have.
 pub fn plan_of(alloc: Global, class: &Class) -> Result<Plan, Halt>
     ensures { MakesPlan (norm_class class.now) (λ plan. plan) result }
 {
-    let mut plan = open(alloc)?;
+    let mut plan = Draft::open(alloc)?;
     let queries = class.queries.as_slice();
     let ran = put_items(alloc, class.run.as_slice(), queries, 0, &mut plan)?;
     let handled = put_handlers(alloc, class.handlers.as_slice(), queries, ran, &mut plan)?;
     put_asked(alloc, queries.len(), queries, handled, &mut plan)?;
-    Ok(plan)
+    Ok(plan.finish())
 }

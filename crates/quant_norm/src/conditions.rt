@@ -7,20 +7,15 @@ use crate::either::{any_on, either_on};
 use crate::generators::gens_on;
 use crate::leaves::{bind_rows, bound_term, chained, compare_both, last_part, never_on, truth_on};
 use crate::limit::Halt;
-use crate::nodes::{anti_on, semi_on};
+use crate::nodes::{Nodes, anti_on, semi_on};
 use crate::place::{Place, copy_place};
-use da_lang::{Agg, Cond, Node, Operand, RGen, SignedOperand, Term};
+use da_lang::{Agg, Cond, Operand, RGen, SignedOperand, Term};
 use da_values::{Boxed, List};
 use std::alloc::Global;
 
 /// The node of the rows of the place for which the condition holds.
 #[cycle(norm)]
-pub fn norm_cond(
-    alloc: Global,
-    cond: &Cond,
-    nodes: &mut List<Node>,
-    at: &Place,
-) -> Result<u32, Halt>
+pub fn norm_cond(alloc: Global, cond: &Cond, nodes: &mut Nodes, at: &Place) -> Result<u32, Halt>
     ensures { Makes (norm cond.now (place_of at.now) nodes.old) (λ k. (nodes.new, k)) result }
 {
     match cond {
@@ -42,7 +37,7 @@ pub fn norm_cond(
 
 // The rows for which a condition does not hold.
 #[cycle(norm)]
-fn not_on(alloc: Global, cond: &Cond, nodes: &mut List<Node>, at: &Place) -> Result<u32, Halt>
+fn not_on(alloc: Global, cond: &Cond, nodes: &mut Nodes, at: &Place) -> Result<u32, Halt>
     ensures { Makes (anti_on (place_of at.now) (norm cond.now (place_of at.now) nodes.old))
         (λ k. (nodes.new, k)) result }
 {
@@ -52,7 +47,7 @@ fn not_on(alloc: Global, cond: &Cond, nodes: &mut List<Node>, at: &Place) -> Res
 
 // One condition after the other.
 #[cycle(norm)]
-fn norm_all(alloc: Global, conds: &[Cond], nodes: &mut List<Node>, at: &Place) -> Result<u32, Halt>
+fn norm_all(alloc: Global, conds: &[Cond], nodes: &mut Nodes, at: &Place) -> Result<u32, Halt>
     ensures { Makes (all_on (map norm conds.now) (place_of at.now) nodes.old)
         (λ k. (nodes.new, k)) result }
 {
@@ -66,7 +61,7 @@ fn norm_all(alloc: Global, conds: &[Cond], nodes: &mut List<Node>, at: &Place) -
 
 // The rows for which one of the conditions holds.
 #[cycle(norm)]
-fn norm_any(alloc: Global, conds: &[Cond], nodes: &mut List<Node>, at: &Place) -> Result<u32, Halt>
+fn norm_any(alloc: Global, conds: &[Cond], nodes: &mut Nodes, at: &Place) -> Result<u32, Halt>
     ensures { Makes (any_on (map norm conds.now) (place_of at.now) nodes.old)
         (λ k. (nodes.new, k)) result }
 {
@@ -86,7 +81,7 @@ fn quant_on(
     each: bool,
     cond: &Option<Boxed<Cond>>,
     gens: &[RGen],
-    nodes: &mut List<Node>,
+    nodes: &mut Nodes,
     at: &Place,
 ) -> Result<u32, Halt>
     ensures { Makes (norm (Cond.Quant each gens.now cond.now) (place_of at.now) nodes.old)
@@ -107,7 +102,7 @@ fn rows_on(
     alloc: Global,
     cond: &Option<Boxed<Cond>>,
     gens: &[RGen],
-    nodes: &mut List<Node>,
+    nodes: &mut Nodes,
     at: &Place,
 ) -> Result<Place, Halt>
     ensures { Makes (rows_on cond.now gens.now (place_of at.now) nodes.old)
@@ -125,7 +120,7 @@ fn none_on(
     alloc: Global,
     cond: &Option<Boxed<Cond>>,
     gens: &[RGen],
-    nodes: &mut List<Node>,
+    nodes: &mut Nodes,
     at: &Place,
 ) -> Result<u32, Halt>
     ensures { Makes (none_on cond.now gens.now (place_of at.now) nodes.old)
@@ -140,7 +135,7 @@ fn none_on(
 pub fn test_on(
     alloc: Global,
     cond: &Option<Boxed<Cond>>,
-    nodes: &mut List<Node>,
+    nodes: &mut Nodes,
     at: &Place,
 ) -> Result<u32, Halt>
     ensures { Makes (test_on (norm_if cond.now) (place_of at.now) nodes.old)
@@ -157,7 +152,7 @@ pub fn test_on(
 pub fn denied_on(
     alloc: Global,
     cond: &Option<Boxed<Cond>>,
-    nodes: &mut List<Node>,
+    nodes: &mut Nodes,
     at: &Place,
 ) -> Result<u32, Halt>
     ensures { Makes (denied_on (norm_if cond.now) (place_of at.now) nodes.old)
@@ -174,7 +169,7 @@ pub fn denied_on(
 fn bind_operand(
     alloc: Global,
     operand: &Operand,
-    nodes: &mut List<Node>,
+    nodes: &mut Nodes,
     at: &mut Place,
 ) -> Result<Boxed<Operand>, Halt>
     ensures { Binds (operand_bound operand.now (place_of at.old) nodes.old)
@@ -196,7 +191,7 @@ fn bind_operand(
 fn bind_signed(
     alloc: Global,
     operands: &[SignedOperand],
-    nodes: &mut List<Node>,
+    nodes: &mut Nodes,
     at: &mut Place,
 ) -> Result<List<SignedOperand>, Halt>
     ensures { Binds (all_bound (map signed_bound operands.now) (place_of at.old) nodes.old)
@@ -218,7 +213,7 @@ fn bind_signed(
 fn bind_part(
     alloc: Global,
     agg: &Agg,
-    nodes: &mut List<Node>,
+    nodes: &mut Nodes,
     at: &mut Place,
 ) -> Result<Boxed<Operand>, Halt>
     ensures { Binds (agg_bound agg.now (place_of at.old) nodes.old)
@@ -230,12 +225,7 @@ fn bind_part(
 
 /// Binds an aggregate: the place is then after it, and it is the last part of its rows.
 #[cycle(norm)]
-pub fn bind_agg(
-    alloc: Global,
-    agg: &Agg,
-    nodes: &mut List<Node>,
-    at: &mut Place,
-) -> Result<(), Halt>
+pub fn bind_agg(alloc: Global, agg: &Agg, nodes: &mut Nodes, at: &mut Place) -> Result<(), Halt>
     ensures { Binds (agg_bound agg.now (place_of at.old) nodes.old)
         (λ _. (nodes.new, place_of at.new, Operand.Term (Term.Part at.new.width))) result }
 {

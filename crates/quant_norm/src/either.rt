@@ -3,12 +3,10 @@ ghost use Rattle.quant_norm.specs.Either.{any_left, either_of};
 ghost use Rattle.quant_norm.specs.Making.{Makes};
 
 use crate::limit::Halt;
-use crate::nodes::{anti_on, union_on};
-use da_lang::Node;
-use da_values::List;
+use crate::nodes::{Nodes, anti_on, union_on};
 
 /// The rows of a node and of what came before it, if anything did.
-pub fn either_on(nodes: &mut List<Node>, left: Option<u32>, right: u32) -> Result<u32, Halt>
+pub fn either_on(nodes: &mut Nodes, left: Option<u32>, right: u32) -> Result<u32, Halt>
     ensures { Makes (either_of nodes.old left right) (λ number. (nodes.new, number)) result }
 {
     match left {
@@ -21,7 +19,7 @@ pub fn either_on(nodes: &mut List<Node>, left: Option<u32>, right: u32) -> Resul
 }
 
 /// What came, or, where nothing did, none of the rows of a node.
-pub fn any_on(nodes: &mut List<Node>, parent: u32, left: Option<u32>) -> Result<u32, Halt>
+pub fn any_on(nodes: &mut Nodes, parent: u32, left: Option<u32>) -> Result<u32, Halt>
     ensures { Makes (any_left nodes.old parent left) (λ number. (nodes.new, number)) result }
 {
     match left {

@@ -5,7 +5,7 @@ ghost use Rattle.query_plan.specs.Plans.{compared, denied_on, known, norm, renam
 ghost use Rattle.std.specs.Prelude.{◌≡◌, None};
 
 use crate::limit::Halt;
-use crate::nodes::{add, anti_on, compare_on, filter_on};
+use crate::nodes::{Nodes, add, anti_on, compare_on, filter_on};
 use crate::place::Place;
 use crate::rename::{renamed_other, renamed_term};
 use da_lang::{Agg, CmpOp, Cond, Node, Operand, SignedOperand, Term};
@@ -14,7 +14,7 @@ use query_plan::plus;
 use std::alloc::Global;
 
 /// The rows of the place for which a term holds.
-pub fn truth_on(alloc: Global, term: &Term, nodes: &mut List<Node>, at: &Place) -> Result<u32, Halt>
+pub fn truth_on(alloc: Global, term: &Term, nodes: &mut Nodes, at: &Place) -> Result<u32, Halt>
     ensures { Makes (norm (Cond.Truth term.now) (place_of at.now) nodes.old)
         (λ k. (nodes.new, k)) result }
 {
@@ -24,7 +24,7 @@ pub fn truth_on(alloc: Global, term: &Term, nodes: &mut List<Node>, at: &Place) 
 }
 
 /// The rows for which a condition that is left out does not hold.
-pub fn never_on(alloc: Global, nodes: &mut List<Node>, at: &Place) -> Result<u32, Halt>
+pub fn never_on(alloc: Global, nodes: &mut Nodes, at: &Place) -> Result<u32, Halt>
     ensures { Makes (denied_on None (place_of at.now) nodes.old) (λ k. (nodes.new, k)) result }
 {
     let test = Boxed::new(alloc, Cond::Truth(Term::Const(Value::Bool(true))))?;
@@ -38,7 +38,7 @@ pub fn compare_both(
     op: CmpOp,
     left: Boxed<Operand>,
     right: Boxed<Operand>,
-    nodes: &mut List<Node>,
+    nodes: &mut Nodes,
     at: &Place,
     last: &Place,
 ) -> Result<u32, Halt>
@@ -82,7 +82,7 @@ pub fn chained(
 pub fn bind_rows(
     alloc: Global,
     agg: &Agg,
-    nodes: &mut List<Node>,
+    nodes: &mut Nodes,
     at: &mut Place,
     rows: &Place,
 ) -> Result<(), Halt>

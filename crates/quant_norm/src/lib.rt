@@ -4,12 +4,14 @@
 mod classes;
 mod conditions;
 mod counts;
+mod draft;
 mod either;
 mod generators;
 mod leaves;
 mod limit;
 mod nodes;
 mod place;
+mod prints;
 mod queries;
 mod rename;
 mod top;

@@ -3,17 +3,17 @@ ghost use Rattle.quant_norm.specs.Making.{Makes, MakesPlan};
 ghost use Rattle.query_plan.specs.Questions.{query_node, with_flag, with_query};
 
 use crate::conditions::{bind_agg, denied_on, norm_cond, test_on};
+use crate::draft::Draft;
 use crate::generators::gens_on;
 use crate::limit::Halt;
+use crate::nodes::Nodes;
 use crate::place::root_place;
 use crate::rename::renamed_term;
-use da_lang::{Cond, Node, Query, QueryNode, Shape};
-use da_values::List;
-use query_plan::Plan;
+use da_lang::{Cond, Query, QueryNode, Shape};
 use std::alloc::Global;
 
 // The node of a numbered query.
-fn query_node(alloc: Global, query: &Query, nodes: &mut List<Node>) -> Result<QueryNode, Halt>
+fn query_node(alloc: Global, query: &Query, nodes: &mut Nodes) -> Result<QueryNode, Halt>
     ensures { Makes (query_node nodes.old query.now) (λ told. (nodes.new, told)) result }
 {
     let mut root = root_place(alloc);
@@ -47,7 +47,7 @@ fn query_node(alloc: Global, query: &Query, nodes: &mut List<Node>) -> Result<Qu
 }
 
 /// Puts a numbered query into a plan.
-pub fn put_query(alloc: Global, query: &Query, plan: &mut Plan) -> Result<(), Halt>
+pub fn put_query(alloc: Global, query: &Query, plan: &mut Draft) -> Result<(), Halt>
     ensures { MakesPlan (with_query plan.old query.now) (λ _. plan.new) result }
 {
     let told = query_node(alloc, query, &mut plan.nodes)?;
@@ -56,7 +56,7 @@ pub fn put_query(alloc: Global, query: &Query, plan: &mut Plan) -> Result<(), Ha
 }
 
 /// Puts the condition of an alternative into a plan.
-pub fn put_flag(alloc: Global, cond: &Cond, plan: &mut Plan) -> Result<(), Halt>
+pub fn put_flag(alloc: Global, cond: &Cond, plan: &mut Draft) -> Result<(), Halt>
     ensures { MakesPlan (with_flag plan.old cond.now) (λ _. plan.new) result }
 {
     let root = root_place(alloc);

@@ -99,7 +99,7 @@ values_kept (Assigns s x) d terms free = unnamed_values d s x terms free
 
 -- Generators whose source does not move.
 
-filter_map_alike : {A B : Type 0} (f g : A → Option B) → ((x : A) → f x ≡ g x) → (xs ys : List A) → IsAlike xs ys → IsAlike (filter_map f xs) (filter_map g ys)
+pub filter_map_alike : {A B : Type 0} (f g : A → Option B) → ((x : A) → f x ≡ g x) → (xs ys : List A) → IsAlike xs ys → IsAlike (filter_map f xs) (filter_map g ys)
 filter_map_alike f g same xs ys alike z = (
   λ h. let (x, there, e) = of_filter_map f xs z h in Has-filter_map g ys x z ((alike x).0 there) (sym (same x) ∙ e),
   λ h. let (x, there, e) = of_filter_map g ys z h in Has-filter_map f xs x z ((alike x).1 there) (same x ∙ e),

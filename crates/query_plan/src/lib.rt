@@ -18,5 +18,5 @@ pub use plan::Plan;
 pub use same::same_node;
 pub use stored::{Seen, Stored, Test};
 pub use storing::store;
-pub use text::{live_line, plan_lines, query_lines};
+pub use text::{live_line, node_line, plan_lines, query_lines};
 pub use width::{added_by, live_width, plus, width_at, widths_of};

@@ -43,8 +43,8 @@ pub fn live_line(alloc: Global, p: &LivePattern) -> Result<Buf, NoMemory>
     Ok(line)
 }
 
-// The text of a node, where the rows of the nodes have these widths.
-fn node_line(alloc: Global, node: &Node, widths: &[u16]) -> Result<Buf, NoMemory>
+/// The text of a node, where the rows of the nodes have these widths.
+pub fn node_line(alloc: Global, node: &Node, widths: &[u16]) -> Result<Buf, NoMemory>
     ensures { IfOk result (λ line. line ≡ node_text (λ i. get_or widths.now i 0) node.now) }
 {
     let mut line = List::new(alloc);

@@ -10,7 +10,7 @@ use Rattle.da_lang.specs.declared.event.Action.TheVariants.{Stop}
 use Rattle.da_lang.specs.declared.event.Event.{Event}
 use Rattle.da_lang.specs.declared.program.Program.{Program}
 use Rattle.da_outside.specs.Outside.{Appends, AppendsPrefix}
-use Rattle.da_outside.proofs.OutsideLemmas.{appends_none, appends_then, prefix_before, prefix_after}
+use Rattle.da_outside.proofs.OutsideLemmas.{appends_none, appends_then, prefix_before}
 use Rattle.da_system.specs.declared.system.System.{System}
 use Rattle.da_system.specs.SourceRun.{EndsByStop, SrcRun, and_then, at_event, src_run_from}
 use Rattle.da_system.specs.State.{HasStepped, Stands, Whichever}
@@ -18,7 +18,7 @@ use Rattle.da_system.specs.SystemStep.{AfterEvent, SystemState, sys_step}
 use Rattle.da_system.proofs.StopLaws.{ends_stopped, stop_ends}
 use Rattle.replay_run.specs.declared.outcome.Outcome.{Outcome}
 use Rattle.replay_run.specs.declared.outcome.Outcome.TheVariants.{Done, Forbidden}
-use Rattle.replay_run.specs.Replay.{HasRun, IsDone, IsTried, outcome_of, run_on, run_text, step_text, text_of}
+use Rattle.replay_run.specs.Replay.{HasRun, IsDone, IsTried, outcome_of, run_on, run_text}
 use Rattle.sched_text.specs.ActionText.{action_line, action_text}
 
 text-append : (xs ys : List Action) → action_text (xs ++ ys) ≡ action_text xs ++ action_text ys
@@ -56,11 +56,10 @@ module _ (program : Program) (s : SystemState) (events : List Event) (place : �
   due : run_text program s events ≡ action_text came.told ++ action_text left.actions
   due = ap (λ (run : SrcRun). action_text run.actions) came.run_is ∙ text-append came.told left.actions
 
-  -- of the text of what is left a prefix was written
-  front_left : (new : Option (List ℕ)) (run : SrcRun) → left ≡ run → AppendsPrefix mid new (action_text run.actions) → AppendsPrefix before new (run_text program s events)
-  front_left new run is front =
-      subst (AppendsPrefix before new) (sym (due ∙ ap (λ (r : SrcRun). action_text came.told ++ action_text r.actions) is))
-      (prefix_after before mid new (action_text came.told) (action_text run.actions) came.written front)
+  -- a prefix of what was told so far is one of the whole text
+  pub told_front : (whole : List ℕ) → whole ≡ action_text came.told → (first last : Option (List ℕ)) → AppendsPrefix first last whole → AppendsPrefix first last (run_text program s events)
+  told_front whole is first last front =
+      subst (AppendsPrefix first last) (sym due) (prefix_before first last (action_text came.told) (action_text left.actions) (subst (AppendsPrefix first last) is front))
 
   -- no event is left
   pub ran_all : length events ≤ place → HasRun program s events Done system before mid
@@ -101,24 +100,6 @@ module _ (program : Program) (s : SystemState) (events : List Event) (place : �
     came_on true next_system new tried is = done_on next_system new tried
     came_on false next_system new tried is = absurd (false≢true is)
 
-    -- an error of the event: of its text a prefix was written
-    pub fails_here : (new : Option (List ℕ)) → AppendsPrefix mid new (step_text p came.now next) → AppendsPrefix before new (run_text program s events)
-    fails_here new front = by_step (sys_step p came.now next) refl
-      where
-        by_step : (step : Option AfterEvent) → sys_step p came.now next ≡ step → AppendsPrefix before new (run_text program s events)
-        by_step None is =
-            let some : AppendsPrefix mid new [] = subst (λ step. AppendsPrefix mid new (text_of step)) is front in
-            front_left new _ (left_is None is) (prefix_before mid new [] _ some)
-        by_step (Some after) is =
-            let some : AppendsPrefix mid new (action_text after.actions) = subst (λ step. AppendsPrefix mid new (text_of step)) is front in
-            front_left new _ (left_is (Some after) is) (subst (AppendsPrefix mid new) (sym (text-append after.actions _)) (prefix_before mid new (action_text after.actions) _ some))
-
-    -- it is not allowed, and of the line that says so a prefix was written
-    pub stop_fails : (allowed : Bool) (next_system : System) (still new : Option (List ℕ)) → IsTried p came.now next allowed next_system mid still → allowed ≡ false
-        → AppendsPrefix still new (action_text (Stop (place + 1) ∷ [])) → AppendsPrefix before new (run_text program s events)
-    stop_fails true next_system still new tried is front = absurd (false≢true (sym is))
-    stop_fails false next_system still new tried is front = front_left new _ (left_is None tried.is) (subst (λ x. AppendsPrefix x new (action_text (Stop (place + 1) ∷ []))) tried.unwritten front)
-
     -- the whole line was written, and the replay ended so
     pub stops_here : (allowed : Bool) (next_system : System) (still new : Option (List ℕ)) → IsTried p came.now next allowed next_system mid still → allowed ≡ false
         → (how : Outcome) → how ≡ Forbidden (place + 1) → Appends still new (action_text (Stop (place + 1) ∷ [])) → HasRun program s events how next_system before new
@@ -153,9 +134,3 @@ module _ (program : Program) (e : Event) (system other : System) (told actions :
   is_done written = λ s stands.
       let step = stepped s stands in
       record { then' = step.after; is = step.is; stands = step.stands; written = subst (λ xs. Appends before after (action_text xs)) (same ∙ step.added) written }
-
-  pub some_done : AppendsPrefix before after (action_text actions) → Whichever system (λ s. AppendsPrefix before after (step_text program s e))
-  some_done front = λ s stands.
-      let step = stepped s stands in
-      let text : step_text program s e ≡ action_text step.after.actions = ap text_of step.is in
-      subst (AppendsPrefix before after) (sym text) (subst (λ xs. AppendsPrefix before after (action_text xs)) (same ∙ step.added) front)

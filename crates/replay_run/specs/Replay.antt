@@ -1,5 +1,5 @@
 -- How a replay ends, what it writes, and what it leaves.
-use Rattle.std.specs.Prelude.{◌≡◌, ℕ, Bool, true, false, List, [], Option, Some, None}
+use Rattle.std.specs.Prelude.{◌≡◌, ℕ, Bool, true, false, List, Option, Some, None}
 use Rattle.da_lang.specs.declared.event.Event.{Event}
 use Rattle.da_lang.specs.declared.program.Program.{Program}
 use Rattle.da_outside.specs.Outside.{Appends}
@@ -40,14 +40,6 @@ pub record HasRun (program : Program) (s : SystemState) (events : List Event) (o
   pub outcome_is : outcome ≡ outcome_of (run_on program s events).stop
   pub stands : StandsAfter program s events system
   pub written : Appends before after (run_text program s events)
-
--- the text of what an event does: none where it is not allowed
-abbrev pub text_of : Option AfterEvent → List ℕ
-text_of None = []
-text_of (Some after) = action_text after.actions
-
-abbrev pub step_text : Program → SystemState → Event → List ℕ
-step_text program s e = text_of (sys_step program s e)
 
 -- an event that is allowed was carried out, and a sink gained its text
 pub record IsDone (program : Program) (s : SystemState) (e : Event) (system : System) (before after : Option (List ℕ)) : Type 0 where

@@ -9,6 +9,8 @@ ghost use Rattle.std.specs.Prelude.{◌≡◌, ◌++◌, ◌<◌, ◌≤◌, ◌
 use crate::counts::Counts;
 use crate::outcome::Outcome;
 use crate::picking::{next_number, place_in};
+use crate::run::empty;
+use da_lang::Action;
 use da_outside::{Sink, Trouble, write_all};
 use da_system::{StepFault, System};
 use da_values::{Buf, List, NoMemory, write_number};
@@ -86,9 +88,10 @@ fn run_picked(alloc: Global, system: &mut System, start: u64, n: u64) -> Result<
     ensures program { program_of system.new ≡ program_of system.old }
 {
     let mut counts = Counts::new();
+    let mut actions = List::new(alloc);
     let mut last = start;
     for events in 0..n {
-        let next = run_next(alloc, system, last, &mut counts)?;
+        let next = run_next(system, last, &mut actions, &mut counts)?;
         let Some(number) = next else {
             return Ok(Summary {
                 events,
@@ -106,11 +109,11 @@ fn run_picked(alloc: Global, system: &mut System, start: u64, n: u64) -> Result<
 }
 
 // Carries out the event that the number after `last` picks, and counts its actions. It answers that number, or `None` where
-// there is no event to pick.
+// there is no event to pick. The list is one for the actions of each event, of which it keeps the room.
 fn run_next(
-    alloc: Global,
     system: &mut System,
     last: u64,
+    actions: &mut List<Action>,
     counts: &mut Counts,
 ) -> Result<Option<u64>, NoMemory>
     requires ready { IsReady system.old }
@@ -127,8 +130,8 @@ fn run_next(
     }
     let number = next_number(last);
     let event = system.choice(place_in(choices, number));
-    let mut actions = List::new(alloc);
-    match system.step(&event, &mut actions) {
+    empty(actions);
+    match system.step(&event, actions) {
         Ok(()) => {}
         Err(StepFault::Memory) => return Err(NoMemory),
         Err(StepFault::Forbidden | StepFault::Spent) => unreachable!(),

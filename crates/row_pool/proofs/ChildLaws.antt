@@ -43,7 +43,7 @@ module _ (a b : Cells) (xs : List Val) (v : Value) where
   pub set_keys : {E : Type 0} (r : Result (List ℕ) E) (elements : List Val) → v ≡ kept.Set elements → xs ≡ elements → IfOk r (AreGiven a b xs) → IfOk r (AreGiven a b (children (val_of v)))
   set_keys r elements is same = subst (λ ys. IfOk r (AreGiven a b ys)) (same ∙ sym (children_Set elements) ∙ ap (λ w. children (val_of w)) (sym is))
 
-vals_take : (xs : List Value) (i : ℕ) (x : Value) → i < length xs → x ≡ slice_index_or xs i x → vals (take (suc i) xs) ≡ vals (take i xs) ++ val_of x ∷ []
+pub vals_take : (xs : List Value) (i : ℕ) (x : Value) → i < length xs → x ≡ slice_index_or xs i x → vals (take (suc i) xs) ≡ vals (take i xs) ++ val_of x ∷ []
 vals_take [] i x inside is = absurd (omega (arith, inside))
 vals_take (y ∷ ys) zero x inside is = ap (λ z. val_of z ∷ []) (sym is)
 vals_take (y ∷ ys) (suc i) x inside is = ap (λ zs. val_of y ∷ zs) (vals_take ys i x (omega (arith, inside)) is)

@@ -2,20 +2,19 @@
 use Rattle.std.specs.Prelude.{◌≡◌, ◌⊎◌, ℕ, ◌+◌, ◌-◌, ◌<◌, ◌≤◌, ◌^◌, length, List, [], ◌∷◌, map, Option, Some, None, is_some, IsSome, refl}
 use Rattle.std.proofs.Common.{sym, ap, ◌∙◌, subst, inl, inr, arith}
 use Rattle.std.proofs.lemmas.Bool.{cases_eq, cases_lt}
-use Rattle.std.specs.Map.{lookup}
 use Rattle.da_values.specs.Sets.{Has}
-use Rattle.da_values.specs.Value.{val_of, value_of}
+use Rattle.da_values.specs.Value.{val_of}
 use Rattle.da_values.specs.declared.val.Val.{Val}
-use Rattle.da_values.specs.declared.value.Value.{Value}
-use Rattle.indexmap.specs.IndexMap.{IndexMap}
 use Rattle.row_pool.specs.declared.cell.Cell.{Cell}
 use Rattle.row_pool.specs.Cells.{Cells, cell_at, value_in, holders_in, parts_in, value_at, holders_at, count, inside, outside, children, Becomes, Agrees, IsBalanced, AllHeld, IsPool, Finds}
 use Rattle.row_pool.specs.InUse.{IsHeld}
-use Rattle.row_pool.specs.Pool.{AreGiven, Holds, Trades, same_kept, find}
+use Rattle.row_pool.specs.Index.{IsIndexed, SameCounts}
+use Rattle.row_pool.specs.Pool.{AreGiven, Holds, Trades}
 use Rattle.row_pool.proofs.CellLaws.{inside_becomes, map_kept, to_outside, outside_is}
 use Rattle.row_pool.proofs.CountLaws.{count_self, count_other}
 use Rattle.row_pool.proofs.IndexLaws.{same_or_not}
 use Rattle.row_pool.proofs.KeepLaws.{keeps, one_more, more_value}
+use Rattle.row_pool.proofs.MarkLaws.{same_marked}
 use Rattle.row_pool.proofs.TradeLaws.{kept_value}
 use Rattle.row_pool.proofs.UseLaws.{found_at, in_children, lighter, within_weighs, all_held, all_used}
 
@@ -131,11 +130,35 @@ module _ (f g : Val → Option ℕ) (s t now : Cells) (x : Val) (c : Cell) (same
       let p : map (value_at s) c.parts ≡ map Some (children (val_of c.value)) = ap (λ n. map (value_at n) c.parts) same ∙ parts ∙ ap (λ y. map Some (children y)) (sym value) in
       (added_pool f g s t k c becomes was fs no one few pool h p, subst (λ n. Trades n c.parts t (k ∷ [])) same (added_trades f g s t k c becomes was fs no one few pool h p))
 
--- the same entries and the same cells are the same pool
-pub nothing_added : {S : Type 0} (m n : IndexMap Value ℕ S) (s t : Cells) → n.entries ≡ m.entries → t ≡ s → IsPool (find m) s → IsPool (find n) t
-nothing_added m n s t entries cells pool =
-    let F : List (Value × ℕ) → Val → Option ℕ = λ es x. lookup (same_kept (value_of x)) es in
-    subst (λ u. IsPool (find n) u) (sym cells) (subst (λ es. IsPool (F es) s) (sym entries) pool)
+-- the same cells, with the same ids under each number, are the same pool
+pub nothing_added : (keys new : ℕ → List ℕ) (s t : Cells) → SameCounts keys new → t ≡ s → IsIndexed keys s → IsIndexed new t
+nothing_added keys new s t same cells indexed =
+    subst (λ (u : Cells). IsIndexed new u) (sym cells) (record { find = indexed.find; pool = indexed.pool; marks = same_marked keys new s same indexed.marks })
+
+-- no cells, and no ids under any number
+pub empty_indexed : (keys : ℕ → List ℕ) (s : Cells) → s ≡ [] → ((n : ℕ) → keys n ≡ []) → IsIndexed keys s
+empty_indexed keys s empty none =
+    subst (λ (u : Cells). IsIndexed keys u) (sym empty) (record {
+      find = λ x. None;
+      pool = record {
+        agrees = record {
+          indexed = λ k c at. absurd (no_cell k c at);
+          found = λ x k is. let clash : None ≡ Some k = is in absurd (cc clash);
+          whole = λ k c at. absurd (no_cell k c at);
+          short = λ k c at. absurd (no_cell k c at);
+        };
+        balanced = record { counted = λ k. refl };
+        all_held = record { held = λ k c at. absurd (no_cell k c at) };
+      };
+      marks = record {
+        marked = λ k c at. absurd (no_cell k c at);
+        there = λ k c at. absurd (no_cell k c at);
+        only = λ n k has. absurd (subst (λ (ks : List ℕ). Has ks k) (none n) has);
+      };
+    })
+  where
+    no_cell : (k : ℕ) (c : Cell) → cell_at [] k ≡ Some c → ⊥
+    no_cell k c at = let clash : None ≡ Some c = at in cc clash
 
 -- a value that was not there is not there once its children are: it is within none of them
 module _ (f g : Val → Option ℕ) (s t old new : Cells) (same : s ≡ old) (is : t ≡ new) (before : IsPool f s) (after : IsPool g t) (v : Val) (parts : List ℕ) (given : AreGiven old new (children v) parts) (absent : (k : ℕ) → value_at old k ≡ Some v → ⊥) where

@@ -245,7 +245,7 @@ module _ (f g : Val → Option ℕ) (s t : Cells) (id : ℕ) where
           some k c at (inr h) only = absurd (only k c at (omega (arith, h)))
       ended held end keeps (p ∷ ps) chain only = absurd (cc chain.0)
 
-drop_all : (keys : List ℕ) (i : ℕ) → length keys ≤ i → drop i keys ≡ []
+pub drop_all : (keys : List ℕ) (i : ℕ) → length keys ≤ i → drop i keys ≡ []
 drop_all [] zero past = refl
 drop_all [] (suc i) past = refl
 drop_all (k ∷ ks) zero past = absurd (omega (arith, past))

@@ -9,7 +9,7 @@ use Rattle.row_pool.proofs.CountLaws.{count_append, count_more, count_self}
 use Rattle.row_pool.proofs.UseLaws.{named_by, all_held, all_used, one_id}
 
 -- who holds it besides more ids holds it besides fewer
-held_less : (s : Cells) (xs ys : List ℕ) (x : Val) → ((k : ℕ) → count k ys ≤ count k xs) → IsHeld s xs x → IsHeld s ys x
+pub held_less : (s : Cells) (xs ys : List ℕ) (x : Val) → ((k : ℕ) → count k ys ≤ count k xs) → IsHeld s xs x → IsHeld s ys x
 held_less s xs ys x fewer h = record { key = h.key; value = h.value; there = h.there; held = omega (arith, h.held, fewer h.key); within = h.within }
 
 module _ (a b : Cells) (xs ys : List ℕ) (trades : Trades a xs b ys) where

@@ -1,21 +1,9 @@
 -- What contracts say of a call: which holders it took and gave, and what it left as it was.
-use Rattle.std.specs.Prelude.{◌≡◌, ℕ, ◌+◌, ◌≤◌, Bool, List, [], ◌∷◌, ◌++◌, map, Option, Some, None}
-use Rattle.da_values.specs.Keys.{same_value}
-use Rattle.da_values.specs.Value.{val_of, value_of}
+use Rattle.std.specs.Prelude.{◌≡◌, ℕ, ◌+◌, ◌≤◌, List, [], ◌∷◌, ◌++◌, map, Option, Some, None}
 use Rattle.da_values.specs.declared.val.Val.{Val}
 use Rattle.da_values.specs.declared.val.Val.TheVariants as val
-use Rattle.da_values.specs.declared.value.Value.{Value}
-use Rattle.indexmap.specs.IndexMap.{IndexMap, get}
 use Rattle.row_pool.specs.Cells.{Cells, count, outside, value_at}
 use Rattle.row_pool.specs.InUse.{IsHeld}
-
--- the test by which the index compares
-abbrev pub same_kept : Value → Value → Bool
-same_kept v w = same_value (val_of v) (val_of w)
-
--- where the index finds a value
-abbrev pub find : {S : Type 0} → IndexMap Value ℕ S → Val → Option ℕ
-find index x = get same_kept index (value_of x)
 
 -- the holders outside are at least these
 pub record Holds (s : Cells) (ids : List ℕ) : Type 0 where

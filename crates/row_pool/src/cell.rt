@@ -8,6 +8,8 @@ pub struct Cell {
     pub(crate) holders: u128,
     /// The value.
     pub(crate) value: Value,
+    /// The number by which it is looked up.
+    pub(crate) mark: u64,
     /// The keys of its parts, each of which it holds.
     pub(crate) parts: List<usize>,
     /// Of a cell without a holder: the next one that is to leave.

@@ -10,6 +10,8 @@ ghost use Rattle.std.specs.Prelude.{◌≡◌, ℕ, ◌^◌, ◌<◌, [], ◌∷
 
 use crate::cell::Cell;
 use crate::cells::{add_holder, held_or, new_cell, part_key, try_add_holder};
+use crate::index::key_of;
+use crate::marks::mark_of;
 use crate::release::{lose_holder, release};
 use da_values::{List, NoMemory, Value, cmp_values, copy_value};
 use indexmap::IndexMap;
@@ -22,7 +24,7 @@ use std::marker::Model;
 /// dropped stays counted.
 #[derive(Drop)]
 pub struct Id {
-    key: usize,
+    pub(crate) key: usize,
 }
 
 impl Model for Id {
@@ -57,14 +59,14 @@ impl Eq for Id {
 /// are the ids that calls have given and that were not given back. Contracts see the cells by their ids.
 #[derive(Drop)]
 pub struct Pool {
-    alloc: Global,
-    cells: Slab<Cell>,
-    index: IndexMap<Value, usize>,
+    pub(crate) alloc: Global,
+    pub(crate) cells: Slab<Cell>,
+    pub(crate) index: IndexMap<u64, List<usize>>,
 }
 
 impl Model for Pool {
-    ghost use Rattle.row_pool.specs.Cells.{Cells, IsPool};
-    ghost use Rattle.row_pool.specs.Pool.{find};
+    ghost use Rattle.row_pool.specs.Cells.{Cells};
+    ghost use Rattle.row_pool.specs.Index.{IsIndexed, under};
     ghost use Rattle.row_pool.specs.contracts.cell.Cell as code;
     ghost use Rattle.std.specs.Coded.{coded_list, coded_option};
 
@@ -74,7 +76,7 @@ impl Model for Pool {
 
     ghost view = { λ pool. pool.cells.slots };
 
-    ghost invariant = { λ pool. IsPool (find pool.index) pool.cells.slots };
+    ghost invariant = { λ pool. IsIndexed (under pool.index) pool.cells.slots };
 }
 
 impl Pool {
@@ -82,10 +84,12 @@ impl Pool {
     pub fn new(alloc: Global) -> Pool
         ensures { result ≡ [] }
     {
+        let cells = Slab::new(alloc);
+        let index = IndexMap::new(alloc);
         Pool {
             alloc,
-            cells: Slab::new(alloc),
-            index: IndexMap::new(alloc),
+            cells,
+            index,
         }
     }
 
@@ -105,7 +109,7 @@ impl Pool {
     // The same, with an error as a trade of nothing, which joins with what was traded before.
     #[cycle(intern)]
     #[tactic(auto, using(da_values::specs::Layer::weight_of, da_values::specs::Layer::weight_part))]
-    fn intern_value(&mut self, v: &Value) -> Result<Id, NoMemory>
+    pub(crate) fn intern_value(&mut self, v: &Value) -> Result<Id, NoMemory>
         ensures value { IfOk result (λ id. value_at self.new id ≡ Some (val_of v.now)) }
         ensures ok { IfOk result (λ id. Trades self.old [] self.new (id ∷ [])) }
         ensures err { OnErr result (Trades self.old [] self.new []) }
@@ -180,9 +184,8 @@ impl Pool {
         ensures absent { IfOk result (λ found. IfNone found ((k : ℕ) → value_at self.old k ≡ Some (val_of v.now) → ⊥)) }
         ensures err { OnErr result (self.new ≡ self.old) }
     {
-        match self.index.get(v) {
+        match key_of(&self.index, &self.cells, v) {
             Some(key) => {
-                let key = *key;
                 if !try_add_holder(&mut self.cells, key) {
                     return Err(NoMemory);
                 }
@@ -201,7 +204,8 @@ impl Pool {
         ensures ok { IfOk result (λ id. Trades self.old parts self.new (id ∷ [])) }
         ensures err { OnErr result (Trades self.old parts self.new []) }
     {
-        match new_cell(self.alloc, &mut self.cells, &mut self.index, v, parts) {
+        let mark = mark_of(v);
+        match new_cell(self.alloc, &mut self.cells, &mut self.index, v, mark, parts) {
             Ok(key) => Ok(Id { key }),
             Err(refused) => {
                 self.give_back_each(refused.as_slice());

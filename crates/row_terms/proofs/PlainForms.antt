@@ -21,11 +21,11 @@ use Rattle.query_plan.specs.PlainNodes.{is_plain, is_plain_operand, is_plain_par
 use Rattle.query_plan.proofs.PlainAt.{plain-Truth, plain-Cmp, plain-Not, plain-And, plain-Or, plain-Quant, plain-Term, plain-Chain, plain-Agg}
 
 -- what is plain has plain parts
-both_left : (a b : Bool) → (a && b) ≡ true → a ≡ true
+pub both_left : (a b : Bool) → (a && b) ≡ true → a ≡ true
 both_left true b is = refl
 both_left false b is = absurd (false≢true is)
 
-both_right : (a b : Bool) → (a && b) ≡ true → b ≡ true
+pub both_right : (a b : Bool) → (a && b) ≡ true → b ≡ true
 both_right true b is = is
 both_right false b is = absurd (false≢true is)
 
@@ -65,7 +65,7 @@ module _ (d : Data) (row : Row) where
       ap val.Int (sum_is ∙ ap (λ n. n +ℤ total (map (λ s. signed_value d s row) parts)) number_is ∙ ap (λ (xs : List SignedOperand). int_of (operand_value d first row) +ℤ total (map (λ s. signed_value d s row) xs)) same)
       ∙ sym (operand-Chain d row first more) ∙ sym (ap (λ (a : Operand). operand_value d a row) is)
 
-  signed_out : (s : SignedOperand) → signed_value d s row ≡ (if (out-SignedOperand s).minus then neg_ℤ (int_of (operand_value d (out-SignedOperand s).operand row)) else int_of (operand_value d (out-SignedOperand s).operand row))
+  pub signed_out : (s : SignedOperand) → signed_value d s row ≡ (if (out-SignedOperand s).minus then neg_ℤ (int_of (operand_value d (out-SignedOperand s).operand row)) else int_of (operand_value d (out-SignedOperand s).operand row))
   signed_out s = ap (λ (f : Number). f row) (fold_out-SignedOperand Test RowMeaning RowMeaning Number (cond_step d) (operand_step d) (agg_step d) (signed_step d) s)
 
   sums : (sum next part rest left whole : ℤ) → next ≡ sum +ℤ part → left ≡ part +ℤ rest → sum +ℤ left ≡ whole → next +ℤ rest ≡ whole

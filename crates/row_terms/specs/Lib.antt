@@ -1,3 +1,4 @@
 pub mod Bound
 pub mod Locals
+pub mod Ranges
 pub mod Told

@@ -63,10 +63,10 @@ fn some_holds(conditions: &[Cond], locals: &Locals<'_>, row: &Row) -> Result<boo
     Ok(false)
 }
 
-// The value of a side of a comparison.
+/// The value of a side of a comparison. A sum outside an i128 answers `NoMemory`.
 #[cycle(operands)]
 #[tactic(auto, using(crate::proofs::PlainForms::plain_rules))]
-fn operand_value(operand: &Operand, locals: &Locals<'_>, row: &Row) -> Result<Value, NoMemory>
+pub fn operand_value(operand: &Operand, locals: &Locals<'_>, row: &Row) -> Result<Value, NoMemory>
     requires { is_plain_operand operand.now ≡ true }
     ensures { IfOk result (λ v. val_of v ≡ operand_def (data_of locals.now) operand.now row.now) }
 {

@@ -104,7 +104,7 @@ module _ (program : Program) (events : List Event) (opened : System) (stands : S
 
   -- after a run that ended the system is not spent
   pub unspent_after : (how : Outcome) (left : System) → Whichever opened (λ s. HasCome p s events how left) → is_spent left ≡ false
-  unspent_after how left come = (come_at how left come).stands.unspent
+  unspent_after how left come = (come_at how left come).stands.runs.unspent
 
   pub lists : {E : Type 0} (how : Outcome) (left : System) (q : Program) (r : Result Answer E) → how ≡ run.Done → q ≡ program → Whichever opened (λ s. HasCome p s events how left)
       → IfOk r (λ answer. (list : List Event) × Whichever left (λ s. ListsAllowed q s list) × IsListing list answer.outcome answer.lines) → IfOk r (λ answer. NextReply program events answer.outcome answer.lines)

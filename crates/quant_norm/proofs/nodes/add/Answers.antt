@@ -1,8 +1,4 @@
-use Rattle.quant_norm.proofs.HandedOn.{found_ends, new_ends}
 use Rattle.quant_norm.proofs.nodes.add.Goals as goal
 
-pub returns-in-Some : goal.returns-in-Some
-returns-in-Some c = found_ends _ _ _ _ _ _ c.found_at-found.ensures c.as_slice.ensures c.in-Some.is c.number_of.ensures
-
-pub returns-in-None : goal.returns-in-None
-returns-in-None c = new_ends _ _ _ _ _ _ c.found_at-found.ensures c.as_slice.ensures c.in-None.is c.push.ensures
+pub add_printed-requires : goal.add_printed-requires
+add_printed-requires c = rw c.in-Ok.is at c.print-printed.ensures

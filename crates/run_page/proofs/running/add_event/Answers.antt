@@ -5,7 +5,7 @@ use Rattle.run_page.proofs.RunLemmas.{told}
 use Rattle.run_page.proofs.running.add_event.Goals as goal
 
 pub cells_now-requires : goal.cells_now-requires
-cells_now-requires c = record { ready = λ unspent. (c.requires.state, c.requires.stands); unspent = c.requires.stands.unspent; program = c.requires.program }
+cells_now-requires c = record { ready = λ unspent. (c.requires.state, c.requires.stands); unspent = c.requires.stands.runs.unspent; program = c.requires.program }
 
 pub returns : goal.returns
 returns c =

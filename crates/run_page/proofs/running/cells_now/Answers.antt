@@ -10,7 +10,7 @@ use Rattle.run_page.proofs.running.cells_now.Goals as goal
 pub overflow_cast-count : goal.overflow_cast-count
 overflow_cast-count c =
     let (s, stands) = c.requires.ready c.requires.unspent in
-    record { fits = omega (arith, c.len-count.ensures, ap (λ (p : Program). length p.procs) (c.program-typed.ensures ∙ sym c.requires.program), (is_sound (program_of c.args.system.now) stands.compiled.accepted).few) }
+    record { fits = omega (arith, c.len-count.ensures, ap (λ (p : Program). length p.procs) (c.program-typed.ensures ∙ sym c.requires.program), (is_sound (program_of c.args.system.now) stands.runs.compiled.accepted).few) }
 
 pub cells_with-requires : goal.cells_with-requires
 cells_with-requires c = record { ready = c.requires.ready; unspent = c.requires.unspent; count = c.len-count.ensures ∙ ap (λ (p : Program). length p.procs) (c.program-typed.ensures ∙ sym c.requires.program) }

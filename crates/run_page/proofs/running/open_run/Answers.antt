@@ -4,7 +4,7 @@ use Rattle.run_page.proofs.RunLemmas.{opened}
 use Rattle.run_page.proofs.running.open_run.Goals as goal
 
 pub cells_now-requires : goal.cells_now-requires
-cells_now-requires c = record { ready = c.in_ok-system.ensures.ready; unspent = c.in_ok-system.ensures.start.unspent; program = c.in_ok-system.ensures.program }
+cells_now-requires c = record { ready = c.in_ok-system.ensures.ready; unspent = c.in_ok-system.ensures.start.runs.unspent; program = c.in_ok-system.ensures.program }
 
 pub returns : goal.returns
 returns c =

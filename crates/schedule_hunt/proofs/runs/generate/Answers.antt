@@ -21,7 +21,7 @@ pick_next-requires c =
     let came = c.loop-place.invariant in
     record {
       ready = λ unspent. (_, came.stands);
-      unspent = came.stands.unspent;
+      unspent = came.stands.runs.unspent;
       count = omega (arith, c.len-processes.ensures, ap (λ (p : Program). length p.procs) (c.program.ensures ∙ sym came.same));
       room = omega (arith, came.turn, c.loop-place-test.true);
     }

@@ -10,4 +10,4 @@ pub returns : goal.returns
 returns c =
     IfOk-weaker c.allowed_with.result (λ events. Whichever c.args.system.now (λ s. events ≡ allowed_with c.may_lose-losses.result c.may_repeat-repetitions.result (program_of c.args.system.now) s))
     (λ events. Whichever c.args.system.now (λ s. ListsPickable (program_of c.args.system.now) s c.args.budget events))
-    (λ events are s stands. lists_pickable (program_of c.args.system.now) s stands.sound c.args.budget _ _ c.may_lose-losses.ensures c.may_repeat-repetitions.ensures events (are s stands)) c.allowed_with.ensures
+    (λ events are s stands. lists_pickable (program_of c.args.system.now) s stands.runs.sound c.args.budget _ _ c.may_lose-losses.ensures c.may_repeat-repetitions.ensures events (are s stands)) c.allowed_with.ensures

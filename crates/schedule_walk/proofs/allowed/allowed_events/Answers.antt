@@ -9,4 +9,4 @@ pub returns : goal.returns
 returns c =
     IfOk-weaker c.collect.result (λ events. Whichever c.args.system.now (λ s. events ≡ allowed (program_of c.args.system.now) s))
     (λ events. Whichever c.args.system.now (λ s. ListsAllowed (program_of c.args.system.now) s events))
-    (λ events are s stands. lists_allowed (program_of c.args.system.now) s stands.sound events (are s stands)) c.collect.ensures
+    (λ events are s stands. lists_allowed (program_of c.args.system.now) s stands.runs.sound events (are s stands)) c.collect.ensures

@@ -9,7 +9,7 @@ pub overflow_cast-processes : goal.overflow_cast-processes
 overflow_cast-processes c = record { fits = omega (arith, c.len-processes.ensures, ap (λ (p : Program). length p.procs) c.program.ensures, (is_sound (program_of c.args.compiled.now) c.requires.compiled.accepted).few) }
 
 pub returns-then-choices-gt0 : goal.returns-then-choices-gt0
-returns-then-choices-gt0 c = λ s stands. some_choice _ s stands.sound _ (c.choices-choices.ensures.number s stands) c.if-choices-gt0.true
+returns-then-choices-gt0 c = λ s stands. some_choice _ s stands.runs.sound _ (c.choices-choices.ensures.number s stands) c.if-choices-gt0.true
 
 pub returns : goal.returns
-returns c = λ s stands. listed_rest _ s stands.sound _ _ _ (c.in_ok-events.ensures s stands) c.as_slice.ensures c.none_goes_on.ensures
+returns c = λ s stands. listed_rest _ s stands.runs.sound _ _ _ (c.in_ok-events.ensures s stands) c.as_slice.ensures c.none_goes_on.ensures

@@ -7,7 +7,7 @@ use Rattle.scout_commands.proofs.ReplyLemmas.{walk_replied}
 use Rattle.scout_commands.proofs.searching.answer_walk.Goals as goal
 
 pub walk-requires : goal.walk-requires
-walk-requires g c = record { ready = c.in-Ok.ensures.ready; unspent = c.in-Ok.ensures.start.unspent }
+walk-requires g c = record { ready = c.in-Ok.ensures.ready; unspent = c.in-Ok.ensures.start.runs.unspent }
 
 pub returns-clause-replies : goal.returns-clause-replies
 returns-clause-replies g c = λ t w accepts.

@@ -1,6 +1,6 @@
-use Rattle.std.proofs.Common.{ℕ, ◌+◌, ◌*◌, ◌^◌, ◌≤◌}
+use Rattle.std.proofs.Common.{◌+◌, ◌*◌, ◌^◌, ◌≤◌}
 use Rattle.std.specs.List.{filter, flat_map}
-use Rattle.da_system.specs.Choices.{deliveries_from, deliveries_to, is_allowed, moves_of, processes}
+use Rattle.da_system.specs.Choices.{deliveries_from, is_allowed, processes}
 use Rattle.da_system.specs.Queues.{count_of}
 use Rattle.da_system.specs.State.{Whichever, program_of}
 use Rattle.da_system.proofs.FindLemmas.{LeadsFrom}
@@ -10,6 +10,6 @@ abbrev pub invariant-loop-place : goal.invariant-loop-place
 invariant-loop-place l = record {
   leads : Whichever l.self (λ s.
       let allowed = is_allowed (program_of l.self) s in
-      LeadsFrom allowed (deliveries_from s) (filter allowed (flat_map (deliveries_from s) (processes s))) l.j (count_of l.self.channels) l.place l.left);
+      LeadsFrom allowed (deliveries_from s) (filter allowed (flat_map (deliveries_from s) (processes s))) l.j (count_of l.self.network.channels) l.place l.left);
   few : l.j ≤ l.left + l.place * 2 ^ 18;
 }

@@ -8,10 +8,10 @@ use Rattle.da_system.proofs.system.System.place.Goals as goal
 
 pub returns-in-Some : goal.returns-in-Some
 returns-in-Some c = λ s stands.
-    let (w, at, its) = core_at (program_of c.args.self.now) c.args.self.now.cores.items s.worlds c.args.p _ stands.cores (sym c.in-Some.ensures) in
+    let (w, at, its) = core_at (program_of c.args.self.now) c.args.self.now.network.cores.items s.worlds c.args.p _ stands.runs.cores (sym c.in-Some.ensures) in
     ap (λ (o : Option World). option_map (λ (w : World). w.phase) o) at ∙ ap Some (c.place.ensures.phase w its.stands)
 
 pub returns-in-None : goal.returns-in-None
 returns-in-None c = λ s stands.
     ap (λ (o : Option World). option_map (λ (w : World). w.phase) o)
-    (none_at (program_of c.args.self.now) c.args.self.now.cores.items s.worlds c.args.p stands.cores (sym c.in-None.ensures))
+    (none_at (program_of c.args.self.now) c.args.self.now.network.cores.items s.worlds c.args.p stands.runs.cores (sym c.in-None.ensures))

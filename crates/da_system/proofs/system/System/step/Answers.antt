@@ -5,7 +5,7 @@ use Rattle.da_system.proofs.AnswerLemmas.{allowed_after, forbidden_after, memory
 use Rattle.da_system.proofs.system.System.step.Goals as goal
 
 pub returns-clause-ready : goal.returns-clause-ready
-returns-clause-ready c = ready_after (λ s. sys_step (program_of c.args.self.now) s c.args.e.now) c.args.self.now c.execute.new.self c.args.out.now c.execute.new.out c.execute.result c.requires c.if-self.false c.execute.ensures.answers
+returns-clause-ready c = ready_after (λ s. sys_step (program_of c.args.self.now) s c.args.e.now) c.args.self.now c.execute.new.self c.args.out.now c.execute.new.out c.execute.result c.requires c.if-spent.false c.execute.ensures.answers
 
 pub returns-clause-steps : goal.returns-clause-steps
 returns-clause-steps c = steps_after (λ s. sys_step (program_of c.args.self.now) s c.args.e.now) c.args.self.now c.execute.new.self c.args.out.now c.execute.new.out c.execute.result c.execute.ensures.answers

@@ -31,12 +31,13 @@ first_rows-requires-clause-held c = none_held _ _ c.in_ok-laid.ensures.laid.ids
 pub returns-clause-kept : goal.returns-clause-kept
 returns-clause-kept c d me slots no_sent no_received =
     first_kept _ _ c.first_rows.new.pool c.args.plan.now.nodes c.as_slice-nodes.result.now c.in_ok-first_rows.ensures.rows c.as_slice-nodes.ensures refl
-    (first_still _ _ _ _ _ _ c.in_ok-ids.ensures.ok c.in_ok-first_rows.ensures.trades c.in_ok-laid.ensures.laid.ids ∙ c.in_ok-ids.ensures.values ∙ c.as_slice-2.ensures)
+    (first_still _ _ _ _ _ _ c.in_ok-ids.ensures.ok c.in_ok-first_rows.ensures.trades c.in_ok-laid.ensures.laid.ids ∙ c.in_ok-ids.ensures.values ∙ c.as_slice-2.ensures) c.in_ok-values.ensures
     (c.in_ok-laid.ensures.laid.live_many ∙ ap length (c.as_slice.ensures ∙ c.in_ok-live.ensures)) (c.in_ok-laid.ensures.live_rows c.first_rows.new.pool) d me slots no_sent no_received
 
 pub returns-clause-laid : goal.returns-clause-laid
 returns-clause-laid c =
     laid_first _ c.first_rows.new.pool c.args.plan.now.nodes c.as_slice-nodes.result.now c.as_slice.result.now c.in_ok-laid.laid c.as_slice-nodes.ensures (c.as_slice.ensures ∙ c.in_ok-live.ensures) c.in_ok-laid.ensures.laid
+    (c.in_ok-values.ensures ∙ sym (first_still _ _ _ _ _ _ c.in_ok-ids.ensures.ok c.in_ok-first_rows.ensures.trades c.in_ok-laid.ensures.laid.ids ∙ c.in_ok-ids.ensures.values ∙ c.as_slice-2.ensures))
     c.in_ok-first_rows.ensures.sets c.in_ok-first_rows.ensures.keys refl refl c.in_ok-live.ensures c.in_ok-named.ensures c.in_ok-used.ensures
 
 pub returns-clause-width : goal.returns-clause-width

@@ -2,7 +2,6 @@ use Rattle.std.specs.Prelude.{◌∷◌, []}
 use Rattle.std.proofs.lemmas.Result.{IfOk-weaker}
 use Rattle.row_pool.specs.Pool.{Trades}
 use Rattle.da_values.specs.Value.{val_of}
-use Rattle.row_pool.specs.Pool.{find}
 use Rattle.row_pool.proofs.NewLaws.{still_absent}
 use Rattle.row_pool.proofs.TradeLaws.{beside, then_trades, on_err}
 use Rattle.row_pool.proofs.ChildLaws.{no_keys, tuple_keys, set_keys, one_more_key}
@@ -32,7 +31,7 @@ pub intern_value-add-requires-clause-absent : goal.intern_value-add-requires-cla
 intern_value-add-requires-clause-absent t c =
     let same = rw c.in-None.is at c.in_ok-found.ensures.none in
     let absent = rw c.in-None.is at c.in_ok-found.ensures.absent in
-    still_absent (find c.self.inside.index) (find c.self-in-None.inside.index) _ _ _ _ c.self.view_is c.self-in-None.view_is c.self.invariant c.self-in-None.invariant (val_of c.args.v.now) c.in_ok-parts-in-None.parts c.in_ok-parts-in-None.ensures.ok (rw same absent)
+    still_absent c.self.invariant.find c.self-in-None.invariant.find _ _ _ _ c.self.view_is c.self-in-None.view_is c.self.invariant.pool c.self-in-None.invariant.pool (val_of c.args.v.now) c.in_ok-parts-in-None.parts c.in_ok-parts-in-None.ensures.ok (rw same absent)
 
 pub intern_value-returns-in_ok-parts-in-None-clause-ok : goal.intern_value-returns-in_ok-parts-in-None-clause-ok
 intern_value-returns-in_ok-parts-in-None-clause-ok t c =

@@ -3,4 +3,4 @@ use Rattle.row_pool.proofs.TradeLaws.{on_err, unchanged}
 use Rattle.row_pool.proofs.pool.Pool.intern.Goals as goal
 
 pub returns-clause-err : goal.returns-clause-err
-returns-clause-err c = on_err c.intern_value-outcome.result _ (IsUnchanged c.args.self.now c.intern_value-outcome.new.self) (λ trades. unchanged _ _ _ _ _ _ c.self.view_is c.self-2.view_is c.self.invariant c.self-2.invariant trades) c.intern_value-outcome.ensures.err
+returns-clause-err c = on_err c.intern_value-outcome.result _ (IsUnchanged c.args.self.now c.intern_value-outcome.new.self) (λ trades. unchanged _ _ _ _ _ _ c.self.view_is c.self-2.view_is c.self.invariant.pool c.self-2.invariant.pool trades) c.intern_value-outcome.ensures.err

@@ -1,0 +1,4 @@
+pub mod BlockLaws
+pub mod EditLaws
+pub mod JoinLaws
+pub mod NumberedLaws

@@ -1,0 +1,7 @@
+use Rattle.std.proofs.Common.{ap}
+use Rattle.std.proofs.lemmas.List.{get_or_read}
+use Rattle.place_blocks.specs.declared.block.Block.{Block}
+use Rattle.place_blocks.proofs.block.before_of.Goals as goal
+
+pub returns : goal.returns
+returns c other = ap (λ (block : Block). block.before) (get_or_read c.args.blocks.now c.args.k c.index-blocks-k.result c.requires c.index-blocks-k.is other)

@@ -1,0 +1,8 @@
+use Rattle.row_pool.proofs.ExchangeLaws.{number_without}
+use Rattle.da_values.specs.Value.{val_of}
+use Rattle.row_pool.proofs.pool.Pool.mark_without.Goals as goal
+
+pub returns : goal.returns
+returns c =
+    number_without _ _ _ _ _ (val_of c.args.v.now) c.mark_at-old.result c.hash_of-hash.result c.without_hash.result c.self.view_is c.id.view_is c.self.invariant.marks c.mark_at-old.ensures c.hash_of-hash.ensures c.without_hash.ensures.sum
+    c.without_hash.ensures.small
