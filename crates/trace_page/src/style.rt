@@ -1,7 +1,6 @@
 //! The beginning of a page, and the key of its picture.
 
-/// The head of a page with its style and a script that hides the picture and the table until they are read, and its body up to the
-/// remarks.
+/// The head of a page with its style, and its body up to the remarks.
 pub(crate) const HEAD: &[u8] = b"\
 <!DOCTYPE html>\n\
 <html lang='en'>\n\
@@ -70,7 +69,7 @@ svg .out text{font-weight:700;fill:var(--good)}\n\
 svg .fault text,svg .stop text{font-weight:700;fill:var(--bad)}\n\
 .hid{opacity:.12}\n\
 .small .marks text{display:none}\n\
-@media screen{.wait .all,.wait .diagram,.late .all,.on .diagram svg:not(.near),.on .arrows>path:not(.near){display:none}}\n\
+@media screen{.on .diagram svg:not(.near),.on .arrows>path:not(.near){display:none}}\n\
 a{color:inherit;cursor:pointer;text-decoration:none}\n\
 a:hover text{text-decoration:underline}\n\
 .marks g,.arrows>path{cursor:pointer}\n\
@@ -82,6 +81,7 @@ a:hover text{text-decoration:underline}\n\
 .prog li.lit{background:var(--lit);font-weight:700}\n\
 .all{content-visibility:auto;contain-intrinsic-size:auto 40rem}\n\
 .all+.all{contain-intrinsic-size:auto 160rem}\n\
+.all:empty{height:160rem}\n\
 table{border-collapse:collapse;width:100%}\n\
 .all table{table-layout:fixed}\n\
 .all th:first-child{width:7%}\n\
@@ -104,7 +104,6 @@ td b{font-weight:700}\n\
 @page{size:A4;margin:12mm}\n\
 @media print{:root{--page:#fff;--ink:#000;--soft:#444;--line:#777;--faint:#ccc;--band:#f2f2f2;--lit:#eee;--was:#eee;--message:#0072b2;--bad:#b83c00;--good:#00704f;--move:#9a6700;--query:#a0468a}*{print-color-adjust:exact;-webkit-print-color-adjust:exact}body{margin:0;font-size:11px}.tools,.state{display:none}.run{display:block}.picture{overflow:visible;max-height:none;border:0}svg.names{position:static;max-width:100%}svg.diagram{max-width:100%;height:auto}.side{position:static;display:block;max-width:none;max-height:none}.prog{overflow:visible;border:0;font-size:10px}.prog li.lit,.prog li.was,tr.open,.band.open rect{background:none;font-weight:400}.all{content-visibility:visible}th,td{font-size:10px}tr{break-inside:avoid}thead{display:table-header-group}}\n\
 </style>\n\
-<script>document.documentElement.classList.add('wait'); addEventListener('load', () => document.documentElement.classList.remove('wait'));</script>\n\
 </head>\n\
 <body>\n\
 <svg width='0' height='0' style='position:absolute' aria-hidden='true'>\n\
@@ -114,7 +113,8 @@ td b{font-weight:700}\n\
 </svg>\n\
 <h1>A run</h1>\n";
 
-/// What stands between the number of processes and the width of their names: the key, and the frame of the picture.
+/// What stands between the number of processes and the width of their names: the key, and the frame of the picture. Its script has
+/// a browser keep the picture and the table as text, for the script at the end; should that fail, they are read after all.
 pub(crate) const LEGEND: &[u8] = b"\
 . Time runs downwards.</p>\n\
 <ul class='key'>\n\
@@ -129,6 +129,7 @@ pub(crate) const LEGEND: &[u8] = b"\
 <li><svg width='16' height='16' class='answer' aria-hidden='true'><path d='M8 8m-5-5h10v10h-10z'/></svg>answer of a query</li>\n\
 <li><svg width='16' height='16' class='kept' aria-hidden='true'><path d='M8 9m0-6l6 11h-12z'/></svg>rows kept</li>\n\
 </ul>\n\
+<script>document.write('<noscript>'); addEventListener('error', function () { var kept = document.querySelector('noscript'); if (kept) kept.outerHTML = kept.textContent; });</script>\n\
 <div class='run'>\n\
 <div class='picture' tabindex='0'>\n\
 <svg class='names' height='24' width='";
